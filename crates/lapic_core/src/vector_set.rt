@@ -1,0 +1,73 @@
+// A set of vectors, as a row of truth values.
+ghost use Rattle.std.specs.Prelude.{◌≡◌};
+ghost use Rattle.std.specs.FinSet as set;
+ghost use Rattle.lapic_core.specs.Vectors.{greatest};
+
+use board_terms::Vector;
+use std::marker::Model;
+
+/// A set of interrupt vectors.
+#[derive(Drop)]
+pub struct VectorSet {
+    marks: [bool; 256],
+}
+
+impl Model for VectorSet {
+    ghost use Rattle.std.specs.Prelude.{ℕ, Bool, false, ◌≡◌, ◌<◌, slice_index_or};
+    ghost use Rattle.std.specs.Coded.{coded_ℕ};
+    ghost use Rattle.std.specs.FinSet as set;
+    ghost use Rattle.lapic_core.specs.Vectors.{Vectors, row_members};
+
+    ghost Value = { Vectors };
+
+    ghost coded = { set.code coded_ℕ };
+
+    ghost view = { λ a. row_members a.marks };
+
+    ghost invariant = { λ a. (v : ℕ) → v < 16 → slice_index_or a.marks v false ≡ false };
+}
+
+impl VectorSet {
+    /// The empty set.
+    pub fn new() -> VectorSet
+        ensures { result ≡ set.empty }
+    {
+        VectorSet {
+            marks: [false; 256],
+        }
+    }
+
+    /// Adds a vector.
+    pub fn insert(&mut self, vector: Vector)
+        ensures { self.new ≡ set.insert self.old vector }
+    {
+        self.marks[vector.number() as usize] = true;
+    }
+
+    /// Takes a vector out.
+    pub fn remove(&mut self, vector: Vector)
+        ensures { self.new ≡ set.remove self.old vector }
+    {
+        self.marks[vector.number() as usize] = false;
+    }
+
+    /// Whether a vector is a member.
+    pub fn contains(&self, vector: Vector) -> bool
+        ensures { result ≡ set.contains self.now vector }
+    {
+        self.marks[vector.number() as usize]
+    }
+
+    /// The greatest member, `None` if the set is empty.
+    pub fn greatest(&self) -> Option<Vector>
+        ensures { result ≡ greatest self.now }
+    {
+        let mut best = None;
+        for number in 16..256usize {
+            if self.marks[number] {
+                best = Vector::new(number as u8);
+            }
+        }
+        best
+    }
+}
