@@ -1,0 +1,4 @@
+pub mod State
+pub mod Scratch
+pub mod Step
+pub mod View
