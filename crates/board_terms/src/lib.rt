@@ -1,12 +1,26 @@
 //! The words of the board: numbers whose range is in the type, notices and refusals.
 #![tactic(auto)]
 
-mod names;
+mod messages;
 mod notices;
 mod pages;
 mod refusal;
+mod sint;
+mod timer_id;
+mod vector;
+mod vp;
 
-pub use names::{Moment, Sint, Ticket, Vector, Vp};
+pub use messages::{Message, PayloadBytes, PortShape};
 pub use notices::{Notice, Notices, ROOM};
 pub use pages::{Bytes8, Kind, Owner};
 pub use refusal::Refusal;
+pub use sint::Sint;
+pub use timer_id::TimerId;
+pub use vector::Vector;
+pub use vp::Vp;
+
+/// A moment of the partition reference counter, in units of 100 ns (TLFS, "Partition Reference Counter").
+pub type Moment = u64;
+
+/// The number that an accepted message takes. It is given once.
+pub type Ticket = u64;

@@ -1,7 +1,10 @@
 // What an event tells beside its reply.
 ghost use Rattle.std.specs.Prelude.{◌≡◌, ◌<◌, ◌≤◌, [], ◌∷◌, ◌++◌, length, IfOk};
 
-use crate::names::{Vector, Vp};
+use crate::sint::Sint;
+use crate::vector::Vector;
+use crate::vp::Vp;
+use crate::{Moment, Ticket};
 use std::alloc::{AllocError, Global};
 use std::marker::Model;
 
@@ -11,8 +14,25 @@ pub const ROOM: usize = 320;
 /// What an event tells beside its reply.
 #[derive(Clone, Copy, PartialEq, Eq, Debug)]
 pub enum Notice {
+    /// A message was appended to its queue.
+    Accepted { ticket: Ticket, vp: Vp, sint: Sint },
+    /// The head of a queue was written into its slot.
+    Placed { ticket: Ticket, vp: Vp, sint: Sint },
+    /// A message was placed with MessagePending set, or a clear MessagePending was set in an
+    /// occupied slot.
+    Pending { vp: Vp, sint: Sint },
     /// A clear request bit of the local APIC was set.
     Requested { vp: Vp, vector: Vector },
+    /// A clear event flag was set. `flag` is the base of the port plus the number signalled.
+    FlagSet { vp: Vp, sint: Sint, flag: u16 },
+    /// A guest store emptied a slot that held a ticket.
+    Consumed { ticket: Ticket, vp: Vp, sint: Sint },
+    /// A queued message of a closed port was taken out.
+    Withdrawn { ticket: Ticket, vp: Vp, sint: Sint },
+    /// A timer expired for the moment `due`.
+    Expired { vp: Vp, index: u8, due: Moment },
+    /// A timer skipped `count` of its moments, at least one.
+    Skipped { vp: Vp, index: u8, count: u64 },
 }
 
 /// The notices of one event, in order. The room is made once, by `open`.

@@ -1,5 +1,5 @@
 // Guest pages: whose page a guest sees, and what it loads and stores.
-use crate::names::Vp;
+use crate::vp::Vp;
 use arrayvec::ArrayVec;
 
 /// At most 8 bytes, as a guest loads or stores them.

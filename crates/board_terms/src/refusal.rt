@@ -7,6 +7,26 @@ use thiserror::Error;
 /// Why an event was refused. A refused event changes nothing and gives no notice.
 #[derive(Clone, Copy, PartialEq, Eq, Debug, Drop, Error)]
 pub enum Refusal {
+    #[error("the port is not open")]
+    UnknownPort = 1,
+    #[error("the port is open already")]
+    PortOpen = 2,
+    #[error("the port is of the other kind")]
+    WrongKind = 3,
+    #[error("the target or the shape is out of range")]
+    BadTarget = 4,
+    #[error("the message type is 0 or has bit 31 set")]
+    BadType = 5,
+    #[error("the flag is not one of the port's")]
+    BadFlag = 6,
+    #[error("the SynIC of the target is disabled")]
+    SynicOff = 7,
+    #[error("the buffers of the port are in use")]
+    NoBuffers = 8,
+    #[error("all tickets are spent")]
+    TicketsSpent = 9,
+    #[error("the moment lies before the present one")]
+    ClockBack = 10,
     #[error("the address lies in no page")]
     OutsideSpace = 11,
     #[error("the bytes lie in two pages")]

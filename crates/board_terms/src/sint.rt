@@ -1,0 +1,44 @@
+// A synthetic interrupt source.
+ghost use Rattle.std.specs.Prelude.{◌≡◌, ◌<◌, ◌↔◌, IsSome, IfSome};
+
+use std::marker::Model;
+
+/// A synthetic interrupt source, SINT0 to SINT15 (TLFS, "Synthetic Interrupt Sources").
+#[derive(Clone, Copy, PartialEq, Eq, PartialOrd, Ord, Debug)]
+pub struct Sint {
+    number: u8,
+}
+
+impl Model for Sint {
+    ghost use Rattle.std.specs.Prelude.{ℕ, ◌<◌};
+
+    ghost Value = { ℕ };
+
+    ghost view = { λ a. a.number };
+
+    ghost invariant = { λ a. a.number < 16 };
+
+    ghost inverse = { λ n. record { number = n } };
+}
+
+impl Sint {
+    /// The source of that number, `None` above 15.
+    pub fn new(number: u8) -> Option<Sint>
+        ensures valid { IsSome result ↔ (number < 16) }
+        ensures value { IfSome result (λ s. s ≡ number) }
+    {
+        if number < 16 {
+            Some(Sint { number })
+        } else {
+            None
+        }
+    }
+
+    /// Its number, 0 to 15.
+    pub fn number(self) -> u8
+        ensures value { result ≡ self }
+        ensures range { result < 16 }
+    {
+        self.number
+    }
+}

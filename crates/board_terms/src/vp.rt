@@ -1,0 +1,44 @@
+// A virtual processor.
+ghost use Rattle.std.specs.Prelude.{◌≡◌, ◌<◌, ◌↔◌, IsSome, IfSome};
+
+use std::marker::Model;
+
+/// A virtual processor, 0 to 7.
+#[derive(Clone, Copy, PartialEq, Eq, PartialOrd, Ord, Debug)]
+pub struct Vp {
+    number: u8,
+}
+
+impl Model for Vp {
+    ghost use Rattle.std.specs.Prelude.{ℕ, ◌<◌};
+
+    ghost Value = { ℕ };
+
+    ghost view = { λ a. a.number };
+
+    ghost invariant = { λ a. a.number < 8 };
+
+    ghost inverse = { λ n. record { number = n } };
+}
+
+impl Vp {
+    /// The processor of that number, `None` above 7.
+    pub fn new(number: u8) -> Option<Vp>
+        ensures valid { IsSome result ↔ (number < 8) }
+        ensures value { IfSome result (λ v. v ≡ number) }
+    {
+        if number < 8 {
+            Some(Vp { number })
+        } else {
+            None
+        }
+    }
+
+    /// Its number, 0 to 7.
+    pub fn number(self) -> u8
+        ensures value { result ≡ self }
+        ensures range { result < 8 }
+    {
+        self.number
+    }
+}
