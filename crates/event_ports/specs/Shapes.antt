@@ -1,0 +1,9 @@
+-- What a port may be opened for.
+use Rattle.std.specs.Prelude.{ℕ, Bool, ◌+◌, nat_le, ◌&&◌}
+use Rattle.board_terms.specs.declared.messages.PortShape.{PortShape}
+use Rattle.board_terms.specs.declared.messages.PortShape.TheVariants.{Messages, Flags}
+
+-- 1 to 16 buffers; at least one event flag, and none from 2048 on
+abbrev pub fits : PortShape → Bool
+fits (Messages buffers) = nat_le 1 buffers && nat_le buffers 16
+fits (Flags base count) = nat_le 1 count && nat_le (base + count) 2048

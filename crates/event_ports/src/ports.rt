@@ -1,0 +1,245 @@
+// The open ports.
+ghost use Rattle.std.specs.Prelude.{◌≡◌, ◌<◌, ◌≤◌, true, None, Some, IfOk, IfSome, IsSome, ◌↔◌, OnOk, OnErr, MatchResult};
+ghost use Rattle.event_ports.specs.Shapes.{fits};
+ghost use Rattle.event_ports.specs.Ports.{no_ports, with_port, without_port, open_refusal, target_of, message_target_of, flag_place_of};
+
+use board_terms::{PortShape, Refusal, Sint, Vp};
+use std::marker::Model;
+
+/// The greatest number of event flags of one source (TLFS, "Event Flags").
+const FLAGS: u32 = 2048;
+
+/// Bit 31 of a message type: it is the hypervisor's own (TLFS, "Message Types").
+const HYPERVISOR_TYPE: u32 = 0x8000_0000;
+
+/// An open port: the source of a processor that it reaches, and what it carries.
+#[derive(Clone, Copy, PartialEq, Eq, Debug)]
+pub struct Port {
+    pub vp: Vp,
+    pub sint: Sint,
+    pub shape: PortShape,
+}
+
+/// The open ports of a board, by their numbers 0 to 15.
+#[derive(Drop)]
+pub struct Ports {
+    processors: u8,
+    ports: [Option<Port>; 16],
+}
+
+impl Model for Ports {
+    ghost use Rattle.event_ports.specs.Ports.{Ports};
+
+    ghost Value = { Ports };
+
+    ghost use Rattle.event_ports.specs.View.{ports_of, IsKept};
+
+    ghost view = { ports_of };
+
+    ghost invariant = { IsKept };
+}
+
+/// Whether a shape is in range: 1 to 16 buffers, or at least one flag and none from 2048 on.
+fn fits(shape: PortShape) -> bool
+    ensures { result ≡ fits shape }
+{
+    match shape {
+        PortShape::Messages { buffers } => buffers >= 1 && buffers <= 16,
+        PortShape::Flags { base, count } => count >= 1 && base as u32 + count as u32 <= FLAGS,
+    }
+}
+
+impl Ports {
+    /// No port is open, on a board with that many processors.
+    pub fn new(processors: u8) -> Ports
+        requires some { 1 ≤ processors }
+        requires few { processors ≤ 8 }
+        ensures { result ≡ no_ports processors }
+    {
+        Ports {
+            processors,
+            ports: [None; 16],
+        }
+    }
+
+    /// Opens a port. Refused, in this order: `UnknownPort` above 15; `PortOpen`; `BadTarget` where
+    /// the processor is not on the board, the source is above 15 or the shape is out of range.
+    pub fn open_port(&mut self, port: u8, vp: u8, sint: u8, shape: PortShape) -> Result<(), Refusal>
+        ensures answer { MatchResult result (λ _. open_refusal self.old port vp sint shape ≡ None) (λ r. open_refusal self.old port vp sint shape ≡ Some r) }
+        ensures opened { IfOk result (λ _. self.new ≡ with_port self.old port (record { vp = vp; sint = sint; shape = shape })) }
+        ensures refused { OnErr result (self.new ≡ self.old) }
+    {
+        if port > 15 {
+            return Err(Refusal::UnknownPort);
+        }
+        if self.ports[port as usize].is_some() {
+            return Err(Refusal::PortOpen);
+        }
+        let Some(vp) = self.processor(vp) else {
+            return Err(Refusal::BadTarget);
+        };
+        let Some(sint) = Sint::new(sint) else {
+            return Err(Refusal::BadTarget);
+        };
+        if !fits(shape) {
+            return Err(Refusal::BadTarget);
+        }
+        self.ports[port as usize] = Some(Port { vp, sint, shape });
+        Ok(())
+    }
+
+    /// Closes a port and gives what it was. `UnknownPort` where it is not open.
+    pub fn close_port(&mut self, port: u8) -> Result<Port, Refusal>
+        ensures answer { result ≡ target_of self.old port }
+        ensures closed { OnOk result (self.new ≡ without_port self.old port) }
+        ensures refused { OnErr result (self.new ≡ self.old) }
+    {
+        let closed = self.target(port)?;
+        self.ports[port as usize] = None;
+        Ok(closed)
+    }
+
+    /// An open port. `UnknownPort` where it is not open.
+    pub fn target(&self, port: u8) -> Result<Port, Refusal>
+        ensures answer { result ≡ target_of self.now port }
+        ensures on_the_board { IfOk result (λ p. p.vp < self.now.processors) }
+        ensures in_range { IfOk result (λ p. fits p.shape ≡ true) }
+    {
+        match self.ports.get(port as usize) {
+            Some(Some(target)) => Ok(*target),
+            _ => Err(Refusal::UnknownPort),
+        }
+    }
+
+    /// Where a message of a type goes. Refused, in this order: `UnknownPort`; `WrongKind` for a port
+    /// of event flags; `BadType` for type 0 and types with bit 31 set.
+    pub fn message_target(&self, port: u8, kind: u32) -> Result<Port, Refusal>
+        ensures answer { result ≡ message_target_of self.now port kind }
+        ensures on_the_board { IfOk result (λ p. p.vp < self.now.processors) }
+    {
+        let target = self.target(port)?;
+        match target.shape {
+            PortShape::Flags { .. } => Err(Refusal::WrongKind),
+            PortShape::Messages { .. } => {
+                if kind == 0 || kind >= HYPERVISOR_TYPE {
+                    Err(Refusal::BadType)
+                } else {
+                    Ok(target)
+                }
+            }
+        }
+    }
+
+    /// Which event flag a signal sets: the processor, the source, and the base of the port plus the
+    /// number. Refused, in this order: `UnknownPort`; `WrongKind` for a port of messages; `BadFlag`
+    /// for a number not below the port's count.
+    pub fn flag_place(&self, port: u8, flag: u16) -> Result<(Vp, Sint, u16), Refusal>
+        ensures answer { result ≡ flag_place_of self.now port flag }
+        ensures on_the_board { IfOk result (λ p. p.0 < self.now.processors) }
+        ensures below { IfOk result (λ p. p.2 < 2048) }
+    {
+        let target = self.target(port)?;
+        match target.shape {
+            PortShape::Messages { .. } => Err(Refusal::WrongKind),
+            PortShape::Flags { base, count } => {
+                if flag < count {
+                    Ok((target.vp, target.sint, base + flag))
+                } else {
+                    Err(Refusal::BadFlag)
+                }
+            }
+        }
+    }
+
+    /// The processor of that number, if it is on the board.
+    fn processor(&self, number: u8) -> Option<Vp>
+        ensures on { IsSome result ↔ (number < self.now.processors) }
+        ensures value { IfSome result (λ vp. vp ≡ number) }
+    {
+        if number < self.processors {
+            Vp::new(number)
+        } else {
+            None
+        }
+    }
+}
+
+#[cfg(test)]
+mod tests {
+    use super::*;
+    use std::test::Fail;
+
+    const TWO_BUFFERS: PortShape = PortShape::Messages { buffers: 2 };
+
+    #[test]
+    fn each_call_once(rt: HostRuntime) -> Result<(), Fail> {
+        let mut ports = Ports::new(1);
+        assert_eq!(rt;
+            ports.open_port(16, 0, 2, TWO_BUFFERS),
+            Err(Refusal::UnknownPort)
+        );
+        assert_eq!(rt; ports.open_port(3, 0, 2, TWO_BUFFERS), Ok(()));
+        assert_eq!(rt;
+            ports.open_port(3, 0, 2, TWO_BUFFERS),
+            Err(Refusal::PortOpen)
+        );
+        assert_eq!(rt;
+            ports.open_port(5, 1, 2, TWO_BUFFERS),
+            Err(Refusal::BadTarget)
+        );
+        let eight_flags = PortShape::Flags { base: 0, count: 8 };
+        assert_eq!(rt; ports.open_port(4, 0, 2, eight_flags), Ok(()));
+        assert_eq!(rt; ports.target(3).map(|port| port.sint.number()), Ok(2));
+        assert_eq!(rt;
+            ports.message_target(3, 1).map(|port| port.shape),
+            Ok(TWO_BUFFERS)
+        );
+        assert_eq!(rt;
+            ports.message_target(3, 0x8000_0010).map(|port| port.shape),
+            Err(Refusal::BadType)
+        );
+        assert_eq!(rt; ports.flag_place(4, 3).map(|place| place.2), Ok(3));
+        assert_eq!(rt;
+            ports.flag_place(4, 8).map(|place| place.2),
+            Err(Refusal::BadFlag)
+        );
+        assert_eq!(rt; ports.close_port(3).map(|port| port.vp.number()), Ok(0));
+        assert_eq!(rt;
+            ports.close_port(3).map(|port| port.vp.number()),
+            Err(Refusal::UnknownPort)
+        );
+        Ok(())
+    }
+
+    #[test]
+    fn flags_at_the_edges(rt: HostRuntime) -> Result<(), Fail> {
+        let mut ports = Ports::new(8);
+        let last = PortShape::Flags {
+            base: 2047,
+            count: 1,
+        };
+        assert_eq!(rt; ports.open_port(0, 7, 15, last), Ok(()));
+        assert_eq!(rt; ports.flag_place(0, 0).map(|place| place.2), Ok(2047));
+        assert_eq!(rt;
+            ports.flag_place(0, 1).map(|place| place.2),
+            Err(Refusal::BadFlag)
+        );
+        for (base, count) in [(2047, 2), (0, 0), (2048, 1), (65535, 65535)] {
+            let shape = PortShape::Flags { base, count };
+            assert_eq!(rt;
+                ports.open_port(1, 7, 15, shape),
+                Err(Refusal::BadTarget),
+                "{base} {count}"
+            );
+        }
+        for buffers in [0, 17, 255] {
+            let shape = PortShape::Messages { buffers };
+            assert_eq!(rt;
+                ports.open_port(1, 7, 15, shape),
+                Err(Refusal::BadTarget),
+                "{buffers}"
+            );
+        }
+        Ok(())
+    }
+}
