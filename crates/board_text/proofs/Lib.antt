@@ -1,0 +1,6 @@
+pub mod DigitLemmas
+pub mod NumberLemmas
+pub mod ByteLemmas
+pub mod FieldLemmas
+pub mod LineLemmas
+pub mod SourceLemmas

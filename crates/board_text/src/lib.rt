@@ -1,0 +1,14 @@
+//! What every text of the program needs: numbers both ways, fields, lines of a reader, and sending.
+#![tactic(auto)]
+
+mod bytes;
+mod fields;
+mod numbers;
+mod sending;
+mod source;
+
+pub use bytes::{byte_of, bytes_of, put_byte, put_bytes};
+pub use fields::Fields;
+pub use numbers::{decimal_of, hex_of, put_decimal, put_hex};
+pub use sending::send;
+pub use source::{LIMIT, LONGEST, NextLine, Source};

@@ -1,0 +1,130 @@
+// Decimal and hexadecimal numbers.
+ghost use Rattle.std.specs.Prelude.{◌≡◌, ◌≢◌, ℕ, ◌+◌, ◌*◌, ◌<◌, ◌≤◌, ◌^◌, ◌++◌, MatchOption, length, get_or, drop, decimal, false, IfSome, IfNone, OnOk};
+ghost use Rattle.std.specs.Fmt.{digits, digit_glyph};
+ghost use Rattle.board_text.specs.Numbers.{hex, decimal_at, hex_at};
+
+use itoa::{Buffer, Integer};
+use std::alloc::AllocError;
+
+/// The number that is written so in decimal, if it is at most `most`: no leading zero, no sign.
+pub fn decimal_of(text: &[u8], most: u64) -> Option<u64>
+    ensures found { IfSome result (λ n. (n ≤ most) × (text.now ≡ decimal n)) }
+    ensures none { IfNone result ((n : ℕ) → n ≤ most → text.now ≡ decimal n → ⊥) }
+    ensures read { result ≡ decimal_at most text.now }
+{
+    let n = number_of(text, 10)?;
+    if n <= most { Some(n) } else { None }
+}
+
+/// The number that is written so in hexadecimal, if it is at most `most`: lower case, no leading zero.
+pub fn hex_of(text: &[u8], most: u64) -> Option<u64>
+    ensures found { IfSome result (λ n. (n ≤ most) × (text.now ≡ hex n)) }
+    ensures none { IfNone result ((n : ℕ) → n ≤ most → text.now ≡ hex n → ⊥) }
+    ensures read { result ≡ hex_at most text.now }
+{
+    let n = number_of(text, 16)?;
+    if n <= most { Some(n) } else { None }
+}
+
+/// What a digit of at most 16 stands for, in lower case.
+pub(crate) fn digit_of(c: u8) -> Option<u8>
+    ensures { MatchOption result ((d : ℕ) → d < 16 → c ≡ digit_glyph false d → ⊥) (λ d. (d < 16) × (c ≡ digit_glyph false d)) }
+{
+    match c {
+        b'0'..=b'9' => Some(c - b'0'),
+        b'a'..=b'f' => Some(c - b'a' + 10),
+        _ => None,
+    }
+}
+
+/// The digit that stands for a number below 16.
+pub(crate) fn glyph_of(digit: u8) -> u8
+    requires { digit < 16 }
+    ensures { result ≡ digit_glyph false digit }
+{
+    if digit < 10 {
+        b'0' + digit
+    } else {
+        b'a' + (digit - 10)
+    }
+}
+
+/// The number below 2^64 that is written so.
+fn number_of(text: &[u8], base: u64) -> Option<u64>
+    requires low { 10 ≤ base }
+    requires high { base ≤ 16 }
+    ensures found { IfSome result (λ n. (n < 2 ^ 64) × (text.now ≡ digits base false n)) }
+    ensures none { IfNone result ((n : ℕ) → n < 2 ^ 64 → text.now ≡ digits base false n → ⊥) }
+{
+    let [first, ..] = text else {
+        return None;
+    };
+    if *first != b'0' {
+        return positive_of(text, base);
+    }
+    if text.len() == 1 { Some(0) } else { None }
+}
+
+/// The same of a text that does not begin with a zero.
+fn positive_of(text: &[u8], base: u64) -> Option<u64>
+    requires low { 10 ≤ base }
+    requires high { base ≤ 16 }
+    requires some { 0 < length text.now }
+    requires first { get_or text.now 0 0 ≢ 48 }
+    ensures found { IfSome result (λ n. (n < 2 ^ 64) × (text.now ≡ digits base false n)) }
+    ensures none { IfNone result ((n : ℕ) → n < 2 ^ 64 → text.now ≡ digits base false n → ⊥) }
+{
+    let mut n: u64 = 0;
+    for c in text {
+        let Some(digit) = digit_of(*c) else {
+            return None;
+        };
+        let digit = u64::from(digit);
+        if digit >= base {
+            return None;
+        }
+        let Some(tens) = n.checked_mul(base) else {
+            return None;
+        };
+        let Some(sum) = tens.checked_add(digit) else {
+            return None;
+        };
+        n = sum;
+    }
+    Some(n)
+}
+
+/// Writes a number in decimal at the end of `out`, a signed one with its sign.
+pub fn put_decimal<I: Integer>(out: &mut Vec<u8>, n: I) -> Result<(), AllocError>
+    ensures { OnOk result (out.new.items ≡ out.old.items ++ I.text n) }
+{
+    let mut buffer = Buffer::new();
+    out.extend_from_slice(buffer.format(n).as_bytes())
+}
+
+/// Writes a number in hexadecimal at the end of `out`.
+pub fn put_hex(out: &mut Vec<u8>, n: u64) -> Result<(), AllocError>
+    ensures { OnOk result (out.new.items ≡ out.old.items ++ hex n) }
+{
+    let mut text = [0u8; 16];
+    let start = write_hex(n, &mut text);
+    out.extend_from_slice(&text[start..])
+}
+
+/// Writes the number in hexadecimal at the end of `out`, and says where it begins.
+fn write_hex(n: u64, out: &mut [u8; 16]) -> usize
+    ensures bound { result ≤ 16 }
+    ensures value { drop result out.new ≡ hex n }
+{
+    let mut i = 16;
+    let mut rest = n;
+    while i > 0 {
+        i -= 1;
+        out[i] = glyph_of((rest % 16) as u8);
+        rest /= 16;
+        if rest == 0 {
+            break;
+        }
+    }
+    i
+}
