@@ -1,5 +1,5 @@
 -- Numbers.
-use Rattle.std.proofs.Common.{◌≡◌, ◌≢◌, ℕ, ◌+◌, ◌*◌, ◌<◌, ◌≤◌, ◌^◌, ◌&&◌, zero, suc, List, [], ◌∷◌, ◌++◌, length, take, get_or, Bool, true, false, cond, nat_le, ◌-◌, drop, leb-true, le-leb, Option, Some, None, IfSome, IfNone, decimal, refl, sym, ap, ◌∙◌, arith}
+use Rattle.std.proofs.Common.{◌≡◌, ◌≢◌, ℕ, ◌+◌, ◌*◌, ◌<◌, ◌≤◌, ◌^◌, ◌/◌, ◌%◌, ◌&&◌, zero, suc, List, [], ◌∷◌, ◌++◌, length, take, get_or, Bool, true, false, cond, nat_le, ◌-◌, drop, leb-true, le-leb, Option, Some, None, IfSome, IfNone, decimal, refl, sym, ap, ◌∙◌, arith}
 use Rattle.std.proofs.Math.Nat.{pow-le-pow_left, mul-pos}
 use Rattle.std.proofs.lemmas.List.{take_more}
 use Rattle.std.proofs.lemmas.List.Elements.{All-get_or}
@@ -10,7 +10,7 @@ use Rattle.std.specs.Char.{digit_value}
 use Rattle.std.specs.Str.{bytes_eq}
 use Rattle.std.proofs.lemmas.Bool.Decides.{Decides-and}
 use Rattle.std.proofs.lemmas.Slice.Eq.{bytes_eq-Decides}
-use Rattle.board_text.specs.Numbers.{hex, decimal_at, hex_at}
+use Rattle.board_text.specs.Numbers.{hex, two_digits, decimal_at, hex_at, byte_at}
 use Rattle.std.specs.Str.Parse.{digits_value}
 use Rattle.std.proofs.lemmas.Str.Parse.{digits_value-take-le}
 use Rattle.std.proofs.lemmas.Int.Digits.{digits_value_more}
@@ -91,11 +91,11 @@ no_zero-first base text zero low high small first long e = let one = ap length (
 no_zero-first base text (suc n) low high small first long e = digits-first base low high (suc n) (omega arith) (let wide = pow-le-pow_left low 64 in omega arith) (sym (ap (λ (x : List ℕ). get_or x 0 0) e) ∙ first)
 
 -- What is read is what is spelled so.
-module _ (spell : ℕ → List ℕ) (value : List ℕ → ℕ) (reads : (n : ℕ) → n < 2 ^ 64 → value (spell n) ≡ n) where
+module _ (spell : ℕ → List ℕ) (value : List ℕ → ℕ) (limit : ℕ) (reads : (n : ℕ) → n < limit → value (spell n) ≡ n) where
   abbrev pub number_at : ℕ → List ℕ → Option ℕ
   number_at most text = cond (nat_le (value text) most && bytes_eq text (spell (value text))) (Some (value text)) None
 
-  number_at-spelled : (most n : ℕ) → most < 2 ^ 64 → n ≤ most → number_at most (spell n) ≡ Some n
+  number_at-spelled : (most n : ℕ) → most < limit → n ≤ most → number_at most (spell n) ≡ Some n
   number_at-spelled most n small fits =
       let v = reads n (omega arith) in
       rw (v, le-leb n most fits, (bytes_eq-Decides (spell n) (spell n)).1 refl) refl
@@ -110,7 +110,7 @@ module _ (spell : ℕ → List ℕ) (value : List ℕ → ℕ) (reads : (n : ℕ
       go true is e = let h = (Decides-and _ _ (leb-true v most, le-leb v most) (bytes_eq-Decides text (spell v))).0 is in let same : v ≡ n = cc in (rw (← same) h.0, h.1 ∙ ap spell same)
       go false is e = cc
 
-  number_at-answer : (most : ℕ) (text : List ℕ) (r : Option ℕ) → most < 2 ^ 64 → IfSome r (λ n. (n ≤ most) × (text ≡ spell n)) → IfNone r ((n : ℕ) → n ≤ most → text ≡ spell n → ⊥) → r ≡ number_at most text
+  number_at-answer : (most : ℕ) (text : List ℕ) (r : Option ℕ) → most < limit → IfSome r (λ n. (n ≤ most) × (text ≡ spell n)) → IfNone r ((n : ℕ) → n ≤ most → text ≡ spell n → ⊥) → r ≡ number_at most text
   number_at-answer most text (Some n) small found none = rw found.1 (sym (number_at-spelled most n small found.0))
   number_at-answer most text None small found none = go (nat_le v most && bytes_eq text (spell v)) refl
     where
@@ -128,23 +128,23 @@ hex-value : (n : ℕ) → n < 2 ^ 64 → digits_value 16 (hex n) ≡ n
 hex-value n small = digits-value 16 (omega arith) (omega arith) n (omega arith)
 
 pub decimal_at-answer : (most : ℕ) (text : List ℕ) (r : Option ℕ) → most < 2 ^ 64 → IfSome r (λ n. (n ≤ most) × (text ≡ decimal n)) → IfNone r ((n : ℕ) → n ≤ most → text ≡ decimal n → ⊥) → r ≡ decimal_at most text
-decimal_at-answer = number_at-answer decimal (digits_value 10) decimal-value
+decimal_at-answer = number_at-answer decimal (digits_value 10) (2 ^ 64) decimal-value
 
 pub hex_at-answer : (most : ℕ) (text : List ℕ) (r : Option ℕ) → most < 2 ^ 64 → IfSome r (λ n. (n ≤ most) × (text ≡ hex n)) → IfNone r ((n : ℕ) → n ≤ most → text ≡ hex n → ⊥) → r ≡ hex_at most text
-hex_at-answer = number_at-answer hex (digits_value 16) hex-value
+hex_at-answer = number_at-answer hex (digits_value 16) (2 ^ 64) hex-value
 
 -- a number has one text, and a text is that of one number
 pub decimal_at-spelled : (most n : ℕ) → most < 2 ^ 64 → n ≤ most → decimal_at most (decimal n) ≡ Some n
-decimal_at-spelled = number_at-spelled decimal (digits_value 10) decimal-value
+decimal_at-spelled = number_at-spelled decimal (digits_value 10) (2 ^ 64) decimal-value
 
 pub hex_at-spelled : (most n : ℕ) → most < 2 ^ 64 → n ≤ most → hex_at most (hex n) ≡ Some n
-hex_at-spelled = number_at-spelled hex (digits_value 16) hex-value
+hex_at-spelled = number_at-spelled hex (digits_value 16) (2 ^ 64) hex-value
 
 pub decimal_at-only : (most : ℕ) (text : List ℕ) (n : ℕ) → decimal_at most text ≡ Some n → (n ≤ most) × (text ≡ decimal n)
-decimal_at-only = number_at-only decimal (digits_value 10) decimal-value
+decimal_at-only = number_at-only decimal (digits_value 10) (2 ^ 64) decimal-value
 
 pub hex_at-only : (most : ℕ) (text : List ℕ) (n : ℕ) → hex_at most text ≡ Some n → (n ≤ most) × (text ≡ hex n)
-hex_at-only = number_at-only hex (digits_value 16) hex-value
+hex_at-only = number_at-only hex (digits_value 16) (2 ^ 64) hex-value
 
 pub decimal-injective : (m n : ℕ) → m < 2 ^ 64 → n < 2 ^ 64 → decimal m ≡ decimal n → m ≡ n
 decimal-injective m n h k e = sym (decimal-value m h) ∙ ap (digits_value 10) e ∙ decimal-value n k
@@ -159,3 +159,19 @@ drop-set-cons [] (suc i) v g h k e = absurd (omega arith)
 drop-set-cons (x ∷ xs) zero v g h k e = absurd (omega arith)
 drop-set-cons (x ∷ xs) (suc zero) v g h k e = ap (λ (y : ℕ). y ∷ xs) e
 drop-set-cons (x ∷ xs) (suc (suc i)) v g h k e = simp unary_clauses (simp unary_clauses at (drop-set-cons xs (suc i) v g (omega arith) (omega arith) e))
+
+byte-value : (b : ℕ) → b < 256 → digits_value 16 (two_digits b) ≡ b
+byte-value b h =
+    let high = digit_value-glyph 16 (omega arith) (omega arith) (b / 16) (omega arith) in
+    let low = digit_value-glyph 16 (omega arith) (omega arith) (b % 16) (omega arith) in
+    omega (arith, high, low)
+
+pub byte_at-answer : (text : List ℕ) (r : Option ℕ) → IfSome r (λ b. (b < 256) × (text ≡ two_digits b)) → IfNone r ((b : ℕ) → b < 256 → text ≡ two_digits b → ⊥) → r ≡ byte_at text
+byte_at-answer text None found none = number_at-answer two_digits (digits_value 16) 256 byte-value 255 text None (omega arith) tt (λ b few e. none b (omega arith) e)
+byte_at-answer text (Some b) found none = number_at-answer two_digits (digits_value 16) 256 byte-value 255 text (Some b) (omega arith) (let small = found.0 in omega arith, found.1) tt
+
+pub byte_at-spelled : (b : ℕ) → b < 256 → byte_at (two_digits b) ≡ Some b
+byte_at-spelled b h = number_at-spelled two_digits (digits_value 16) 256 byte-value 255 b (omega arith) (omega arith)
+
+pub byte_at-only : (text : List ℕ) (b : ℕ) → byte_at text ≡ Some b → (b < 256) × (text ≡ two_digits b)
+byte_at-only text b e = let h = number_at-only two_digits (digits_value 16) 256 byte-value 255 text b e in let few = h.0 in (omega arith, h.1)

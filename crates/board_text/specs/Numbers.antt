@@ -24,6 +24,10 @@ decimal_at most text = let n = digits_value 10 text in if nat_le n most && bytes
 abbrev pub hex_at : ℕ → List ℕ → Option ℕ
 hex_at most text = let n = digits_value 16 text in if nat_le n most && bytes_eq text (hex n) then Some n else None
 
+-- the byte that is written so, in two digits
+abbrev pub byte_at : List ℕ → Option ℕ
+byte_at text = let b = digits_value 16 text in if nat_le b 255 && bytes_eq text (two_digits b) then Some b else None
+
 abbrev pub IsByte : ℕ → Type 0
 IsByte b = b < 256
 

@@ -1,7 +1,7 @@
 // Bytes in two hexadecimal digits each.
 ghost use Rattle.std.specs.Prelude.{◌≡◌, ℕ, List, ◌<◌, ◌≤◌, ◌++◌, length, IfSome, IfNone, OnOk};
 ghost use Rattle.std.specs.Bool.{MatchBool};
-ghost use Rattle.board_text.specs.Numbers.{spelled, two_digits, AreBytes};
+ghost use Rattle.board_text.specs.Numbers.{spelled, two_digits, byte_at, AreBytes};
 
 use crate::numbers::{digit_of, glyph_of};
 use arrayvec::ArrayVec;
@@ -11,6 +11,7 @@ use std::alloc::AllocError;
 pub fn byte_of(text: &[u8]) -> Option<u8>
     ensures found { IfSome result (λ b. text.now ≡ two_digits b) }
     ensures none { IfNone result ((b : ℕ) → b < 256 → text.now ≡ two_digits b → ⊥) }
+    ensures read { result ≡ byte_at text.now }
 {
     let [high, low] = text else {
         return None;
