@@ -1,0 +1,4 @@
+pub mod PrintLemmas
+pub mod ReadLemmas
+pub mod ScriptLemmas
+pub mod StreamLemmas

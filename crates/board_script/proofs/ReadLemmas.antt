@@ -1,0 +1,184 @@
+-- What is read of a line is what it means.
+use Rattle.std.proofs.Common.{◌≡◌, ◌↔◌, ℕ, ◌-◌, ◌<◌, ◌^◌, List, [], ◌∷◌, Option, Some, None, refl, sym, ap, ◌∙◌, cond, arith, Bool, true, false, nat_le, leb-true, le-leb, decimal, codes}
+use Rattle.std.specs.Bool.{IsTrue}
+use Rattle.std.specs.Option.{option_map, option_and_then}
+use Rattle.std.specs.Str.{bytes_eq}
+use Rattle.std.proofs.lemmas.Slice.Eq.{bytes_eq-Decides}
+use Rattle.std.proofs.lemmas.List.Splits.{join_with_byte-slice_split}
+use Rattle.std.proofs.lemmas.Bool.Decides.{Decides-and, Decides-eqb}
+use Rattle.board_text.specs.Numbers.{hex, two_digits, byte_at}
+use Rattle.board_text.specs.Fields.{fields_of, words}
+use Rattle.board_text.proofs.NumberLemmas.{decimal_at-spelled, decimal_at-only, hex_at-spelled, hex_at-only, byte_at-spelled, byte_at-only}
+use Rattle.synic_board.specs.State.{AreSizes}
+use Rattle.synic_board.specs.declared.event.Event.{Event}
+use Rattle.synic_board.specs.declared.event.Event.TheVariants.{Write, Read, Assert, Take}
+use Rattle.board_script.specs.Events.{event_fields, IsVector, IsEvent}
+use Rattle.board_script.specs.Items.{Item, Opening, Performs, Summary, item_fields, IsItem, Means}
+use Rattle.board_script.specs.Reading.{Fields, take_then, ended, small_at, ticket_at, register_at, value_at, from_16, vector_at, write_say, read_say, assert_say, take_say, opening_say, event_say, item_say, item_at}
+use Rattle.board_script.specs.Script.{are_sizes}
+
+-- What was read tells what stood there.
+then-some : {A : Type 0} (read : List ℕ → Option ℕ) (next : ℕ → Fields → Option A) (fields : Fields) (a : A) (P : Type 0) →
+    ((field : List ℕ) (n : ℕ) (rest : Fields) → fields ≡ field ∷ rest → read field ≡ Some n → next n rest ≡ Some a → P) → take_then read next fields ≡ Some a → P
+then-some read next [] a P k e = cc
+then-some read next (field ∷ rest) a P k e = go (read field) refl e
+  where
+    go : (r : Option ℕ) → read field ≡ r → option_and_then (λ (p : ℕ × Fields). next p.0 p.1) (option_map (λ (n : ℕ). (n, rest)) r) ≡ Some a → P
+    go None is e = cc
+    go (Some n) is e = k field n rest refl is e
+
+ended-some : {A : Type 0} (a : A) (fields : Fields) (b : A) (P : Type 0) → (fields ≡ [] → a ≡ b → P) → ended a fields ≡ Some b → P
+ended-some a [] b P k e = k refl cc
+ended-some a (field ∷ fields) b P k e = cc
+
+-- what is read only where the test says yes
+yes : {A : Type 0} (t : Bool) (x y : Option A) (a : A) (P : Type 0) → (t ≡ true → x ≡ Some a → P) → (y ≡ Some a → P) → cond t x y ≡ Some a → P
+yes true x y a P h k e = h refl e
+yes false x y a P h k e = k e
+
+mapped : {A B : Type 0} (f : A → B) (x : Option A) (b : B) (P : Type 0) → ((a : A) → x ≡ Some a → f a ≡ b → P) → option_map f x ≡ Some b → P
+mapped f None b P h e = cc
+mapped f (Some a) b P h e = h a refl cc
+
+small-only : (text : List ℕ) (n : ℕ) → small_at text ≡ Some n → (n < 256) × (text ≡ decimal n)
+small-only text n e = let h = decimal_at-only 255 text n e in let few = h.0 in (omega arith, h.1)
+
+ticket-only : (text : List ℕ) (n : ℕ) → ticket_at text ≡ Some n → (n < 2 ^ 64) × (text ≡ decimal n)
+ticket-only text n e = let h = decimal_at-only (2 ^ 64 - 1) text n e in let few = h.0 in (omega arith, h.1)
+
+register-only : (text : List ℕ) (n : ℕ) → register_at text ≡ Some n → (n < 2 ^ 32) × (text ≡ hex n)
+register-only text n e = let h = hex_at-only (2 ^ 32 - 1) text n e in let few = h.0 in (omega arith, h.1)
+
+value-only : (text : List ℕ) (n : ℕ) → value_at text ≡ Some n → (n < 2 ^ 64) × (text ≡ hex n)
+value-only text n e = let h = hex_at-only (2 ^ 64 - 1) text n e in let few = h.0 in (omega arith, h.1)
+
+vector-only : (text : List ℕ) (v : ℕ) → vector_at text ≡ Some v → IsVector v × (text ≡ two_digits v)
+vector-only text v e = go (byte_at text) refl e
+  where
+    from : (b : ℕ) (t : Bool) → nat_le 16 b ≡ t → byte_at text ≡ Some b → cond t (Some b) None ≡ Some v → IsVector v × (text ≡ two_digits v)
+    from b true test is e = let same : b ≡ v = cc in let h = byte_at-only text b is in rw (← same) ((leb-true 16 b test, h.0), h.1)
+    from b false test is e = cc
+
+    go : (r : Option ℕ) → byte_at text ≡ r → option_and_then from_16 r ≡ Some v → IsVector v × (text ≡ two_digits v)
+    go None is e = cc
+    go (Some b) is e = from b (nat_le 16 b) refl is e
+
+pub record Says (fields : Fields) (event : Event) : Type 0 where
+  pub same : fields ≡ event_fields event
+  pub fits : IsEvent event
+
+write-says : (fs : Fields) (event : Event) → write_say fs ≡ Some event → Says (codes "write" ∷ fs) event
+write-says fs event =
+    then-some small_at _ fs event (Says (codes "write" ∷ fs) event) (λ a vp more at read.
+    then-some register_at _ more event (Says (codes "write" ∷ fs) event) (λ b register more' at' read'.
+    then-some value_at _ more' event (Says (codes "write" ∷ fs) event) (λ c value more'' at'' read''.
+    ended-some (Write vp register value) more'' event (Says (codes "write" ∷ fs) event) (λ none is.
+    let h = small-only a vp read in let h' = register-only b register read' in let h'' = value-only c value read'' in
+    rw (at, at', at'', none, h.1, h'.1, h''.1, ← is) (record { same = refl; fits = (h.0, h'.0, h''.0) })))))
+
+read-says : (fs : Fields) (event : Event) → read_say fs ≡ Some event → Says (codes "read" ∷ fs) event
+read-says fs event =
+    then-some small_at _ fs event (Says (codes "read" ∷ fs) event) (λ a vp more at read.
+    then-some register_at _ more event (Says (codes "read" ∷ fs) event) (λ b register more' at' read'.
+    ended-some (Read vp register) more' event (Says (codes "read" ∷ fs) event) (λ none is.
+    let h = small-only a vp read in let h' = register-only b register read' in
+    rw (at, at', none, h.1, h'.1, ← is) (record { same = refl; fits = (h.0, h'.0) }))))
+
+assert-says : (fs : Fields) (event : Event) → assert_say fs ≡ Some event → Says (codes "assert" ∷ fs) event
+assert-says fs event =
+    then-some small_at _ fs event (Says (codes "assert" ∷ fs) event) (λ a vp more at read.
+    then-some vector_at _ more event (Says (codes "assert" ∷ fs) event) (λ b vector more' at' read'.
+    ended-some (Assert vp vector) more' event (Says (codes "assert" ∷ fs) event) (λ none is.
+    let h = small-only a vp read in let h' = vector-only b vector read' in
+    rw (at, at', none, h.1, h'.1, ← is) (record { same = refl; fits = (h.0, h'.0) }))))
+
+take-says : (fs : Fields) (event : Event) → take_say fs ≡ Some event → Says (codes "take" ∷ fs) event
+take-says fs event =
+    then-some small_at _ fs event (Says (codes "take" ∷ fs) event) (λ a vp more at read.
+    ended-some (Take vp) more event (Says (codes "take" ∷ fs) event) (λ none is.
+    let h = small-only a vp read in
+    rw (at, none, h.1, ← is) (record { same = refl; fits = h.0 })))
+
+-- the word is this one
+worded : (P : List ℕ → Type 0) (word key : List ℕ) → bytes_eq word key ≡ true → P key → P word
+worded P word key is h = rw ((bytes_eq-Decides word key).0 is) h
+
+pub event-says : (fs : Fields) (event : Event) → event_say fs ≡ Some event → Says fs event
+event-says [] event e = cc
+event-says (word ∷ fs) event e =
+    yes (bytes_eq word (codes "write")) (write_say fs) _ event (Says (word ∷ fs) event) (λ is e. worded (λ w. Says (w ∷ fs) event) word (codes "write") is (write-says fs event e))
+    (yes (bytes_eq word (codes "read")) (read_say fs) _ event (Says (word ∷ fs) event) (λ is e. worded (λ w. Says (w ∷ fs) event) word (codes "read") is (read-says fs event e))
+    (yes (bytes_eq word (codes "assert")) (assert_say fs) _ event (Says (word ∷ fs) event) (λ is e. worded (λ w. Says (w ∷ fs) event) word (codes "assert") is (assert-says fs event e))
+    (yes (bytes_eq word (codes "take")) (take_say fs) None event (Says (word ∷ fs) event) (λ is e. worded (λ w. Says (w ∷ fs) event) word (codes "take") is (take-says fs event e)) (λ e. cc)))) e
+
+-- What is written so is read so.
+small-spelled : (n : ℕ) → n < 256 → small_at (decimal n) ≡ Some n
+small-spelled n h = decimal_at-spelled 255 n (omega arith) (omega arith)
+
+ticket-spelled : (n : ℕ) → n < 2 ^ 64 → ticket_at (decimal n) ≡ Some n
+ticket-spelled n h = decimal_at-spelled (2 ^ 64 - 1) n (omega arith) (omega arith)
+
+register-spelled : (n : ℕ) → n < 2 ^ 32 → register_at (hex n) ≡ Some n
+register-spelled n h = hex_at-spelled (2 ^ 32 - 1) n (omega arith) (omega arith)
+
+value-spelled : (n : ℕ) → n < 2 ^ 64 → value_at (hex n) ≡ Some n
+value-spelled n h = hex_at-spelled (2 ^ 64 - 1) n (omega arith) (omega arith)
+
+vector-spelled : (v : ℕ) → IsVector v → vector_at (two_digits v) ≡ Some v
+vector-spelled v h = ap (option_and_then from_16) (byte_at-spelled v h.1) ∙ ap (λ (t : Bool). cond t (Some v) None) (le-leb 16 v h.0)
+
+then-read : {A : Type 0} (read : List ℕ → Option ℕ) (next : ℕ → Fields → Option A) (field : List ℕ) (n : ℕ) (rest : Fields) → read field ≡ Some n → take_then read next (field ∷ rest) ≡ next n rest
+then-read read next field n rest e = ap (λ (r : Option ℕ). option_and_then (λ (p : ℕ × Fields). next p.0 p.1) (option_map (λ (m : ℕ). (m, rest)) r)) e
+
+pub says-event : (event : Event) → IsEvent event → event_say (event_fields event) ≡ Some event
+says-event (Write vp register value) h = then-read small_at _ (decimal vp) vp _ (small-spelled vp h.0) ∙ then-read register_at _ (hex register) register _ (register-spelled register h.1) ∙ then-read value_at _ (hex value) value [] (value-spelled value h.2)
+says-event (Read vp register) h = then-read small_at _ (decimal vp) vp _ (small-spelled vp h.0) ∙ then-read register_at _ (hex register) register [] (register-spelled register h.1)
+says-event (Assert vp vector) h = then-read small_at _ (decimal vp) vp _ (small-spelled vp h.0) ∙ then-read vector_at _ (two_digits vector) vector [] (vector-spelled vector h.1)
+says-event (Take vp) h = then-read small_at _ (decimal vp) vp [] (small-spelled vp h)
+
+pub record SaysItem (fields : Fields) (item : Item) : Type 0 where
+  pub same : fields ≡ item_fields item
+  pub fits : IsItem item
+
+opening-says : (fs : Fields) (p : ℕ × ℕ × ℕ) → opening_say fs ≡ Some p → SaysItem (codes "board" ∷ fs) (Opening p.0 p.1 p.2)
+opening-says fs p =
+    then-some small_at _ fs p (SaysItem (codes "board" ∷ fs) (Opening p.0 p.1 p.2)) (λ a n more at read.
+    then-some small_at _ more p (SaysItem (codes "board" ∷ fs) (Opening p.0 p.1 p.2)) (λ b g more' at' read'.
+    then-some ticket_at _ more' p (SaysItem (codes "board" ∷ fs) (Opening p.0 p.1 p.2)) (λ c f more'' at'' read''.
+    ended-some (n, g, f) more'' p (SaysItem (codes "board" ∷ fs) (Opening p.0 p.1 p.2)) (λ none is.
+    let h = small-only a n read in let h' = small-only b g read' in let h'' = ticket-only c f read'' in
+    rw (at, at', at'', none, h.1, h'.1, h''.1, ← is) (record { same = refl; fits = (h.0, h'.0, h''.0) })))))
+
+item-says : (fs : Fields) (item : Item) → item_say fs ≡ Some item → SaysItem fs item
+item-says [] item e = cc
+item-says (word ∷ fs) item e =
+    yes (bytes_eq word (codes "board")) _ _ item (SaysItem (word ∷ fs) item) (λ is e. worded (λ w. SaysItem (w ∷ fs) item) word (codes "board") is (mapped (λ (p : ℕ × ℕ × ℕ). Opening p.0 p.1 p.2) (opening_say fs) item (SaysItem (codes "board" ∷ fs) item) (λ p said same. rw (← same) (opening-says fs p said)) e))
+    (yes (bytes_eq word (codes "summary")) (ended Summary fs) _ item (SaysItem (word ∷ fs) item) (λ is e. worded (λ w. SaysItem (w ∷ fs) item) word (codes "summary") is (ended-some Summary fs item (SaysItem (codes "summary" ∷ fs) item) (λ none same. rw (none, ← same) (record { same = refl; fits = tt })) e))
+    (λ e. mapped Performs (event_say (word ∷ fs)) item (SaysItem (word ∷ fs) item) (λ event said same. let h = event-says (word ∷ fs) event said in rw (← same) (record { same = h.same; fits = h.fits })) e)) e
+
+says-item : (item : Item) → IsItem item → item_say (item_fields item) ≡ Some item
+says-item (Opening n g f) h = ap (option_map (λ (p : ℕ × ℕ × ℕ). Opening p.0 p.1 p.2)) (then-read small_at _ (decimal n) n _ (small-spelled n h.0) ∙ then-read small_at _ (decimal g) g _ (small-spelled g h.1) ∙ then-read ticket_at _ (decimal f) f [] (ticket-spelled f h.2))
+says-item (Performs (Write vp register value)) h = ap (option_map Performs) (says-event (Write vp register value) h)
+says-item (Performs (Read vp register)) h = ap (option_map Performs) (says-event (Read vp register) h)
+says-item (Performs (Assert vp vector)) h = ap (option_map Performs) (says-event (Assert vp vector) h)
+says-item (Performs (Take vp)) h = ap (option_map Performs) (says-event (Take vp) h)
+says-item Summary h = refl
+
+pub reading-means : (line : List ℕ) (item : Item) → (item_at line ≡ Some item) ↔ Means line item
+unfolding item_at
+reading-means line item = (
+  λ e. let h = item-says (fields_of line) item e in record { fields = h.same; fits = h.fits },
+  λ h. ap item_say h.fields ∙ says-item item h.fits,
+)
+
+pub means-one_line : (a b : List ℕ) (item : Item) → Means a item → Means b item → a ≡ b
+means-one_line a b item h k = sym (join_with_byte-slice_split 32 a) ∙ ap words (h.fields ∙ sym k.fields) ∙ join_with_byte-slice_split 32 b
+
+pub means-one_item : (line : List ℕ) (a b : Item) → Means line a → Means line b → a ≡ b
+means-one_item line a b h k = let is = (reading-means line a).1 h in let is' = (reading-means line b).1 k in cc
+
+pub sizes-are : (processors pages : ℕ) → IsTrue (are_sizes processors pages) ↔ AreSizes processors pages
+sizes-are processors pages = (
+  λ e. let h = (Decides-and _ _ (Decides-eqb processors 1) (Decides-and _ _ (leb-true 1 pages, le-leb 1 pages) (leb-true pages 64, le-leb pages 64))).0 e in record { one_processor = h.0; some_pages = h.1.0; few_pages = h.1.1 },
+  λ h. (Decides-and _ _ (Decides-eqb processors 1) (Decides-and _ _ (leb-true 1 pages, le-leb 1 pages) (leb-true pages 64, le-leb pages 64))).1 (h.one_processor, (h.some_pages, h.few_pages)),
+)

@@ -1,0 +1,65 @@
+-- What is written for one line more.
+use Rattle.std.proofs.Common.{◌≡◌, ◌≤◌, le-ltb, ap, ℕ, ◌+◌, List, [], ◌∷◌, ◌++◌, length, refl, cond, Bool, true, false, not, ◌||◌, nat_lt, Option, None, Some, is_some}
+use Rattle.std.specs.List.{cons_option}
+use Rattle.board_script.specs.Items.{Item, Opening, Performs, Summary}
+use Rattle.board_script.specs.Reading.{Fields, item_say, item_at}
+use Rattle.board_script.specs.Script.{item_in, is_skipped, item_fault, line_fault, opens, good_items, first_fault}
+use Rattle.board_script.specs.Output.{Machine, answers, output_from}
+use Rattle.board_text.specs.Fields.{fields_of}
+use Rattle.board_script.specs.Streams.{after_maybe, answer_maybe, AnswersItem, Answers}
+use Rattle.board_script.specs.declared.respond.Answer.{Answer}
+use Rattle.board_script.specs.declared.respond.Answer.TheVariants as outcomes
+use Rattle.board_script.specs.declared.stream.ScriptFault.{ScriptFault}
+use Rattle.board_script.specs.declared.stream.ScriptFault.TheVariants as faults
+
+opens_by : (long skip : Bool) (machine : Machine) (item : Option Item) → cond long (Some faults.Long) (cond skip None (item_fault (is_some machine) item)) ≡ None → is_some (after_maybe machine (cond skip None item)) ≡ (is_some machine || not skip)
+opens_by true skip machine item e = cc
+opens_by false true None item e = refl
+opens_by false true (Some s) item e = refl
+opens_by false false None None e = cc
+opens_by false false None (Some (Opening n g f)) e = refl
+opens_by false false None (Some (Performs event)) e = cc
+opens_by false false None (Some Summary) e = cc
+opens_by false false (Some s) None e = cc
+opens_by false false (Some s) (Some (Opening n g f)) e = cc
+opens_by false false (Some s) (Some (Performs event)) e = refl
+opens_by false false (Some s) (Some Summary) e = refl
+
+opens-after : (machine : Machine) (line : List ℕ) → line_fault (is_some machine) line ≡ None → is_some (after_maybe machine (item_in line)) ≡ opens (is_some machine) line
+opens-after machine line e = opens_by (nat_lt 640 (length line)) (is_skipped line) machine (item_at line) e
+
+pub output_from-line : (machine : Machine) (line : List ℕ) (lines : List (List ℕ)) → line_fault (is_some machine) line ≡ None → output_from machine (line ∷ lines) ≡ answer_maybe machine (item_in line) ++ output_from (after_maybe machine (item_in line)) lines
+output_from-line machine line lines e = rw (opens-after machine line e, e) (by_item (item_in line))
+  where
+    rest : List Item
+    rest = good_items (opens (is_some machine) line) lines
+
+    by_item : (item : Option Item) → answers machine (cons_option item rest) ≡ answer_maybe machine item ++ answers (after_maybe machine item) rest
+    by_item None = refl
+    by_item (Some item) = refl
+
+pub first_fault-line : (k : ℕ) (machine : Machine) (line : List ℕ) (lines : List (List ℕ)) (rest : List ℕ) → line_fault (is_some machine) line ≡ None → first_fault k (is_some machine) (line ∷ lines) rest ≡ first_fault (k + 1) (is_some (after_maybe machine (item_in line))) lines rest
+first_fault-line k machine line lines rest e = rw (opens-after machine line e, e) refl
+
+pub output_from-bad : (machine : Machine) (line : List ℕ) (lines : List (List ℕ)) (fault : ScriptFault) → line_fault (is_some machine) line ≡ Some fault → output_from machine (line ∷ lines) ≡ []
+output_from-bad machine line lines fault e = rw e refl
+
+pub first_fault-bad : (k : ℕ) (opened : Bool) (line : List ℕ) (lines : List (List ℕ)) (rest : List ℕ) (fault : ScriptFault) → line_fault opened line ≡ Some fault → first_fault k opened (line ∷ lines) rest ≡ Some (k, fault)
+first_fault-bad k opened line lines rest fault e = rw e refl
+
+item-at : (line word : List ℕ) (rest : Fields) → fields_of line ≡ word ∷ rest → item_at line ≡ item_say (word ∷ rest)
+unfolding item_at
+item-at line word rest e = ap item_say e
+
+judged : (opened : Bool) (line : List ℕ) (item : Option Item) → length line ≤ 640 → is_skipped line ≡ false → item_at line ≡ item → (line_fault opened line ≡ item_fault opened item) × (item_in line ≡ item)
+judged opened line item short not is = rw (le-ltb 640 (length line) short, not, is) (refl, refl)
+
+-- what is answered to the item is answered to the line
+pub answers-line : (result : Answer) (line word : List ℕ) (rest : Fields) (old new : Machine) (out : List ℕ) → length line ≤ 640 → is_skipped line ≡ false → fields_of line ≡ word ∷ rest → AnswersItem result (item_say (word ∷ rest)) old new out → Answers result line old new out
+answers-line outcomes.Good line word rest old new out short not fields h =
+    let j = judged (is_some old) line (item_say (word ∷ rest)) short not (item-at line word rest fields) in
+    rw (j.0, j.1) h
+answers-line (outcomes.Wrong fault) line word rest old new out short not fields h =
+    let j = judged (is_some old) line (item_say (word ∷ rest)) short not (item-at line word rest fields) in
+    rw j.0 h
+answers-line outcomes.Memory line word rest old new out short not fields h = tt

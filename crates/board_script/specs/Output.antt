@@ -1,0 +1,68 @@
+-- What is written for a script: what the machine answers to its good lines, and then its first fault.
+use Rattle.std.specs.Prelude.{ℕ, List, [], ◌∷◌, ◌++◌, map, Option, None, Some, is_some, false, codes, decimal}
+use Rattle.board_text.specs.Fields.{line_of}
+use Rattle.board_text.specs.Lines.{lines_of, rest_of}
+use Rattle.synic_board.specs.State.{State, opened}
+use Rattle.synic_board.specs.Scratch.{scratch}
+use Rattle.synic_board.specs.Step.{Outcome, step}
+use Rattle.board_script.specs.Items.{Item, Opening, Performs, Summary}
+use Rattle.board_script.specs.Printing.{text_of, reply_fields, notice_fields, summary_lines}
+use Rattle.board_script.specs.Script.{first_fault, good_items}
+use Rattle.board_script.specs.declared.stream.ScriptFault.{ScriptFault}
+use Rattle.board_script.specs.declared.stream.ScriptFault.TheVariants as faults
+
+-- the machine, once it is open
+abbrev pub Machine : Type 0
+Machine = Option State
+
+abbrev pub after : Machine → Item → Machine
+after machine (Opening processors pages ticket) = Some (opened processors pages ticket)
+after None (Performs event) = None
+after (Some s) (Performs event) = Some (step s event).0
+after machine Summary = machine
+
+-- the reply, and then a line for each notice
+abbrev pub told : Outcome → List ℕ
+told outcome = text_of (reply_fields outcome.1 ∷ map notice_fields outcome.2)
+
+abbrev pub answer : Machine → Item → List ℕ
+answer machine (Opening processors pages ticket) = []
+answer None (Performs event) = []
+answer (Some s) (Performs event) = told (step s event)
+answer None Summary = []
+answer (Some s) Summary = text_of (summary_lines (scratch s))
+
+-- what the machine answers to a list of items
+abbrev pub answers : Machine → List Item → List ℕ
+answers machine [] = []
+answers machine (item ∷ items) = answer machine item ++ answers (after machine item) items
+
+abbrev pub fault_word : ScriptFault → List ℕ
+fault_word faults.Long = codes "long"
+fault_word faults.Cut = codes "cut"
+fault_word faults.First = codes "first"
+fault_word faults.Size = codes "size"
+fault_word faults.Form = codes "form"
+
+abbrev pub fault_line : ℕ × ScriptFault → List ℕ
+fault_line fault = line_of (codes "!" ∷ decimal fault.0 ∷ fault_word fault.1 ∷ [])
+
+abbrev pub fault_text : Option (ℕ × ScriptFault) → List ℕ
+fault_text None = []
+fault_text (Some fault) = fault_line fault
+
+-- what is written for whole lines, from a machine on
+abbrev pub output_from : Machine → List (List ℕ) → List ℕ
+output_from machine lines = answers machine (good_items (is_some machine) lines)
+
+-- what is written before the fault's line
+unfoldable pub output_of : List ℕ → List ℕ
+output_of input = output_from None (lines_of input)
+
+-- the first fault of an input
+unfoldable pub fault_of : List ℕ → Option (ℕ × ScriptFault)
+fault_of input = first_fault 1 false (lines_of input) (rest_of input)
+
+-- all that is written
+abbrev pub text : List ℕ → List ℕ
+text input = output_of input ++ fault_text (fault_of input)

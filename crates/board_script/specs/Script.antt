@@ -1,0 +1,68 @@
+-- What is wrong with a script, and where first.
+use Rattle.std.specs.Prelude.{ℕ, ◌+◌, List, [], ◌∷◌, ◌==◌, ◌&&◌, ◌||◌, not, Bool, true, false, if◌then◌else◌, nat_lt, nat_le, length, Option, None, Some, is_some}
+use Rattle.std.specs.List.{filter_map}
+use Rattle.board_script.specs.Items.{Item, Opening, Performs, Summary}
+use Rattle.board_script.specs.Reading.{item_at}
+use Rattle.board_script.specs.declared.stream.ScriptFault.{ScriptFault}
+use Rattle.board_script.specs.declared.stream.ScriptFault.TheVariants as faults
+
+-- an empty line and a comment are skipped
+abbrev pub is_skipped : List ℕ → Bool
+is_skipped [] = true
+is_skipped (b ∷ bytes) = b == 35
+
+-- what a line asks for, if it is not skipped
+abbrev pub item_in : List ℕ → Option Item
+item_in line = if is_skipped line then None else item_at line
+
+-- the sizes that a board may be opened with
+abbrev pub are_sizes : ℕ → ℕ → Bool
+are_sizes processors pages = (processors == 1) && (nat_le 1 pages && nat_le pages 64)
+
+-- The first item opens the board, within the limits, and no other does.
+abbrev pub item_fault : Bool → Option Item → Option ScriptFault
+item_fault false (Some (Opening processors pages ticket)) = if are_sizes processors pages then None else Some faults.Size
+item_fault false (Some (Performs event)) = Some faults.First
+item_fault false (Some Summary) = Some faults.First
+item_fault false None = Some faults.First
+item_fault true (Some (Opening processors pages ticket)) = Some faults.Form
+item_fault true (Some (Performs event)) = None
+item_fault true (Some Summary) = None
+item_fault true None = Some faults.Form
+
+-- what is wrong with a whole line, before the board is open or after
+abbrev pub line_fault : Bool → List ℕ → Option ScriptFault
+line_fault opened line =
+    if nat_lt 640 (length line) then Some faults.Long
+    else if is_skipped line then None
+    else item_fault opened (item_at line)
+
+-- what is wrong with the bytes behind the last line feed
+abbrev pub rest_fault : Bool → List ℕ → Option ScriptFault
+rest_fault opened rest =
+    if nat_lt 640 (length rest) then Some faults.Long
+    else if nat_lt 0 (length rest) then Some faults.Cut
+    else if opened then None
+    else Some faults.First
+
+-- the board is open after a good line
+abbrev pub opens : Bool → List ℕ → Bool
+opens opened line = opened || not (is_skipped line)
+
+abbrev pub at_line : ℕ → Option ScriptFault → Option (ℕ × ScriptFault) → Option (ℕ × ScriptFault)
+at_line k None later = later
+at_line k (Some fault) later = Some (k, fault)
+
+-- the first fault and its line, the lines counted from k
+abbrev pub first_fault : ℕ → Bool → List (List ℕ) → List ℕ → Option (ℕ × ScriptFault)
+first_fault k opened [] rest = at_line k (rest_fault opened rest) None
+first_fault k opened (line ∷ lines) rest = at_line k (line_fault opened line) (first_fault (k + 1) (opens opened line) lines rest)
+
+-- the lines before the first fault
+abbrev pub good_lines : Bool → List (List ℕ) → List (List ℕ)
+good_lines opened [] = []
+good_lines opened (line ∷ lines) = if is_some (line_fault opened line) then [] else line ∷ good_lines (opens opened line) lines
+
+-- what the good lines ask for
+abbrev pub good_items : Bool → List (List ℕ) → List Item
+good_items opened lines = filter_map item_in (good_lines opened lines)

@@ -1,0 +1,62 @@
+-- What a replay reads and writes.
+use Rattle.std.specs.Prelude.{◌≡◌, ℕ, List, [], ◌++◌, Option, None, Some, IfSome, is_some}
+use Rattle.std.specs.Option.{option_map}
+use Rattle.std.specs.Io.KnownBytes.{Consumes, Appends}
+use Rattle.synic_board.specs.State.{Held}
+use Rattle.board_script.specs.Items.{Item}
+use Rattle.board_script.specs.Script.{item_in, item_fault, line_fault}
+use Rattle.board_script.specs.Output.{Machine, after, answer, output_of, fault_of, fault_text, text}
+use Rattle.board_script.specs.declared.stream.ScriptFault.{ScriptFault}
+use Rattle.board_script.specs.declared.stream.ReplayEnd.{ReplayEnd}
+use Rattle.board_script.specs.declared.stream.ReplayEnd.TheVariants.{Done, Script, Memory, Reading, Writing}
+use Rattle.board_script.specs.declared.respond.Answer.{Answer}
+use Rattle.board_script.specs.declared.respond.Answer.TheVariants as outcomes
+
+-- These bytes were read, and what was written begins what is written for them.
+pub record Begun (of : List ℕ → List ℕ) (r0 r1 w0 w1 : Option (List ℕ)) : Type 0 where
+  pub taken : List ℕ
+  pub sent : List ℕ
+  pub unsent : List ℕ
+  pub reads : Consumes r0 r1 taken
+  pub writes : Appends w0 w1 sent
+  pub begins : of taken ≡ sent ++ unsent
+
+-- from what a reader had and a writer held to what they have and hold at the end
+abbrev pub Replays : ReplayEnd → Option (List ℕ) → Option (List ℕ) → Option (List ℕ) → Option (List ℕ) → Type 0
+Replays Done r0 r1 w0 w1 = IfSome r0 (λ input. (fault_of input ≡ None) × Appends w0 w1 (text input))
+Replays (Script line fault) r0 r1 w0 w1 = IfSome r0 (λ input. (fault_of input ≡ Some (line, fault)) × Appends w0 w1 (text input))
+Replays Memory r0 r1 w0 w1 = Begun output_of r0 r1 w0 w1
+Replays Reading r0 r1 w0 w1 = Begun output_of r0 r1 w0 w1
+Replays Writing r0 r1 w0 w1 = Begun text r0 r1 w0 w1
+
+-- the fault's line was written, or a part of it
+abbrev pub Stops : ReplayEnd → ℕ → ScriptFault → Option (List ℕ) → Option (List ℕ) → Type 0
+Stops Done line fault w0 w1 = ⊥
+Stops (Script l f) line fault w0 w1 = (l ≡ line) × (f ≡ fault) × Appends w0 w1 (fault_text (Some (line, fault)))
+Stops Memory line fault w0 w1 = w1 ≡ w0
+Stops Reading line fault w0 w1 = ⊥
+Stops Writing line fault w0 w1 = (sent rest : List ℕ) × Appends w0 w1 sent × (fault_text (Some (line, fault)) ≡ sent ++ rest)
+
+-- the machine that a board is
+abbrev pub machine_of : Option Held → Machine
+machine_of board = option_map (λ h. h.state) board
+
+abbrev pub after_maybe : Machine → Option Item → Machine
+after_maybe machine None = machine
+after_maybe machine (Some item) = after machine item
+
+abbrev pub answer_maybe : Machine → Option Item → List ℕ
+answer_maybe machine None = []
+answer_maybe machine (Some item) = answer machine item
+
+-- an item was in its place and its answer is ready, or it has a fault
+abbrev pub AnswersItem : Answer → Option Item → Machine → Machine → List ℕ → Type 0
+AnswersItem outcomes.Good item old new out = (item_fault (is_some old) item ≡ None) × (new ≡ after_maybe old item) × (out ≡ answer_maybe old item)
+AnswersItem (outcomes.Wrong fault) item old new out = (item_fault (is_some old) item ≡ Some fault) × (out ≡ [])
+AnswersItem outcomes.Memory item old new out = Unit {0}
+
+-- the same of a line
+abbrev pub Answers : Answer → List ℕ → Machine → Machine → List ℕ → Type 0
+Answers outcomes.Good line old new out = (line_fault (is_some old) line ≡ None) × (new ≡ after_maybe old (item_in line)) × (out ≡ answer_maybe old (item_in line))
+Answers (outcomes.Wrong fault) line old new out = (line_fault (is_some old) line ≡ Some fault) × (out ≡ [])
+Answers outcomes.Memory line old new out = Unit {0}

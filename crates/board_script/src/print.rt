@@ -1,0 +1,32 @@
+// What is written.
+mod notice;
+mod reply;
+mod summary;
+
+ghost use Rattle.std.specs.Prelude.{◌≡◌, ◌++◌, Option, OnOk};
+ghost use Rattle.board_text.specs.Numbers.{two_digits};
+ghost use Rattle.board_script.specs.Printing.{vector_or_none};
+
+use board_terms::Vector;
+use board_text::put_byte;
+pub(crate) use notice::put_notices;
+pub(crate) use reply::put_reply;
+use std::alloc::AllocError;
+pub(crate) use summary::put_summary;
+
+/// Writes a text at the end of `out`.
+fn put(out: &mut Vec<u8>, text: &[u8]) -> Result<(), AllocError>
+    ensures { OnOk result (out.new.items ≡ out.old.items ++ text.now) }
+{
+    out.extend_from_slice(text)
+}
+
+/// Writes a vector, or that there is none, at the end of `out`.
+fn put_vector(out: &mut Vec<u8>, vector: Option<Vector>) -> Result<(), AllocError>
+    ensures { OnOk result (out.new.items ≡ out.old.items ++ vector_or_none vector) }
+{
+    match vector {
+        Some(vector) => put_byte(out, vector.number()),
+        None => put(out, b"none"),
+    }
+}

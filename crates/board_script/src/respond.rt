@@ -1,0 +1,138 @@
+// What a line asks of the board, and the answer.
+ghost use Rattle.std.specs.Prelude.{◌≡◌, ◌≤◌, [], ◌∷◌, ◌++◌, length, OnOk, None, Some};
+ghost use Rattle.synic_board.specs.Step.{step};
+ghost use Rattle.board_script.specs.Reading.{opening_say, item_say};
+ghost use Rattle.board_script.specs.Script.{is_skipped};
+ghost use Rattle.board_script.specs.Output.{told};
+ghost use Rattle.board_script.specs.Streams.{Answers, AnswersItem, machine_of};
+
+use crate::event::event_of;
+use crate::numbers::{small_of, ticket_of};
+use crate::print::{put_notices, put_reply, put_summary};
+use crate::stream::ScriptFault;
+use board_terms::{Notices, Ticket};
+use board_text::Fields;
+use std::alloc::{AllocError, Global};
+use synic_board::{Board, Event, OpenFault};
+
+/// What came of a line.
+#[derive(Clone, Copy)]
+pub(crate) enum Answer {
+    Good,
+    Wrong(ScriptFault),
+    Memory,
+}
+
+/// Judges a line, does what it asks of the board, and writes the answer into `out`.
+pub(crate) fn respond(
+    alloc: Global,
+    board: &mut Option<Board>,
+    line: &[u8],
+    notices: &mut Notices,
+    out: &mut Vec<u8>,
+) -> Answer
+    requires short { length line.now ≤ 640 }
+    requires empty { out.old.items ≡ [] }
+    ensures { Answers result line.now (machine_of board.old) (machine_of board.new) out.new.items }
+{
+    if skips(line) {
+        return Answer::Good;
+    }
+    let mut fields = Fields::new(line);
+    let Some(word) = fields.next() else {
+        return Answer::Wrong(ScriptFault::Form);
+    };
+    match board {
+        Some(board) => take_line(board, word, &mut fields, notices, out),
+        None => open(alloc, board, word, &mut fields),
+    }
+}
+
+/// Whether a line is empty or a comment.
+fn skips(line: &[u8]) -> bool
+    ensures { result ≡ is_skipped line.now }
+{
+    match line {
+        [] => true,
+        [first, ..] => *first == b'#',
+    }
+}
+
+/// Takes a board line.
+fn open(alloc: Global, board: &mut Option<Board>, word: &[u8], fields: &mut Fields<'_>) -> Answer
+    requires { board.old ≡ None }
+    ensures { AnswersItem result (item_say (word.now ∷ fields.old)) None (machine_of board.new) [] }
+{
+    if word != b"board".as_slice() {
+        return Answer::Wrong(ScriptFault::First);
+    }
+    let Some((processors, pages, ticket)) = opening_of(fields) else {
+        return Answer::Wrong(ScriptFault::First);
+    };
+    match Board::open(alloc, processors, pages, ticket) {
+        Ok(opened) => {
+            *board = Some(opened);
+            Answer::Good
+        }
+        Err(OpenFault::BadSize) => Answer::Wrong(ScriptFault::Size),
+        Err(OpenFault::Memory) => Answer::Memory,
+    }
+}
+
+/// The processors, the pages and the first ticket of a board line.
+fn opening_of(fields: &mut Fields<'_>) -> Option<(u8, u8, Ticket)>
+    ensures { result ≡ opening_say fields.old }
+{
+    let processors = small_of(fields)?;
+    let pages = small_of(fields)?;
+    let ticket = ticket_of(fields)?;
+    if !fields.is_empty() {
+        return None;
+    }
+    Some((processors, pages, ticket))
+}
+
+/// Takes an event's line or the line `summary`.
+fn take_line(
+    board: &mut Board,
+    word: &[u8],
+    fields: &mut Fields<'_>,
+    notices: &mut Notices,
+    out: &mut Vec<u8>,
+) -> Answer
+    requires { out.old.items ≡ [] }
+    ensures { AnswersItem result (item_say (word.now ∷ fields.old)) (Some board.old.state) (Some board.new.state) out.new.items }
+{
+    if word == b"summary".as_slice() {
+        if !fields.is_empty() {
+            return Answer::Wrong(ScriptFault::Form);
+        }
+        return match put_summary(out, board.summary(), board.processors()) {
+            Ok(()) => Answer::Good,
+            Err(_) => Answer::Memory,
+        };
+    }
+    let Some(event) = event_of(word, fields) else {
+        return Answer::Wrong(ScriptFault::Form);
+    };
+    match perform(board, &event, notices, out) {
+        Ok(()) => Answer::Good,
+        Err(_) => Answer::Memory,
+    }
+}
+
+/// Performs an event, and writes its reply and its notices at the end of `out`.
+fn perform(
+    board: &mut Board,
+    event: &Event,
+    notices: &mut Notices,
+    out: &mut Vec<u8>,
+) -> Result<(), AllocError>
+    ensures state { board.new.state ≡ (step board.old.state event.now).0 }
+    ensures written { OnOk result (out.new.items ≡ out.old.items ++ told (step board.old.state event.now)) }
+{
+    let reply = board.perform(event, notices);
+    put_reply(out, &reply)?;
+    out.push(b'\n')?;
+    put_notices(out, notices.as_slice())
+}
