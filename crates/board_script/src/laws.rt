@@ -1,9 +1,10 @@
 //! Laws of the definitions.
-ghost use Rattle.std.specs.Prelude.{◌≡◌, ◌↔◌, ℕ, List, Some, IsTrue};
+ghost use Rattle.std.specs.Prelude.{◌≡◌, ◌↔◌, ℕ, List, [], Some, IsTrue, codes, replicate};
 ghost use Rattle.synic_board.specs.State.{AreSizes};
 ghost use Rattle.board_script.specs.Items.{Item, Means};
 ghost use Rattle.board_script.specs.Reading.{item_at};
 ghost use Rattle.board_script.specs.Script.{are_sizes};
+ghost use Rattle.board_script.specs.Output.{text};
 
 /// What is read of a line is just what the line means.
 pub fn reading_is_meaning()
@@ -23,4 +24,16 @@ pub fn one_item()
 /// The sizes that are no fault of a script are those that a board may be opened with.
 pub fn sizes_are_those_of_open()
     ensures { (processors pages : ℕ) → IsTrue (are_sizes processors pages) ↔ AreSizes processors pages }
+{}
+
+/// What is written for some small scripts.
+pub fn worked_texts()
+    ensures empty { text [] ≡ codes "! 1 first\n" }
+    ensures comment { text (codes "#\n") ≡ codes "! 2 first\n" }
+    ensures size { text (codes "board 9 1 0\ntake 0\n") ≡ codes "! 1 size\n" }
+    ensures long { text (replicate 641 35) ≡ codes "! 1 long\n" }
+    ensures replies { text (codes "board 1 1 0\ntake 1\nread 0 40000070\nwrite 0 40000072 150\nread 0 40000072\n")
+        ≡ codes "= refused 14\n= general protection\n= done\n= value 50\n" }
+    ensures form { text (codes "board 1 1 0\ntake 1\n# \n\ntake 01\ntake 1\n") ≡ codes "= refused 14\n! 5 form\n" }
+    ensures cut { text (codes "board 1 1 0\ntake 1\ntake 1") ≡ codes "= refused 14\n! 3 cut\n" }
 {}

@@ -7,5 +7,7 @@ mod numbers;
 mod print;
 mod respond;
 mod stream;
+#[cfg(test)]
+mod tests;
 
 pub use stream::{ReplayEnd, ScriptFault, replay};
