@@ -22,7 +22,7 @@ Refills (Some n) at_end room front bytes came = (length came ≡ n) × (n ≤ ro
 abbrev pub Fills : Fill → Type 0 → Held → Held → List ℕ → Type 0
 Fills fills.More at_end old new came = Grows old new came × (0 < length came)
 Fills fills.End at_end old new came = Grows old new came × (came ≡ []) × at_end
-Fills fills.ReadFailed at_end old new came = new.waiting ≡ old.waiting
+Fills fills.ReadFailed at_end old new came = (new.waiting ≡ old.waiting) × (length came ≤ old.budget + 1)
 Fills fills.FlushFailed at_end old new came = (came ≡ []) × Grows old new came
 
 -- the line in what waits
@@ -32,10 +32,11 @@ Scans scans.Long old new = IsOneLine (take 641 old.waiting) × (641 ≤ length o
 Scans scans.Short old new = IsOneLine old.waiting × (length old.waiting ≤ 640) × (new ≡ old)
 
 -- A line of at most 640 bytes and its line feed were taken; or 641 bytes without one wait; or the
--- input is at its end, and what was left of it is the line; or a read or a flush failed.
+-- input is at its end, and what was left of it is the line; or a read or a flush failed. One byte
+-- more than the budget may be read, to see that it is there.
 abbrev pub Finds : NextLine → Type 0 → Held → Held → List ℕ → Type 0
 Finds ends.Whole at_end old new came = (old.waiting ++ came ≡ new.line ++ 10 ∷ new.waiting) × IsOneLine new.line × (length new.line ≤ 640) × (length came + new.budget ≡ old.budget)
 Finds ends.Long at_end old new came = Grows old new came × IsOneLine (take 641 new.waiting) × (641 ≤ length new.waiting)
 Finds ends.Last at_end old new came = (old.waiting ++ came ≡ new.line) × (new.waiting ≡ []) × at_end × IsOneLine new.line × (length new.line ≤ 640) × (length came + new.budget ≡ old.budget)
-Finds ends.ReadFailed at_end old new came = Unit {0}
+Finds ends.ReadFailed at_end old new came = length came ≤ old.budget + 1
 Finds ends.FlushFailed at_end old new came = Grows old new came
