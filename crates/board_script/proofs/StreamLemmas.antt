@@ -4,13 +4,13 @@ use Rattle.std.specs.Option.{IfSome}
 use Rattle.std.specs.Io.KnownBytes.{Consumes, Appends, Keeps, IsAtEnd}
 use Rattle.std.proofs.KnownBytes.{Consumes-nil, Consumes-trans, Appends-nil, Appends-trans, Appends-kept}
 use Rattle.std.proofs.lemmas.Bool.Decides.{Decides-ltb}
-use Rattle.board_text.specs.Held.{Held}
+use Rattle.board_text.specs.Held.{Held, at_start}
 use Rattle.synic_board.specs.State.{Held as Board}
 use Rattle.board_text.specs.Lines.{lines_of, rest_of, IsOneLine}
 use Rattle.board_text.proofs.LineLemmas.{before_lines, before_rest, lines_of-line, rest_of-line, lines_of-more, rest_of-more, lines_of-rest, rest_of-rest}
 use Rattle.board_script.specs.Script.{item_in, line_fault, rest_fault, first_fault}
 use Rattle.board_script.specs.Output.{Machine, output_from, output_of, fault_of, fault_text, text}
-use Rattle.board_script.specs.Streams.{Begun, Replays, Stops, after_maybe, answer_maybe, machine_of}
+use Rattle.board_script.specs.Streams.{Begun, ReadsUpTo, Replays, Stops, after_maybe, answer_maybe, machine_of}
 use Rattle.board_script.specs.declared.stream.ScriptFault.{ScriptFault}
 use Rattle.board_script.specs.declared.stream.ScriptFault.TheVariants as faults
 use Rattle.board_script.specs.declared.stream.ReplayEnd.{ReplayEnd}
@@ -29,33 +29,63 @@ pub record Progress (r0 r w0 w : Option (List ℕ)) (waiting : List ℕ) (machin
 -- so many lines were answered, each of at least one byte
 pub record Standing (r0 r w0 w : Option (List ℕ)) (source : Held) (machine : Machine) (number : ℕ) : Type 0 where
   pub progress : Progress r0 r w0 w source.waiting machine (number + 1)
-  pub bounded : number + (length source.waiting + source.budget) ≤ 1073741824
+  pub counted : number ≤ length progress.past
+  pub spent : length progress.past + (length source.waiting + source.budget) ≡ 1073741824
 
-pub progress-start : (r w : Option (List ℕ)) → Progress r r w w [] None 1
+pub standing-start : (r w : Option (List ℕ)) → Standing r r w w at_start None 0
 unfolding output_of fault_of
-progress-start r w = record {
-  past = [];
-  sent = [];
-  reads = Consumes-nil r;
-  writes = Appends-nil w;
-  answers = λ ys. refl;
-  faults_on = λ ys. refl;
+standing-start r w = record {
+  progress = record {
+    past = [];
+    sent = [];
+    reads = Consumes-nil r;
+    writes = Appends-nil w;
+    answers = λ ys. refl;
+    faults_on = λ ys. refl;
+  };
+  counted = omega arith;
+  spent = refl;
 }
 
-pub progress-line : (r0 r r1 w0 w w1 : Option (List ℕ)) (waiting left line came : List ℕ) (machine : Machine) (k : ℕ) →
-    Progress r0 r w0 w waiting machine k → Consumes r r1 came → waiting ++ came ≡ line ++ 10 ∷ left → IsOneLine line →
-    line_fault (is_some machine) line ≡ None → Appends w w1 (answer_maybe machine (item_in line)) →
-    Progress r0 r1 w0 w1 left (after_maybe machine (item_in line)) (k + 1)
-progress-line r0 r r1 w0 w w1 waiting left line came machine k h reads split one good writes =
-    let over : (ys : List ℕ) → (h.past ++ (line ++ 10 ∷ [])) ++ ys ≡ h.past ++ (line ++ 10 ∷ ys) = λ ys. append_assoc h.past (line ++ 10 ∷ []) ys ∙ ap (λ (x : List ℕ). h.past ++ x) (append_assoc line (10 ∷ []) ys) in
+-- A whole line was taken.
+pub smaller : (old new : Held) (came : List ℕ) → old.waiting ++ came ≡ new.line ++ 10 ∷ new.waiting → length came + new.budget ≡ old.budget → length new.waiting + new.budget < length old.waiting + old.budget
+smaller old new came split spent = omega (arith, ap length split, length-append old.waiting came, length-append new.line (10 ∷ new.waiting), spent)
+
+less_left : (old new : Held) (past came : List ℕ) → length past + (length old.waiting + old.budget) ≡ 1073741824 → old.waiting ++ came ≡ new.line ++ 10 ∷ new.waiting → length came + new.budget ≡ old.budget → length (past ++ (new.line ++ 10 ∷ [])) + (length new.waiting + new.budget) ≡ 1073741824
+less_left old new past came whole split spent = omega (arith, whole, spent, ap length split, length-append old.waiting came, length-append new.line (10 ∷ new.waiting), length-append past (new.line ++ 10 ∷ []), length-append new.line (10 ∷ []))
+
+one_more : (past line : List ℕ) (number : ℕ) → number ≤ length past → number + 1 ≤ length (past ++ (line ++ 10 ∷ []))
+one_more past line number few = omega (arith, few, length-append past (line ++ 10 ∷ []), length-append line (10 ∷ []))
+
+-- A flush changed nothing of it.
+pub standing-kept : (r0 r w0 w w1 : Option (List ℕ)) (source : Held) (machine : Machine) (number : ℕ) → Standing r0 r w0 w source machine number → Keeps w w1 → Standing r0 r w0 w1 source machine number
+standing-kept r0 r w0 w w1 source machine number standing keeps =
+    let h = standing.progress in
     record {
-      past = h.past ++ (line ++ 10 ∷ []);
-      sent = h.sent ++ answer_maybe machine (item_in line);
-      reads = subst (λ (x : List ℕ). Consumes r0 r1 x) (append_assoc h.past waiting came ∙ ap (λ (x : List ℕ). h.past ++ x) split ∙ sym (over left)) (Consumes-trans r0 r r1 (h.past ++ waiting) came h.reads reads);
-      writes = Appends-trans w0 w w1 h.sent _ h.writes writes;
-      answers = λ ys. ap output_of (over ys) ∙ h.answers (line ++ 10 ∷ ys) ∙ ap (λ (x : List ℕ). h.sent ++ x) (ap (output_from machine) (lines_of-line line ys one) ∙ output_from-line machine line (lines_of ys) good) ∙ sym (append_assoc h.sent _ _);
-      faults_on = λ ys. ap fault_of (over ys) ∙ h.faults_on (line ++ 10 ∷ ys) ∙ rw (lines_of-line line ys one, rest_of-line line ys one) (first_fault-line k machine line (lines_of ys) (rest_of ys) good);
+      progress = record { past = h.past; sent = h.sent; reads = h.reads; writes = Appends-kept w0 w w1 h.sent h.writes keeps; answers = h.answers; faults_on = h.faults_on };
+      counted = standing.counted;
+      spent = standing.spent;
     }
+
+pub standing-line : (r0 r r1 w0 w w1 : Option (List ℕ)) (old new : Held) (came : List ℕ) (machine next : Machine) (number : ℕ) → Standing r0 r w0 w old machine number → Consumes r r1 came → old.waiting ++ came ≡ new.line ++ 10 ∷ new.waiting → IsOneLine new.line →
+    length came + new.budget ≡ old.budget → line_fault (is_some machine) new.line ≡ None → next ≡ after_maybe machine (item_in new.line) → Appends w w1 (answer_maybe machine (item_in new.line)) →
+    Standing r0 r1 w0 w1 new next (number + 1)
+standing-line r0 r r1 w0 w w1 old new came machine next number standing reads split one left good is writes =
+    let h = standing.progress in
+    let line = new.line in
+    let over : (ys : List ℕ) → (h.past ++ (line ++ 10 ∷ [])) ++ ys ≡ h.past ++ (line ++ 10 ∷ ys) = λ ys. append_assoc h.past (line ++ 10 ∷ []) ys ∙ ap (λ (x : List ℕ). h.past ++ x) (append_assoc line (10 ∷ []) ys) in
+    rw is (record {
+      progress = record {
+        past = h.past ++ (line ++ 10 ∷ []);
+        sent = h.sent ++ answer_maybe machine (item_in line);
+        reads = subst (λ (x : List ℕ). Consumes r0 r1 x) (append_assoc h.past old.waiting came ∙ ap (λ (x : List ℕ). h.past ++ x) split ∙ sym (over new.waiting)) (Consumes-trans r0 r r1 (h.past ++ old.waiting) came h.reads reads);
+        writes = Appends-trans w0 w w1 h.sent _ h.writes writes;
+        answers = λ ys. ap output_of (over ys) ∙ h.answers (line ++ 10 ∷ ys) ∙ ap (λ (x : List ℕ). h.sent ++ x) (ap (output_from machine) (lines_of-line line ys one) ∙ output_from-line machine line (lines_of ys) good) ∙ sym (append_assoc h.sent _ _);
+        faults_on = λ ys. ap fault_of (over ys) ∙ h.faults_on (line ++ 10 ∷ ys) ∙ rw (lines_of-line line ys one, rest_of-line line ys one) (first_fault-line (number + 1) machine line (lines_of ys) (rest_of ys) good);
+      };
+      counted = one_more h.past line number standing.counted;
+      spent = less_left old new h.past came standing.spent split left;
+    })
 
 -- The text is known: what was sent is all, and then comes the fault.
 pub record Known (r0 r1 : Option (List ℕ)) (sent : List ℕ) (fault : Option (ℕ × ScriptFault)) : Type 0 where
@@ -197,22 +227,14 @@ begun-text r0 r1 w0 w1 h = record {
 pub replays-unflushed : (r0 r1 w0 w : Option (List ℕ)) (sent : List ℕ) → Known r0 r1 sent None → Appends w0 w sent → Begun text r0 r1 w0 w
 replays-unflushed r0 r1 w0 w sent h writes = record { taken = h.taken; sent = sent; unsent = []; reads = h.reads; writes = writes; begins = rw (h.here.0, h.here.1) refl }
 
--- A flush changed nothing of it.
-pub progress-kept : (r0 r w0 w w1 : Option (List ℕ)) (waiting : List ℕ) (machine : Machine) (k : ℕ) → Progress r0 r w0 w waiting machine k → Keeps w w1 → Progress r0 r w0 w1 waiting machine k
-progress-kept r0 r w0 w w1 waiting machine k h keeps = record { past = h.past; sent = h.sent; reads = h.reads; writes = Appends-kept w0 w w1 h.sent h.writes keeps; answers = h.answers; faults_on = h.faults_on }
+-- No byte was read behind the one that shows the limit.
+pub limit-kept : (r0 r r1 w0 w : Option (List ℕ)) (source : Held) (machine : Machine) (number : ℕ) (came : List ℕ) → Standing r0 r w0 w source machine number → Consumes r r1 came → length came ≤ source.budget + 1 → ReadsUpTo 1073741825 r0 r1
+limit-kept r0 r r1 w0 w source machine number came h reads few =
+    let past = h.progress.past ++ source.waiting in
+    (past ++ came, Consumes-trans r0 r r1 past came h.progress.reads reads, let spent = h.spent in omega (arith, length-append past came, length-append h.progress.past source.waiting))
 
--- A whole line was taken.
-pub smaller : (old new : Held) (came : List ℕ) → old.waiting ++ came ≡ new.line ++ 10 ∷ new.waiting → length came + new.budget ≡ old.budget → length new.waiting + new.budget < length old.waiting + old.budget
-smaller old new came split spent = omega (arith, ap length split, length-append old.waiting came, length-append new.line (10 ∷ new.waiting), spent)
-
-pub standing-line : (r0 r r1 w0 w w1 : Option (List ℕ)) (old new : Held) (came : List ℕ) (machine next : Machine) (number : ℕ) →
-    Progress r0 r w0 w old.waiting machine (number + 1) → number + (length old.waiting + old.budget) ≤ 1073741824 → Consumes r r1 came → old.waiting ++ came ≡ new.line ++ 10 ∷ new.waiting → IsOneLine new.line →
-    length came + new.budget ≡ old.budget → line_fault (is_some machine) new.line ≡ None → next ≡ after_maybe machine (item_in new.line) → Appends w w1 (answer_maybe machine (item_in new.line)) →
-    Standing r0 r1 w0 w1 new next (number + 1)
-standing-line r0 r r1 w0 w w1 old new came machine next number h bounded reads split one spent good is writes = record {
-  progress = rw is (progress-line r0 r r1 w0 w w1 old.waiting new.waiting new.line came machine (number + 1) h reads split one good writes);
-  bounded = let less = smaller old new came split spent in omega arith;
-}
+pub limit-nothing : (r : Option (List ℕ)) → ReadsUpTo 1073741825 r r
+limit-nothing r = ([], Consumes-nil r, omega arith)
 
 -- The fault of what is left at the end.
 pub rest-cut : (opened : Bool) (line : List ℕ) → length line ≤ 640 → 0 < length line → rest_fault opened line ≡ Some faults.Cut

@@ -1,7 +1,7 @@
 // A script from a reader, its text to a writer.
 ghost use Rattle.std.specs.Prelude.{◌≡◌, [], Some, OnOk, ◌++◌};
 ghost use Rattle.board_script.specs.Output.{fault_word, fault_text};
-ghost use Rattle.board_script.specs.Streams.{Replays, Stops};
+ghost use Rattle.board_script.specs.Streams.{Replays, ReadsUpTo, Stops};
 
 use crate::respond::{Answer, respond};
 use board_terms::Notices;
@@ -44,7 +44,10 @@ pub enum ReplayEnd {
 /// writer is flushed before each read and at the end. The memory that this takes does not depend on
 /// the script's length.
 pub fn replay<R: Read, W: Write>(alloc: Global, reader: &mut R, writer: &mut W) -> ReplayEnd
-    ensures { Replays result (R.remaining reader.old) (R.remaining reader.new) (W.contents writer.old) (W.contents writer.new) }
+    ensures text { Replays result (R.remaining reader.old) (R.remaining reader.new) (W.contents writer.old) (W.contents writer.new) }
+
+    // One byte more than the limit shows that there is one.
+    ensures limit { ReadsUpTo 1073741825 (R.remaining reader.old) (R.remaining reader.new) }
 {
     let Ok(mut source) = Source::open(alloc) else {
         return ReplayEnd::Memory;
