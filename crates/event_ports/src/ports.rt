@@ -91,6 +91,7 @@ impl Ports {
     /// Closes a port and gives what it was. `UnknownPort` where it is not open.
     pub fn close_port(&mut self, port: u8) -> Result<Port, Refusal>
         ensures answer { result ≡ target_of self.old port }
+        ensures on_the_board { IfOk result (λ p. p.vp < self.old.processors) }
         ensures closed { OnOk result (self.new ≡ without_port self.old port) }
         ensures refused { OnErr result (self.new ≡ self.old) }
     {
@@ -104,6 +105,7 @@ impl Ports {
         ensures answer { result ≡ target_of self.now port }
         ensures on_the_board { IfOk result (λ p. p.vp < self.now.processors) }
         ensures in_range { IfOk result (λ p. fits p.shape ≡ true) }
+        ensures known { OnOk result (port < 16) }
     {
         match self.ports.get(port as usize) {
             Some(Some(target)) => Ok(*target),
@@ -116,6 +118,8 @@ impl Ports {
     pub fn message_target(&self, port: u8, kind: u32) -> Result<Port, Refusal>
         ensures answer { result ≡ message_target_of self.now port kind }
         ensures on_the_board { IfOk result (λ p. p.vp < self.now.processors) }
+        ensures in_range { IfOk result (λ p. fits p.shape ≡ true) }
+        ensures known { OnOk result (port < 16) }
     {
         let target = self.target(port)?;
         match target.shape {
