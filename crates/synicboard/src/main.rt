@@ -2,14 +2,113 @@
 #![tactic(auto)]
 
 use board_script::{ReplayEnd, replay};
-use clap::Command;
 use clap::error::ErrorKind;
+use clap::{Command, Error};
+use std::alloc::{AllocError, Global};
 use std::env;
 use std::io::{self, BufWriter};
 use std::process::ExitCode;
-use std::rt::{Env, Runtime};
 
 const SCRIPT_FAULT: u8 = 1;
+
 const USAGE_FAULT: u8 = 2;
+
 const NO_MEMORY: u8 = 4;
+
 const STREAM_FAULT: u8 = 5;
+
+/// What the command line asks for.
+enum Asked {
+    Replay,
+    /// Nothing more: it asked for help, which was shown, or it was wrong, which was said.
+    Nothing(ExitCode),
+    /// It could not be read for want of memory.
+    Memory,
+}
+
+fn main(rt: HostRuntime) -> ExitCode {
+    match judge_command_line(&rt) {
+        Asked::Replay => replay_input(&rt),
+        Asked::Nothing(code) => code,
+        Asked::Memory => fail(&rt, "out of memory", NO_MEMORY),
+    }
+}
+
+/// The command line of the program.
+fn command<'a>(alloc: Global) -> Result<Command<'a>, AllocError> {
+    let replay = Command::new(alloc, "replay").about(
+        "Performs the script on standard input, and writes each reply, notice and summary",
+    );
+    Command::new(alloc, "synicboard")
+        .about("The interrupt side of a partition: a script of events in, the board's answers out")
+        .after_help(EXAMPLE)
+        .subcommand_required(true)
+        .subcommand(replay)
+}
+
+const EXAMPLE: &str =
+    "Example:\n  printf 'board 1 1 0\\nassert 0 60\\ntake 0\\n' | synicboard replay";
+
+/// Judges the command line. Help goes to standard output, and what is wrong to standard error.
+fn judge_command_line(rt: &HostRuntime) -> Asked {
+    let words = match env::args(rt) {
+        Ok(words) => words,
+        Err(error) => return unreadable(rt, error),
+    };
+    let Ok(words) = words.collect::<Vec<String>>(rt.alloc()) else {
+        return Asked::Memory;
+    };
+    let Ok(command) = command(rt.alloc()) else {
+        return Asked::Memory;
+    };
+    match command.try_get_matches_from(words.as_slice()) {
+        Ok(_) => Asked::Replay,
+        Err(error) => show(rt, error),
+    }
+}
+
+/// Why the words of the command line were not read.
+fn unreadable(rt: &HostRuntime, error: io::Error) -> Asked {
+    if error.kind() == io::ErrorKind::OutOfMemory {
+        Asked::Memory
+    } else {
+        Asked::Nothing(fail(rt, "an argument is not UTF-8", USAGE_FAULT))
+    }
+}
+
+/// Shows what the parser of the command line says: help, or what is wrong.
+fn show(rt: &HostRuntime, error: Error) -> Asked {
+    if error.kind() == ErrorKind::OutOfMemory {
+        return Asked::Memory;
+    }
+    let shown = error.print(rt).is_ok();
+    if error.use_stderr() {
+        return Asked::Nothing(ExitCode::from(USAGE_FAULT));
+    }
+    if shown {
+        Asked::Nothing(ExitCode::SUCCESS)
+    } else {
+        Asked::Nothing(fail(rt, "write failed", STREAM_FAULT))
+    }
+}
+
+/// Replays standard input to standard output.
+fn replay_input(rt: &HostRuntime) -> ExitCode {
+    let mut reader = rt.reader();
+    let Ok(mut writer) = BufWriter::new(rt.alloc(), io::writer(rt)) else {
+        return fail(rt, "out of memory", NO_MEMORY);
+    };
+    match replay(rt.alloc(), &mut reader, &mut writer) {
+        ReplayEnd::Done => ExitCode::SUCCESS,
+        ReplayEnd::Script { .. } => ExitCode::from(SCRIPT_FAULT),
+        ReplayEnd::Memory => fail(rt, "out of memory", NO_MEMORY),
+        ReplayEnd::Reading => fail(rt, "read failed", STREAM_FAULT),
+        ReplayEnd::Writing => fail(rt, "write failed", STREAM_FAULT),
+    }
+}
+
+/// Says on standard error what failed. That it may fail too changes no status.
+fn fail(rt: &HostRuntime, what: &str, status: u8) -> ExitCode {
+    let _ = eprintln!(rt; "synicboard: {what}");
+    ExitCode::from(status)
+}
