@@ -5,7 +5,7 @@ use crate::vp::Vp;
 use std::marker::Model;
 
 /// A synthetic timer: a processor and an index, STIMER0 to STIMER3 (TLFS, "Synthetic Timers").
-#[derive(Clone, Copy, PartialEq, Eq, PartialOrd, Ord, Debug)]
+#[derive(Clone, Copy, PartialEq, Eq, PartialOrd, Ord, Debug, Default)]
 pub struct TimerId {
     vp: Vp,
     index: u8,

@@ -37,6 +37,13 @@ impl VectorSet {
         }
     }
 
+    /// An equal set.
+    pub fn copy(&self) -> VectorSet
+        ensures { result ≡ self.now }
+    {
+        VectorSet { marks: self.marks }
+    }
+
     /// Adds a vector.
     pub fn insert(&mut self, vector: Vector)
         ensures { self.new ≡ set.insert self.old vector }
