@@ -1,0 +1,4 @@
+pub mod Page
+pub mod Space
+pub mod View
+pub mod Laws

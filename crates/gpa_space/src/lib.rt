@@ -1,0 +1,12 @@
+//! Guest pages and the overlay pages above them (TLFS, "GPA Overlay Pages"): what a guest sees at a
+//! page, and what the hypervisor writes to the pages of messages and of event flags.
+#![tactic(auto)]
+
+mod laws;
+mod page;
+mod space;
+#[cfg(test)]
+mod tests;
+
+pub use laws::{overlays_lie_in_order, stored_bytes_are_loaded};
+pub use space::Space;

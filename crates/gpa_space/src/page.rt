@@ -1,0 +1,94 @@
+// A page of 4096 bytes.
+ghost use Rattle.std.specs.Prelude.{◌≡◌, ◌<◌, ◌+◌, ◌≤◌, length, take, drop, not, IfOk};
+ghost use Rattle.gpa_space.specs.Page.{zero_page, overwritten, with_slot, is_set, with_bit};
+
+use arrayvec::ArrayVec;
+use board_terms::{Bytes8, Sint};
+use std::alloc::{AllocError, Global};
+use std::marker::Model;
+
+/// The number of bytes of a page.
+pub const SIZE: usize = 4096;
+
+/// The number of bytes of a message slot, and of the event flags of a source.
+pub const SLOT_SIZE: usize = 256;
+
+/// Where the message flags stand in a slot; bit 0 of them is the pending bit (TLFS, "SynIC Message
+/// Flags").
+pub const MESSAGE_FLAGS: usize = 5;
+
+/// A page of 4096 bytes.
+#[derive(Drop)]
+pub struct Page {
+    bytes: Vec<u8>,
+}
+
+impl Model for Page {
+    ghost use Rattle.std.specs.Prelude.{List, ℕ, ◌≡◌, length};
+
+    ghost Value = { List ℕ };
+
+    ghost view = { λ a. a.bytes.items };
+
+    ghost invariant = { λ a. length a.bytes.items ≡ 4096 };
+}
+
+impl Page {
+    /// A page of zeros.
+    pub fn zeros(alloc: Global) -> Result<Page, AllocError>
+        ensures { IfOk result (λ page. page ≡ zero_page) }
+    {
+        let bytes = vec![in alloc; 0; SIZE]?;
+        Ok(Page { bytes })
+    }
+
+    /// The bytes.
+    pub fn as_slice(&self) -> &[u8]
+        ensures value { result.now ≡ self.now }
+        ensures len { length result.now ≡ 4096 }
+    {
+        self.bytes.as_slice()
+    }
+
+    /// Some of the bytes.
+    pub fn load(&self, at: usize, count: u8) -> Bytes8
+        requires few { count ≤ 8 }
+        requires inside { at + count ≤ 4096 }
+        ensures { result.items ≡ take count (drop at self.now) }
+    {
+        let mut bytes = ArrayVec::new();
+        let part = &self.bytes[at..at + count as usize];
+        let _ = bytes.try_extend_from_slice(part);
+        bytes
+    }
+
+    /// Replaces some of the bytes.
+    pub fn store(&mut self, at: usize, bytes: &[u8])
+        requires { at + length bytes.now ≤ 4096 }
+        ensures { self.new ≡ overwritten self.old at bytes.now }
+    {
+        self.bytes[at..at + bytes.len()].copy_from_slice(bytes);
+    }
+
+    /// Replaces a slot.
+    pub fn write_slot(&mut self, sint: Sint, slot: &[u8; 256])
+        ensures { self.new ≡ with_slot self.old sint slot.now }
+    {
+        let at = SLOT_SIZE * sint.number() as usize;
+        self.bytes[at..at + SLOT_SIZE].copy_from_slice(slot);
+    }
+
+    /// Sets a bit of a byte, and tells whether it was clear.
+    #[tactic(auto, using(crate::proofs::Bits::bit_is_clear))]
+    pub fn set_bit(&mut self, at: usize, bit: u8) -> bool
+        requires inside { at < 4096 }
+        requires bit { bit < 8 }
+        ensures fresh { result ≡ not (is_set self.old at bit) }
+        ensures after { self.new ≡ with_bit self.old at bit }
+    {
+        let mask = 1 << bit;
+        let before = self.bytes[at];
+        self.bytes[at] = before | mask;
+        before & mask == 0
+    }
+}

@@ -1,0 +1,236 @@
+// Guest pages, and the overlay pages above them.
+ghost use Rattle.std.specs.Prelude.{◌≡◌, ◌<◌, ◌≤◌, ◌*◌, length, not, IfOk, replicate};
+ghost use Rattle.board_terms.specs.declared.pages.Kind.TheVariants as kind;
+ghost use Rattle.gpa_space.specs.Page.{zero_page};
+ghost use Rattle.gpa_space.specs.Space.{opened, processors_of, overlay_of, with_register, lies_at, visible, overlay_owner, owner_of, refusal_of, loaded, store_answer, after_store, own_page, after_slot, is_pending, after_pending, is_flag_set, after_flag};
+
+use crate::page::{MESSAGE_FLAGS, Page, SIZE, SLOT_SIZE};
+use board_terms::{Bytes8, Kind, Owner, Refusal, Sint, Vp};
+use std::alloc::{AllocError, Global};
+use std::marker::Model;
+
+/// The enable bit of an overlay's register.
+const ENABLE: u64 = 1;
+
+/// Guest pages, shared by all processors, and for each processor two overlay pages that may lie
+/// above them: the page of messages (SIM) and that of event flags (SIEF). An overlay page has bytes
+/// of its own, which last while it is disabled, hidden or moved.
+#[derive(Drop)]
+pub struct Space {
+    pages: Vec<Page>,
+    // The registers of the overlays and their own pages, in the order of visibility.
+    registers: Vec<u64>,
+    own: Vec<Page>,
+}
+
+impl Model for Space {
+    ghost use Rattle.gpa_space.specs.Space.{Space, space_code};
+
+    ghost Value = { Space };
+
+    ghost coded = { space_code };
+
+    ghost use Rattle.gpa_space.specs.View.{space_of, IsKept};
+
+    ghost view = { space_of };
+
+    ghost invariant = { IsKept };
+}
+
+impl Space {
+    /// A space for 1 to 8 processors with 1 to 64 guest pages: all bytes are zero and all overlays
+    /// are disabled. The only call here that may want memory.
+    pub fn open(alloc: Global, processors: u8, pages: u8) -> Result<Space, AllocError>
+        requires some_processor { 1 ≤ processors }
+        requires few_processors { processors ≤ 8 }
+        requires some_page { 1 ≤ pages }
+        requires few_pages { pages ≤ 64 }
+        ensures { IfOk result (λ space. space ≡ opened processors pages) }
+    {
+        let overlays = 2 * processors as usize;
+        let registers = vec![in alloc; 0; overlays]?;
+        let own = zero_pages(alloc, overlays)?;
+        let pages = zero_pages(alloc, pages as usize)?;
+        Ok(Space {
+            pages,
+            registers,
+            own,
+        })
+    }
+
+    /// Writes the register of an overlay, SIMP or SIEFP: bit 0 enables it, and bits 63:12 are the
+    /// page number at which it lies.
+    pub fn set_overlay(&mut self, vp: Vp, kind: Kind, register: u64)
+        requires { vp < processors_of self.old }
+        ensures { self.new ≡ with_register self.old vp kind register }
+    {
+        self.registers[overlay_of(vp, kind)] = register;
+    }
+
+    /// The number of the overlay that is visible at a page.
+    fn visible(&self, page: u64) -> Option<usize>
+        ensures { result ≡ visible self.now page }
+    {
+        self.registers
+            .iter()
+            .position(|register| lies_at(*register, page))
+    }
+
+    /// Whose page a guest sees at a page number.
+    pub fn owner(&self, page: u64) -> Owner
+        ensures { result ≡ owner_of self.now page }
+    {
+        if page >= self.pages.len() as u64 {
+            return Owner::Nothing;
+        }
+        match self.visible(page) {
+            None => Owner::Guest,
+            Some(overlay) => overlay_owner(overlay),
+        }
+    }
+
+    /// Why a load or a store of some bytes is refused.
+    fn judge(&self, address: u64, length: usize) -> Option<Refusal>
+        ensures { result ≡ refusal_of self.now address length }
+    {
+        if length == 0 || length > 8 {
+            Some(Refusal::BadLength)
+        } else if address / SIZE as u64 >= self.pages.len() as u64 {
+            Some(Refusal::OutsideSpace)
+        } else if (address % SIZE as u64) as usize + length > SIZE {
+            Some(Refusal::CrossesPage)
+        } else {
+            None
+        }
+    }
+
+    /// The bytes that a guest sees at an address. It is refused with `BadLength` unless there are 1
+    /// to 8, then with `OutsideSpace` if the first lies in no page, then with `CrossesPage` if the
+    /// last lies in another page.
+    pub fn load(&self, address: u64, length: u8) -> Result<Bytes8, Refusal>
+        ensures { result ≡ loaded self.now address length }
+    {
+        if let Some(refusal) = self.judge(address, length as usize) {
+            return Err(refusal);
+        }
+        let page = address / SIZE as u64;
+        let at = (address % SIZE as u64) as usize;
+        match self.visible(page) {
+            None => Ok(self.pages[page as usize].load(at, length)),
+            Some(overlay) => Ok(self.own[overlay].load(at, length)),
+        }
+    }
+
+    /// Stores bytes at an address in the page that a guest sees there, and tells whose it is. It is
+    /// refused as a load is, and then changes nothing.
+    pub fn store(&mut self, address: u64, bytes: &Bytes8) -> Result<Owner, Refusal>
+        ensures answer { result ≡ store_answer self.old address bytes.now.items }
+        ensures after { self.new ≡ after_store self.old address bytes.now.items }
+    {
+        if let Some(refusal) = self.judge(address, bytes.len()) {
+            return Err(refusal);
+        }
+        let page = address / SIZE as u64;
+        let at = (address % SIZE as u64) as usize;
+        match self.visible(page) {
+            None => {
+                self.pages[page as usize].store(at, bytes.as_slice());
+                Ok(Owner::Guest)
+            }
+            Some(overlay) => {
+                self.own[overlay].store(at, bytes.as_slice());
+                Ok(overlay_owner(overlay))
+            }
+        }
+    }
+
+    /// The page of messages of a processor, 4096 bytes.
+    pub fn sim(&self, vp: Vp) -> &[u8]
+        requires { vp < processors_of self.now }
+        ensures value { result.now ≡ own_page self.now vp kind.Sim }
+        ensures len { length result.now ≡ 4096 }
+    {
+        self.own[overlay_of(vp, Kind::Sim)].as_slice()
+    }
+
+    /// The page of event flags of a processor, 4096 bytes.
+    pub fn sief(&self, vp: Vp) -> &[u8]
+        requires { vp < processors_of self.now }
+        ensures value { result.now ≡ own_page self.now vp kind.Sief }
+        ensures len { length result.now ≡ 4096 }
+    {
+        self.own[overlay_of(vp, Kind::Sief)].as_slice()
+    }
+
+    /// Writes the slot of a source in the page of messages, visible or not.
+    pub fn write_slot(&mut self, vp: Vp, sint: Sint, slot: &[u8; 256])
+        requires { vp < processors_of self.old }
+        ensures { self.new ≡ after_slot self.old vp sint slot.now }
+    {
+        self.own[overlay_of(vp, Kind::Sim)].write_slot(sint, slot);
+    }
+
+    /// Sets the pending bit of a slot, bit 0 of its byte 5, in the page of messages, visible or not,
+    /// and tells whether it was clear.
+    pub fn set_pending(&mut self, vp: Vp, sint: Sint) -> bool
+        requires { vp < processors_of self.old }
+        ensures fresh { result ≡ not (is_pending self.old vp sint) }
+        ensures after { self.new ≡ after_pending self.old vp sint }
+    {
+        let at = SLOT_SIZE * sint.number() as usize + MESSAGE_FLAGS;
+        self.own[overlay_of(vp, Kind::Sim)].set_bit(at, 0)
+    }
+
+    /// Sets a flag of a source, 0 to 2047, in the page of event flags, visible or not, and tells
+    /// whether it was clear.
+    pub fn set_flag(&mut self, vp: Vp, sint: Sint, flag: u16) -> bool
+        requires on_board { vp < processors_of self.old }
+        requires flag { flag < 2048 }
+        ensures fresh { result ≡ not (is_flag_set self.old vp sint flag) }
+        ensures after { self.new ≡ after_flag self.old vp sint flag }
+    {
+        let at = SLOT_SIZE * sint.number() as usize + flag as usize / 8;
+        self.own[overlay_of(vp, Kind::Sief)].set_bit(at, (flag % 8) as u8)
+    }
+}
+
+/// Whether an overlay with this register is enabled and lies at a page number.
+fn lies_at(register: u64, page: u64) -> bool
+    ensures { result ≡ lies_at page register }
+{
+    register & ENABLE == ENABLE && register / SIZE as u64 == page
+}
+
+/// The number of an overlay in the order of visibility.
+fn overlay_of(vp: Vp, kind: Kind) -> usize
+    ensures { result ≡ overlay_of vp kind }
+{
+    match kind {
+        Kind::Sim => 2 * vp.number() as usize,
+        Kind::Sief => 2 * vp.number() as usize + 1,
+    }
+}
+
+/// The owner of an overlay page, by its number in the order of visibility.
+fn overlay_owner(overlay: usize) -> Owner
+    requires { overlay < 16 }
+    ensures { result ≡ overlay_owner overlay }
+{
+    let vp = Vp::new((overlay / 2) as u8).unwrap();
+    if overlay % 2 == 0 {
+        Owner::Sim(vp)
+    } else {
+        Owner::Sief(vp)
+    }
+}
+
+/// Pages of zeros.
+fn zero_pages(alloc: Global, count: usize) -> Result<Vec<Page>, AllocError>
+    ensures { IfOk result (λ pages. pages.items ≡ replicate count zero_page) }
+{
+    let mut pages = Vec::with_capacity(alloc, count)?;
+    for _ in 0..count {
+        pages.push_reserved(Page::zeros(alloc)?);
+    }
+    Ok(pages)
+}

@@ -1,0 +1,2 @@
+pub mod AutoVectors
+pub mod Numbers

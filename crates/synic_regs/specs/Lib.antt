@@ -1,0 +1,3 @@
+pub mod Registers
+pub mod Regs
+pub mod View

@@ -1,0 +1,13 @@
+-- What the fields stand for, and what they keep.
+use Rattle.std.specs.Prelude.{◌≡◌}
+use Rattle.synic_regs.specs.Regs.{Regs, AreLegal, auto_vectors}
+use Rattle.synic_regs.specs.declared.regs.SynicRegs.TheInside.{Inside}
+
+abbrev pub regs_of : Inside → Regs
+regs_of a = record { control = a.control; sief = a.sief; sim = a.sim; sints = a.sints }
+
+pub record IsKept (a : Inside) : Type 0 where
+  -- a source with a vector below 16 is masked
+  pub legal : AreLegal a.sints
+  -- the stored set is brought up to date at each write of a source
+  pub auto : a.auto ≡ auto_vectors (regs_of a)

@@ -1,0 +1,14 @@
+//! The registers of one processor's synthetic interrupt controller (TLFS, "Virtual Interrupt
+//! Controller"): their numbers, what a write stores, and what a source raises.
+#![tactic(auto)]
+
+mod laws;
+mod register;
+mod regs;
+#[cfg(test)]
+mod tests;
+mod words;
+
+pub use laws::registers_have_their_numbers;
+pub use register::{Register, decode};
+pub use regs::{Outcome, SynicRegs};
