@@ -1,0 +1,246 @@
+-- How many buffers each owner has in use, and that an owner that has one left finds room for its message.
+use Rattle.std.proofs.Common.{◌≡◌, ◌≢◌, ◌⊎◌, inl, inr, ℕ, zero, suc, ◌+◌, ◌-◌, ◌<◌, ◌≤◌, List, [], ◌∷◌, ◌++◌, length, refl, sym, ap, ◌∙◌, arith, cond, nat_eq, Bool, true, false, ne_eqb, eq-eqb, ◌&&◌}
+use Rattle.std.specs.Prelude.{◌==◌, slice_index_or, slice_set, sum_by, count_by}
+use Rattle.std.proofs.lemmas.Bool.Decides.{eqb_tells, nat_tests}
+use Rattle.std.proofs.lemmas.List.{length-set, get_or-set_same, get_or-set_other}
+use Rattle.std.proofs.lemmas.List.Sums.{sum_by-cons, sum_by_push, sum_by-set, get_or-le-sum_by}
+use Rattle.board_terms.specs.declared.messages.Message.{Message}
+use Rattle.board_terms.specs.declared.messages.Message.TheVariants.{FromPort, FromTimer}
+use Rattle.message_queues.specs.Queues.{Queues, is_from_port, is_from_timer, port_used, timer_used, HasBuffer}
+use Rattle.message_queues.specs.Owners.{owner_of_timer, owner_of, HasOwner, used_by, share, IsCounted}
+
+-- f 0 + .. + f (n - 1)
+sum_below : ℕ → (ℕ → ℕ) → ℕ
+sum_below zero f = 0
+sum_below (suc n) f = sum_below n f + f n
+
+sum_below-same : (n : ℕ) (f g : ℕ → ℕ) → ((o : ℕ) → f o ≡ g o) → sum_below n f ≡ sum_below n g
+unfolding sum_below
+sum_below-same zero f g h = refl
+sum_below-same (suc n) f g h = let here = h n in let more = sum_below-same n f g h in omega arith
+
+sum_below-zero : (n : ℕ) → sum_below n (λ o. 0) ≡ 0
+unfolding sum_below
+sum_below-zero zero = refl
+sum_below-zero (suc n) = let more = sum_below-zero n in omega arith
+
+sum_below-add : (n : ℕ) (f g : ℕ → ℕ) → sum_below n (λ o. f o + g o) ≡ sum_below n f + sum_below n g
+unfolding sum_below
+sum_below-add zero f g = refl
+sum_below-add (suc n) f g = let more = sum_below-add n f g in omega arith
+
+-- one is counted at its own place, and nowhere else
+abbrev pub at_place : ℕ → ℕ → ℕ
+at_place x o = cond (nat_eq x o) 1 0
+
+pub at_place-other : (x o : ℕ) → x ≢ o → at_place x o ≡ 0
+at_place-other x o h = rw (ne_eqb x o h) refl
+
+at_place-same : (x o : ℕ) → x ≡ o → at_place x o ≡ 1
+at_place-same x o h = rw (eq-eqb x o h) refl
+
+sum_below-above : (n x : ℕ) → n ≤ x → sum_below n (at_place x) ≡ 0
+unfolding sum_below
+sum_below-above zero x h = refl
+sum_below-above (suc n) x h = let more = sum_below-above n x (omega arith) in let here = at_place-other x n (λ e. omega (arith, e)) in omega (arith, more, here)
+
+sum_below-one : (n x : ℕ) → x < n → sum_below n (at_place x) ≡ 1
+unfolding sum_below
+sum_below-one zero x h = absurd (omega arith)
+sum_below-one (suc n) x h = go (λ k. sum_below-one n x k) (eqb_tells x n)
+  where
+    go : (x < n → sum_below n (at_place x) ≡ 1) → ((nat_eq x n ≡ true) × (x ≡ n)) ⊎ ((nat_eq x n ≡ false) × (x ≢ n)) → sum_below n (at_place x) + at_place x n ≡ 1
+    go before (inl t) = let more = sum_below-above n x (omega (arith, t.1)) in let here = at_place-same x n t.1 in omega (arith, more, here)
+    go before (inr t) = let more = before (omega (arith, t.1)) in let here = at_place-other x n t.1 in omega (arith, more, here)
+
+sum_below-le : (n : ℕ) (f limit : ℕ → ℕ) → ((o : ℕ) → o < n → f o ≤ limit o) → sum_below n f ≤ sum_below n limit
+unfolding sum_below
+sum_below-le zero f limit h = omega arith
+sum_below-le (suc n) f limit h = let more = sum_below-le n f limit (λ o k. h o (omega arith)) in let here = h n (omega arith) in omega arith
+
+sum_below-lt : (n x : ℕ) (f limit : ℕ → ℕ) → ((o : ℕ) → o < n → f o ≤ limit o) → x < n → f x < limit x → sum_below n f < sum_below n limit
+unfolding sum_below
+sum_below-lt zero x f limit h k l = absurd (omega arith)
+sum_below-lt (suc n) x f limit h k l = go (λ j. sum_below-lt n x f limit (λ o i. h o (omega arith)) j l) (eqb_tells x n)
+  where
+    go : (x < n → sum_below n f < sum_below n limit) → ((nat_eq x n ≡ true) × (x ≡ n)) ⊎ ((nat_eq x n ≡ false) × (x ≢ n)) → sum_below n f + f n < sum_below n limit + limit n
+    go before (inl t) = let more = sum_below-le n f limit (λ o k. h o (omega arith)) in let fx = ap f t.1 in let cx = ap limit t.1 in omega arith
+    go before (inr t) = let more = before (omega (arith, t.1)) in let here = h n (omega arith) in omega arith
+
+-- 16 of each of the 16 ports, and one of each of the 32 timers
+shares : sum_below 48 share ≡ 288
+unfolding sum_below
+shares = refl
+
+abbrev pub AllOwned : List Message → Type 0
+AllOwned [] = Unit {0}
+AllOwned (m ∷ ms) = HasOwner m × AllOwned ms
+
+abbrev pub EachOwned : Queues → Type 0
+EachOwned [] = Unit {0}
+EachOwned (q ∷ qs) = AllOwned q × EachOwned qs
+
+pub owner-below : (m : Message) → HasOwner m → owner_of m < 48
+owner-below (FromPort ticket port kind payload) h = omega arith
+owner-below (FromTimer ticket timer expiration) h = omega arith
+
+abbrev pub count_of : ℕ → List Message → ℕ
+count_of o ms = count_by (λ m. owner_of m == o) ms
+
+pub count_of-cons : (o : ℕ) (m : Message) (ms : List Message) → count_of o (m ∷ ms) ≡ at_place (owner_of m) o + count_of o ms
+count_of-cons o m ms = sum_by-cons (λ x. cond (owner_of x == o) 1 0) m ms
+
+-- all messages of a queue are counted, each under its owner
+queue-counts : (n : ℕ) (ms : List Message) → ((m : Message) → HasOwner m → owner_of m < n) → AllOwned ms → length ms ≡ sum_below n (λ o. count_of o ms)
+queue-counts n [] below h = sym (sum_below-zero n)
+queue-counts n (m ∷ ms) below h =
+    let more = queue-counts n ms below h.1 in
+    let one = sum_below-one n (owner_of m) (below m h.0) in
+    let add = sum_below-add n (at_place (owner_of m)) (λ o. count_of o ms) in
+    let same = sum_below-same n (λ o. count_of o (m ∷ ms)) (λ o. at_place (owner_of m) o + count_of o ms) (λ o. count_of-cons o m ms) in
+    omega (arith, more, one, add, same)
+
+all-counts : (n : ℕ) (qs : Queues) → ((m : Message) → HasOwner m → owner_of m < n) → EachOwned qs → sum_by (length {A = Message}) qs ≡ sum_below n (λ o. used_by o qs)
+all-counts n [] below h = sym (sum_below-zero n)
+all-counts n (q ∷ qs) below h =
+    let more = all-counts n qs below h.1 in
+    let here = queue-counts n q below h.0 in
+    let add = sum_below-add n (λ o. count_of o q) (λ o. used_by o qs) in
+    let same = sum_below-same n (λ o. used_by o (q ∷ qs)) (λ o. count_of o q + used_by o qs) (λ o. sum_by-cons (count_of o) q qs) in
+    omega (arith, more, here, add, same, sum_by-cons (length {A = Message}) q qs)
+
+-- where an owner has a buffer left, there is room
+pub has_room : (qs : Queues) (in_use : List ℕ) (o : ℕ) → EachOwned qs → IsCounted qs in_use → o < 48 → used_by o qs < share o → sum_by (length {A = Message}) qs < 288
+has_room qs in_use o owned counts below left =
+    let total = all-counts 48 qs owner-below owned in
+    let less = sum_below-lt 48 o (λ x. used_by x qs) share counts.within below left in
+    omega (arith, total, less, shares)
+
+pub sum_by-same : {X : Type 0} (f g : X → ℕ) (xs : List X) → ((x : X) → f x ≡ g x) → sum_by f xs ≡ sum_by g xs
+sum_by-same f g [] h = refl
+sum_by-same f g (x ∷ xs) h = let here = h x in let more = sum_by-same f g xs h in omega (arith, here, more, sum_by-cons f x xs, sum_by-cons g x xs)
+
+pub is_from_port-owner : (port : ℕ) (m : Message) → port < 16 → is_from_port port m ≡ (owner_of m == port)
+is_from_port-owner port (FromPort ticket n kind payload) h = refl
+is_from_port-owner port (FromTimer ticket timer expiration) h = sym (ne_eqb (owner_of_timer timer) port (λ e. omega (arith, e)))
+
+-- the buffers of a port are those of the owner of its number
+pub port_used-owner : (qs : Queues) (port : ℕ) → port < 16 → port_used qs port ≡ used_by port qs
+port_used-owner qs port h =
+    sum_by-same (count_by (is_from_port port)) (count_of port) qs (λ q. sum_by-same (λ m. cond (is_from_port port m) 1 0) (λ m. cond (owner_of m == port) 1 0) q (λ m. ap (λ (b : Bool). cond b 1 0) (is_from_port-owner port m h)))
+
+is_from_timer-owner : (timer : ℕ × ℕ) (m : Message) → timer.1 < 4 → HasOwner m → is_from_timer timer m ≡ (owner_of m == owner_of_timer timer)
+is_from_timer-owner timer (FromPort ticket n kind payload) h k = sym (ne_eqb n (owner_of_timer timer) (λ e. omega (arith, e)))
+is_from_timer-owner timer (FromTimer ticket t expiration) h k = go (eqb_tells t.0 timer.0) (eqb_tells t.1 timer.1)
+  where
+    go : ((nat_eq t.0 timer.0 ≡ true) × (t.0 ≡ timer.0)) ⊎ ((nat_eq t.0 timer.0 ≡ false) × (t.0 ≢ timer.0)) → ((nat_eq t.1 timer.1 ≡ true) × (t.1 ≡ timer.1)) ⊎ ((nat_eq t.1 timer.1 ≡ false) × (t.1 ≢ timer.1))
+        → (nat_eq t.0 timer.0 && nat_eq t.1 timer.1) ≡ nat_eq (owner_of_timer t) (owner_of_timer timer)
+    go (inl a) (inl b) = rw (a.0, b.0) (sym (eq-eqb (owner_of_timer t) (owner_of_timer timer) (omega (arith, a.1, b.1))))
+    go (inl a) (inr b) = rw (a.0, b.0) (sym (ne_eqb (owner_of_timer t) (owner_of_timer timer) (λ e. b.1 (omega (arith, a.1, e)))))
+    go (inr a) b = rw a.0 (sym (ne_eqb (owner_of_timer t) (owner_of_timer timer) (λ e. a.1 (omega (arith, k, h, e)))))
+
+queue-timer : (q : List Message) (timer : ℕ × ℕ) → timer.1 < 4 → AllOwned q → count_by (is_from_timer timer) q ≡ count_of (owner_of_timer timer) q
+queue-timer [] timer h k = refl
+queue-timer (m ∷ ms) timer h k =
+    let more = queue-timer ms timer h k.1 in
+    let here : cond (is_from_timer timer m) 1 0 ≡ at_place (owner_of m) (owner_of_timer timer) = ap (λ (b : Bool). cond b 1 0) (is_from_timer-owner timer m h k.0) in
+    omega (arith, more, here, sum_by-cons (λ x. cond (is_from_timer timer x) 1 0) m ms, count_of-cons (owner_of_timer timer) m ms)
+
+-- the one buffer of a timer is that of its owner number
+pub timer_used-owner : (qs : Queues) (timer : ℕ × ℕ) → timer.1 < 4 → EachOwned qs → timer_used qs timer ≡ used_by (owner_of_timer timer) qs
+timer_used-owner [] timer h k = refl
+timer_used-owner (q ∷ qs) timer h k =
+    let more = timer_used-owner qs timer h k.1 in
+    let here = queue-timer q timer h k.0 in
+    omega (arith, more, here, sum_by-cons (count_by (is_from_timer timer)) q qs, sum_by-cons (count_of (owner_of_timer timer)) q qs)
+
+queue-past : (q : List Message) (port : ℕ) → 16 ≤ port → AllOwned q → count_by (is_from_port port) q ≡ 0
+queue-past [] port h k = refl
+queue-past (FromPort ticket n kind payload ∷ ms) port h k =
+    let more = queue-past ms port h k.1 in
+    let here : at_place n port ≡ 0 = at_place-other n port (λ e. omega (arith, k.0, e)) in
+    omega (arith, more, here, sum_by-cons (λ x. cond (is_from_port port x) 1 0) (FromPort ticket n kind payload) ms)
+queue-past (FromTimer ticket timer expiration ∷ ms) port h k =
+    let more = queue-past ms port h k.1 in
+    omega (arith, more, sum_by-cons (λ x. cond (is_from_port port x) 1 0) (FromTimer ticket timer expiration) ms)
+
+-- a port above 15 has no message
+pub port_used-past : (qs : Queues) (port : ℕ) → 16 ≤ port → EachOwned qs → port_used qs port ≡ 0
+port_used-past [] port h k = refl
+port_used-past (q ∷ qs) port h k =
+    let more = port_used-past qs port h k.1 in
+    let here = queue-past q port h k.0 in
+    omega (arith, more, here, sum_by-cons (count_by (is_from_port port)) q qs)
+
+share-port : (o : ℕ) → o < 16 → share o ≡ 16
+share-port o h = grind (arith, nat_tests)
+
+share-timer : (o : ℕ) → 16 ≤ o → share o ≡ 1
+share-timer o h = grind (arith, nat_tests)
+
+pub share-le : (o : ℕ) → share o ≤ 16
+share-le o = grind (arith, nat_tests)
+
+-- the owner of a message that has a buffer has one left
+pub buffer-left : (qs : Queues) (m : Message) → EachOwned qs → HasOwner m → HasBuffer qs m → used_by (owner_of m) qs < share (owner_of m)
+buffer-left qs (FromPort ticket port kind payload) owned h b = omega (arith, b.1, port_used-owner qs port b.0, share-port port b.0)
+buffer-left qs (FromTimer ticket timer expiration) owned h b =
+    let none : timer_used qs timer ≡ 0 = grind (arith, nat_tests) in
+    omega (arith, none, timer_used-owner qs timer h.1 owned, share-timer (owner_of_timer timer) (omega arith))
+
+-- one queue is another, of which one owner has more or fewer messages
+pub counted-set : (qs : Queues) (in_use : List ℕ) (q : ℕ) (r : List Message) (o v : ℕ) → IsCounted qs in_use → q < length qs → o < 48 →
+    ((x : ℕ) → x ≢ o → count_of x r ≡ count_of x (slice_index_or qs q [])) → v + count_of o (slice_index_or qs q []) ≡ used_by o qs + count_of o r → v ≤ share o → IsCounted (slice_set qs q r) (slice_set in_use o v)
+counted-set qs in_use q r o v counts at below same now few = record {
+  size = length-set in_use o v ∙ counts.size;
+  counted = λ x k. counted x k (eqb_tells x o);
+  within = λ x k. within x k (eqb_tells x o);
+}
+  where
+    sum : (x : ℕ) → used_by x (slice_set qs q r) + count_of x (slice_index_or qs q []) ≡ used_by x qs + count_of x r
+    sum x = sum_by-set (count_of x) qs q r [] at
+
+    counted : (x : ℕ) → x < 48 → ((nat_eq x o ≡ true) × (x ≡ o)) ⊎ ((nat_eq x o ≡ false) × (x ≢ o)) → slice_index_or (slice_set in_use o v) x 0 ≡ used_by x (slice_set qs q r)
+    counted x k (inl t) = rw t.1 (get_or-set_same in_use o v 0 (omega (arith, counts.size)) ∙ omega (arith, sum o, now))
+    counted x k (inr t) = get_or-set_other in_use o x v 0 t.1 ∙ counts.counted x k ∙ omega (arith, sum x, same x t.1)
+
+    within : (x : ℕ) → x < 48 → ((nat_eq x o ≡ true) × (x ≡ o)) ⊎ ((nat_eq x o ≡ false) × (x ≢ o)) → used_by x (slice_set qs q r) ≤ share x
+    within x k (inl t) = rw t.1 (omega (arith, sum o, now, few))
+    within x k (inr t) = omega (arith, sum x, same x t.1, counts.within x k)
+
+-- a message joins the end of a queue
+pub counted-append : (qs : Queues) (in_use : List ℕ) (q : ℕ) (m : Message) → IsCounted qs in_use → q < length qs → owner_of m < 48 → used_by (owner_of m) qs < share (owner_of m) →
+    IsCounted (slice_set qs q (slice_index_or qs q [] ++ m ∷ [])) (slice_set in_use (owner_of m) (slice_index_or in_use (owner_of m) 0 + 1))
+counted-append qs in_use q m counts at below left =
+    let before = counts.counted (owner_of m) below in
+    counted-set qs in_use q (slice_index_or qs q [] ++ m ∷ []) (owner_of m) (slice_index_or in_use (owner_of m) 0 + 1) counts at below
+    (λ x ne. let push = pushed x in let no = at_place-other (owner_of m) x (λ e. ne (sym e)) in omega (arith, push, no))
+    (let push = pushed (owner_of m) in let yes = at_place-same (owner_of m) (owner_of m) refl in omega (arith, push, yes, before))
+    (omega (arith, before, left))
+  where
+    pushed : (x : ℕ) → count_of x (slice_index_or qs q [] ++ m ∷ []) ≡ count_of x (slice_index_or qs q []) + at_place (owner_of m) x
+    pushed x = sum_by_push (λ y. cond (owner_of y == x) 1 0) (slice_index_or qs q []) m
+
+-- what a queue holds of an owner is in use
+pub count-le-used : (qs : Queues) (q o : ℕ) → q < length qs → count_of o (slice_index_or qs q []) ≤ used_by o qs
+count-le-used qs q o at = get_or-le-sum_by (count_of o) qs q [] at
+
+-- the head leaves a queue
+pub head-used : (qs : Queues) (in_use : List ℕ) (q : ℕ) (m : Message) (rest : List Message) → IsCounted qs in_use → q < length qs → owner_of m < 48 → slice_index_or qs q [] ≡ m ∷ rest → 1 ≤ slice_index_or in_use (owner_of m) 0
+head-used qs in_use q m rest counts at below is =
+    let here = ap (count_of (owner_of m)) is ∙ count_of-cons (owner_of m) m rest in
+    let yes = at_place-same (owner_of m) (owner_of m) refl in
+    omega (arith, here, yes, count-le-used qs q (owner_of m) at, counts.counted (owner_of m) below)
+
+pub counted-place : (qs : Queues) (in_use : List ℕ) (q : ℕ) (m : Message) (rest : List Message) → IsCounted qs in_use → q < length qs → owner_of m < 48 → slice_index_or qs q [] ≡ m ∷ rest →
+    IsCounted (slice_set qs q rest) (slice_set in_use (owner_of m) (slice_index_or in_use (owner_of m) 0 - 1))
+counted-place qs in_use q m rest counts at below is =
+    let before = counts.counted (owner_of m) below in
+    let within = counts.within (owner_of m) below in
+    counted-set qs in_use q rest (owner_of m) (slice_index_or in_use (owner_of m) 0 - 1) counts at below
+    (λ x ne. let took = taken x in let no = at_place-other (owner_of m) x (λ e. ne (sym e)) in omega (arith, took, no))
+    (let took = taken (owner_of m) in let yes = at_place-same (owner_of m) (owner_of m) refl in omega (arith, took, yes, before, head-used qs in_use q m rest counts at below is))
+    (omega (arith, before, within))
+  where
+    taken : (x : ℕ) → count_of x (slice_index_or qs q []) ≡ at_place (owner_of m) x + count_of x rest
+    taken x = ap (count_of x) is ∙ count_of-cons x m rest

@@ -1,0 +1,7 @@
+mod Counts
+mod RingLemmas
+mod Steps
+mod Opening
+mod ImageLemmas
+pub mod WrittenSlots
+mod Withdrawals

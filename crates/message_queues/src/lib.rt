@@ -1,0 +1,12 @@
+//! The message queues of a partition (TLFS, "Messages"), and the image of a message in its slot.
+#![tactic(auto)]
+
+mod owners;
+mod queues;
+mod rings;
+mod slots;
+#[cfg(test)]
+mod tests;
+
+pub use queues::Queues;
+pub use slots::{image, slot_type};

@@ -1,0 +1,36 @@
+// Who owns a buffer.
+ghost use Rattle.std.specs.Prelude.{◌≡◌, ◌<◌};
+ghost use Rattle.message_queues.specs.Owners.{owner_of, owner_of_timer, HasOwner, IsPortOwned};
+
+use board_terms::{Message, TimerId};
+
+/// How many ports own buffers.
+pub(crate) const PORTS: usize = 16;
+
+/// How many owners there are: the ports, and behind them 32 timers.
+pub(crate) const OWNERS: usize = 48;
+
+/// The owner of a message's buffer.
+#[inline]
+pub(crate) fn owner_of(message: &Message) -> usize
+    requires { IsPortOwned message.now }
+    ensures value { result ≡ owner_of message.now }
+    ensures owned { HasOwner message.now }
+    ensures range { result < 48 }
+{
+    match message {
+        Message::FromPort { port, .. } => *port as usize,
+        Message::FromTimer { timer, .. } => owner_of_timer(*timer),
+    }
+}
+
+/// The owner of a timer's buffer.
+#[inline]
+pub(crate) fn owner_of_timer(timer: TimerId) -> usize
+    ensures value { result ≡ owner_of_timer timer }
+    ensures processor { timer.0 < 8 }
+    ensures index { timer.1 < 4 }
+    ensures range { result < 48 }
+{
+    16 + (4 * timer.vp().number() as usize + timer.index() as usize)
+}

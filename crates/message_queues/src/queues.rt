@@ -1,0 +1,144 @@
+// The message queues.
+ghost use Rattle.std.specs.Prelude.{◌≡◌, ◌<◌, ◌≤◌, length, IfOk, slice_get};
+ghost use Rattle.message_queues.specs.Queues.{no_messages, place_of, queue_of, appended, after_place, after_withdrawal, withdrawn_of, port_used, is_timer_free, HasBuffer};
+
+use crate::owners::{OWNERS, PORTS, owner_of, owner_of_timer};
+use crate::rings::withdraw;
+use arrayvec::ArrayVec;
+use board_terms::{Message, Sint, Ticket, TimerId, Vp};
+use circular_buffer::HeapCircularBuffer;
+use slab::Slab;
+use std::alloc::{AllocError, Global};
+use std::marker::Model;
+
+/// How many messages may be queued at once: 16 of each port, one of each timer.
+const BUFFERS: usize = 288;
+
+/// The message queues of a board: one for each source of each processor.
+#[derive(Drop)]
+pub struct Queues {
+    buffers: Slab<Message>,
+    rings: Vec<HeapCircularBuffer<usize>>,
+    in_use: [u8; OWNERS],
+}
+
+impl Model for Queues {
+    ghost use Rattle.std.specs.Prelude.{List};
+    ghost use Rattle.board_terms.specs.declared.messages.Message.{Message};
+
+    ghost Value = { List (List Message) };
+
+    ghost use Rattle.message_queues.specs.View.{queues_of, IsKept};
+
+    ghost view = { queues_of };
+
+    ghost invariant = { IsKept };
+}
+
+/// Where the queue of a source stands.
+#[inline]
+fn place_of(vp: Vp, sint: Sint) -> usize
+    ensures { result ≡ place_of vp sint }
+{
+    16 * vp.number() as usize + sint.number() as usize
+}
+
+impl Queues {
+    /// Empty queues for that many processors, with room for 288 messages. The only call here that
+    /// may want memory.
+    pub fn open(alloc: Global, processors: u8) -> Result<Queues, AllocError>
+        requires some { 1 ≤ processors }
+        requires few { processors ≤ 8 }
+        ensures { IfOk result (λ q. q ≡ no_messages processors) }
+    {
+        let queues = 16 * processors as usize;
+        let buffers = Slab::with_capacity(alloc, BUFFERS)?;
+        let mut rings = Vec::with_capacity(alloc, queues)?;
+        for _ in 0..queues {
+            rings.push_reserved(HeapCircularBuffer::with_capacity(alloc, BUFFERS)?);
+        }
+        Ok(Queues {
+            buffers,
+            rings,
+            in_use: [0; OWNERS],
+        })
+    }
+
+    /// A message joins the end of a queue. It takes no memory.
+    #[inline]
+    pub fn append(&mut self, vp: Vp, sint: Sint, message: Message)
+        requires on_the_board { place_of vp sint < length self.old }
+        requires buffer { HasBuffer self.old message }
+        ensures queued { self.new ≡ appended self.old vp sint message }
+        ensures as_many { length self.new ≡ length self.old }
+    {
+        self.in_use[owner_of(&message)] += 1;
+        let key = self.buffers.insert_reserved(message);
+        let _ = self.rings[place_of(vp, sint)].push_back(key);
+    }
+
+    /// Takes the head out of a queue, if there is one.
+    #[inline]
+    pub fn place(&mut self, vp: Vp, sint: Sint) -> Option<Message>
+        requires { place_of vp sint < length self.old }
+        ensures head { result ≡ slice_get (queue_of self.old vp sint) 0 }
+        ensures rest { self.new ≡ after_place self.old vp sint }
+        ensures as_many { length self.new ≡ length self.old }
+    {
+        let Some(key) = self.rings[place_of(vp, sint)].pop_front() else {
+            return None;
+        };
+        let message = self.buffers.remove(key);
+        self.in_use[owner_of(&message)] -= 1;
+        Some(message)
+    }
+
+    /// Takes the messages of a port out of a queue, and answers their tickets, front first. The
+    /// others stay in order.
+    pub fn withdraw_port(&mut self, vp: Vp, sint: Sint, port: u8) -> ArrayVec<Ticket, 16>
+        requires { place_of vp sint < length self.old }
+        ensures tickets { result.items ≡ withdrawn_of port (queue_of self.old vp sint) }
+        ensures rest { self.new ≡ after_withdrawal self.old vp sint port }
+        ensures as_many { length self.new ≡ length self.old }
+    {
+        if self.port_used(port) == 0 {
+            return ArrayVec::new();
+        }
+        let ring = &mut self.rings[place_of(vp, sint)];
+        let tickets = withdraw(&mut self.buffers, ring, port);
+        self.in_use[port as usize] -= tickets.len() as u8;
+        tickets
+    }
+
+    /// How many messages are in a queue, at most 288.
+    #[inline]
+    pub fn count(&self, vp: Vp, sint: Sint) -> u16
+        requires { place_of vp sint < length self.now }
+        ensures value { result ≡ length (queue_of self.now vp sint) }
+        ensures few { result ≤ 288 }
+    {
+        self.rings[place_of(vp, sint)].len() as u16
+    }
+
+    /// How many buffers of a port are in use: its messages over all queues, at most 16. None of a
+    /// port above 15.
+    #[inline]
+    pub fn port_used(&self, port: u8) -> u8
+        ensures value { result ≡ port_used self.now port }
+        ensures few { result ≤ 16 }
+    {
+        let in_use = &self.in_use;
+        if port as usize >= PORTS {
+            return 0;
+        }
+        in_use[port as usize]
+    }
+
+    /// Whether the one buffer of a timer is free: no message of it is queued.
+    #[inline]
+    pub fn timer_buffer_free(&self, timer: TimerId) -> bool
+        ensures { result ≡ is_timer_free self.now timer }
+    {
+        self.in_use[owner_of_timer(timer)] == 0
+    }
+}

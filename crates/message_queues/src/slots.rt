@@ -1,0 +1,156 @@
+// Messages in their slots.
+ghost use Rattle.std.specs.Prelude.{◌≡◌, ◌-◌, ◌<◌, ◌≤◌, ◌++◌, length, replicate};
+ghost use Rattle.message_queues.specs.Image.{flags_of, header, timer_payload, image, slot_type};
+
+use board_terms::{Message, Moment, Sint};
+
+/// The size of a message slot, and so of a message (TLFS, "SynIC Message").
+const SLOT: usize = 256;
+
+/// The type of a timer's message (TLFS, "Message Types").
+const TIMER_EXPIRED: u32 = 0x8000_0010;
+
+/// The image of a message that is placed at a moment: the 256 bytes of its slot. `pending` is
+/// whether more messages wait behind it (TLFS, "SynIC Message").
+#[inline]
+pub fn image(message: &Message, pending: bool, moment: Moment) -> [u8; SLOT]
+    ensures { result ≡ image message.now pending moment }
+{
+    match message {
+        Message::FromPort {
+            port,
+            kind,
+            payload,
+            ..
+        } => {
+            let header = header(*kind, payload.len() as u8, pending, *port as u64);
+            assembled(&header, payload.as_slice())
+        }
+        Message::FromTimer {
+            timer,
+            expiration,
+            ..
+        } => {
+            let header = header(TIMER_EXPIRED, 24, pending, 0);
+            assembled(&header, &timer_payload(timer.index(), *expiration, moment))
+        }
+    }
+}
+
+/// A header, a payload and zeros.
+#[inline]
+fn assembled(header: &[u8; 16], payload: &[u8]) -> [u8; SLOT]
+    requires { length payload.now ≤ 240 }
+    ensures { result ≡ header.now ++ payload.now ++ replicate (240 - length payload.now) 0 }
+{
+    let mut image = [0; SLOT];
+    image[..16].copy_from_slice(header);
+    image[16..16 + payload.len()].copy_from_slice(payload);
+    image
+}
+
+/// The flags of a message: bit 0 is MessagePending.
+#[inline]
+fn flags_of(pending: bool) -> u8
+    ensures { result ≡ flags_of pending }
+{
+    if pending { 1 } else { 0 }
+}
+
+/// Bytes 0 to 15 of a message.
+#[inline]
+fn header(kind: u32, size: u8, pending: bool, port: u64) -> [u8; 16]
+    ensures { result ≡ header kind size pending port }
+{
+    let [a, b, c, d] = kind.to_le_bytes();
+    let [e, f, g, h, i, j, k, l] = port.to_le_bytes();
+    [
+        a,
+        b,
+        c,
+        d,
+        size,
+        flags_of(pending),
+        0,
+        0,
+        e,
+        f,
+        g,
+        h,
+        i,
+        j,
+        k,
+        l,
+    ]
+}
+
+/// The payload of a timer's message.
+#[inline]
+fn timer_payload(index: u8, expiration: Moment, delivery: Moment) -> [u8; 24]
+    ensures { result ≡ timer_payload index expiration delivery }
+{
+    let mut payload = [0; 24];
+    payload[..4].copy_from_slice(&(index as u32).to_le_bytes());
+    payload[8..16].copy_from_slice(&expiration.to_le_bytes());
+    payload[16..].copy_from_slice(&delivery.to_le_bytes());
+    payload
+}
+
+/// The type of the message in a slot of a SIM page. The slot is empty where it is 0.
+#[inline]
+pub fn slot_type(page: &[u8], sint: Sint) -> u32
+    requires { length page.now ≡ 4096 }
+    ensures { result ≡ slot_type page.now sint }
+{
+    let at = SLOT * sint.number() as usize;
+    u32::from_le_bytes([page[at], page[at + 1], page[at + 2], page[at + 3]])
+}
+
+#[cfg(test)]
+mod tests {
+    use super::*;
+    use board_terms::{PayloadBytes, TimerId, Vp};
+
+    #[test]
+    fn image_of_a_timer(rt: HostRuntime) {
+        let timer = TimerId::new(Vp::new(0).unwrap(), 1).unwrap();
+        let message = Message::FromTimer {
+            ticket: 0,
+            timer,
+            expiration: 20,
+        };
+        let image = image(&message, true, 30);
+        assert_eq!(rt; &image[..8], [0x10, 0, 0, 0x80, 0x18, 1, 0, 0].as_slice());
+        assert_eq!(rt; &image[8..16], [0; 8].as_slice());
+        assert_eq!(rt; &image[16..24], [1, 0, 0, 0, 0, 0, 0, 0].as_slice());
+        assert_eq!(rt; &image[24..32], [0x14, 0, 0, 0, 0, 0, 0, 0].as_slice());
+        assert_eq!(rt; &image[32..40], [0x1e, 0, 0, 0, 0, 0, 0, 0].as_slice());
+        assert!(rt; image[40..].iter().all(|byte| *byte == 0));
+    }
+
+    #[test]
+    fn image_of_a_post(rt: HostRuntime) {
+        let mut payload = PayloadBytes::new();
+        payload.push(0x0a);
+        let message = Message::FromPort {
+            ticket: 0,
+            port: 3,
+            kind: 1,
+            payload,
+        };
+        let image = image(&message, false, 30);
+        assert_eq!(rt; &image[..8], [1, 0, 0, 0, 1, 0, 0, 0].as_slice());
+        assert_eq!(rt; &image[8..16], [3, 0, 0, 0, 0, 0, 0, 0].as_slice());
+        assert_eq!(rt; image[16], 0x0a);
+        assert!(rt; image[17..].iter().all(|byte| *byte == 0));
+    }
+
+    #[test]
+    fn type_in_a_slot(rt: HostRuntime) {
+        let mut page = [0; 4096];
+        page[512] = 0x10;
+        page[515] = 0x80;
+        assert_eq!(rt; slot_type(&page, Sint::new(2).unwrap()), 0x8000_0010);
+        assert_eq!(rt; slot_type(&page, Sint::new(1).unwrap()), 0);
+    }
+}
