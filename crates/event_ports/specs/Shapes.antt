@@ -1,5 +1,5 @@
 -- What a port may be opened for.
-use Rattle.std.specs.Prelude.{ℕ, Bool, ◌+◌, nat_le, ◌&&◌}
+use Rattle.std.specs.Prelude.{Bool, ◌+◌, nat_le, ◌&&◌}
 use Rattle.board_terms.specs.declared.messages.PortShape.{PortShape}
 use Rattle.board_terms.specs.declared.messages.PortShape.TheVariants.{Messages, Flags}
 

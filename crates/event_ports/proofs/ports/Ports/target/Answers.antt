@@ -1,4 +1,4 @@
-use Rattle.std.proofs.Common.{◌≡◌, ◌<◌, ◌∙◌, ap, sym, arith, slice_index_or}
+use Rattle.std.proofs.Common.{◌≡◌, ◌∙◌, ap, sym, arith, slice_index_or}
 use Rattle.std.specs.Prelude.{None, Some}
 use Rattle.event_ports.specs.Ports.{Ports}
 use Rattle.event_ports.proofs.ports.Ports.target.Goals as goal

@@ -1,0 +1,58 @@
+-- The timers of all processors.
+use Rattle.std.specs.Prelude.{ℕ, zero, suc, Bool, false, nat_lt, nat_le, List, [], map, replicate, slice_index_or, slice_set, Option, None, Some, if◌then◌else◌}
+use Rattle.std.specs.List.{insert, position_or_len}
+use Rattle.std.specs.Option.{option_map_or}
+use Rattle.board_terms.specs.Dues.{Dues, number_of, timer_of, due_of, earlier}
+use Rattle.stimer_bank.specs.declared.timer.Timer.{Timer}
+use Rattle.stimer_bank.specs.declared.timer.Expiry.{Expiry}
+use Rattle.stimer_bank.specs.Timer.{after_config, after_count, after_expiry}
+
+pub record Bank : Type 0 where
+  -- by number
+  pub timers : List Timer
+
+abbrev pub idle_timer : Timer
+idle_timer = record { config = 0; count = 0; due = None }
+
+abbrev pub opened : Bank
+opened = record { timers = replicate 32 idle_timer }
+
+abbrev pub timer_in : Bank → ℕ × ℕ → Timer
+timer_in b t = slice_index_or b.timers (number_of t) idle_timer
+
+abbrev pub with_timer : Bank → ℕ × ℕ → Timer → Bank
+with_timer b t x = record b { timers = slice_set b.timers (number_of t) x }
+
+-- a timer after a write of its configuration, and after one of its count, at a moment
+abbrev pub with_config : Bank → ℕ × ℕ → ℕ → ℕ → Bank
+with_config b t value moment = with_timer b t (after_config (timer_in b t) value moment)
+
+abbrev pub with_count : Bank → ℕ × ℕ → ℕ → ℕ → Bank
+with_count b t value moment = with_timer b t (after_count (timer_in b t) value moment)
+
+-- when each timer is due
+abbrev pub dues : Bank → Dues
+dues b = map (λ x. x.due) b.timers
+
+abbrev pub after_expiry_of : Bank → ℕ × ℕ → ℕ → Bank × Expiry
+after_expiry_of b t moment = let r = after_expiry (timer_in b t) moment in (with_timer b t r.0, r.1)
+
+abbrev pub least_with : Option (ℕ × ℕ) → Option ℕ → ℕ → Option (ℕ × ℕ)
+least_with best due n = option_map_or (λ d. Some (earlier best (d, n))) due best
+
+-- a timer is due later than d
+abbrev pub is_later : Dues → ℕ → ℕ × ℕ → Bool
+is_later m d t = option_map_or (λ e. nat_lt d e) (due_of m t) false
+
+-- the timer of number n joins a list, if it is due at the moment, before the first timer that is due later
+abbrev pub listed : Dues → ℕ → ℕ → List (ℕ × ℕ) → List (ℕ × ℕ)
+listed m moment n ts =
+    option_map_or (λ d. if nat_le d moment then insert ts (position_or_len (is_later m d) ts) (timer_of n) else ts) (slice_index_or m n None) ts
+
+-- the timers of numbers below n that are due at the moment, by (due, processor, index)
+unfoldable pub due_below : Dues → ℕ → ℕ → List (ℕ × ℕ)
+due_below m moment zero = []
+due_below m moment (suc n) = listed m moment n (due_below m moment n)
+
+unfoldable pub due_list : Dues → ℕ → List (ℕ × ℕ)
+due_list m moment = due_below m moment 32

@@ -1,0 +1,96 @@
+// Each call once, at values from worked scripts.
+use crate::{Mode, TimerBank};
+use board_terms::{TimerId, Vp};
+use std::test::Fail;
+
+fn timer(vp: u8, index: u8) -> Result<TimerId, Fail> {
+    let vp = Vp::new(vp).ok_or("processor")?;
+    Ok(TimerId::new(vp, index).ok_or("index")?)
+}
+
+#[test]
+fn a_late_periodic_timer_makes_up_eight_periods(rt: HostRuntime) -> Result<(), Fail> {
+    let first = timer(0, 0)?;
+    // period 10, direct mode with vector 64, started at moment 100: due at 110
+    for (moment, skipped, next) in [(199, 0, 120), (200, 1, 130), (235, 4, 160)] {
+        let mut bank = TimerBank::new();
+        bank.write_count(first, 10, 100);
+        bank.write_config(first, 0x1403, 100);
+        assert!(rt; bank.earliest() == Some((110, first)), "at {moment}");
+        assert!(rt; bank.is_due(first, moment), "at {moment}");
+        if bank.is_due(first, moment) {
+            let expiry = bank.expire(first, moment);
+            assert!(rt;
+                expiry.signal == Some(110) && expiry.skipped == skipped,
+                "at {moment}"
+            );
+        }
+        assert!(rt; bank.earliest() == Some((next, first)), "at {moment}");
+    }
+    Ok(())
+}
+
+#[test]
+fn a_lazy_timer_tells_of_the_latest_period(rt: HostRuntime) -> Result<(), Fail> {
+    let first = timer(0, 0)?;
+    for (moment, signal, skipped) in [(235, Some(230), 12), (238, None, 13)] {
+        let mut bank = TimerBank::new();
+        bank.write_count(first, 10, 100);
+        bank.write_config(first, 0x1407, 100);
+        if bank.is_due(first, moment) {
+            let expiry = bank.expire(first, moment);
+            assert!(rt;
+                expiry.signal == signal && expiry.skipped == skipped,
+                "at {moment}"
+            );
+        }
+        assert!(rt; bank.earliest() == Some((240, first)), "at {moment}");
+    }
+    Ok(())
+}
+
+#[test]
+fn registers_and_order(rt: HostRuntime) -> Result<(), Fail> {
+    let (first, last) = (timer(0, 0)?, timer(7, 3)?);
+    let mut bank = TimerBank::new();
+    // AutoEnable sets Enabled with a count, and a count of 0 clears it
+    bank.write_config(first, 0x1408, 0);
+    bank.write_count(first, 10, 0);
+    assert_eq!(rt; bank.read_config(first), 0x1409);
+    assert_eq!(rt; bank.read_count(first), 10);
+    bank.write_count(first, 0, 0);
+    assert_eq!(rt; bank.read_config(first), 0x1408);
+    // a direct vector below 16 is not enabled
+    bank.write_config(first, 0x10f1, 0);
+    assert_eq!(rt; bank.read_config(first), 0x10f0);
+    // the largest count, from the largest moment
+    bank.write_count(last, u64::MAX, u64::MAX);
+    bank.write_config(last, 0x1403, u64::MAX);
+    assert!(rt; bank.earliest() == Some((36893488147419103230, last)));
+    bank.write_count(first, 7, u64::MAX);
+    bank.write_config(first, 0x2_0001, u64::MAX);
+    assert!(rt; bank.due_list(u64::MAX).as_slice() == [first].as_slice());
+    bank.write_count(last, 7, 0);
+    bank.write_config(last, 0x1401, 0);
+    assert!(rt; bank.due_list(7).as_slice() == [first, last].as_slice());
+    assert!(rt; bank.due_list(6).is_empty());
+    Ok(())
+}
+
+#[test]
+fn whom_a_timer_tells(rt: HostRuntime) -> Result<(), Fail> {
+    let first = timer(0, 0)?;
+    let mut bank = TimerBank::new();
+    bank.write_count(first, 7, 0);
+    bank.write_config(first, 0x1401, 0);
+    if bank.is_due(first, 7) {
+        let is_direct = matches!(bank.mode(first), Mode::Direct(_));
+        assert!(rt; is_direct);
+    }
+    bank.write_config(first, 0x2_0001, 0);
+    if bank.is_due(first, 7) {
+        let is_direct = matches!(bank.mode(first), Mode::Direct(_));
+        assert!(rt; !is_direct);
+    }
+    Ok(())
+}

@@ -1,0 +1,294 @@
+// One timer: its registers, when it is due, and how it expires.
+ghost use Rattle.std.specs.Prelude.{◌≡◌, ℕ, true, false, ◌+◌, ◌*◌, ◌^◌, ◌-◌, ◌<◌, ◌≤◌, Option, Some, None, IsSome, IsTrue};
+ghost use Rattle.stimer_bank.specs.Timer.{has_bit, is_periodic, vector_of, sint_of, is_direct, is_mute, disabled, ruled, written_config, written_count, started, after_config, after_count, is_due, IsSound, IsRuled, mode_of, expired, once, catching_up, lazily, expiry_of, after_expiry};
+
+use board_terms::{Moment, Sint, Vector};
+
+// The bits of STIMERn_CONFIG (TLFS, "STIMERx_CONFIG Register"), by their places.
+const ENABLED: u32 = 0;
+
+const PERIODIC: u32 = 1;
+
+const LAZY: u32 = 2;
+
+const AUTO_ENABLE: u32 = 3;
+
+const VECTOR: u32 = 4;
+
+const DIRECT: u32 = 12;
+
+const SINTX: u32 = 16;
+
+/// What is kept of a configuration that is written: all other bits are dropped (profile).
+const KEPT: u64 = 0xf1fff;
+
+/// How many periods a late periodic timer makes up one by one (profile).
+const CATCHES_UP: u64 = 8;
+
+/// Whom a timer tells when it expires (TLFS, "Direct Synthetic Timers").
+#[derive(Clone, Copy, Debug)]
+pub enum Mode {
+    /// It requests a vector.
+    Direct(Vector),
+    /// It posts a message to a source.
+    Posted(Sint),
+}
+
+/// How a timer expired.
+#[derive(Clone, Copy, Debug)]
+pub struct Expiry {
+    /// The moment that it tells, if it tells any.
+    pub signal: Option<Moment>,
+    /// How many of its moments it tells of nobody.
+    pub skipped: u64,
+}
+
+/// One timer.
+#[derive(Clone, Copy)]
+pub(crate) struct Timer {
+    pub(crate) config: u64,
+    pub(crate) count: u64,
+    pub(crate) due: Option<u128>,
+}
+
+fn is_enabled(config: u64) -> bool
+    ensures { result ≡ has_bit 0 config }
+{
+    (config >> ENABLED) % 2 == 1
+}
+
+fn is_periodic(config: u64) -> bool
+    ensures { result ≡ has_bit 1 config }
+{
+    (config >> PERIODIC) % 2 == 1
+}
+
+fn is_lazy(config: u64) -> bool
+    ensures { result ≡ has_bit 2 config }
+{
+    (config >> LAZY) % 2 == 1
+}
+
+fn is_auto(config: u64) -> bool
+    ensures { result ≡ has_bit 3 config }
+{
+    (config >> AUTO_ENABLE) % 2 == 1
+}
+
+fn is_direct(config: u64) -> bool
+    ensures { result ≡ has_bit 12 config }
+{
+    (config >> DIRECT) % 2 == 1
+}
+
+fn vector_of(config: u64) -> u8
+    ensures { result ≡ vector_of config }
+{
+    ((config >> VECTOR) % 256) as u8
+}
+
+fn sint_of(config: u64) -> u8
+    ensures value { result ≡ sint_of config }
+    ensures range { result < 16 }
+{
+    ((config >> SINTX) % 16) as u8
+}
+
+/// Whether a timer of this configuration has nobody to tell.
+fn is_mute(config: u64) -> bool
+    ensures { result ≡ is_mute config }
+{
+    if is_direct(config) {
+        vector_of(config) < 16
+    } else {
+        sint_of(config) == 0
+    }
+}
+
+fn disabled(config: u64) -> u64
+    ensures { result ≡ disabled config }
+{
+    config - config % 2
+}
+
+/// A timer that has nobody to tell is not enabled.
+fn ruled(config: u64) -> u64
+    ensures { result ≡ ruled config }
+{
+    if is_mute(config) {
+        disabled(config)
+    } else {
+        config
+    }
+}
+
+/// The configuration after a write of the count.
+fn written_count(config: u64, count: u64) -> u64
+    ensures { result ≡ written_count config count }
+{
+    if count == 0 {
+        disabled(config)
+    } else if is_auto(config) {
+        ruled(disabled(config) + 1)
+    } else {
+        config
+    }
+}
+
+/// When a timer that is written at `moment` is due.
+fn started(config: u64, count: u64, moment: Moment) -> Option<u128>
+    ensures { result ≡ started config count moment }
+{
+    if !is_enabled(config) || count == 0 {
+        None
+    } else if is_periodic(config) {
+        Some(moment as u128 + count as u128)
+    } else {
+        Some(count as u128)
+    }
+}
+
+impl Timer {
+    pub(crate) fn after_config(self, value: u64, moment: Moment) -> Timer
+        ensures after { result ≡ after_config self value moment }
+        ensures sound { IsSound result }
+    {
+        let config = ruled(value & KEPT);
+        Timer {
+            config,
+            count: self.count,
+            due: started(config, self.count, moment),
+        }
+    }
+
+    pub(crate) fn after_count(self, value: u64, moment: Moment) -> Timer
+        requires ruled { IsRuled self.config }
+        ensures after { result ≡ after_count self value moment }
+        ensures sound { IsSound result }
+    {
+        let config = written_count(self.config, value);
+        Timer {
+            config,
+            count: value,
+            due: started(config, value, moment),
+        }
+    }
+
+    pub(crate) fn is_due(self, moment: Moment) -> bool
+        ensures { result ≡ is_due self moment }
+    {
+        match self.due {
+            Some(due) => due <= moment as u128,
+            None => false,
+        }
+    }
+
+    pub(crate) fn mode(self) -> Mode
+        requires sound { IsSound self }
+        requires running { IsSome self.due }
+        ensures { result ≡ mode_of self.config }
+    {
+        if is_direct(self.config) {
+            Mode::Direct(Vector::new(vector_of(self.config)).unwrap())
+        } else {
+            Mode::Posted(Sint::new(sint_of(self.config)).unwrap())
+        }
+    }
+
+    /// How it expires at a moment that has reached its due moment, and when it is due next.
+    fn expiry(self, due: u64, moment: Moment) -> (Expiry, Option<u128>)
+        requires period { 0 < self.count }
+        requires late { due ≤ moment }
+        requires grid { is_periodic self.config ≡ true → self.count ≤ due }
+        ensures expiry { result.0 ≡ expiry_of (expired self due moment) }
+        ensures next { result.1 ≡ (expired self due moment).next }
+    {
+        if !is_periodic(self.config) {
+            return expire_once(due);
+        }
+        let missed = (moment - due) / self.count;
+        if is_lazy(self.config) {
+            let last = due + missed * self.count;
+            return expire_lazily(self.count, last, missed, moment);
+        }
+        catch_up(self.count, due, missed)
+    }
+
+    /// It expires at a moment, and is due anew if it is periodic.
+    pub(crate) fn expire(self, moment: Moment) -> (Timer, Expiry)
+        requires sound { IsSound self }
+        requires is_due { IsTrue (is_due self moment) }
+        ensures after { result ≡ after_expiry self moment }
+        ensures sound { IsSound result.0 }
+    {
+        let due = self.due.unwrap() as u64;
+        let (expiry, next) = self.expiry(due, moment);
+        let config = if is_periodic(self.config) {
+            self.config
+        } else {
+            disabled(self.config)
+        };
+        let timer = Timer {
+            config,
+            count: self.count,
+            due: next,
+        };
+        (timer, expiry)
+    }
+}
+
+/// A one-shot timer expires for its due moment.
+fn expire_once(due: u64) -> (Expiry, Option<u128>)
+    ensures expiry { result.0 ≡ expiry_of (once due) }
+    ensures next { result.1 ≡ (once due).next }
+{
+    let expiry = Expiry {
+        signal: Some(due),
+        skipped: 0,
+    };
+    (expiry, None)
+}
+
+/// A periodic timer that missed some periods makes up eight of them at most, one by one.
+fn catch_up(period: u64, due: u64, missed: u64) -> (Expiry, Option<u128>)
+    requires { due + missed * period < 2 ^ 64 }
+    ensures expiry { result.0 ≡ expiry_of (catching_up period due missed) }
+    ensures next { result.1 ≡ (catching_up period due missed).next }
+{
+    if missed <= CATCHES_UP {
+        let expiry = Expiry {
+            signal: Some(due),
+            skipped: 0,
+        };
+        return (expiry, Some(due as u128 + period as u128));
+    }
+    let expiry = Expiry {
+        signal: Some(due),
+        skipped: missed - CATCHES_UP,
+    };
+    let periods = (missed - CATCHES_UP + 1) as u128;
+    (expiry, Some(due as u128 + period as u128 * periods))
+}
+
+/// A lazy periodic timer tells of its last moment, unless the next is near.
+fn expire_lazily(period: u64, last: u64, missed: u64, moment: Moment) -> (Expiry, Option<u128>)
+    requires late { last ≤ moment }
+    requires near { moment < last + period }
+    requires room { missed < 2 ^ 64 - 1 }
+    ensures expiry { result.0 ≡ expiry_of (lazily period last missed moment) }
+    ensures next { result.1 ≡ (lazily period last missed moment).next }
+{
+    let next = last as u128 + period as u128;
+    if 4 * (next - moment as u128) <= period as u128 {
+        let expiry = Expiry {
+            signal: None,
+            skipped: missed + 1,
+        };
+        return (expiry, Some(next));
+    }
+    let expiry = Expiry {
+        signal: Some(last),
+        skipped: missed,
+    };
+    (expiry, Some(next))
+}
