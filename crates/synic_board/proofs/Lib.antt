@@ -1,1 +1,10 @@
 pub mod Rules
+pub mod Openings
+pub mod Overlays
+pub mod Lengths
+pub mod Folds
+pub mod Placing
+pub mod Storing
+pub mod Telling
+pub mod Clocks
+pub mod Sizes

@@ -1,4 +1,15 @@
 pub mod State
 pub mod Scratch
+pub mod Entries
+pub mod Moves
+pub mod Effects
+pub mod Interrupts
+pub mod Delivery
+pub mod Stores
+pub mod Posts
+pub mod Timers
+pub mod Registers
 pub mod Step
+pub mod Places
+pub mod Sound
 pub mod View

@@ -1,16 +1,40 @@
--- What the board's fields stand for, and what they keep.
-use Rattle.std.specs.Prelude.{◌≡◌, ◌≤◌, length}
-use Rattle.synic_board.specs.State.{State, Held}
+-- What the machine's fields stand for, and what they keep.
+use Rattle.std.specs.Prelude.{◌≡◌, ◌≤◌, ◌*◌, ℕ, length, None, slice_index_or}
+use Rattle.stimer_bank.specs.Bank.{dues}
+use Rattle.synic_board.specs.State.{State, Held, overlay_registers}
 use Rattle.synic_board.specs.Scratch.{scratch}
-use Rattle.synic_board.specs.declared.board.Board.TheInside.{Inside}
+use Rattle.synic_board.specs.declared.machine.Machine.TheInside.{Inside}
 
 abbrev pub state_of : Inside → State
-state_of b = record { page_count = b.page_count; moment = b.moment; next_ticket = b.next_ticket; apics = b.lapics.items }
+state_of b =
+    record {
+      moment = b.moment;
+      next_ticket = b.next_ticket;
+      apics = b.lapics.items;
+      regs = b.regs.items;
+      pages = b.space.pages;
+      own = b.space.own;
+      ports = b.ports.ports;
+      queues = b.queues;
+      slots = b.slots.items;
+      timers = b.timers.timers;
+    }
 
 abbrev pub held_of : Inside → Held
 held_of b = record { state = state_of b; writes = b.summary.writes }
 
 pub record IsKept (b : Inside) : Type 0 where
   pub few_processors : length b.lapics.items ≤ 8
+  pub registers : length b.regs.items ≡ length b.lapics.items
+  pub page_count : b.page_count ≡ length b.space.pages
+  pub few_pages : b.page_count ≤ 64
+  -- the space has the overlay registers of the processors, two each
+  pub two_overlays : length b.space.registers ≡ 2 * length b.lapics.items
+  pub overlays : b.space.registers ≡ overlay_registers b.regs.items
+  pub ports : b.ports.processors ≡ length b.lapics.items
+  pub queues : length b.queues ≡ 16 * length b.lapics.items
+  pub slots : length b.slots.items ≡ 16 * length b.lapics.items
+  -- no timer of a processor that is not on the board is due
+  pub idle : (n : ℕ) → 4 * length b.lapics.items ≤ n → slice_index_or (dues b.timers) n None ≡ None
   -- the stored summary is the one computed from scratch
   pub summary : b.summary.values ≡ scratch (state_of b)

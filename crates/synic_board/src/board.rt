@@ -1,16 +1,13 @@
 // The board.
-ghost use Rattle.std.specs.Prelude.{◌≡◌, ◌<◌, ◌≤◌, ◌+◌, ◌↔◌, length, IfOk, IsErrOf, IsSome, IfSome};
+ghost use Rattle.std.specs.Prelude.{◌≡◌, ◌≤◌, ◌+◌, ◌↔◌, length, IfOk, IsErrOf};
 ghost use Rattle.synic_board.specs.State.{AreSizes, opened, processors};
-ghost use Rattle.synic_board.specs.Scratch.{scratch, kept};
+ghost use Rattle.synic_board.specs.Scratch.{scratch, kept, TellsOf};
 ghost use Rattle.synic_board.specs.Step.{step};
 
-mod interrupts;
-mod registers;
-
 use crate::event::{Event, Reply};
+use crate::machine::Machine;
 use crate::summary::Summary;
-use board_terms::{Moment, Notices, Refusal, Ticket, Vp};
-use lapic_core::Lapic;
+use board_terms::{Moment, Notices, Ticket};
 use std::alloc::Global;
 use std::marker::Model;
 use thiserror::Error;
@@ -28,11 +25,7 @@ pub enum OpenFault {
 /// the stored summary was written.
 #[derive(Drop)]
 pub struct Board {
-    page_count: u8,
-    moment: Moment,
-    next_ticket: Ticket,
-    lapics: Vec<Lapic>,
-    summary: Summary,
+    machine: Machine,
 }
 
 impl Model for Board {
@@ -42,16 +35,12 @@ impl Model for Board {
 
     ghost coded = { held_code };
 
-    ghost use Rattle.synic_board.specs.View.{held_of, IsKept};
-
-    ghost view = { held_of };
-
-    ghost invariant = { IsKept };
+    ghost view = { λ a. a.machine };
 }
 
 impl Board {
     /// A board with that many processors and guest pages at moment 0, whose first accepted message
-    /// takes `first_ticket`. `BadSize` unless there is 1 processor and there are 1 to 64 pages. All
+    /// takes `first_ticket`. `BadSize` unless there are 1 to 8 processors and 1 to 64 pages. All
     /// memory that events need is taken here.
     pub fn open(
         alloc: Global,
@@ -63,29 +52,21 @@ impl Board {
         ensures opened { IfOk result (λ b. b.state ≡ opened processors pages first_ticket) }
         ensures writes { IfOk result (λ b. b.writes ≡ 0) }
     {
-        if processors != 1 || pages < 1 || pages > 64 {
+        if processors < 1 || processors > 8 || pages < 1 || pages > 64 {
             return Err(OpenFault::BadSize);
         }
-        let Ok(mut lapics) = Vec::with_capacity(alloc, processors as usize) else {
-            return Err(OpenFault::Memory);
-        };
-        for _ in 0..processors {
-            lapics.push_reserved(Lapic::new());
+        match Machine::open(alloc, processors, pages, first_ticket) {
+            Ok(machine) => Ok(Board { machine }),
+            Err(_) => Err(OpenFault::Memory),
         }
-        Ok(Board {
-            page_count: pages,
-            moment: 0,
-            next_ticket: first_ticket,
-            lapics,
-            summary: Summary::new(processors),
-        })
     }
 
     /// The stored summary. It is lent, and nothing is computed.
     pub fn summary(&self) -> &Summary
-        ensures { result.now ≡ kept (scratch self.now.state) self.now.writes }
+        ensures value { result.now ≡ kept (scratch self.now.state) self.now.writes }
+        ensures sizes { TellsOf (processors self.now.state) (length self.now.state.pages) result.now.values }
     {
-        &self.summary
+        self.machine.summary()
     }
 
     /// How many processors are on the board.
@@ -93,28 +74,28 @@ impl Board {
         ensures count { result ≡ processors self.now.state }
         ensures few { result ≤ 8 }
     {
-        self.lapics.len() as u8
+        self.machine.processors()
     }
 
     /// How many guest pages there are.
     pub fn pages(&self) -> u8
-        ensures { result ≡ self.now.state.page_count }
+        ensures { result ≡ length self.now.state.pages }
     {
-        self.page_count
+        self.machine.pages()
     }
 
     /// The present moment.
     pub fn moment(&self) -> Moment
         ensures { result ≡ self.now.state.moment }
     {
-        self.moment
+        self.machine.moment()
     }
 
     /// The ticket that the next accepted message takes.
     pub fn next_ticket(&self) -> Ticket
         ensures { result ≡ self.now.state.next_ticket }
     {
-        self.next_ticket
+        self.machine.next_ticket()
     }
 
     /// Performs an event, leaves its notices in order in `notices`, and answers. It takes no memory.
@@ -123,43 +104,6 @@ impl Board {
         ensures rises { self.old.writes ≤ self.new.writes }
         ensures few { self.new.writes ≤ self.old.writes + (8 + length notices.new) }
     {
-        notices.clear();
-        match event {
-            Event::Write {
-                vp,
-                register,
-                value,
-            } => match self.processor(*vp) {
-                Some(vp) => self.write(vp, *register, *value),
-                None => Reply::Refused(Refusal::NoSuchProcessor),
-            },
-            Event::Read { vp, register } => match self.processor(*vp) {
-                Some(vp) => self.read(vp, *register),
-                None => Reply::Refused(Refusal::NoSuchProcessor),
-            },
-            Event::Assert { vp, vector } => match self.processor(*vp) {
-                Some(vp) => {
-                    self.request(vp, *vector, notices);
-                    Reply::Done
-                }
-                None => Reply::Refused(Refusal::NoSuchProcessor),
-            },
-            Event::Take { vp } => match self.processor(*vp) {
-                Some(vp) => Reply::Taken(self.take(vp)),
-                None => Reply::Refused(Refusal::NoSuchProcessor),
-            },
-        }
-    }
-
-    /// The processor of that number, if it is on the board.
-    fn processor(&self, number: u8) -> Option<Vp>
-        ensures on { IsSome result ↔ (number < processors self.now.state) }
-        ensures value { IfSome result (λ vp. vp ≡ number) }
-    {
-        if number < self.processors() {
-            Vp::new(number)
-        } else {
-            None
-        }
+        self.machine.perform(event, notices)
     }
 }

@@ -1,17 +1,65 @@
 // What the board is asked, and what it answers.
-use board_terms::{Refusal, Vector};
+use board_terms::{Bytes8, Moment, PayloadBytes, PortShape, Refusal, Ticket, Vector};
 
-/// What the board is asked. Processor and register numbers are plain data, which the board judges.
+/// What the board is asked. Processor, source, port and register numbers are plain data, which the board judges.
 #[derive(PartialEq, Debug, Drop)]
 pub enum Event {
+    /// A port is opened to source `sint` of processor `vp`.
+    OpenPort {
+        port: u8,
+        vp: u8,
+        sint: u8,
+        shape: PortShape,
+    },
+    /// A port is closed.
+    ClosePort {
+        port: u8,
+    },
     /// A guest writes a register of processor `vp`.
-    Write { vp: u8, register: u32, value: u64 },
+    Write {
+        vp: u8,
+        register: u32,
+        value: u64,
+    },
     /// A guest reads a register of processor `vp`.
-    Read { vp: u8, register: u32 },
+    Read {
+        vp: u8,
+        register: u32,
+    },
+    /// A message of a type (`kind`) is posted to a port.
+    Post {
+        port: u8,
+        kind: u32,
+        payload: PayloadBytes,
+    },
+    /// An event flag of a port is signalled.
+    Signal {
+        port: u8,
+        flag: u16,
+    },
     /// A device asserts a vector at the local APIC of processor `vp`.
-    Assert { vp: u8, vector: Vector },
+    Assert {
+        vp: u8,
+        vector: Vector,
+    },
+    /// A guest stores bytes at a guest physical address.
+    Store {
+        address: u64,
+        bytes: Bytes8,
+    },
+    /// A guest loads bytes from a guest physical address.
+    Load {
+        address: u64,
+        length: u8,
+    },
+    /// The clock goes on to a moment.
+    Tick {
+        moment: Moment,
+    },
     /// Processor `vp` takes its next interrupt.
-    Take { vp: u8 },
+    Take {
+        vp: u8,
+    },
 }
 
 /// What the board answers.
@@ -21,8 +69,16 @@ pub enum Reply {
     Done,
     /// What the register reads.
     Value(u64),
+    /// What the guest loads.
+    Bytes(Bytes8),
     /// The vector that was taken, if there was one.
     Taken(Option<Vector>),
+    /// The post was accepted with this ticket.
+    Accepted(Ticket),
+    /// The event flag was clear, and was set.
+    FlagWasClear,
+    /// The event flag was set already.
+    FlagWasSet,
     /// The access raises #GP; nothing was changed.
     GeneralProtection,
     /// The event was refused; nothing was changed.

@@ -3,6 +3,7 @@
 
 mod board;
 mod event;
+mod machine;
 mod summary;
 
 pub use board::{Board, OpenFault};

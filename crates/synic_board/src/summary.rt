@@ -1,65 +1,155 @@
 // What is stored beside the state, so that nobody has to compute it.
-ghost use Rattle.std.specs.Prelude.{◌≡◌, ◌+◌, ◌<◌, ◌≤◌, length, replicate, None, slice_set, slice_index_or};
-ghost use Rattle.synic_board.specs.Scratch.{values, kept};
+ghost use Rattle.std.specs.Prelude.{◌≡◌, ◌+◌, ◌*◌, ◌<◌, ◌≤◌, length, replicate, false, None, IfOk, slice_index_or};
+ghost use Rattle.std.specs.FinSet as set;
+ghost use Rattle.board_terms.specs.declared.pages.Owner.TheVariants.{Guest, Nothing};
+ghost use Rattle.message_queues.specs.Queues.{place_of};
+ghost use Rattle.synic_board.specs.Scratch.{kept};
 
-use board_terms::{Vector, Vp};
+use board_terms::{Owner, Sint, TimerId, Vector, Vp};
 use counter::Count;
+use lapic_core::VectorSet;
+use std::alloc::{AllocError, Global};
 use std::marker::Model;
 
-/// What a hypervisor asks after each event, stored: the next vector of each processor.
+/// One value of the summary, and where it stands.
+#[derive(Drop)]
+pub(crate) enum Entry {
+    /// The next vector of a processor.
+    Next(Vp, Option<Vector>),
+    /// The vectors of a processor that end by themselves when they are taken.
+    Auto(Vp, VectorSet),
+    /// Whose page a guest sees at a page number.
+    Owns(u8, Owner),
+    /// How many messages are queued for a source of a processor.
+    Queued(Vp, Sint, u16),
+    /// The timer that is due first, and when.
+    Earliest(Option<(u128, TimerId)>),
+}
+
+/// What a hypervisor asks after each event, stored: the next vector and the auto-EOI vectors of
+/// each processor, whose page a guest sees at each page number, how many messages are queued for each
+/// source, and the timer that is due first.
 #[derive(Drop)]
 pub struct Summary {
-    nexts: [Option<Vector>; 8],
-    processors: u8,
+    nexts: Vec<Option<Vector>>,
+    autos: Vec<VectorSet>,
+    owners: Vec<Owner>,
+    queued: Vec<u16>,
+    earliest: Option<(u128, TimerId)>,
     // how often a value was written, for contracts alone
     writes: Count,
 }
 
 impl Model for Summary {
-    ghost use Rattle.std.specs.Prelude.{take, ◌≤◌};
-    ghost use Rattle.synic_board.specs.Scratch.{Kept, values, kept};
+    ghost use Rattle.synic_board.specs.Scratch.{Kept, kept, kept_code};
 
     ghost Value = { Kept };
 
-    ghost view = { λ a. kept (values (take a.processors a.nexts)) a.writes.number };
+    ghost coded = { kept_code };
 
-    ghost invariant = { λ a. a.processors ≤ 8 };
+    ghost view = { λ a. kept (record { nexts = a.nexts.items; autos = a.autos.items; owners = a.owners.items; queued = a.queued.items; earliest = a.earliest }) a.writes.number };
 }
 
 impl Summary {
+    ghost use Rattle.synic_board.specs.Entries.{HasEntry, with_entry};
+
     /// The summary of a board as it is opened.
-    #[tactic(auto, using(crate::proofs::Rules::lists))]
-    pub(crate) fn new(processors: u8) -> Summary
-        requires { processors ≤ 8 }
-        ensures values { result.values.nexts ≡ replicate processors None }
-        ensures writes { result.writes ≡ 0 }
+    pub(crate) fn open(alloc: Global, processors: u8, pages: u8) -> Result<Summary, AllocError>
+        ensures nexts { IfOk result (λ s. s.values.nexts ≡ replicate processors None) }
+        ensures autos { IfOk result (λ s. s.values.autos ≡ replicate processors set.empty) }
+        ensures owners { IfOk result (λ s. s.values.owners ≡ replicate pages Guest) }
+        ensures queued { IfOk result (λ s. s.values.queued ≡ replicate (16 * processors) 0) }
+        ensures earliest { IfOk result (λ s. s.values.earliest ≡ None) }
+        ensures writes { IfOk result (λ s. s.writes ≡ 0) }
     {
-        Summary {
-            nexts: [None; 8],
-            processors,
-            writes: Count::zero(),
+        let nexts = vec![in alloc; None; processors as usize]?;
+        let owners = vec![in alloc; Owner::Guest; pages as usize]?;
+        let queued = vec![in alloc; 0; 16 * processors as usize]?;
+        let mut autos = Vec::with_capacity(alloc, processors as usize)?;
+        for _ in 0..processors {
+            autos.push_reserved(VectorSet::new());
         }
+        Ok(Summary {
+            nexts,
+            autos,
+            owners,
+            queued,
+            earliest: None,
+            writes: Count::zero(),
+        })
     }
 
     /// Writes one value.
-    #[tactic(auto, using(crate::proofs::Rules::lists))]
-    pub(crate) fn write_next(&mut self, vp: Vp, next: Option<Vector>)
-        requires { vp < length self.old.values.nexts }
-        ensures { self.new ≡ kept (values (slice_set self.old.values.nexts vp next)) (self.old.writes + 1) }
+    #[inline]
+    pub(crate) fn write(&mut self, entry: Entry)
+        requires { HasEntry self.old.values entry }
+        ensures { self.new ≡ kept (with_entry self.old.values entry) (self.old.writes + 1) }
     {
         self.writes = Count::after(&self.writes);
-        self.nexts[vp.number() as usize] = next;
+        match entry {
+            Entry::Next(vp, next) => self.nexts[vp.number() as usize] = next,
+            Entry::Auto(vp, auto) => self.autos[vp.number() as usize] = auto,
+            Entry::Owns(page, owner) => self.owners[page as usize] = owner,
+            Entry::Queued(vp, sint, count) => self.queued[place_of(vp, sint)] = count,
+            Entry::Earliest(earliest) => self.earliest = earliest,
+        }
     }
 
     /// The next vector of a processor, `None` for one that is not on the board.
-    #[tactic(auto, using(crate::proofs::Rules::lists))]
     pub fn next(&self, vp: Vp) -> Option<Vector>
         ensures { result ≡ slice_index_or self.now.values.nexts vp None }
     {
-        if vp.number() < self.processors {
-            self.nexts[vp.number() as usize]
-        } else {
-            None
+        match self.nexts.get(vp.number() as usize) {
+            Some(next) => *next,
+            None => None,
         }
     }
+
+    /// Whether a vector ends by itself when a processor takes it, `false` for a processor that is
+    /// not on the board.
+    pub fn is_auto(&self, vp: Vp, vector: Vector) -> bool
+        ensures { result ≡ set.contains (slice_index_or self.now.values.autos vp set.empty) vector }
+    {
+        match self.autos.get(vp.number() as usize) {
+            Some(auto) => auto.contains(vector),
+            None => false,
+        }
+    }
+
+    /// Whose page a guest sees at a page number, `Nothing` where there is no such page.
+    pub fn owner(&self, page: u64) -> Owner
+        ensures { result ≡ slice_index_or self.now.values.owners page Nothing }
+    {
+        match self.owners.get(page as usize) {
+            Some(owner) => *owner,
+            None => Owner::Nothing,
+        }
+    }
+
+    /// The timer that is due first, and when: the least by due moment, processor and index. `None`
+    /// where no timer is due at any moment.
+    pub fn earliest(&self) -> Option<(u128, TimerId)>
+        ensures { result ≡ self.now.values.earliest }
+    {
+        self.earliest
+    }
+
+    /// How many messages are queued for a source of a processor, 0 for a processor that is not on
+    /// the board.
+    pub fn queued(&self, vp: Vp, sint: Sint) -> u16
+        ensures { result ≡ slice_index_or self.now.values.queued (place_of vp sint) 0 }
+    {
+        match self.queued.get(place_of(vp, sint)) {
+            Some(count) => *count,
+            None => 0,
+        }
+    }
+}
+
+/// Where the values of a source stand, those of processor 0 first.
+pub(crate) fn place_of(vp: Vp, sint: Sint) -> usize
+    ensures value { result ≡ place_of vp sint }
+    ensures range { result < 128 }
+{
+    16 * vp.number() as usize + sint.number() as usize
 }

@@ -1,0 +1,82 @@
+-- Effects one after another: what is done for the sources below a number.
+use Rattle.std.proofs.Common.{◌≡◌, ℕ, ◌+◌, ◌<◌, ◌≤◌, List, [], ◌∷◌, ◌++◌, length, take, get_or, refl, ap, sym, ◌∙◌, append_assoc, append-nil, add-one, suc, zero, subst}
+use Rattle.std.specs.Prelude.{Option, Some, IfSome}
+use Rattle.std.proofs.lemmas.List.{take_more, take_all}
+use Rattle.board_terms.specs.declared.notices.Notice.{Notice}
+use Rattle.synic_board.specs.State.{State}
+use Rattle.synic_board.specs.Effects.{Effect, nothing, after, appended}
+use Rattle.synic_board.specs.Delivery.{tried, tried_below}
+use Rattle.synic_board.specs.Stores.{consumed, consumed_below}
+use Rattle.synic_board.specs.Timers.{attempted, attempted_all}
+
+-- a fold over the numbers below n: nothing, then one step after what was done below
+record IsFold (below : State → ℕ → Effect) (one : State → ℕ → Effect) : Type 0 where
+  none : (s : State) → below s zero ≡ nothing s
+  more : (s : State) (i : ℕ) → below s (suc i) ≡ after (below s i) (one (below s i).0 i)
+
+fold_none : {below one : State → ℕ → Effect} (f : IsFold below one) (s : State) (before : List Notice) → (s, before) ≡ appended before (below s 0)
+fold_none f s before = ap (λ ns. (s, ns)) (sym (append-nil before)) ∙ ap (appended before) (sym (f.none s))
+
+fold_more : {below one : State → ℕ → Effect} (f : IsFold below one) (s now next : State) (i v : ℕ) (before told more : List Notice) → (now, told) ≡ appended before (below s i) → v ≡ i → (next, more) ≡ appended told (one now v) →
+    (next, more) ≡ appended before (below s (i + 1))
+fold_more {below} {one} f s now next i v before told more so_far same step =
+    let e : Effect = below s i in
+    let a : now ≡ e.0 = ap (λ (x : Effect). x.0) so_far in
+    let b : told ≡ before ++ e.1 = ap (λ (x : Effect). x.1) so_far in
+    let c : one now v ≡ one e.0 i = (λ j. one (a j) (same j)) in
+    let g : more ≡ before ++ (e.1 ++ (one e.0 i).1) = ap (λ (x : Effect). x.1) step ∙ (λ j. b j ++ (c j).1) ∙ append_assoc before e.1 (one e.0 i).1 in
+    let h : next ≡ (one e.0 i).0 = ap (λ (x : Effect). x.0) step ∙ ap (λ (x : Effect). x.0) c in
+    (λ j. (h j, g j)) ∙ ap (appended before) (sym (f.more s i)) ∙ ap (λ k. appended before (below s k)) (sym (add-one i))
+
+tries : (p : ℕ) → IsFold (λ s n. tried_below s p n) (λ s i. tried s p i)
+unfolding tried_below
+tries p = record { none = λ s. refl; more = λ s i. refl }
+
+consumes : (p : ℕ) → IsFold (λ s n. consumed_below s p n) (λ s i. consumed s p i)
+unfolding consumed_below
+consumes p = record { none = λ s. refl; more = λ s i. refl }
+
+pub tried_none : (s : State) (p : ℕ) (before : List Notice) → (s, before) ≡ appended before (tried_below s p 0)
+tried_none s p before = fold_none (tries p) s before
+
+pub tried_more : (s now next : State) (p i v : ℕ) (before told more : List Notice) → (now, told) ≡ appended before (tried_below s p i) → v ≡ i → (next, more) ≡ appended told (tried now p v) →
+    (next, more) ≡ appended before (tried_below s p (i + 1))
+tried_more s now next p i v before told more so_far same step = fold_more (tries p) s now next i v before told more so_far same step
+
+pub consumed_none : (s : State) (p : ℕ) (before : List Notice) → (s, before) ≡ appended before (consumed_below s p 0)
+consumed_none s p before = fold_none (consumes p) s before
+
+pub consumed_more : (s now next : State) (p i v : ℕ) (before told more : List Notice) → (now, told) ≡ appended before (consumed_below s p i) → v ≡ i → (next, more) ≡ appended told (consumed now p v) →
+    (next, more) ≡ appended before (consumed_below s p (i + 1))
+consumed_more s now next p i v before told more so_far same step = fold_more (consumes p) s now next i v before told more so_far same step
+
+-- what a number that was made of i is
+pub made_of : (o : Option ℕ) (x n : ℕ) → IfSome o (λ v. v ≡ n) → o ≡ Some x → x ≡ n
+made_of o x n h e = subst (λ k. IfSome k (λ v. v ≡ n)) e h
+
+-- timers one after another
+attempted_all-push : (s : State) (ts : List (ℕ × ℕ)) (t : ℕ × ℕ) → attempted_all s (ts ++ t ∷ []) ≡ after (attempted_all s ts) (attempted (attempted_all s ts).0 t)
+unfolding attempted_all
+attempted_all-push s [] t = ap (λ ns. ((attempted s t).0, ns)) (append-nil (attempted s t).1)
+attempted_all-push s (u ∷ ts) t =
+    ap (after (attempted s u)) (attempted_all-push (attempted s u).0 ts t)
+    ∙ ap (λ ns. ((attempted (attempted_all (attempted s u).0 ts).0 t).0, ns)) (sym (append_assoc (attempted s u).1 (attempted_all (attempted s u).0 ts).1 (attempted (attempted_all (attempted s u).0 ts).0 t).1))
+
+pub attempted_none : (s : State) (ts : List (ℕ × ℕ)) (before : List Notice) → (s, before) ≡ appended before (attempted_all s (take 0 ts))
+unfolding attempted_all
+attempted_none s ts before = ap (λ ns. (s, ns)) (sym (append-nil before))
+
+pub attempted_more : (s now next : State) (ts : List (ℕ × ℕ)) (i : ℕ) (t : ℕ × ℕ) (before told more : List Notice) → i < length ts → t ≡ get_or ts i t → (now, told) ≡ appended before (attempted_all s (take i ts)) → (next, more) ≡ appended told (attempted now t) →
+    (next, more) ≡ appended before (attempted_all s (take (i + 1) ts))
+attempted_more s now next ts i t before told more within at so_far step =
+    let e : Effect = attempted_all s (take i ts) in
+    let a : now ≡ e.0 = ap (λ (x : Effect). x.0) so_far in
+    let b : told ≡ before ++ e.1 = ap (λ (x : Effect). x.1) so_far in
+    let c : attempted now t ≡ attempted e.0 t = ap (λ x. attempted x t) a in
+    let g : more ≡ before ++ (e.1 ++ (attempted e.0 t).1) = ap (λ (x : Effect). x.1) step ∙ (λ j. b j ++ (c j).1) ∙ append_assoc before e.1 (attempted e.0 t).1 in
+    let h : next ≡ (attempted e.0 t).0 = ap (λ (x : Effect). x.0) step ∙ ap (λ (x : Effect). x.0) c in
+    (λ j. (h j, g j)) ∙ ap (appended before) (sym (attempted_all-push s (take i ts) t))
+    ∙ ap (λ xs. appended before (attempted_all s xs)) (ap (λ x. take i ts ++ x ∷ []) at ∙ sym (take_more ts i t within))
+
+pub attempted_whole : (s now : State) (ts : List (ℕ × ℕ)) (i : ℕ) (before told : List Notice) → length ts ≤ i → (now, told) ≡ appended before (attempted_all s (take i ts)) → (now, told) ≡ appended before (attempted_all s ts)
+attempted_whole s now ts i before told h so_far = so_far ∙ ap (λ xs. appended before (attempted_all s xs)) (take_all i ts h)

@@ -1,0 +1,18 @@
+-- Of how much the stored summary tells.
+use Rattle.std.proofs.Common.{length, ◌∙◌}
+use Rattle.std.proofs.lemmas.List.{length-map}
+use Rattle.lapic_core.specs.Apic.{next}
+use Rattle.synic_regs.specs.Regs.{auto_vectors}
+use Rattle.synic_board.specs.declared.machine.Machine.TheInside.{Inside}
+use Rattle.synic_board.specs.State.{processors, space_of}
+use Rattle.synic_board.specs.Scratch.{scratch, TellsOf}
+use Rattle.synic_board.specs.View.{state_of, IsKept}
+use Rattle.synic_board.proofs.Overlays.{length-owners}
+
+pub tells_of : (b : Inside) → IsKept b → TellsOf (processors (state_of b)) (length (state_of b).pages) (scratch (state_of b))
+tells_of b kept = record {
+  nexts = length-map b.lapics.items next;
+  autos = length-map b.regs.items auto_vectors ∙ kept.registers;
+  owners = length-owners (space_of (state_of b));
+  queued = length-map b.queues length ∙ kept.queues;
+}

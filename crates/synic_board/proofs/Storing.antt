@@ -1,0 +1,47 @@
+-- A store that is not refused, and whose page it touches.
+use Rattle.std.proofs.Common.{◌≡◌, ℕ, ◌*◌, ◌/◌, ◌%◌, ◌<◌, true, false, List, [], length, refl, sym, ap, subst, ◌∙◌, arith, nat_lt}
+use Rattle.std.specs.Prelude.{Option, None, Some, ◌==◌, Ok, Err, if◌then◌else◌}
+use Rattle.std.specs.Option.{option_map_or}
+use Rattle.std.proofs.lemmas.List.Quantifiers.{position-Some}
+use Rattle.board_terms.specs.declared.refusal.Refusal.{Refusal}
+use Rattle.board_terms.specs.declared.pages.Owner.{Owner}
+use Rattle.board_terms.specs.declared.pages.Owner.TheVariants.{Guest, Sim, Sief, Nothing}
+use Rattle.gpa_space.specs.Space.{Space, refusal_of, owner_of, visible, lies_at, overlay_owner, store_answer, after_store}
+use Rattle.synic_board.specs.State.{State, processors, space_of, with_space}
+use Rattle.board_terms.specs.declared.notices.Notice.{Notice}
+use Rattle.synic_board.specs.declared.event.Reply.TheVariants.{Done}
+use Rattle.synic_board.specs.Effects.{appended, answered, refused}
+use Rattle.synic_board.specs.Stores.{IsOn, consumed_in, with_bytes, stored_bytes}
+
+-- a store that is answered by an owner was not refused, and touches the visible page
+pub store_is_good : (s : Space) (address : ℕ) (bytes : List ℕ) (owner : Owner) → Ok owner ≡ store_answer s address bytes → (refusal_of s address (length bytes) ≡ None) × (owner ≡ owner_of s (address / 4096))
+store_is_good s address bytes owner e = judged (refusal_of s address (length bytes)) refl
+  where
+    judged : (o : Option Refusal) → refusal_of s address (length bytes) ≡ o → (refusal_of s address (length bytes) ≡ None) × (owner ≡ owner_of s (address / 4096))
+    judged None is = (is, let f = e ∙ ap (λ o. option_map_or (λ (r : Refusal). Err r) o (Ok (owner_of s (address / 4096)))) is in cc)
+    judged (Some r) is = let f = e ∙ ap (λ o. option_map_or (λ (r : Refusal). Err r) o (Ok (owner_of s (address / 4096)))) is in absurd (cc)
+
+overlay_on : (s : State) (k : ℕ) → k < 2 * processors s → IsOn s (overlay_owner k)
+overlay_on s k h = elim (k % 2 == 0) as (λ b. IsOn s (if b then Sim (k / 2) else Sief (k / 2))) [ true ↦ omega arith | false ↦ omega arith ]
+
+shown_on : (s : State) (space : Space) (page : ℕ) (o : Option ℕ) → visible space page ≡ o → length space.registers ≡ 2 * processors s → IsOn s (option_map_or overlay_owner o Guest)
+shown_on s space page None e h = tt
+shown_on s space page (Some k) e h = overlay_on s k (omega (arith, (position-Some (lies_at page) space.registers k 0 e).0))
+
+-- whose page is visible has its processor on the board
+pub owner_on : (s : State) (space : Space) (page : ℕ) (owner : Owner) → length space.registers ≡ 2 * processors s → owner ≡ owner_of space page → IsOn s owner
+owner_on s space page owner h e =
+    subst (IsOn s) (sym e) (elim (nat_lt page (length space.pages)) as (λ b. IsOn s (if b then option_map_or overlay_owner (visible space page) Guest else Nothing)) [
+      | true ↦ shown_on s space page (visible space page) refl h
+      | false ↦ tt
+    ])
+
+-- the fields after a store that is not refused, and what it consumed, are those of the definition
+pub stored_is : (s now : State) (address : ℕ) (bytes : List ℕ) (b t : Space) (owner : Owner) (before told : List Notice) →
+    b ≡ space_of s → Ok owner ≡ store_answer b address bytes → t ≡ after_store b address bytes → before ≡ [] → (now, told) ≡ appended before (consumed_in (with_space s t) owner) →
+    (now, Done, told) ≡ stored_bytes s address bytes
+stored_is s now address bytes b t owner before told space answer after empty effect =
+    let good = store_is_good (space_of s) address bytes owner (answer ∙ ap (λ x. store_answer x address bytes) space) in
+    let e : (now, told) ≡ consumed_in (with_bytes s address bytes) (owner_of (space_of s) (address / 4096)) =
+    effect ∙ (λ i. appended (empty i) (consumed_in (with_space s ((after ∙ ap (λ x. after_store x address bytes) space) i)) (good.1 i))) in
+    ap (answered Done) e ∙ ap (λ o. option_map_or (refused s) o (answered Done (consumed_in (with_bytes s address bytes) (owner_of (space_of s) (address / 4096))))) (sym good.0)

@@ -1,0 +1,48 @@
+use Rattle.std.proofs.Common.{◌≡◌, ◌*◌, ap, sym, ◌∙◌, replicate, length, arith, slice_index_or}
+use Rattle.std.proofs.lemmas.List.{length-replicate}
+use Rattle.lapic_core.specs.Apic.{empty_apic}
+use Rattle.synic_regs.specs.Regs.{reset_regs}
+use Rattle.event_ports.specs.Ports.{Ports}
+use Rattle.std.specs.Prelude.{ℕ, List, [], Option, None}
+use Rattle.board_terms.specs.declared.messages.Message.{Message}
+use Rattle.gpa_space.specs.Page.{zero_page}
+use Rattle.gpa_space.specs.Space.{Space}
+use Rattle.stimer_bank.specs.Bank.{Bank, dues}
+use Rattle.synic_board.specs.Scratch.{scratch}
+use Rattle.synic_board.specs.State.{overlay_registers}
+use Rattle.synic_board.proofs.Openings.{overlays-opened, scratch-opened, state-opened, idle-opened}
+use Rattle.synic_board.proofs.machine.Machine.open.Goals as goal
+
+pub invariant_of-result : goal.invariant_of-result
+invariant_of-result c =
+    let n = c.args.processors in
+    let pages = c.args.pages in
+    let all : c.loop.counter ≡ n = omega arith in
+    let lapics = c.loop.invariant.lapics ∙ ap (λ k. replicate k empty_apic) all in
+    let regs = c.loop.invariant.regs ∙ ap (λ k. replicate k reset_regs) all in
+    let space = c.in_ok-space.ensures {u = tt} in
+    let summary = c.in_ok-summary.ensures {u = tt} in
+    let queues = c.in_ok-queues.ensures {u = tt} in
+    let slots = c.in_ok-slots.ensures {u = tt} in
+    let state = state-opened n pages c.args.first_ticket c.loop.lapics.items c.loop.regs.items c.in_ok-space.space c.new-ports.result c.in_ok-queues.queues c.in_ok-slots.slots.items c.new-timers.result lapics regs space c.new-ports.ensures queues slots c.new-timers.ensures in
+    record {
+      few_processors = omega (arith, c.requires.few_processors, ap length lapics, length-replicate n empty_apic);
+      registers = ap length regs ∙ length-replicate n reset_regs ∙ sym (ap length lapics ∙ length-replicate n empty_apic);
+      page_count = sym (ap (λ (s : Space). length s.pages) space ∙ length-replicate pages zero_page);
+      few_pages = c.requires.few_pages;
+      two_overlays = omega (arith, ap (λ (s : Space). length s.registers) space, length-replicate {A = ℕ} (2 * n) 0, ap length lapics, length-replicate n empty_apic);
+      overlays = ap (λ (s : Space). s.registers) space ∙ sym (overlays-opened n) ∙ ap overlay_registers (sym regs);
+      ports = ap (λ (p : Ports). p.processors) c.new-ports.ensures ∙ sym (ap length lapics ∙ length-replicate n empty_apic);
+      queues = omega (arith, ap length queues, length-replicate {A = List Message} (16 * n) [], ap length lapics, length-replicate n empty_apic);
+      slots = omega (arith, ap length slots, length-replicate {A = Option ℕ} (16 * n) None, ap length lapics, length-replicate n empty_apic);
+      idle = λ k _. ap (λ (b : Bank). slice_index_or (dues b) k None) c.new-timers.ensures ∙ idle-opened 32 k;
+      summary = scratch-opened n pages c.args.first_ticket c.in_ok-summary.summary.values summary.nexts summary.autos summary.owners summary.queued summary.earliest ∙ ap scratch (sym state);
+    }
+
+pub returns-clause-opened : goal.returns-clause-opened
+returns-clause-opened c =
+    let all : c.loop.counter ≡ c.args.processors = omega arith in
+    let lapics = c.loop.invariant.lapics ∙ ap (λ k. replicate k empty_apic) all in
+    let regs = c.loop.invariant.regs ∙ ap (λ k. replicate k reset_regs) all in
+    state-opened c.args.processors c.args.pages c.args.first_ticket c.loop.lapics.items c.loop.regs.items c.in_ok-space.space c.new-ports.result c.in_ok-queues.queues c.in_ok-slots.slots.items c.new-timers.result
+    lapics regs (c.in_ok-space.ensures {u = tt}) c.new-ports.ensures (c.in_ok-queues.ensures {u = tt}) (c.in_ok-slots.ensures {u = tt}) c.new-timers.ensures

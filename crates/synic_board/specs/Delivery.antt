@@ -1,0 +1,61 @@
+-- Delivery attempts: a queued message goes into the slot of its source (TLFS, "Message Delivery").
+use Rattle.std.specs.Prelude.{ℕ, zero, suc, ◌==◌, ◌&&◌, ◌+◌, Bool, nat_lt, List, [], ◌∷◌, length, Some, if◌then◌else◌}
+use Rattle.board_terms.specs.declared.messages.Message.{Message}
+use Rattle.board_terms.specs.Messages.{ticket_of}
+use Rattle.board_terms.specs.declared.notices.Notice.{Notice}
+use Rattle.board_terms.specs.declared.notices.Notice.TheVariants.{Accepted, Placed, Pending}
+use Rattle.board_terms.specs.declared.pages.Kind.TheVariants.{Sim}
+use Rattle.synic_regs.specs.Regs.{has, enable}
+use Rattle.message_queues.specs.Queues.{queue_of, with_queue, appended as joined}
+use Rattle.message_queues.specs.Image.{image, slot_type}
+use Rattle.gpa_space.specs.Space.{own_page, after_slot, is_pending, after_pending}
+use Rattle.synic_board.specs.State.{State, regs_of, space_of, with_space, with_slot_ticket}
+use Rattle.synic_board.specs.Effects.{Effect, nothing, after}
+use Rattle.synic_board.specs.Interrupts.{raised}
+
+-- the SynIC and its message page are enabled
+abbrev pub delivers : State → ℕ → Bool
+delivers s p = has (regs_of s p).control enable && has (regs_of s p).sim enable
+
+-- a slot is empty exactly where its type is 0
+abbrev pub is_slot_empty : State → ℕ → ℕ → Bool
+is_slot_empty s p i = slot_type (own_page (space_of s) p Sim) i == 0
+
+-- the head of the queue is placed in the slot, with the rest left behind
+abbrev pub placed_state : State → ℕ → ℕ → Message → List Message → State
+placed_state s p i m rest =
+    with_slot_ticket (record (with_space s (after_slot (space_of s) p i (image m (nat_lt 0 (length rest)) s.moment))) { queues = with_queue s.queues p i rest }) p i (Some (ticket_of m))
+
+abbrev pub placed_notices : ℕ → ℕ → ℕ → Bool → List Notice
+placed_notices ticket p i pending = Placed ticket p i ∷ (if pending then Pending p i ∷ [] else [])
+
+abbrev pub placed_head : State → ℕ → ℕ → List Message → Effect
+placed_head s p i [] = nothing s
+placed_head s p i (m ∷ rest) = (placed_state s p i m rest, placed_notices (ticket_of m) p i (nat_lt 0 (length rest)))
+
+abbrev pub placed : State → ℕ → ℕ → Effect
+placed s p i = placed_head s p i (queue_of s.queues p i)
+
+-- MessagePending is set in an occupied slot, with a notice if it was clear
+abbrev pub marked : State → ℕ → ℕ → Effect
+marked s p i = (with_space s (after_pending (space_of s) p i), if is_pending (space_of s) p i then [] else Pending p i ∷ [])
+
+-- a delivery attempt
+unfoldable pub tried : State → ℕ → ℕ → Effect
+tried s p i =
+    if delivers s p && nat_lt 0 (length (queue_of s.queues p i))
+    then (if is_slot_empty s p i then after (placed s p i) (raised (placed s p i).0 p i) else marked s p i)
+    else nothing s
+
+-- one for each source below n, in order
+unfoldable pub tried_below : State → ℕ → ℕ → Effect
+tried_below s p zero = nothing s
+tried_below s p (suc i) = after (tried_below s p i) (tried (tried_below s p i).0 p i)
+
+-- a message takes the next ticket and joins the end of its queue
+abbrev pub accepted : State → ℕ → ℕ → Message → Effect
+accepted s p i m = (record s { queues = joined s.queues p i m; next_ticket = s.next_ticket + 1 }, Accepted (ticket_of m) p i ∷ [])
+
+-- accepted, then tried
+abbrev pub delivered : State → ℕ → ℕ → Message → Effect
+delivered s p i m = after (accepted s p i m) (tried (accepted s p i m).0 p i)

@@ -1,0 +1,205 @@
+// The parts of a board, which together are the written machine.
+ghost use Rattle.std.specs.Prelude.{◌≡◌, ◌<◌, ◌≤◌, ◌+◌, ◌↔◌, length, replicate, None, IfOk, IsSome, IfSome};
+ghost use Rattle.synic_board.specs.State.{AreSizes, opened, processors};
+ghost use Rattle.synic_board.specs.Scratch.{scratch, kept, TellsOf};
+ghost use Rattle.synic_board.specs.Step.{step};
+
+mod delivery;
+mod interrupts;
+mod overlays;
+mod pages;
+mod posts;
+mod registers;
+mod timers;
+
+use crate::event::{Event, Reply};
+use crate::summary::Summary;
+use board_terms::{Moment, Notices, Refusal, Ticket, Vp};
+use event_ports::Ports;
+use gpa_space::Space;
+use lapic_core::Lapic;
+use message_queues::Queues;
+use std::alloc::{AllocError, Global};
+use std::marker::Model;
+use stimer_bank::TimerBank;
+use synic_regs::SynicRegs;
+
+/// The parts of a board. Contracts see the state of the written machine, and how often the stored
+/// summary was written.
+#[derive(Drop)]
+pub(crate) struct Machine {
+    page_count: u8,
+    moment: Moment,
+    next_ticket: Ticket,
+    lapics: Vec<Lapic>,
+    regs: Vec<SynicRegs>,
+    space: Space,
+    ports: Ports,
+    queues: Queues,
+    // the ticket in the message slot of each source, those of processor 0 first
+    slots: Vec<Option<Ticket>>,
+    timers: TimerBank,
+    // what an event changes of it is written at once, so that it is always the one from scratch
+    summary: Summary,
+}
+
+impl Model for Machine {
+    ghost use Rattle.synic_board.specs.State.{Held, held_code};
+
+    ghost Value = { Held };
+
+    ghost coded = { held_code };
+
+    ghost use Rattle.synic_board.specs.View.{held_of, IsKept};
+
+    ghost view = { held_of };
+
+    ghost invariant = { IsKept };
+}
+
+impl Machine {
+    /// The machine as it is opened. All memory that events need is taken here.
+    pub(crate) fn open(
+        alloc: Global,
+        processors: u8,
+        pages: u8,
+        first_ticket: Ticket,
+    ) -> Result<Machine, AllocError>
+        requires { AreSizes processors pages }
+        ensures opened { IfOk result (λ m. m.state ≡ opened processors pages first_ticket) }
+        ensures writes { IfOk result (λ m. m.writes ≡ 0) }
+    {
+        let summary = Summary::open(alloc, processors, pages)?;
+        let space = Space::open(alloc, processors, pages)?;
+        let ports = Ports::new(processors);
+        let timers = TimerBank::new();
+        let queues = Queues::open(alloc, processors)?;
+        let slots = no_tickets(alloc, 16 * processors as usize)?;
+        let mut lapics = Vec::with_capacity(alloc, processors as usize)?;
+        let mut regs = Vec::with_capacity(alloc, processors as usize)?;
+        for _ in 0..processors {
+            lapics.push_reserved(Lapic::new());
+            regs.push_reserved(SynicRegs::new());
+        }
+        Ok(Machine {
+            page_count: pages,
+            moment: 0,
+            next_ticket: first_ticket,
+            lapics,
+            regs,
+            space,
+            ports,
+            queues,
+            slots,
+            timers,
+            summary,
+        })
+    }
+
+    /// The stored summary. It is lent, and nothing is computed.
+    pub(crate) fn summary(&self) -> &Summary
+        ensures value { result.now ≡ kept (scratch self.now.state) self.now.writes }
+        ensures sizes { TellsOf (processors self.now.state) (length self.now.state.pages) result.now.values }
+    {
+        &self.summary
+    }
+
+    /// How many processors are on the board.
+    pub(crate) fn processors(&self) -> u8
+        ensures count { result ≡ processors self.now.state }
+        ensures few { result ≤ 8 }
+    {
+        self.lapics.len() as u8
+    }
+
+    /// How many guest pages there are.
+    pub(crate) fn pages(&self) -> u8
+        ensures { result ≡ length self.now.state.pages }
+    {
+        self.page_count
+    }
+
+    /// The present moment.
+    pub(crate) fn moment(&self) -> Moment
+        ensures { result ≡ self.now.state.moment }
+    {
+        self.moment
+    }
+
+    /// The ticket that the next accepted message takes.
+    pub(crate) fn next_ticket(&self) -> Ticket
+        ensures { result ≡ self.now.state.next_ticket }
+    {
+        self.next_ticket
+    }
+
+    /// Performs an event, leaves its notices in order in `notices`, and answers. It takes no memory.
+    #[tactic(auto, unfolding(crate::specs::Step::step))]
+    pub(crate) fn perform(&mut self, event: &Event, notices: &mut Notices) -> Reply
+        ensures step { (self.new.state, result, notices.new) ≡ step self.old.state event.now }
+        ensures rises { self.old.writes ≤ self.new.writes }
+        ensures few { self.new.writes ≤ self.old.writes + (8 + length notices.new) }
+    {
+        notices.clear();
+        match event {
+            Event::OpenPort {
+                port,
+                vp,
+                sint,
+                shape,
+            } => self.open_port(*port, *vp, *sint, *shape),
+            Event::ClosePort { port } => self.close_port(*port, notices),
+            Event::Write {
+                vp,
+                register,
+                value,
+            } => match self.processor(*vp) {
+                Some(vp) => self.write(vp, *register, *value, notices),
+                None => Reply::Refused(Refusal::NoSuchProcessor),
+            },
+            Event::Read { vp, register } => match self.processor(*vp) {
+                Some(vp) => self.read(vp, *register),
+                None => Reply::Refused(Refusal::NoSuchProcessor),
+            },
+            Event::Post {
+                port,
+                kind,
+                payload,
+            } => self.post(*port, *kind, payload, notices),
+            Event::Signal { port, flag } => self.signal(*port, *flag, notices),
+            Event::Assert { vp, vector } => match self.processor(*vp) {
+                Some(vp) => {
+                    self.request(vp, *vector, notices);
+                    Reply::Done
+                }
+                None => Reply::Refused(Refusal::NoSuchProcessor),
+            },
+            Event::Store { address, bytes } => self.store(*address, bytes, notices),
+            Event::Load { address, length } => self.load(*address, *length),
+            Event::Tick { moment } => self.tick(*moment, notices),
+            Event::Take { vp } => match self.processor(*vp) {
+                Some(vp) => Reply::Taken(self.take(vp)),
+                None => Reply::Refused(Refusal::NoSuchProcessor),
+            },
+        }
+    }
+
+    /// The processor of that number, if it is on the board.
+    fn processor(&self, number: u8) -> Option<Vp>
+        ensures on { IsSome result ↔ (number < processors self.now.state) }
+        ensures value { IfSome result (λ vp. vp ≡ number) }
+    {
+        if number < self.processors() {
+            Vp::new(number)
+        } else {
+            None
+        }
+    }
+}
+
+/// Slots that hold no ticket.
+fn no_tickets(alloc: Global, slots: usize) -> Result<Vec<Option<Ticket>>, AllocError>
+    ensures { IfOk result (λ tickets. tickets.items ≡ replicate slots None) }
+{
+    vec![in alloc; None; slots]
+}

@@ -1,0 +1,77 @@
+// Overlay pages that are enabled, disabled and moved.
+ghost use Rattle.std.specs.Prelude.{◌≡◌, ◌<◌, ◌≤◌, ◌+◌, length};
+ghost use Rattle.synic_regs.specs.declared.register.Register.TheVariants as register;
+ghost use Rattle.synic_regs.specs.Regs.{with_value};
+ghost use Rattle.synic_board.specs.State.{processors, regs_of, with_regs};
+ghost use Rattle.synic_board.specs.Moves.{looked_up, with_owners};
+
+use crate::machine::Machine;
+use crate::summary::{Entry, Summary};
+use board_terms::{Kind, Vp};
+use gpa_space::Space;
+use synic_regs::Register;
+
+impl Machine {
+    /// Writes SIMP. Only the page that it left and the page that it reached can have another owner.
+    pub(crate) fn write_sim(&mut self, vp: Vp, value: u64)
+        requires { vp < processors self.old.state }
+        ensures state { self.new.state ≡ with_regs self.old.state vp (with_value (regs_of self.old.state vp) register.Sim value) }
+        ensures rises { self.old.writes ≤ self.new.writes }
+        ensures few { self.new.writes ≤ self.old.writes + 2 }
+    {
+        let regs = &mut self.regs[vp.number() as usize];
+        let before = regs.read(Register::Sim);
+        let _ = regs.write(Register::Sim, value);
+        self.space.set_overlay(vp, Kind::Sim, value);
+        look_up(
+            &self.space,
+            self.page_count,
+            &mut self.summary,
+            before / 4096,
+        );
+        look_up(
+            &self.space,
+            self.page_count,
+            &mut self.summary,
+            value / 4096,
+        );
+    }
+
+    /// Writes SIEFP. Only the page that it left and the page that it reached can have another owner.
+    pub(crate) fn write_sief(&mut self, vp: Vp, value: u64)
+        requires { vp < processors self.old.state }
+        ensures state { self.new.state ≡ with_regs self.old.state vp (with_value (regs_of self.old.state vp) register.Sief value) }
+        ensures rises { self.old.writes ≤ self.new.writes }
+        ensures few { self.new.writes ≤ self.old.writes + 2 }
+    {
+        let regs = &mut self.regs[vp.number() as usize];
+        let before = regs.read(Register::Sief);
+        let _ = regs.write(Register::Sief, value);
+        self.space.set_overlay(vp, Kind::Sief, value);
+        look_up(
+            &self.space,
+            self.page_count,
+            &mut self.summary,
+            before / 4096,
+        );
+        look_up(
+            &self.space,
+            self.page_count,
+            &mut self.summary,
+            value / 4096,
+        );
+    }
+}
+
+/// Writes the owner of a page into the summary, where there is such a page.
+fn look_up(space: &Space, pages: u8, summary: &mut Summary, page: u64)
+    requires pages { pages ≡ length space.now.pages }
+    requires owners { length summary.old.values.owners ≡ length space.now.pages }
+    ensures values { summary.new.values ≡ with_owners summary.old.values (looked_up space.now summary.old.values.owners page) }
+    ensures rises { summary.old.writes ≤ summary.new.writes }
+    ensures few { summary.new.writes ≤ summary.old.writes + 1 }
+{
+    if page < pages as u64 {
+        summary.write(Entry::Owns(page as u8, space.owner(page)));
+    }
+}

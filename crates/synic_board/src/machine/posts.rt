@@ -1,0 +1,161 @@
+// Ports that are opened and closed, posts and signals.
+ghost use Rattle.std.specs.Prelude.{◌≡◌, ◌<◌, ◌≤◌, ◌+◌, [], ◌++◌, length, map, true, IfNone};
+ghost use Rattle.event_ports.specs.Shapes.{fits};
+ghost use Rattle.message_queues.specs.Queues.{port_used};
+ghost use Rattle.synic_board.specs.State.{processors};
+ghost use Rattle.synic_board.specs.Effects.{appended};
+ghost use Rattle.synic_board.specs.Posts.{opened_port, closed, withdrawn, post_refusal, posted, signalled};
+
+use crate::event::Reply;
+use crate::machine::Machine;
+use crate::summary::Entry;
+use arrayvec::ArrayVec;
+use board_terms::{Message, Notice, Notices, PayloadBytes, PortShape, Refusal, Sint, Ticket, Vp};
+use event_ports::Port;
+
+impl Machine {
+    /// Opens a port.
+    pub(crate) fn open_port(&mut self, port: u8, vp: u8, sint: u8, shape: PortShape) -> Reply
+        ensures step { (self.new.state, result, []) ≡ opened_port self.old.state port vp sint shape }
+        ensures writes { self.new.writes ≡ self.old.writes }
+    {
+        match self.ports.open_port(port, vp, sint, shape) {
+            Ok(()) => Reply::Done,
+            Err(refusal) => Reply::Refused(refusal),
+        }
+    }
+
+    /// Closes a port, and withdraws its queued messages, front first.
+    pub(crate) fn close_port(&mut self, port: u8, notices: &mut Notices) -> Reply
+        requires { notices.old ≡ [] }
+        ensures step { (self.new.state, result, notices.new) ≡ closed self.old.state port }
+        ensures rises { self.old.writes ≤ self.new.writes }
+        ensures few { self.new.writes ≤ self.old.writes + 1 }
+    {
+        let target = match self.ports.close_port(port) {
+            Ok(target) => target,
+            Err(refusal) => return Reply::Refused(refusal),
+        };
+        self.withdraw(target.vp, target.sint, port, notices);
+        Reply::Done
+    }
+
+    /// Withdraws the queued messages of a port, front first.
+    #[tactic(auto, using(crate::proofs::Rules::lists))]
+    fn withdraw(&mut self, vp: Vp, sint: Sint, port: u8, notices: &mut Notices)
+        requires on { vp < processors self.old.state }
+        requires room { length notices.old + 16 ≤ 320 }
+        ensures effect { (self.new.state, notices.new) ≡ appended notices.old (withdrawn self.old.state vp sint port) }
+        ensures writes { self.new.writes ≡ self.old.writes + 1 }
+    {
+        let tickets = self.queues.withdraw_port(vp, sint, port);
+        let left = self.queues.count(vp, sint);
+        self.summary.write(Entry::Queued(vp, sint, left));
+        tell_withdrawn(vp, sint, tickets.as_slice(), notices);
+    }
+
+    /// Posts a message to a port.
+    pub(crate) fn post(
+        &mut self,
+        port: u8,
+        kind: u32,
+        payload: &PayloadBytes,
+        notices: &mut Notices,
+    ) -> Reply
+        requires { notices.old ≡ [] }
+        ensures step { (self.new.state, result, notices.new) ≡ posted self.old.state port kind payload.now }
+        ensures rises { self.old.writes ≤ self.new.writes }
+        ensures few { self.new.writes ≤ self.old.writes + length notices.new }
+    {
+        let Port { vp, sint, shape } = match self.ports.message_target(port, kind) {
+            Ok(target) => target,
+            Err(refusal) => return Reply::Refused(refusal),
+        };
+        if let Some(refusal) = self.post_refusal(port, vp, shape) {
+            return Reply::Refused(refusal);
+        }
+        let ticket = self.next_ticket;
+        let message = Message::FromPort {
+            ticket,
+            port,
+            kind,
+            payload: copy_of(payload),
+        };
+        self.deliver(vp, sint, message, notices);
+        Reply::Accepted(ticket)
+    }
+
+    /// Why a post to an open port is refused.
+    fn post_refusal(&self, port: u8, vp: Vp, shape: PortShape) -> Option<Refusal>
+        requires on { vp < processors self.now.state }
+        requires in_range { fits shape ≡ true }
+        ensures answer { result ≡ post_refusal self.now.state port vp shape }
+        ensures buffer { IfNone result (port_used self.now.state.queues port < 16) }
+        ensures ticket { IfNone result (self.now.state.next_ticket < 0xffffffffffffffff) }
+    {
+        if !self.regs[vp.number() as usize].is_enabled() {
+            return Some(Refusal::SynicOff);
+        }
+        let buffers = match shape {
+            PortShape::Messages { buffers } => buffers,
+            PortShape::Flags { .. } => 0,
+        };
+        if self.queues.port_used(port) >= buffers {
+            return Some(Refusal::NoBuffers);
+        }
+        if self.next_ticket == Ticket::MAX {
+            return Some(Refusal::TicketsSpent);
+        }
+        None
+    }
+
+    /// Signals an event flag of a port.
+    pub(crate) fn signal(&mut self, port: u8, flag: u16, notices: &mut Notices) -> Reply
+        requires { notices.old ≡ [] }
+        ensures step { (self.new.state, result, notices.new) ≡ signalled self.old.state port flag }
+        ensures rises { self.old.writes ≤ self.new.writes }
+        ensures few { self.new.writes ≤ self.old.writes + length notices.new }
+    {
+        let (vp, sint, place) = match self.ports.flag_place(port, flag) {
+            Ok(place) => place,
+            Err(refusal) => return Reply::Refused(refusal),
+        };
+        let regs = &self.regs[vp.number() as usize];
+        if !(regs.is_enabled() && regs.sief_is_enabled()) {
+            return Reply::Refused(Refusal::SynicOff);
+        }
+        if !self.space.set_flag(vp, sint, place) {
+            return Reply::FlagWasSet;
+        }
+        notices.push(Notice::FlagSet {
+            vp,
+            sint,
+            flag: place,
+        });
+        self.raise(vp, sint, notices);
+        Reply::FlagWasClear
+    }
+}
+
+/// A notice for each message that was withdrawn.
+fn tell_withdrawn(vp: Vp, sint: Sint, tickets: &[Ticket], notices: &mut Notices)
+    requires { length notices.old + length tickets.now ≤ 320 }
+    ensures { notices.new ≡ notices.old ++ map (λ t. Notice.Withdrawn t vp sint) tickets.now }
+{
+    for ticket in tickets {
+        notices.push(Notice::Withdrawn {
+            ticket: *ticket,
+            vp,
+            sint,
+        });
+    }
+}
+
+/// Equal bytes.
+fn copy_of(bytes: &PayloadBytes) -> PayloadBytes
+    ensures { result ≡ bytes.now }
+{
+    let mut copy = ArrayVec::new();
+    let _ = copy.try_extend_from_slice(bytes.as_slice());
+    copy
+}
