@@ -1,4 +1,6 @@
 pub mod PrintLemmas
+pub mod SummaryLemmas
+pub mod ByteFields
 pub mod ReadLemmas
 pub mod ScriptLemmas
 pub mod StreamLemmas

@@ -1,29 +1,31 @@
 -- What is read of a line is what it means.
-use Rattle.std.proofs.Common.{◌≡◌, ◌↔◌, ℕ, ◌-◌, ◌<◌, ◌^◌, List, [], ◌∷◌, Option, Some, None, refl, sym, ap, ◌∙◌, cond, arith, Bool, true, false, nat_le, leb-true, le-leb, decimal, codes}
+use Rattle.std.proofs.Common.{◌≡◌, ◌↔◌, Decides, ◌&&◌, ◌≤◌, ℕ, ◌-◌, ◌<◌, ◌^◌, List, [], ◌∷◌, Option, Some, None, refl, sym, ap, ◌∙◌, cond, arith, Bool, true, false, nat_le, leb-true, le-leb, decimal, codes}
 use Rattle.std.specs.Bool.{IsTrue}
 use Rattle.std.specs.Option.{option_map, option_and_then}
 use Rattle.std.specs.Str.{bytes_eq}
 use Rattle.std.proofs.lemmas.Slice.Eq.{bytes_eq-Decides}
 use Rattle.std.proofs.lemmas.List.Splits.{join_with_byte-slice_split}
-use Rattle.std.proofs.lemmas.Bool.Decides.{Decides-and, Decides-eqb}
+use Rattle.std.proofs.lemmas.Bool.Decides.{Decides-and}
 use Rattle.board_text.specs.Numbers.{hex, two_digits, byte_at}
 use Rattle.board_text.specs.Fields.{fields_of, words}
 use Rattle.board_text.proofs.NumberLemmas.{decimal_at-spelled, decimal_at-only, hex_at-spelled, hex_at-only, byte_at-spelled, byte_at-only}
 use Rattle.synic_board.specs.State.{AreSizes}
 use Rattle.synic_board.specs.declared.event.Event.{Event}
-use Rattle.synic_board.specs.declared.event.Event.TheVariants.{Write, Read, Assert, Take}
-use Rattle.board_script.specs.Events.{event_fields, IsVector, IsEvent}
+use Rattle.synic_board.specs.declared.event.Event.TheVariants.{OpenPort, ClosePort, Write, Read, Post, Signal, Assert, Store, Load, Tick, Take}
+use Rattle.board_terms.specs.declared.messages.PortShape.TheVariants.{Messages, Flags}
+use Rattle.board_script.specs.Events.{event_fields, bytes_text, IsVector, IsEvent}
 use Rattle.board_script.specs.Items.{Item, Opening, Performs, Summary, item_fields, IsItem, Means}
-use Rattle.board_script.specs.Reading.{Fields, take_then, ended, small_at, ticket_at, register_at, value_at, from_16, vector_at, write_say, read_say, assert_say, take_say, opening_say, event_say, item_say, item_at}
+use Rattle.board_script.specs.Reading.{Fields, take_then, ended, small_at, flag_at, bytes_at, ticket_at, register_at, value_at, from_16, vector_at, messages_say, flags_say, shape_say, open_say, close_say, write_say, read_say, post_say, signal_say, assert_say, store_say, load_say, tick_say, take_say, opening_say, event_say, item_say, item_at}
 use Rattle.board_script.specs.Script.{are_sizes}
+use Rattle.board_script.proofs.ByteFields.{bytes_at-only, bytes_at-spelled}
 
 -- What was read tells what stood there.
-then-some : {A : Type 0} (read : List ℕ → Option ℕ) (next : ℕ → Fields → Option A) (fields : Fields) (a : A) (P : Type 0) →
-    ((field : List ℕ) (n : ℕ) (rest : Fields) → fields ≡ field ∷ rest → read field ≡ Some n → next n rest ≡ Some a → P) → take_then read next fields ≡ Some a → P
+then-some : {A B : Type 0} (read : List ℕ → Option B) (next : B → Fields → Option A) (fields : Fields) (a : A) (P : Type 0) →
+    ((field : List ℕ) (n : B) (rest : Fields) → fields ≡ field ∷ rest → read field ≡ Some n → next n rest ≡ Some a → P) → take_then read next fields ≡ Some a → P
 then-some read next [] a P k e = cc
-then-some read next (field ∷ rest) a P k e = go (read field) refl e
+then-some {A} {B} read next (field ∷ rest) a P k e = go (read field) refl e
   where
-    go : (r : Option ℕ) → read field ≡ r → option_and_then (λ (p : ℕ × Fields). next p.0 p.1) (option_map (λ (n : ℕ). (n, rest)) r) ≡ Some a → P
+    go : (r : Option B) → read field ≡ r → option_and_then (λ (p : B × Fields). next p.0 p.1) (option_map (λ (n : B). (n, rest)) r) ≡ Some a → P
     go None is e = cc
     go (Some n) is e = k field n rest refl is e
 
@@ -42,6 +44,9 @@ mapped f (Some a) b P h e = h a refl cc
 
 small-only : (text : List ℕ) (n : ℕ) → small_at text ≡ Some n → (n < 256) × (text ≡ decimal n)
 small-only text n e = let h = decimal_at-only 255 text n e in let few = h.0 in (omega arith, h.1)
+
+flag-only : (text : List ℕ) (n : ℕ) → flag_at text ≡ Some n → (n < 65536) × (text ≡ decimal n)
+flag-only text n e = let h = decimal_at-only 65535 text n e in let few = h.0 in (omega arith, h.1)
 
 ticket-only : (text : List ℕ) (n : ℕ) → ticket_at text ≡ Some n → (n < 2 ^ 64) × (text ≡ decimal n)
 ticket-only text n e = let h = decimal_at-only (2 ^ 64 - 1) text n e in let few = h.0 in (omega arith, h.1)
@@ -99,21 +104,109 @@ take-says fs event =
     let h = small-only a vp read in
     rw (at, none, h.1, ← is) (record { same = refl; fits = h.0 })))
 
+messages-says : (port : ℕ) → port < 256 → (fs : Fields) (event : Event) → messages_say port fs ≡ Some event → Says (codes "open" ∷ decimal port ∷ codes "message" ∷ fs) event
+messages-says port in_range fs event =
+    then-some small_at _ fs event (Says (codes "open" ∷ decimal port ∷ codes "message" ∷ fs) event) (λ a vp more at read.
+    then-some small_at _ more event (Says (codes "open" ∷ decimal port ∷ codes "message" ∷ fs) event) (λ b sint more' at' read'.
+    then-some small_at _ more' event (Says (codes "open" ∷ decimal port ∷ codes "message" ∷ fs) event) (λ c buffers more'' at'' read''.
+    ended-some (OpenPort port vp sint (Messages buffers)) more'' event (Says (codes "open" ∷ decimal port ∷ codes "message" ∷ fs) event) (λ none is.
+    let h = small-only a vp read in let h' = small-only b sint read' in let h'' = small-only c buffers read'' in
+    rw (at, at', at'', none, h.1, h'.1, h''.1, ← is) (record { same = refl; fits = (in_range, h.0, h'.0, h''.0) })))))
+
+flags-says : (port : ℕ) → port < 256 → (fs : Fields) (event : Event) → flags_say port fs ≡ Some event → Says (codes "open" ∷ decimal port ∷ codes "event" ∷ fs) event
+flags-says port in_range fs event =
+    then-some small_at _ fs event (Says (codes "open" ∷ decimal port ∷ codes "event" ∷ fs) event) (λ a vp more at read.
+    then-some small_at _ more event (Says (codes "open" ∷ decimal port ∷ codes "event" ∷ fs) event) (λ b sint more' at' read'.
+    then-some flag_at _ more' event (Says (codes "open" ∷ decimal port ∷ codes "event" ∷ fs) event) (λ c base more'' at'' read''.
+    then-some flag_at _ more'' event (Says (codes "open" ∷ decimal port ∷ codes "event" ∷ fs) event) (λ d count more''' at''' read'''.
+    ended-some (OpenPort port vp sint (Flags base count)) more''' event (Says (codes "open" ∷ decimal port ∷ codes "event" ∷ fs) event) (λ none is.
+    let h = small-only a vp read in let h' = small-only b sint read' in let h'' = flag-only c base read'' in let h''' = flag-only d count read''' in
+    rw (at, at', at'', at''', none, h.1, h'.1, h''.1, h'''.1, ← is) (record { same = refl; fits = (in_range, h.0, h'.0, (h''.0, h'''.0)) }))))))
+
+close-says : (fs : Fields) (event : Event) → close_say fs ≡ Some event → Says (codes "close" ∷ fs) event
+close-says fs event =
+    then-some small_at _ fs event (Says (codes "close" ∷ fs) event) (λ a port more at read.
+    ended-some (ClosePort port) more event (Says (codes "close" ∷ fs) event) (λ none is.
+    let h = small-only a port read in
+    rw (at, none, h.1, ← is) (record { same = refl; fits = h.0 })))
+
+post-says : (fs : Fields) (event : Event) → post_say fs ≡ Some event → Says (codes "post" ∷ fs) event
+post-says fs event =
+    then-some small_at _ fs event (Says (codes "post" ∷ fs) event) (λ a port more at read.
+    then-some register_at _ more event (Says (codes "post" ∷ fs) event) (λ b kind more' at' read'.
+    then-some (bytes_at 240) _ more' event (Says (codes "post" ∷ fs) event) (λ c payload more'' at'' read''.
+    ended-some (Post port kind (record { items = payload })) more'' event (Says (codes "post" ∷ fs) event) (λ none is.
+    let h = small-only a port read in let h' = register-only b kind read' in let h'' = bytes_at-only 240 c payload read'' in
+    rw (at, at', at'', none, h.1, h'.1, h''.same, ← is) (record { same = refl; fits = (h.0, h'.0, h''.few) })))))
+
+signal-says : (fs : Fields) (event : Event) → signal_say fs ≡ Some event → Says (codes "signal" ∷ fs) event
+signal-says fs event =
+    then-some small_at _ fs event (Says (codes "signal" ∷ fs) event) (λ a port more at read.
+    then-some flag_at _ more event (Says (codes "signal" ∷ fs) event) (λ b flag more' at' read'.
+    ended-some (Signal port flag) more' event (Says (codes "signal" ∷ fs) event) (λ none is.
+    let h = small-only a port read in let h' = flag-only b flag read' in
+    rw (at, at', none, h.1, h'.1, ← is) (record { same = refl; fits = (h.0, h'.0) }))))
+
+store-says : (fs : Fields) (event : Event) → store_say fs ≡ Some event → Says (codes "store" ∷ fs) event
+store-says fs event =
+    then-some value_at _ fs event (Says (codes "store" ∷ fs) event) (λ a address more at read.
+    then-some (bytes_at 8) _ more event (Says (codes "store" ∷ fs) event) (λ b bytes more' at' read'.
+    ended-some (Store address (record { items = bytes })) more' event (Says (codes "store" ∷ fs) event) (λ none is.
+    let h = value-only a address read in let h' = bytes_at-only 8 b bytes read' in
+    rw (at, at', none, h.1, h'.same, ← is) (record { same = refl; fits = (h.0, h'.few) }))))
+
+load-says : (fs : Fields) (event : Event) → load_say fs ≡ Some event → Says (codes "load" ∷ fs) event
+load-says fs event =
+    then-some value_at _ fs event (Says (codes "load" ∷ fs) event) (λ a address more at read.
+    then-some small_at _ more event (Says (codes "load" ∷ fs) event) (λ b count more' at' read'.
+    ended-some (Load address count) more' event (Says (codes "load" ∷ fs) event) (λ none is.
+    let h = value-only a address read in let h' = small-only b count read' in
+    rw (at, at', none, h.1, h'.1, ← is) (record { same = refl; fits = (h.0, h'.0) }))))
+
+tick-says : (fs : Fields) (event : Event) → tick_say fs ≡ Some event → Says (codes "tick" ∷ fs) event
+tick-says fs event =
+    then-some ticket_at _ fs event (Says (codes "tick" ∷ fs) event) (λ a moment more at read.
+    ended-some (Tick moment) more event (Says (codes "tick" ∷ fs) event) (λ none is.
+    let h = ticket-only a moment read in
+    rw (at, none, h.1, ← is) (record { same = refl; fits = h.0 })))
+
 -- the word is this one
 worded : (P : List ℕ → Type 0) (word key : List ℕ) → bytes_eq word key ≡ true → P key → P word
 worded P word key is h = rw ((bytes_eq-Decides word key).0 is) h
 
+shape-says : (port : ℕ) → port < 256 → (fs : Fields) (event : Event) → shape_say port fs ≡ Some event → Says (codes "open" ∷ decimal port ∷ fs) event
+shape-says port in_range [] event e = cc
+shape-says port in_range (word ∷ fs) event e =
+    yes (bytes_eq word (codes "message")) (messages_say port fs) _ event (Says (codes "open" ∷ decimal port ∷ word ∷ fs) event) (λ is e. worded (λ w. Says (codes "open" ∷ decimal port ∷ w ∷ fs) event) word (codes "message") is (messages-says port in_range fs event e))
+    (yes (bytes_eq word (codes "event")) (flags_say port fs) None event (Says (codes "open" ∷ decimal port ∷ word ∷ fs) event) (λ is e. worded (λ w. Says (codes "open" ∷ decimal port ∷ w ∷ fs) event) word (codes "event") is (flags-says port in_range fs event e)) (λ e. cc)) e
+
+open-says : (fs : Fields) (event : Event) → open_say fs ≡ Some event → Says (codes "open" ∷ fs) event
+open-says fs event =
+    then-some small_at shape_say fs event (Says (codes "open" ∷ fs) event) (λ a port more at read said.
+    let h = small-only a port read in
+    rw (at, h.1) (shape-says port h.0 more event said))
+
 pub event-says : (fs : Fields) (event : Event) → event_say fs ≡ Some event → Says fs event
 event-says [] event e = cc
 event-says (word ∷ fs) event e =
-    yes (bytes_eq word (codes "write")) (write_say fs) _ event (Says (word ∷ fs) event) (λ is e. worded (λ w. Says (w ∷ fs) event) word (codes "write") is (write-says fs event e))
+    yes (bytes_eq word (codes "open")) (open_say fs) _ event (Says (word ∷ fs) event) (λ is e. worded (λ w. Says (w ∷ fs) event) word (codes "open") is (open-says fs event e))
+    (yes (bytes_eq word (codes "close")) (close_say fs) _ event (Says (word ∷ fs) event) (λ is e. worded (λ w. Says (w ∷ fs) event) word (codes "close") is (close-says fs event e))
+    (yes (bytes_eq word (codes "write")) (write_say fs) _ event (Says (word ∷ fs) event) (λ is e. worded (λ w. Says (w ∷ fs) event) word (codes "write") is (write-says fs event e))
     (yes (bytes_eq word (codes "read")) (read_say fs) _ event (Says (word ∷ fs) event) (λ is e. worded (λ w. Says (w ∷ fs) event) word (codes "read") is (read-says fs event e))
+    (yes (bytes_eq word (codes "post")) (post_say fs) _ event (Says (word ∷ fs) event) (λ is e. worded (λ w. Says (w ∷ fs) event) word (codes "post") is (post-says fs event e))
+    (yes (bytes_eq word (codes "signal")) (signal_say fs) _ event (Says (word ∷ fs) event) (λ is e. worded (λ w. Says (w ∷ fs) event) word (codes "signal") is (signal-says fs event e))
     (yes (bytes_eq word (codes "assert")) (assert_say fs) _ event (Says (word ∷ fs) event) (λ is e. worded (λ w. Says (w ∷ fs) event) word (codes "assert") is (assert-says fs event e))
-    (yes (bytes_eq word (codes "take")) (take_say fs) None event (Says (word ∷ fs) event) (λ is e. worded (λ w. Says (w ∷ fs) event) word (codes "take") is (take-says fs event e)) (λ e. cc)))) e
+    (yes (bytes_eq word (codes "store")) (store_say fs) _ event (Says (word ∷ fs) event) (λ is e. worded (λ w. Says (w ∷ fs) event) word (codes "store") is (store-says fs event e))
+    (yes (bytes_eq word (codes "load")) (load_say fs) _ event (Says (word ∷ fs) event) (λ is e. worded (λ w. Says (w ∷ fs) event) word (codes "load") is (load-says fs event e))
+    (yes (bytes_eq word (codes "tick")) (tick_say fs) _ event (Says (word ∷ fs) event) (λ is e. worded (λ w. Says (w ∷ fs) event) word (codes "tick") is (tick-says fs event e))
+    (yes (bytes_eq word (codes "take")) (take_say fs) None event (Says (word ∷ fs) event) (λ is e. worded (λ w. Says (w ∷ fs) event) word (codes "take") is (take-says fs event e)) (λ e. cc))))))))))) e
 
 -- What is written so is read so.
 small-spelled : (n : ℕ) → n < 256 → small_at (decimal n) ≡ Some n
 small-spelled n h = decimal_at-spelled 255 n (omega arith) (omega arith)
+
+flag-spelled : (n : ℕ) → n < 65536 → flag_at (decimal n) ≡ Some n
+flag-spelled n h = decimal_at-spelled 65535 n (omega arith) (omega arith)
 
 ticket-spelled : (n : ℕ) → n < 2 ^ 64 → ticket_at (decimal n) ≡ Some n
 ticket-spelled n h = decimal_at-spelled (2 ^ 64 - 1) n (omega arith) (omega arith)
@@ -127,10 +220,18 @@ value-spelled n h = hex_at-spelled (2 ^ 64 - 1) n (omega arith) (omega arith)
 vector-spelled : (v : ℕ) → IsVector v → vector_at (two_digits v) ≡ Some v
 vector-spelled v h = ap (option_and_then from_16) (byte_at-spelled v h.1) ∙ ap (λ (t : Bool). cond t (Some v) None) (le-leb 16 v h.0)
 
-then-read : {A : Type 0} (read : List ℕ → Option ℕ) (next : ℕ → Fields → Option A) (field : List ℕ) (n : ℕ) (rest : Fields) → read field ≡ Some n → take_then read next (field ∷ rest) ≡ next n rest
-then-read read next field n rest e = ap (λ (r : Option ℕ). option_and_then (λ (p : ℕ × Fields). next p.0 p.1) (option_map (λ (m : ℕ). (m, rest)) r)) e
+then-read : {A B : Type 0} (read : List ℕ → Option B) (next : B → Fields → Option A) (field : List ℕ) (n : B) (rest : Fields) → read field ≡ Some n → take_then read next (field ∷ rest) ≡ next n rest
+then-read {A} {B} read next field n rest e = ap (λ (r : Option B). option_and_then (λ (p : B × Fields). next p.0 p.1) (option_map (λ (m : B). (m, rest)) r)) e
 
 pub says-event : (event : Event) → IsEvent event → event_say (event_fields event) ≡ Some event
+says-event (OpenPort port vp sint (Messages buffers)) h = then-read small_at shape_say (decimal port) port _ (small-spelled port h.0) ∙ then-read small_at _ (decimal vp) vp _ (small-spelled vp h.1) ∙ then-read small_at _ (decimal sint) sint _ (small-spelled sint h.2) ∙ then-read small_at _ (decimal buffers) buffers [] (small-spelled buffers h.3)
+says-event (OpenPort port vp sint (Flags base count)) h = then-read small_at shape_say (decimal port) port _ (small-spelled port h.0) ∙ then-read small_at _ (decimal vp) vp _ (small-spelled vp h.1) ∙ then-read small_at _ (decimal sint) sint _ (small-spelled sint h.2) ∙ then-read flag_at _ (decimal base) base _ (flag-spelled base h.3.0) ∙ then-read flag_at _ (decimal count) count [] (flag-spelled count h.3.1)
+says-event (ClosePort port) h = then-read small_at _ (decimal port) port [] (small-spelled port h)
+says-event (Post port kind payload) h = then-read small_at _ (decimal port) port _ (small-spelled port h.0) ∙ then-read register_at _ (hex kind) kind _ (register-spelled kind h.1) ∙ then-read (bytes_at 240) _ (bytes_text payload.items) payload.items [] (bytes_at-spelled 240 payload.items h.2)
+says-event (Signal port flag) h = then-read small_at _ (decimal port) port _ (small-spelled port h.0) ∙ then-read flag_at _ (decimal flag) flag [] (flag-spelled flag h.1)
+says-event (Store address bytes) h = then-read value_at _ (hex address) address _ (value-spelled address h.0) ∙ then-read (bytes_at 8) _ (bytes_text bytes.items) bytes.items [] (bytes_at-spelled 8 bytes.items h.1)
+says-event (Load address count) h = then-read value_at _ (hex address) address _ (value-spelled address h.0) ∙ then-read small_at _ (decimal count) count [] (small-spelled count h.1)
+says-event (Tick moment) h = then-read ticket_at _ (decimal moment) moment [] (ticket-spelled moment h)
 says-event (Write vp register value) h = then-read small_at _ (decimal vp) vp _ (small-spelled vp h.0) ∙ then-read register_at _ (hex register) register _ (register-spelled register h.1) ∙ then-read value_at _ (hex value) value [] (value-spelled value h.2)
 says-event (Read vp register) h = then-read small_at _ (decimal vp) vp _ (small-spelled vp h.0) ∙ then-read register_at _ (hex register) register [] (register-spelled register h.1)
 says-event (Assert vp vector) h = then-read small_at _ (decimal vp) vp _ (small-spelled vp h.0) ∙ then-read vector_at _ (two_digits vector) vector [] (vector-spelled vector h.1)
@@ -158,11 +259,22 @@ item-says (word ∷ fs) item e =
 
 says-item : (item : Item) → IsItem item → item_say (item_fields item) ≡ Some item
 says-item (Opening n g f) h = ap (option_map (λ (p : ℕ × ℕ × ℕ). Opening p.0 p.1 p.2)) (then-read small_at _ (decimal n) n _ (small-spelled n h.0) ∙ then-read small_at _ (decimal g) g _ (small-spelled g h.1) ∙ then-read ticket_at _ (decimal f) f [] (ticket-spelled f h.2))
+says-item (Performs (OpenPort port vp sint (Messages buffers))) h = ap (option_map Performs) (says-event (OpenPort port vp sint (Messages buffers)) h)
+says-item (Performs (OpenPort port vp sint (Flags base count))) h = ap (option_map Performs) (says-event (OpenPort port vp sint (Flags base count)) h)
+says-item (Performs (ClosePort port)) h = ap (option_map Performs) (says-event (ClosePort port) h)
+says-item (Performs (Post port kind payload)) h = ap (option_map Performs) (says-event (Post port kind payload) h)
+says-item (Performs (Signal port flag)) h = ap (option_map Performs) (says-event (Signal port flag) h)
+says-item (Performs (Store address bytes)) h = ap (option_map Performs) (says-event (Store address bytes) h)
+says-item (Performs (Load address count)) h = ap (option_map Performs) (says-event (Load address count) h)
+says-item (Performs (Tick moment)) h = ap (option_map Performs) (says-event (Tick moment) h)
 says-item (Performs (Write vp register value)) h = ap (option_map Performs) (says-event (Write vp register value) h)
 says-item (Performs (Read vp register)) h = ap (option_map Performs) (says-event (Read vp register) h)
 says-item (Performs (Assert vp vector)) h = ap (option_map Performs) (says-event (Assert vp vector) h)
 says-item (Performs (Take vp)) h = ap (option_map Performs) (says-event (Take vp) h)
 says-item Summary h = refl
+
+pub event-item : (fs : Fields) (event : Event) → event_say fs ≡ Some event → item_say fs ≡ Some (Performs event)
+event-item fs event e = let h = event-says fs event e in ap item_say h.same ∙ says-item (Performs event) h.fits
 
 pub reading-means : (line : List ℕ) (item : Item) → (item_at line ≡ Some item) ↔ Means line item
 unfolding item_at
@@ -177,8 +289,12 @@ means-one_line a b item h k = sym (join_with_byte-slice_split 32 a) ∙ ap words
 pub means-one_item : (line : List ℕ) (a b : Item) → Means line a → Means line b → a ≡ b
 means-one_item line a b h k = let is = (reading-means line a).1 h in let is' = (reading-means line b).1 k in cc
 
+-- between two numbers, as a test and as two orders
+between : (low n high : ℕ) → Decides (nat_le low n && nat_le n high) ((low ≤ n) × (n ≤ high))
+between low n high = Decides-and _ _ (leb-true low n, le-leb low n) (leb-true n high, le-leb n high)
+
 pub sizes-are : (processors pages : ℕ) → IsTrue (are_sizes processors pages) ↔ AreSizes processors pages
-sizes-are processors pages = (
-  λ e. let h = (Decides-and _ _ (Decides-eqb processors 1) (Decides-and _ _ (leb-true 1 pages, le-leb 1 pages) (leb-true pages 64, le-leb pages 64))).0 e in record { one_processor = h.0; some_pages = h.1.0; few_pages = h.1.1 },
-  λ h. (Decides-and _ _ (Decides-eqb processors 1) (Decides-and _ _ (leb-true 1 pages, le-leb 1 pages) (leb-true pages 64, le-leb pages 64))).1 (h.one_processor, (h.some_pages, h.few_pages)),
+sizes-are processors pages = let within = Decides-and _ _ (between 1 processors 8) (between 1 pages 64) in (
+  λ e. let h = within.0 e in record { some_processor = h.0.0; few_processors = h.0.1; some_page = h.1.0; few_pages = h.1.1 },
+  λ h. within.1 ((h.some_processor, h.few_processors), (h.some_page, h.few_pages)),
 )

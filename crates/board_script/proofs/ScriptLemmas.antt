@@ -1,9 +1,14 @@
 -- What is written for one line more.
-use Rattle.std.proofs.Common.{◌≡◌, ◌≤◌, le-ltb, ap, ℕ, ◌+◌, List, [], ◌∷◌, ◌++◌, length, refl, cond, Bool, true, false, not, ◌||◌, nat_lt, Option, None, Some, is_some}
+use Rattle.std.proofs.Common.{◌≡◌, ◌≤◌, le-ltb, ap, sym, ◌∙◌, codes, ℕ, ◌+◌, List, [], ◌∷◌, ◌++◌, length, refl, cond, Bool, true, false, not, ◌||◌, nat_lt, Option, None, Some, is_some}
 use Rattle.std.specs.List.{cons_option}
+use Rattle.std.specs.Option.{option_map}
+use Rattle.std.specs.Str.{bytes_eq}
+use Rattle.synic_board.specs.State.{AreSizes}
+use Rattle.synic_board.specs.declared.event.Event.{Event}
+use Rattle.board_script.proofs.ReadLemmas.{sizes-are}
 use Rattle.board_script.specs.Items.{Item, Opening, Performs, Summary}
-use Rattle.board_script.specs.Reading.{Fields, item_say, item_at}
-use Rattle.board_script.specs.Script.{item_in, is_skipped, item_fault, line_fault, opens, good_items, first_fault}
+use Rattle.board_script.specs.Reading.{Fields, ended, opening_say, opening_item, event_say, item_say, item_at}
+use Rattle.board_script.specs.Script.{are_sizes, item_in, is_skipped, item_fault, line_fault, opens, good_items, first_fault}
 use Rattle.board_script.specs.Output.{Machine, answers, output_from}
 use Rattle.board_text.specs.Fields.{fields_of}
 use Rattle.board_script.specs.Streams.{after_maybe, answer_maybe, AnswersItem, Answers}
@@ -63,3 +68,24 @@ answers-line (outcomes.Wrong fault) line word rest old new out short not fields 
     let j = judged (is_some old) line (item_say (word ∷ rest)) short not (item-at line word rest fields) in
     rw j.0 h
 answers-line outcomes.Memory line word rest old new out short not fields h = tt
+
+-- a first item that is no board line
+other : (t : Bool) (fs : Fields) (r : Option Event) → item_fault false (cond t (ended Summary fs) (option_map Performs r)) ≡ Some faults.First
+other true [] r = refl
+other true (field ∷ fs) r = refl
+other false fs None = refl
+other false fs (Some event) = refl
+
+pub first-other : (word key : List ℕ) (fs : Fields) → key ≡ codes "board" → false ≡ bytes_eq word key → item_fault false (item_say (word ∷ fs)) ≡ Some faults.First
+first-other word key fs is e =
+    let no_board : bytes_eq word (codes "board") ≡ false = ap (bytes_eq word) (sym is) ∙ sym e in
+    ap (λ (t : Bool). item_fault false (cond t (opening_item fs) (cond (bytes_eq word (codes "summary")) (ended Summary fs) (option_map Performs (event_say (word ∷ fs)))))) no_board
+    ∙ other (bytes_eq word (codes "summary")) fs (event_say (word ∷ fs))
+
+-- a board that was opened has sizes within the limits
+sized : (n g f : ℕ) (t : Bool) → are_sizes n g ≡ t → ((AreSizes n g → ⊥) → ⊥) → item_fault false (Some (Opening n g f)) ≡ None
+sized n g f true is h = rw is refl
+sized n g f false is h = absurd (h (λ sizes. let yes = (sizes-are n g).1 sizes in cc))
+
+pub opened-good : (fs : Fields) (n g f : ℕ) → Some (n, g, f) ≡ opening_say fs → ((AreSizes n g → ⊥) → ⊥) → (item_fault false (opening_item fs) ≡ None) × (opening_item fs ≡ Some (Opening n g f))
+opened-good fs n g f said h = rw (← said) (sized n g f (are_sizes n g) refl h, refl)

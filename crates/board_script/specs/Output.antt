@@ -4,7 +4,8 @@ use Rattle.board_text.specs.Fields.{line_of}
 use Rattle.board_text.specs.Lines.{lines_of, rest_of}
 use Rattle.synic_board.specs.State.{State, opened}
 use Rattle.synic_board.specs.Scratch.{scratch}
-use Rattle.synic_board.specs.Step.{Outcome, step}
+use Rattle.synic_board.specs.Effects.{Outcome}
+use Rattle.synic_board.specs.Step.{step}
 use Rattle.board_script.specs.Items.{Item, Opening, Performs, Summary}
 use Rattle.board_script.specs.Printing.{text_of, reply_fields, notice_fields, summary_lines}
 use Rattle.board_script.specs.Script.{first_fault, good_items}

@@ -17,7 +17,7 @@ item_in line = if is_skipped line then None else item_at line
 
 -- the sizes that a board may be opened with
 abbrev pub are_sizes : ℕ → ℕ → Bool
-are_sizes processors pages = (processors == 1) && (nat_le 1 pages && nat_le pages 64)
+are_sizes processors pages = (nat_le 1 processors && nat_le processors 8) && (nat_le 1 pages && nat_le pages 64)
 
 -- The first item opens the board, within the limits, and no other does.
 abbrev pub item_fault : Bool → Option Item → Option ScriptFault

@@ -1,8 +1,9 @@
 // The event that a line names.
 ghost use Rattle.std.specs.Prelude.{◌≡◌, ◌∷◌};
-ghost use Rattle.board_script.specs.Reading.{event_say, write_say, read_say, assert_say, take_say};
+ghost use Rattle.board_script.specs.Reading.{event_say, open_say, messages_say, flags_say, close_say, write_say, read_say, post_say, signal_say, assert_say, store_say, load_say, tick_say, take_say};
 
-use crate::numbers::{register_of, small_of, value_of, vector_of};
+use crate::numbers::{bytes_in, flag_of, register_of, small_of, ticket_of, value_of, vector_of};
+use board_terms::PortShape;
 use board_text::Fields;
 use synic_board::Event;
 
@@ -10,19 +11,162 @@ use synic_board::Event;
 pub(crate) fn event_of(word: &[u8], fields: &mut Fields<'_>) -> Option<Event>
     ensures { result ≡ event_say (word.now ∷ fields.old) }
 {
+    if word == b"open".as_slice() {
+        return open_of(fields);
+    }
+    if word == b"close".as_slice() {
+        return close_of(fields);
+    }
     if word == b"write".as_slice() {
         return write_of(fields);
     }
     if word == b"read".as_slice() {
         return read_of(fields);
     }
+    if word == b"post".as_slice() {
+        return post_of(fields);
+    }
+    if word == b"signal".as_slice() {
+        return signal_of(fields);
+    }
     if word == b"assert".as_slice() {
         return assert_of(fields);
+    }
+    if word == b"store".as_slice() {
+        return store_of(fields);
+    }
+    if word == b"load".as_slice() {
+        return load_of(fields);
+    }
+    if word == b"tick".as_slice() {
+        return tick_of(fields);
     }
     if word == b"take".as_slice() {
         return take_of(fields);
     }
     None
+}
+
+fn open_of(fields: &mut Fields<'_>) -> Option<Event>
+    ensures { result ≡ open_say fields.old }
+{
+    let port = small_of(fields)?;
+    let Some(word) = fields.next() else {
+        return None;
+    };
+    if word == b"message".as_slice() {
+        return messages_of(port, fields);
+    }
+    if word == b"event".as_slice() {
+        return flags_of(port, fields);
+    }
+    None
+}
+
+fn messages_of(port: u8, fields: &mut Fields<'_>) -> Option<Event>
+    ensures { result ≡ messages_say port fields.old }
+{
+    let vp = small_of(fields)?;
+    let sint = small_of(fields)?;
+    let buffers = small_of(fields)?;
+    if !fields.is_empty() {
+        return None;
+    }
+    let shape = PortShape::Messages { buffers };
+    Some(Event::OpenPort {
+        port,
+        vp,
+        sint,
+        shape,
+    })
+}
+
+fn flags_of(port: u8, fields: &mut Fields<'_>) -> Option<Event>
+    ensures { result ≡ flags_say port fields.old }
+{
+    let vp = small_of(fields)?;
+    let sint = small_of(fields)?;
+    let base = flag_of(fields)?;
+    let count = flag_of(fields)?;
+    if !fields.is_empty() {
+        return None;
+    }
+    let shape = PortShape::Flags { base, count };
+    Some(Event::OpenPort {
+        port,
+        vp,
+        sint,
+        shape,
+    })
+}
+
+fn close_of(fields: &mut Fields<'_>) -> Option<Event>
+    ensures { result ≡ close_say fields.old }
+{
+    let port = small_of(fields)?;
+    if !fields.is_empty() {
+        return None;
+    }
+    Some(Event::ClosePort { port })
+}
+
+fn post_of(fields: &mut Fields<'_>) -> Option<Event>
+    ensures { result ≡ post_say fields.old }
+{
+    let port = small_of(fields)?;
+    let kind = register_of(fields)?;
+    let payload = bytes_in(fields)?;
+    if !fields.is_empty() {
+        return None;
+    }
+    Some(Event::Post {
+        port,
+        kind,
+        payload,
+    })
+}
+
+fn signal_of(fields: &mut Fields<'_>) -> Option<Event>
+    ensures { result ≡ signal_say fields.old }
+{
+    let port = small_of(fields)?;
+    let flag = flag_of(fields)?;
+    if !fields.is_empty() {
+        return None;
+    }
+    Some(Event::Signal { port, flag })
+}
+
+fn store_of(fields: &mut Fields<'_>) -> Option<Event>
+    ensures { result ≡ store_say fields.old }
+{
+    let address = value_of(fields)?;
+    let bytes = bytes_in(fields)?;
+    if !fields.is_empty() {
+        return None;
+    }
+    Some(Event::Store { address, bytes })
+}
+
+fn load_of(fields: &mut Fields<'_>) -> Option<Event>
+    ensures { result ≡ load_say fields.old }
+{
+    let address = value_of(fields)?;
+    let length = small_of(fields)?;
+    if !fields.is_empty() {
+        return None;
+    }
+    Some(Event::Load { address, length })
+}
+
+fn tick_of(fields: &mut Fields<'_>) -> Option<Event>
+    ensures { result ≡ tick_say fields.old }
+{
+    let moment = ticket_of(fields)?;
+    if !fields.is_empty() {
+        return None;
+    }
+    Some(Event::Tick { moment })
 }
 
 fn write_of(fields: &mut Fields<'_>) -> Option<Event>

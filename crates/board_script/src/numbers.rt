@@ -1,9 +1,10 @@
 // The numbers of a line, read field by field.
 ghost use Rattle.std.specs.Prelude.{◌≡◌};
-ghost use Rattle.board_script.specs.Reading.{TakesNumber, small_at, ticket_at, register_at, value_at, vector_at};
+ghost use Rattle.board_script.specs.Reading.{TakesNumber, TakesBytes, small_at, flag_at, ticket_at, register_at, value_at, vector_at};
 
+use arrayvec::ArrayVec;
 use board_terms::{Ticket, Vector};
-use board_text::{Fields, byte_of, decimal_of, hex_of};
+use board_text::{Fields, byte_of, bytes_of, decimal_of, hex_of};
 
 /// A decimal number up to 255.
 pub(crate) fn small_of(fields: &mut Fields<'_>) -> Option<u8>
@@ -16,6 +17,19 @@ pub(crate) fn small_of(fields: &mut Fields<'_>) -> Option<u8>
         return None;
     };
     Some(number as u8)
+}
+
+/// A decimal number of 16 bits.
+pub(crate) fn flag_of(fields: &mut Fields<'_>) -> Option<u16>
+    ensures { TakesNumber flag_at result fields.old fields.new }
+{
+    let Some(field) = fields.next() else {
+        return None;
+    };
+    let Some(number) = decimal_of(field, u64::from(u16::MAX)) else {
+        return None;
+    };
+    Some(number as u16)
 }
 
 /// A decimal number of 64 bits.
@@ -62,4 +76,24 @@ pub(crate) fn vector_of(fields: &mut Fields<'_>) -> Option<Vector>
         return None;
     };
     Vector::new(number)
+}
+
+/// At most so many bytes in two hexadecimal digits each, or `-` for none.
+pub(crate) fn bytes_in<const N: usize>(fields: &mut Fields<'_>) -> Option<ArrayVec<u8, N>>
+    ensures { TakesBytes N result fields.old fields.new }
+{
+    let Some(field) = fields.next() else {
+        return None;
+    };
+    let mut bytes = ArrayVec::new();
+    if field == b"-".as_slice() {
+        return Some(bytes);
+    }
+    if !bytes_of(field, &mut bytes) {
+        return None;
+    }
+    if bytes.as_slice().is_empty() {
+        return None;
+    }
+    Some(bytes)
 }

@@ -5,10 +5,11 @@ mod summary;
 
 ghost use Rattle.std.specs.Prelude.{◌≡◌, ◌++◌, Option, OnOk};
 ghost use Rattle.board_text.specs.Numbers.{two_digits};
+ghost use Rattle.board_script.specs.Events.{bytes_text};
 ghost use Rattle.board_script.specs.Printing.{vector_or_none};
 
 use board_terms::Vector;
-use board_text::put_byte;
+use board_text::{put_byte, put_bytes};
 pub(crate) use notice::put_notices;
 pub(crate) use reply::put_reply;
 use std::alloc::AllocError;
@@ -19,6 +20,16 @@ fn put(out: &mut Vec<u8>, text: &[u8]) -> Result<(), AllocError>
     ensures { OnOk result (out.new.items ≡ out.old.items ++ text.now) }
 {
     out.extend_from_slice(text)
+}
+
+/// Writes bytes at the end of `out`, two digits each, or `-` for none.
+fn put_data(out: &mut Vec<u8>, bytes: &[u8]) -> Result<(), AllocError>
+    ensures { OnOk result (out.new.items ≡ out.old.items ++ bytes_text bytes.now) }
+{
+    if bytes.is_empty() {
+        return put(out, b"-");
+    }
+    put_bytes(out, bytes)
 }
 
 /// Writes a vector, or that there is none, at the end of `out`.

@@ -1,7 +1,7 @@
 // What a line asks of the board, and the answer.
 ghost use Rattle.std.specs.Prelude.{◌≡◌, ◌≤◌, [], ◌∷◌, ◌++◌, length, OnOk, None, Some};
 ghost use Rattle.synic_board.specs.Step.{step};
-ghost use Rattle.board_script.specs.Reading.{opening_say, item_say};
+ghost use Rattle.board_script.specs.Reading.{opening_say, opening_item, item_say};
 ghost use Rattle.board_script.specs.Script.{is_skipped};
 ghost use Rattle.board_script.specs.Output.{told};
 ghost use Rattle.board_script.specs.Streams.{Answers, AnswersItem, machine_of};
@@ -58,14 +58,22 @@ fn skips(line: &[u8]) -> bool
     }
 }
 
-/// Takes a board line.
+/// Takes the first item, which must be a board line.
 fn open(alloc: Global, board: &mut Option<Board>, word: &[u8], fields: &mut Fields<'_>) -> Answer
     requires { board.old ≡ None }
     ensures { AnswersItem result (item_say (word.now ∷ fields.old)) None (machine_of board.new) [] }
 {
-    if word != b"board".as_slice() {
-        return Answer::Wrong(ScriptFault::First);
+    if word == b"board".as_slice() {
+        return open_sized(alloc, board, fields);
     }
+    Answer::Wrong(ScriptFault::First)
+}
+
+/// Opens a board of the sizes that the fields name.
+fn open_sized(alloc: Global, board: &mut Option<Board>, fields: &mut Fields<'_>) -> Answer
+    requires { board.old ≡ None }
+    ensures { AnswersItem result (opening_item fields.old) None (machine_of board.new) [] }
+{
     let Some((processors, pages, ticket)) = opening_of(fields) else {
         return Answer::Wrong(ScriptFault::First);
     };
@@ -107,7 +115,7 @@ fn take_line(
         if !fields.is_empty() {
             return Answer::Wrong(ScriptFault::Form);
         }
-        return match put_summary(out, board.summary(), board.processors()) {
+        return match put_summary(out, board.summary(), board.processors(), board.pages()) {
             Ok(()) => Answer::Good,
             Err(_) => Answer::Memory,
         };

@@ -68,8 +68,8 @@ grow text xs r out h l split all two hs ls high low is =
     )
 
 -- fewer than two digits are left
-pub at_end : (text xs r : List ℕ) (b : Bool) (most : ℕ) → text ≡ spelled xs ++ r → AreBytes xs → length r < 2 → b ≡ nat_eq (length r) 0 → MatchBool b (text ≡ spelled xs) ((bytes : List ℕ) → AreBytes bytes → length bytes ≤ most → text ≡ spelled bytes → ⊥)
-at_end text xs [] b most split all short is = rw is (split ∙ append-nil (spelled xs))
+pub at_end : (text xs r : List ℕ) (b : Bool) (most : ℕ) → text ≡ spelled xs ++ r → AreBytes xs → length r < 2 → b ≡ nat_eq (length r) 0 → MatchBool b ((text ≡ spelled xs) × AreBytes xs) ((bytes : List ℕ) → AreBytes bytes → length bytes ≤ most → text ≡ spelled bytes → ⊥)
+at_end text xs [] b most split all short is = rw is (split ∙ append-nil (spelled xs), all)
 at_end text xs (x ∷ []) b most split all short is = rw is (λ bytes every room e. by (spelled-front xs (x ∷ []) bytes all every (sym split ∙ e)))
   where
     odd : (more : List ℕ) → x ∷ [] ≡ spelled more → ⊥

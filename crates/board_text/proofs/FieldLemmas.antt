@@ -1,11 +1,10 @@
 -- The fields of a text.
-use Rattle.std.proofs.Common.{◌≡◌, ◌≢◌, ◌<◌, ◌+◌, ◌-◌, ◌∷◌, ◌++◌, [], ℕ, List, Option, Some, None, Bool, nat_eq, false, true, cond, take, drop, length, get_or, arith, sym, ap, ◌∙◌, drop-cons, suc, refl}
+use Rattle.std.proofs.Common.{◌≡◌, ◌≢◌, ◌<◌, ◌+◌, ◌-◌, ◌∷◌, ◌++◌, [], ℕ, List, Bool, nat_eq, false, true, cond, take, drop, length, get_or, arith, sym, ap, ◌∙◌, drop-cons, suc, refl}
 use native.Mathlib.Numerals.{unary_clauses}
-use Rattle.std.specs.Borrow.{Bor}
 use Rattle.std.specs.List.{All, onto_first}
 use Rattle.std.proofs.lemmas.List.{take_all, length-drop, take-append-drop}
 use Rattle.std.proofs.lemmas.List.Splits.{slice_split_at}
-use Rattle.board_text.specs.Fields.{fields_of, fields_left}
+use Rattle.board_text.specs.Fields.{fields_of}
 
 pub at_space : (text : List ℕ) (i : ℕ) → i < length text → All (λ (x : ℕ). nat_eq x 32 ≡ false) (take i text) → get_or text i 0 ≡ 32 → fields_of text ≡ take i text ∷ fields_of (take (length text - (i + 1)) (drop (i + 1) text))
 at_space text i within others space =
@@ -26,7 +25,3 @@ some_field (x ∷ xs) e = go (nat_eq x 32) e
     go : (b : Bool) → cond b ([] ∷ fields_of xs) (onto_first x (fields_of xs)) ≢ []
     go true e = cc
     go false e = onto_some x (fields_of xs) e
-
-pub left-none : (rest : Option (Bor (List ℕ))) → fields_left rest ≡ [] → rest ≡ None
-left-none None e = refl
-left-none (Some rest) e = absurd (some_field rest.now e)

@@ -166,10 +166,6 @@ byte-value b h =
     let low = digit_value-glyph 16 (omega arith) (omega arith) (b % 16) (omega arith) in
     omega (arith, high, low)
 
-pub byte_at-answer : (text : List ℕ) (r : Option ℕ) → IfSome r (λ b. (b < 256) × (text ≡ two_digits b)) → IfNone r ((b : ℕ) → b < 256 → text ≡ two_digits b → ⊥) → r ≡ byte_at text
-byte_at-answer text None found none = number_at-answer two_digits (digits_value 16) 256 byte-value 255 text None (omega arith) tt (λ b few e. none b (omega arith) e)
-byte_at-answer text (Some b) found none = number_at-answer two_digits (digits_value 16) 256 byte-value 255 text (Some b) (omega arith) (let small = found.0 in omega arith, found.1) tt
-
 pub byte_at-spelled : (b : ℕ) → b < 256 → byte_at (two_digits b) ≡ Some b
 byte_at-spelled b h = number_at-spelled two_digits (digits_value 16) 256 byte-value 255 b (omega arith) (omega arith)
 

@@ -24,7 +24,7 @@ pub fn byte_of(text: &[u8]) -> Option<u8>
 /// Puts in `out` the bytes that are written so, two digits each, and says whether the text is that
 /// of bytes that `out` has room for. If it is not, `out` holds some bytes.
 pub fn bytes_of<const N: usize>(text: &[u8], out: &mut ArrayVec<u8, N>) -> bool
-    ensures { MatchBool result (text.now ≡ spelled out.new.items)
+    ensures { MatchBool result ((text.now ≡ spelled out.new.items) × AreBytes out.new.items)
         ((bytes : List ℕ) → AreBytes bytes → length bytes ≤ N → text.now ≡ spelled bytes → ⊥) }
 {
     out.clear();

@@ -1,4 +1,4 @@
-use Rattle.std.proofs.Common.{◌≤◌, ◌+◌, ◌++◌, length, length-append, ap, arith}
+use Rattle.std.proofs.Common.{◌++◌, length-append, ap, arith}
 use Rattle.std.proofs.KnownBytes.{Consumes-trans}
 use Rattle.board_text.proofs.source.Source.next_line.Goals as goal
 
