@@ -1,0 +1,9 @@
+//! Tests of the board and the script together. There is nothing else here.
+#![tactic(auto)]
+
+#[cfg(test)]
+mod messages;
+#[cfg(test)]
+mod openings;
+#[cfg(test)]
+mod overlays;
