@@ -1,3 +1,4 @@
+pub mod laws
 pub mod Rules
 pub mod Openings
 pub mod Overlays

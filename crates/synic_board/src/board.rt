@@ -3,6 +3,7 @@ ghost use Rattle.std.specs.Prelude.{◌≡◌, ◌≤◌, ◌+◌, ◌↔◌, le
 ghost use Rattle.synic_board.specs.State.{AreSizes, opened, processors};
 ghost use Rattle.synic_board.specs.Scratch.{scratch, kept, TellsOf};
 ghost use Rattle.synic_board.specs.Step.{step};
+ghost use Rattle.synic_board.specs.Places.{Conserves, AreTickets};
 
 use crate::event::{Event, Reply};
 use crate::machine::Machine;
@@ -35,7 +36,11 @@ impl Model for Board {
 
     ghost coded = { held_code };
 
+    ghost use Rattle.synic_board.specs.Sound.{IsSound};
+
     ghost view = { λ a. a.machine };
+
+    ghost invariant = { λ a. IsSound a.machine.state };
 }
 
 impl Board {
@@ -91,16 +96,20 @@ impl Board {
         self.machine.moment()
     }
 
-    /// The ticket that the next accepted message takes.
+    /// The ticket that the next accepted message takes. Each ticket that was given before stands in
+    /// one queue or slot at most.
     pub fn next_ticket(&self) -> Ticket
-        ensures { result ≡ self.now.state.next_ticket }
+        ensures next { result ≡ self.now.state.next_ticket }
+        ensures tickets { AreTickets self.now.state }
     {
         self.machine.next_ticket()
     }
 
     /// Performs an event, leaves its notices in order in `notices`, and answers. It takes no memory.
+    /// Each accepted message is then queued, in a slot, consumed or withdrawn, exactly once.
     pub fn perform(&mut self, event: &Event, notices: &mut Notices) -> Reply
         ensures step { (self.new.state, result, notices.new) ≡ step self.old.state event.now }
+        ensures conserves { Conserves self.old.state self.new.state notices.new }
         ensures rises { self.old.writes ≤ self.new.writes }
         ensures few { self.new.writes ≤ self.old.writes + (8 + length notices.new) }
     {

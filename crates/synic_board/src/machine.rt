@@ -3,6 +3,7 @@ ghost use Rattle.std.specs.Prelude.{◌≡◌, ◌<◌, ◌≤◌, ◌+◌, ◌�
 ghost use Rattle.synic_board.specs.State.{AreSizes, opened, processors};
 ghost use Rattle.synic_board.specs.Scratch.{scratch, kept, TellsOf};
 ghost use Rattle.synic_board.specs.Step.{step};
+ghost use Rattle.synic_board.specs.Sound.{IsEvent};
 
 mod delivery;
 mod interrupts;
@@ -137,6 +138,7 @@ impl Machine {
     #[tactic(auto, unfolding(crate::specs::Step::step))]
     pub(crate) fn perform(&mut self, event: &Event, notices: &mut Notices) -> Reply
         ensures step { (self.new.state, result, notices.new) ≡ step self.old.state event.now }
+        ensures fits { IsEvent event.now }
         ensures rises { self.old.writes ≤ self.new.writes }
         ensures few { self.new.writes ≤ self.old.writes + (8 + length notices.new) }
     {
@@ -165,7 +167,7 @@ impl Machine {
                 port,
                 kind,
                 payload,
-            } => self.post(*port, *kind, payload, notices),
+            } => self.post(*port, *kind, payload.as_slice(), notices),
             Event::Signal { port, flag } => self.signal(*port, *flag, notices),
             Event::Assert { vp, vector } => match self.processor(*vp) {
                 Some(vp) => {

@@ -59,11 +59,12 @@ impl Machine {
         &mut self,
         port: u8,
         kind: u32,
-        payload: &PayloadBytes,
+        payload: &[u8],
         notices: &mut Notices,
     ) -> Reply
-        requires { notices.old ≡ [] }
-        ensures step { (self.new.state, result, notices.new) ≡ posted self.old.state port kind payload.now }
+        requires none { notices.old ≡ [] }
+        requires fits { length payload.now ≤ 240 }
+        ensures step { (self.new.state, result, notices.new) ≡ posted self.old.state port kind (record { items = payload.now }) }
         ensures rises { self.old.writes ≤ self.new.writes }
         ensures few { self.new.writes ≤ self.old.writes + length notices.new }
     {
@@ -79,7 +80,7 @@ impl Machine {
             ticket,
             port,
             kind,
-            payload: copy_of(payload),
+            payload: payload_of(payload),
         };
         self.deliver(vp, sint, message, notices);
         Reply::Accepted(ticket)
@@ -151,11 +152,12 @@ fn tell_withdrawn(vp: Vp, sint: Sint, tickets: &[Ticket], notices: &mut Notices)
     }
 }
 
-/// Equal bytes.
-fn copy_of(bytes: &PayloadBytes) -> PayloadBytes
-    ensures { result ≡ bytes.now }
+/// A payload of these bytes.
+fn payload_of(bytes: &[u8]) -> PayloadBytes
+    requires { length bytes.now ≤ 240 }
+    ensures { result ≡ record { items = bytes.now } }
 {
-    let mut copy = ArrayVec::new();
-    let _ = copy.try_extend_from_slice(bytes.as_slice());
-    copy
+    let mut payload = ArrayVec::new();
+    let _ = payload.try_extend_from_slice(bytes);
+    payload
 }

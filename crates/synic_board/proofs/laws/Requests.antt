@@ -1,0 +1,29 @@
+-- Vectors that are requested, and raised by sources.
+use Rattle.std.proofs.Common.{◌≡◌, ℕ, Bool, true, false, [], ◌∷◌, refl}
+use Rattle.std.specs.Prelude.{None, Some, if◌then◌else◌}
+use Rattle.std.specs.Option.{option_map_or}
+use Rattle.std.specs.FinSet as set
+use Rattle.board_terms.specs.declared.notices.Notice.TheVariants.{Requested}
+use Rattle.lapic_core.specs.Apic.{Apic, request}
+use Rattle.synic_regs.specs.Regs.{raised_by}
+use Rattle.synic_board.specs.State.{State, apic_of, regs_of, with_apic}
+use Rattle.synic_board.specs.Effects.{nothing}
+use Rattle.synic_board.specs.Interrupts.{requested, raised}
+use Rattle.synic_board.proofs.laws.Wholes.{IsKept, Keeps, AreStill, keeps-still, keeps-nothing, kept-apic}
+
+-- a choice, from both sides
+pub either : {X : Type 0} (P : X → Type 0) (b : Bool) (x y : X) → (b ≡ true → P x) → (b ≡ false → P y) → P (if b then x else y)
+either P true x y p q = p refl
+either P false x y p q = q refl
+
+pub still-apic : (s : State) (p : ℕ) (a : Apic) → AreStill s (with_apic s p a)
+still-apic s p a = record { queues = refl; slots = refl; next = refl }
+
+pub keeps-requested : (n : ℕ) (s : State) (p v : ℕ) → IsKept n s → Keeps n s (requested s p v)
+keeps-requested n s p v h =
+    either (Keeps n s) (set.contains (apic_of s p).requested v) _ _
+    (λ _. keeps-nothing n s h)
+    (λ _. keeps-still n s (with_apic s p (request (apic_of s p) v), Requested p v ∷ []) (kept-apic n s p (request (apic_of s p) v) h) (still-apic s p (request (apic_of s p) v)) (λ t. refl))
+
+pub keeps-raised : (n : ℕ) (s : State) (p i : ℕ) → IsKept n s → Keeps n s (raised s p i)
+keeps-raised n s p i h = elim (raised_by (regs_of s p) i) as (λ o. Keeps n s (option_map_or (requested s p) o (nothing s))) [ None ↦ keeps-nothing n s h | Some v ↦ keeps-requested n s p v h ]
