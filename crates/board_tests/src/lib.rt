@@ -7,3 +7,5 @@ mod messages;
 mod openings;
 #[cfg(test)]
 mod overlays;
+#[cfg(test)]
+mod ports;

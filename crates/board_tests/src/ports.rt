@@ -1,0 +1,166 @@
+// Event flags at the edges of a port, and ports that share a queue and are closed.
+use board_terms::{Notice, Notices, PayloadBytes, PortShape, Refusal, Sint, Vp};
+use std::test::Fail;
+use synic_board::{Board, Event, Reply};
+
+const SCONTROL: u32 = 0x4000_0080;
+
+const SIEFP: u32 = 0x4000_0082;
+
+/// Enables the SynIC, or the page of event flags at page 0.
+fn enable(board: &mut Board, notices: &mut Notices, register: u32) -> Reply {
+    let event = Event::Write {
+        vp: 0,
+        register,
+        value: 1,
+    };
+    board.perform(&event, notices)
+}
+
+fn open_port(board: &mut Board, notices: &mut Notices, port: u8, shape: PortShape) -> Reply {
+    let event = Event::OpenPort {
+        port,
+        vp: 0,
+        sint: 2,
+        shape,
+    };
+    board.perform(&event, notices)
+}
+
+fn signal(board: &mut Board, notices: &mut Notices, port: u8, flag: u16) -> Reply {
+    board.perform(&Event::Signal { port, flag }, notices)
+}
+
+fn post(board: &mut Board, notices: &mut Notices, port: u8) -> Reply {
+    let event = Event::Post {
+        port,
+        kind: 1,
+        payload: PayloadBytes::new(),
+    };
+    board.perform(&event, notices)
+}
+
+fn close(board: &mut Board, notices: &mut Notices, port: u8) -> Reply {
+    board.perform(&Event::ClosePort { port }, notices)
+}
+
+#[test]
+fn flags_reach_from_the_first_to_the_last(rt: HostRuntime) -> Result<(), Fail> {
+    let mut board = Board::open(rt.alloc(), 1, 1, 0)?;
+    let mut notices = Notices::open(rt.alloc())?;
+    let (vp, sint) = (Vp::new(0).unwrap(), Sint::new(2).unwrap());
+    let all = PortShape::Flags {
+        base: 0,
+        count: 2048,
+    };
+    let last = PortShape::Flags {
+        base: 2040,
+        count: 8,
+    };
+    assert_eq!(rt; enable(&mut board, &mut notices, SCONTROL), Reply::Done);
+    assert_eq!(rt; enable(&mut board, &mut notices, SIEFP), Reply::Done);
+    assert_eq!(rt; open_port(&mut board, &mut notices, 0, all), Reply::Done);
+    assert_eq!(rt; open_port(&mut board, &mut notices, 1, last), Reply::Done);
+    assert_eq!(rt; signal(&mut board, &mut notices, 0, 0), Reply::FlagWasClear);
+    assert_eq!(rt;
+        notices.as_slice(),
+        [Notice::FlagSet { vp, sint, flag: 0 }].as_slice()
+    );
+    assert_eq!(rt; signal(&mut board, &mut notices, 0, 0), Reply::FlagWasSet);
+    assert!(rt; notices.as_slice().is_empty());
+    assert_eq!(rt; signal(&mut board, &mut notices, 1, 7), Reply::FlagWasClear);
+    assert_eq!(rt;
+        notices.as_slice(),
+        [Notice::FlagSet {
+            vp,
+            sint,
+            flag: 2047
+        }]
+        .as_slice()
+    );
+    assert_eq!(rt;
+        signal(&mut board, &mut notices, 0, 2047),
+        Reply::FlagWasSet
+    );
+    assert_eq!(rt;
+        signal(&mut board, &mut notices, 1, 8),
+        Reply::Refused(Refusal::BadFlag)
+    );
+    assert_eq!(rt;
+        signal(&mut board, &mut notices, 0, 2048),
+        Reply::Refused(Refusal::BadFlag)
+    );
+    Ok(())
+}
+
+#[test]
+fn flags_outside_a_page_are_no_port(rt: HostRuntime) -> Result<(), Fail> {
+    let mut board = Board::open(rt.alloc(), 1, 1, 0)?;
+    let mut notices = Notices::open(rt.alloc())?;
+    for (base, count) in [(2040, 9), (2048, 1), (0, 2049), (0, 0), (65535, 65535)] {
+        let shape = PortShape::Flags { base, count };
+        assert_eq!(rt;
+            open_port(&mut board, &mut notices, 0, shape),
+            Reply::Refused(Refusal::BadTarget)
+        );
+    }
+    Ok(())
+}
+
+/// Two ports of one queue in turn: the messages 0 and 2 are of port 0, 1 and 3 of port 1.
+fn take_turns(board: &mut Board, notices: &mut Notices) -> bool {
+    let shape = PortShape::Messages { buffers: 2 };
+    enable(board, notices, SCONTROL) == Reply::Done
+        && open_port(board, notices, 0, shape) == Reply::Done
+        && open_port(board, notices, 1, shape) == Reply::Done
+        && post(board, notices, 0) == Reply::Accepted(0)
+        && post(board, notices, 1) == Reply::Accepted(1)
+        && post(board, notices, 0) == Reply::Accepted(2)
+        && post(board, notices, 1) == Reply::Accepted(3)
+}
+
+#[test]
+fn ports_of_one_queue_are_closed_in_both_orders(rt: HostRuntime) -> Result<(), Fail> {
+    let (vp, sint) = (Vp::new(0).unwrap(), Sint::new(2).unwrap());
+    let of_port_0 = [
+        Notice::Withdrawn {
+            ticket: 0,
+            vp,
+            sint,
+        },
+        Notice::Withdrawn {
+            ticket: 2,
+            vp,
+            sint,
+        },
+    ];
+    let of_port_1 = [
+        Notice::Withdrawn {
+            ticket: 1,
+            vp,
+            sint,
+        },
+        Notice::Withdrawn {
+            ticket: 3,
+            vp,
+            sint,
+        },
+    ];
+    let mut notices = Notices::open(rt.alloc())?;
+    // The message page is disabled, so that all four are queued.
+    let mut board = Board::open(rt.alloc(), 1, 1, 0)?;
+    assert!(rt; take_turns(&mut board, &mut notices));
+    assert_eq!(rt; close(&mut board, &mut notices, 0), Reply::Done);
+    assert_eq!(rt; notices.as_slice(), of_port_0.as_slice());
+    assert_eq!(rt; board.summary().queued(vp, sint), 2);
+    assert_eq!(rt; close(&mut board, &mut notices, 1), Reply::Done);
+    assert_eq!(rt; notices.as_slice(), of_port_1.as_slice());
+    let mut board = Board::open(rt.alloc(), 1, 1, 0)?;
+    assert!(rt; take_turns(&mut board, &mut notices));
+    assert_eq!(rt; close(&mut board, &mut notices, 1), Reply::Done);
+    assert_eq!(rt; notices.as_slice(), of_port_1.as_slice());
+    assert_eq!(rt; close(&mut board, &mut notices, 0), Reply::Done);
+    assert_eq!(rt; notices.as_slice(), of_port_0.as_slice());
+    assert_eq!(rt; board.summary().queued(vp, sint), 0);
+    Ok(())
+}
