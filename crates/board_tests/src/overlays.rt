@@ -64,24 +64,33 @@ fn the_first_overlay_stays_as_those_behind_it_go(rt: HostRuntime) -> Result<(), 
     Ok(())
 }
 
+/// The first overlay that still lies there, 16 if there is none.
+fn first(here: &[bool; 16]) -> u8 {
+    for number in 0..16 {
+        if here[number as usize] {
+            return number;
+        }
+    }
+    16
+}
+
 #[test]
-fn the_odd_overlays_show_once_the_even_ones_are_gone(rt: HostRuntime) -> Result<(), Fail> {
+fn the_first_that_is_left_shows_in_many_orders(rt: HostRuntime) -> Result<(), Fail> {
     let mut board = Board::open(rt.alloc(), 8, 4, 0)?;
     let mut notices = Notices::open(rt.alloc())?;
-    for number in 0..16 {
-        assert!(rt; put(&mut board, &mut notices, number, HERE));
+    for start in 0..16_u8 {
+        for half in 0..8_u8 {
+            let mut here = [true; 16];
+            for number in 0..16 {
+                assert!(rt; put(&mut board, &mut notices, number, HERE));
+            }
+            for turn in 0..16_u8 {
+                let number = (start + (2 * half + 1) * turn) % 16;
+                here[number as usize] = false;
+                assert!(rt; put(&mut board, &mut notices, number, AWAY));
+                assert_eq!(rt; board.summary().owner(3), owner(first(&here)));
+            }
+        }
     }
-    for half in 0..8 {
-        assert!(rt; put(&mut board, &mut notices, 14 - 2 * half, AWAY));
-        assert_eq!(rt;
-            board.summary().owner(3),
-            owner(if half == 7 { 1 } else { 0 })
-        );
-    }
-    for half in 0..8 {
-        assert_eq!(rt; board.summary().owner(3), owner(2 * half + 1));
-        assert!(rt; put(&mut board, &mut notices, 2 * half + 1, AWAY));
-    }
-    assert_eq!(rt; board.summary().owner(3), Owner::Guest);
     Ok(())
 }
