@@ -1,6 +1,2 @@
-pub mod PrintLemmas
-pub mod SummaryLemmas
-pub mod ByteFields
-pub mod ReadLemmas
 pub mod ScriptLemmas
 pub mod StreamLemmas

@@ -6,8 +6,8 @@ use Rattle.synic_board.specs.State.{State, opened}
 use Rattle.synic_board.specs.Scratch.{scratch}
 use Rattle.synic_board.specs.Effects.{Outcome}
 use Rattle.synic_board.specs.Step.{step}
-use Rattle.board_script.specs.Items.{Item, Opening, Performs, Summary}
-use Rattle.board_script.specs.Printing.{text_of, reply_fields, notice_fields, summary_lines}
+use Rattle.board_lines.specs.Items.{Item, Opening, Performs, Summary}
+use Rattle.board_lines.specs.Printing.{text_of, reply_fields, notice_fields, summary_lines}
 use Rattle.board_script.specs.Script.{first_fault, good_items}
 use Rattle.board_script.specs.declared.stream.ScriptFault.{ScriptFault}
 use Rattle.board_script.specs.declared.stream.ScriptFault.TheVariants as faults

@@ -1,8 +1,8 @@
 -- What is wrong with a script, and where first.
 use Rattle.std.specs.Prelude.{ℕ, ◌+◌, List, [], ◌∷◌, ◌==◌, ◌&&◌, ◌||◌, not, Bool, true, false, if◌then◌else◌, nat_lt, nat_le, length, Option, None, Some, is_some}
 use Rattle.std.specs.List.{filter_map}
-use Rattle.board_script.specs.Items.{Item, Opening, Performs, Summary}
-use Rattle.board_script.specs.Reading.{item_at}
+use Rattle.board_lines.specs.Items.{Item, Opening, Performs, Summary}
+use Rattle.board_lines.specs.Reading.{item_at}
 use Rattle.board_script.specs.declared.stream.ScriptFault.{ScriptFault}
 use Rattle.board_script.specs.declared.stream.ScriptFault.TheVariants as faults
 

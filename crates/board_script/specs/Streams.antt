@@ -3,7 +3,7 @@ use Rattle.std.specs.Prelude.{◌≡◌, ℕ, ◌≤◌, length, List, [], ◌++
 use Rattle.std.specs.Option.{option_map}
 use Rattle.std.specs.Io.KnownBytes.{Consumes, Appends}
 use Rattle.synic_board.specs.State.{Held}
-use Rattle.board_script.specs.Items.{Item}
+use Rattle.board_lines.specs.Items.{Item}
 use Rattle.board_script.specs.Script.{item_in, item_fault, line_fault}
 use Rattle.board_script.specs.Output.{Machine, after, answer, output_of, fault_of, fault_text, text}
 use Rattle.board_script.specs.declared.stream.ScriptFault.{ScriptFault}

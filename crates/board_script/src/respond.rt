@@ -1,16 +1,14 @@
 // What a line asks of the board, and the answer.
 ghost use Rattle.std.specs.Prelude.{◌≡◌, ◌≤◌, [], ◌∷◌, ◌++◌, length, OnOk, None, Some};
 ghost use Rattle.synic_board.specs.Step.{step};
-ghost use Rattle.board_script.specs.Reading.{opening_say, opening_item, item_say};
+ghost use Rattle.board_lines.specs.Reading.{opening_item, item_say};
 ghost use Rattle.board_script.specs.Script.{is_skipped};
 ghost use Rattle.board_script.specs.Output.{told};
 ghost use Rattle.board_script.specs.Streams.{Answers, AnswersItem, machine_of};
 
-use crate::event::event_of;
-use crate::numbers::{small_of, ticket_of};
-use crate::print::{put_notices, put_reply, put_summary};
 use crate::stream::ScriptFault;
-use board_terms::{Notices, Ticket};
+use board_lines::{event_of, opening_of, put_notices, put_reply, put_summary};
+use board_terms::Notices;
 use board_text::Fields;
 use std::alloc::{AllocError, Global};
 use synic_board::{Board, Event, OpenFault};
@@ -85,19 +83,6 @@ fn open_sized(alloc: Global, board: &mut Option<Board>, fields: &mut Fields<'_>)
         Err(OpenFault::BadSize) => Answer::Wrong(ScriptFault::Size),
         Err(OpenFault::Memory) => Answer::Memory,
     }
-}
-
-/// The processors, the pages and the first ticket of a board line.
-fn opening_of(fields: &mut Fields<'_>) -> Option<(u8, u8, Ticket)>
-    ensures { result ≡ opening_say fields.old }
-{
-    let processors = small_of(fields)?;
-    let pages = small_of(fields)?;
-    let ticket = ticket_of(fields)?;
-    if !fields.is_empty() {
-        return None;
-    }
-    Some((processors, pages, ticket))
 }
 
 /// Takes an event's line or the line `summary`.

@@ -1,7 +1,7 @@
 use Rattle.std.proofs.Common.{refl}
 use Rattle.std.specs.Fmt.{digits}
 use Rattle.synic_board.specs.Step.{step}
-use Rattle.board_script.specs.Reading.{item_at}
+use Rattle.board_lines.specs.Reading.{item_at}
 use Rattle.board_script.specs.Output.{output_of, fault_of}
 use Rattle.board_script.proofs.laws.worked_texts.Goals as goal
 

@@ -1,11 +1,11 @@
 use Rattle.std.proofs.Common.{◌∷◌, ◌++◌, Some, Option, List, ℕ, ap, sym, refl, ◌∙◌}
 use Rattle.std.proofs.Common.{subst}
 use Rattle.synic_board.specs.Step.{step}
-use Rattle.board_script.specs.Items.{Item}
+use Rattle.board_lines.specs.Items.{Item}
 use Rattle.board_script.specs.Output.{told}
 use Rattle.board_script.specs.Streams.{AnswersItem}
 use Rattle.board_script.specs.declared.respond.Answer.TheVariants.{Good}
-use Rattle.board_script.proofs.ReadLemmas.{event-item}
+use Rattle.board_lines.proofs.ReadLemmas.{event-item}
 use Rattle.board_script.proofs.respond.take_line.Goals as goal
 
 pub returns-in-Ok-perform : goal.returns-in-Ok-perform

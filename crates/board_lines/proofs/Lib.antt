@@ -1,0 +1,4 @@
+pub mod PrintLemmas
+pub mod SummaryLemmas
+pub mod ByteFields
+pub mod ReadLemmas

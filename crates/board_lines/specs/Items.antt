@@ -1,0 +1,29 @@
+-- Which line means what: its fields, parted by single spaces, are these.
+use Rattle.std.specs.Prelude.{◌≡◌, ℕ, ◌<◌, ◌^◌, List, [], ◌∷◌, codes, decimal}
+use Rattle.board_text.specs.Fields.{fields_of}
+use Rattle.synic_board.specs.declared.event.Event.{Event}
+use Rattle.board_lines.specs.Events.{event_fields, IsEvent}
+
+-- what a line asks for
+pub data Item : Type 0 where
+  -- a board of so many processors and pages, whose first message takes this ticket
+  Opening : ℕ → ℕ → ℕ → Item
+  -- an event
+  Performs : Event → Item
+  -- the stored summary
+  Summary : Item
+
+abbrev pub item_fields : Item → List (List ℕ)
+item_fields (Opening processors pages ticket) = codes "board" ∷ decimal processors ∷ decimal pages ∷ decimal ticket ∷ []
+item_fields (Performs event) = event_fields event
+item_fields Summary = codes "summary" ∷ []
+
+-- the ranges of an item's fields
+abbrev pub IsItem : Item → Type 0
+IsItem (Opening processors pages ticket) = (processors < 256) × (pages < 256) × (ticket < 2 ^ 64)
+IsItem (Performs event) = IsEvent event
+IsItem Summary = Unit {0}
+
+pub record Means (line : List ℕ) (item : Item) : Type 0 where
+  pub fields : fields_of line ≡ item_fields item
+  pub fits : IsItem item

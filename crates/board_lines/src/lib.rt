@@ -1,0 +1,13 @@
+//! The lines of scripts and traces: what is read of one, and what is written.
+#![tactic(auto)]
+
+mod event;
+pub mod laws;
+mod numbers;
+mod opening;
+mod print;
+
+pub use event::event_of;
+pub use numbers::u8_of;
+pub use opening::opening_of;
+pub use print::{put_notices, put_reply, put_summary};

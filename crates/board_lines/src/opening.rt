@@ -1,0 +1,20 @@
+// The numbers of a board line.
+ghost use Rattle.std.specs.Prelude.{◌≡◌};
+ghost use Rattle.board_lines.specs.Reading.{opening_say};
+
+use crate::numbers::{u8_of, u64_of};
+use board_terms::Ticket;
+use board_text::Fields;
+
+/// The processors, the pages and the first ticket of a board line, of the fields behind its first word.
+pub fn opening_of(fields: &mut Fields<'_>) -> Option<(u8, u8, Ticket)>
+    ensures { result ≡ opening_say fields.old }
+{
+    let processors = u8_of(fields)?;
+    let pages = u8_of(fields)?;
+    let ticket = u64_of(fields)?;
+    if !fields.is_empty() {
+        return None;
+    }
+    Some((processors, pages, ticket))
+}

@@ -1,0 +1,43 @@
+// What is written.
+mod notice;
+mod reply;
+mod summary;
+
+ghost use Rattle.std.specs.Prelude.{◌≡◌, ◌++◌, Option, OnOk};
+ghost use Rattle.board_text.specs.Numbers.{two_digits};
+ghost use Rattle.board_lines.specs.Events.{bytes_text};
+ghost use Rattle.board_lines.specs.Printing.{vector_or_none};
+
+use board_terms::Vector;
+use board_text::{put_byte, put_bytes};
+pub use notice::put_notices;
+pub use reply::put_reply;
+use std::alloc::AllocError;
+pub use summary::put_summary;
+
+/// Writes a text at the end of `out`.
+fn put(out: &mut Vec<u8>, text: &[u8]) -> Result<(), AllocError>
+    ensures { OnOk result (out.new.items ≡ out.old.items ++ text.now) }
+{
+    out.extend_from_slice(text)
+}
+
+/// Writes bytes at the end of `out`, two digits each, or `-` for none.
+fn put_data(out: &mut Vec<u8>, bytes: &[u8]) -> Result<(), AllocError>
+    ensures { OnOk result (out.new.items ≡ out.old.items ++ bytes_text bytes.now) }
+{
+    if bytes.is_empty() {
+        return put(out, b"-");
+    }
+    put_bytes(out, bytes)
+}
+
+/// Writes a vector, or that there is none, at the end of `out`.
+fn put_vector(out: &mut Vec<u8>, vector: Option<Vector>) -> Result<(), AllocError>
+    ensures { OnOk result (out.new.items ≡ out.old.items ++ vector_or_none vector) }
+{
+    match vector {
+        Some(vector) => put_byte(out, vector.number()),
+        None => put(out, b"none"),
+    }
+}
