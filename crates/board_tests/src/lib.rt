@@ -2,6 +2,8 @@
 #![tactic(auto)]
 
 #[cfg(test)]
+mod absorbs;
+#[cfg(test)]
 mod messages;
 #[cfg(test)]
 mod openings;

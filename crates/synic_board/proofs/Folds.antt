@@ -10,14 +10,14 @@ use Rattle.synic_board.specs.Stores.{consumed, consumed_below}
 use Rattle.synic_board.specs.Timers.{attempted, attempted_all}
 
 -- a fold over the numbers below n: nothing, then one step after what was done below
-record IsFold (below : State → ℕ → Effect) (one : State → ℕ → Effect) : Type 0 where
-  none : (s : State) → below s zero ≡ nothing s
-  more : (s : State) (i : ℕ) → below s (suc i) ≡ after (below s i) (one (below s i).0 i)
+pub record IsFold (below : State → ℕ → Effect) (one : State → ℕ → Effect) : Type 0 where
+  pub none : (s : State) → below s zero ≡ nothing s
+  pub more : (s : State) (i : ℕ) → below s (suc i) ≡ after (below s i) (one (below s i).0 i)
 
-fold_none : {below one : State → ℕ → Effect} (f : IsFold below one) (s : State) (before : List Notice) → (s, before) ≡ appended before (below s 0)
+pub fold_none : {below one : State → ℕ → Effect} (f : IsFold below one) (s : State) (before : List Notice) → (s, before) ≡ appended before (below s 0)
 fold_none f s before = ap (λ ns. (s, ns)) (sym (append-nil before)) ∙ ap (appended before) (sym (f.none s))
 
-fold_more : {below one : State → ℕ → Effect} (f : IsFold below one) (s now next : State) (i v : ℕ) (before told more : List Notice) → (now, told) ≡ appended before (below s i) → v ≡ i → (next, more) ≡ appended told (one now v) →
+pub fold_more : {below one : State → ℕ → Effect} (f : IsFold below one) (s now next : State) (i v : ℕ) (before told more : List Notice) → (now, told) ≡ appended before (below s i) → v ≡ i → (next, more) ≡ appended told (one now v) →
     (next, more) ≡ appended before (below s (i + 1))
 fold_more {below} {one} f s now next i v before told more so_far same step =
     let e : Effect = below s i in

@@ -4,6 +4,7 @@ pub mod Openings
 pub mod Overlays
 pub mod Lengths
 pub mod Folds
+pub mod Absorbing
 pub mod Placing
 pub mod Storing
 pub mod Telling

@@ -4,6 +4,7 @@ pub mod Entries
 pub mod Moves
 pub mod Effects
 pub mod Interrupts
+pub mod Absorbing
 pub mod Delivery
 pub mod Stores
 pub mod Posts

@@ -1,10 +1,11 @@
 -- What each event does: the state after it, the reply and the notices.
 use Rattle.synic_board.specs.declared.event.Event.{Event}
-use Rattle.synic_board.specs.declared.event.Event.TheVariants.{OpenPort, ClosePort, Write, Read, Post, Signal, Assert, Store, Load, Tick, Take}
+use Rattle.synic_board.specs.declared.event.Event.TheVariants.{OpenPort, ClosePort, Write, Read, Post, Signal, Assert, Absorb, Store, Load, Tick, Take}
 use Rattle.synic_board.specs.declared.event.Reply.TheVariants.{Done}
 use Rattle.synic_board.specs.State.{State}
 use Rattle.synic_board.specs.Effects.{Outcome, at_processor, answered, unchanged}
 use Rattle.synic_board.specs.Interrupts.{requested, taken}
+use Rattle.synic_board.specs.Absorbing.{absorbed}
 use Rattle.synic_board.specs.Registers.{written, read}
 use Rattle.synic_board.specs.Posts.{opened_port, closed, posted, signalled}
 use Rattle.synic_board.specs.Timers.{ticked}
@@ -18,6 +19,7 @@ step s (Read p number) = at_processor s p (unchanged s (read s p number))
 step s (Post port kind payload) = posted s port kind payload
 step s (Signal port flag) = signalled s port flag
 step s (Assert p v) = at_processor s p (answered Done (requested s p v))
+step s (Absorb p part bits) = at_processor s p (absorbed s p part bits)
 step s (Store address bytes) = stored_bytes s address bytes.items
 step s (Load address count) = unchanged s (read_bytes s address count)
 step s (Tick moment) = ticked s moment

@@ -42,6 +42,13 @@ pub enum Event {
         vp: u8,
         vector: Vector,
     },
+    /// Posted vectors are taken in at the local APIC of processor `vp`: bit i of `bits` is vector
+    /// 64 * `part` + i. Vectors below 16 are left out.
+    Absorb {
+        vp: u8,
+        part: u8,
+        bits: u64,
+    },
     /// A guest stores bytes at a guest physical address.
     Store {
         address: u64,

@@ -5,6 +5,7 @@ ghost use Rattle.synic_board.specs.Scratch.{scratch, kept, TellsOf};
 ghost use Rattle.synic_board.specs.Step.{step};
 ghost use Rattle.synic_board.specs.Sound.{IsEvent};
 
+mod absorbing;
 mod delivery;
 mod interrupts;
 mod overlays;
@@ -174,6 +175,10 @@ impl Machine {
                     self.request(vp, *vector, notices);
                     Reply::Done
                 }
+                None => Reply::Refused(Refusal::NoSuchProcessor),
+            },
+            Event::Absorb { vp, part, bits } => match self.processor(*vp) {
+                Some(vp) => self.absorb(vp, *part, *bits, notices),
                 None => Reply::Refused(Refusal::NoSuchProcessor),
             },
             Event::Store { address, bytes } => self.store(*address, bytes, notices),

@@ -1,5 +1,5 @@
 -- Vectors that are requested, and raised by sources.
-use Rattle.std.proofs.Common.{◌≡◌, ℕ, Bool, true, false, [], ◌∷◌, refl}
+use Rattle.std.proofs.Common.{◌≡◌, ℕ, ◌+◌, ◌*◌, zero, suc, Bool, true, false, [], ◌∷◌, refl}
 use Rattle.std.specs.Prelude.{None, Some, if◌then◌else◌}
 use Rattle.std.specs.Option.{option_map_or}
 use Rattle.std.specs.FinSet as set
@@ -9,7 +9,8 @@ use Rattle.synic_regs.specs.Regs.{raised_by}
 use Rattle.synic_board.specs.State.{State, apic_of, regs_of, with_apic}
 use Rattle.synic_board.specs.Effects.{nothing}
 use Rattle.synic_board.specs.Interrupts.{requested, raised}
-use Rattle.synic_board.proofs.laws.Wholes.{IsKept, Keeps, AreStill, keeps-still, keeps-nothing, kept-apic}
+use Rattle.synic_board.specs.Absorbing.{is_posted, absorbed_bit, absorbed_below}
+use Rattle.synic_board.proofs.laws.Wholes.{IsKept, Keeps, AreStill, keeps-still, keeps-nothing, keeps-after, kept-apic}
 
 -- a choice, from both sides
 pub either : {X : Type 0} (P : X → Type 0) (b : Bool) (x y : X) → (b ≡ true → P x) → (b ≡ false → P y) → P (if b then x else y)
@@ -27,3 +28,14 @@ keeps-requested n s p v h =
 
 pub keeps-raised : (n : ℕ) (s : State) (p i : ℕ) → IsKept n s → Keeps n s (raised s p i)
 keeps-raised n s p i h = elim (raised_by (regs_of s p) i) as (λ o. Keeps n s (option_map_or (requested s p) o (nothing s))) [ None ↦ keeps-nothing n s h | Some v ↦ keeps-requested n s p v h ]
+
+-- posted vectors
+keeps-absorbed_bit : (n : ℕ) (s : State) (p part bits i : ℕ) → IsKept n s → Keeps n s (absorbed_bit s p part bits i)
+keeps-absorbed_bit n s p part bits i h = either (Keeps n s) (is_posted part bits i) _ _ (λ _. keeps-requested n s p (64 * part + i) h) (λ _. keeps-nothing n s h)
+
+pub keeps-absorbed_below : (n : ℕ) (s : State) (p part bits i : ℕ) → IsKept n s → Keeps n s (absorbed_below s p part bits i)
+unfolding absorbed_below
+keeps-absorbed_below n s p part bits zero h = keeps-nothing n s h
+keeps-absorbed_below n s p part bits (suc i) h =
+    let first = keeps-absorbed_below n s p part bits i h in
+    keeps-after n s (absorbed_below s p part bits i) (absorbed_bit (absorbed_below s p part bits i).0 p part bits i) first (keeps-absorbed_bit n (absorbed_below s p part bits i).0 p part bits i first.kept)

@@ -1,10 +1,10 @@
 -- What every event keeps.
 use Rattle.std.proofs.Common.{◌≡◌, ℕ, ◌%◌, ◌<◌, List, [], refl, sym, subst, arith, nat_lt}
-use Rattle.std.specs.Prelude.{Option, None, Some}
+use Rattle.std.specs.Prelude.{Option, None, Some, nat_le}
 use Rattle.std.specs.Option.{option_map_or}
 use Rattle.std.proofs.lemmas.Bool.Decides.{nat_tests}
 use Rattle.board_terms.specs.declared.notices.Notice.{Notice}
-use Rattle.board_terms.specs.declared.refusal.Refusal.TheVariants.{NoSuchProcessor}
+use Rattle.board_terms.specs.declared.refusal.Refusal.TheVariants.{BadTarget, NoSuchProcessor}
 use Rattle.lapic_core.specs.Apic.{next, with_task_priority, after_end}
 use Rattle.synic_regs.specs.declared.register.Register.{Register}
 use Rattle.synic_regs.specs.declared.register.Register.TheVariants.{ReferenceCounter, Eoi, Tpr, Control, Version, Sief, Sim, Eom, Source, TimerConfig, TimerCount}
@@ -12,19 +12,20 @@ use Rattle.synic_regs.specs.Registers.{register_of, Exists}
 use Rattle.synic_regs.specs.Regs.{is_refused, with_value}
 use Rattle.synic_regs.proofs.Numbers.{have_their_numbers}
 use Rattle.synic_board.specs.declared.event.Event.{Event}
-use Rattle.synic_board.specs.declared.event.Event.TheVariants.{OpenPort, ClosePort, Write, Read, Post, Signal, Assert, Store, Load, Tick, Take}
+use Rattle.synic_board.specs.declared.event.Event.TheVariants.{OpenPort, ClosePort, Write, Read, Post, Signal, Assert, Absorb, Store, Load, Tick, Take}
 use Rattle.synic_board.specs.declared.event.Reply.{Reply}
 use Rattle.synic_board.specs.declared.event.Reply.TheVariants.{Done, GeneralProtection, Refused}
 use Rattle.synic_board.specs.State.{State, processors, apic_of, regs_of, with_apic, with_regs}
 use Rattle.synic_board.specs.Effects.{Outcome, at_processor, answered, unchanged}
 use Rattle.synic_board.specs.Interrupts.{requested, taken_at, taken, ended, with_priority}
+use Rattle.synic_board.specs.Absorbing.{absorbed, absorbed_below}
 use Rattle.synic_board.specs.Registers.{stored, written_register, written, read}
 use Rattle.synic_board.specs.Stores.{read_bytes}
 use Rattle.synic_board.specs.Step.{step}
 use Rattle.synic_board.specs.Places.{Conserves}
 use Rattle.synic_board.specs.Sound.{IsSound, IsEvent}
 use Rattle.synic_board.proofs.laws.Wholes.{IsKept, Keeps, KeepsOutcome, kept_from_sound, sound_from_kept, tickets-conserved, kept-apic, keeps-still, keeps-nothing, keeps-unchanged}
-use Rattle.synic_board.proofs.laws.Requests.{either, still-apic, keeps-requested}
+use Rattle.synic_board.proofs.laws.Requests.{either, still-apic, keeps-requested, keeps-absorbed_below}
 use Rattle.synic_board.proofs.laws.Attempts.{keeps-tried_below}
 use Rattle.synic_board.proofs.laws.Changes.{kept-regs}
 use Rattle.synic_board.proofs.laws.Posts.{keeps-opened_port, keeps-closed, keeps-posted, keeps-signalled}
@@ -57,6 +58,9 @@ keeps-written n s p number value h below = named (register_of number) refl
     named None is = keeps-unchanged n s GeneralProtection h
     named (Some r) is = keeps-written_register n s p r value h below ((have_their_numbers number r).0 is).0
 
+keeps-absorbed : (n : ℕ) (s : State) (p part bits : ℕ) → IsKept n s → KeepsOutcome n s (absorbed s p part bits)
+keeps-absorbed n s p part bits h = either (KeepsOutcome n s) (nat_le part 3) _ _ (λ _. keeps-absorbed_below n s p part bits 64 h) (λ _. keeps-unchanged n s (Refused BadTarget) h)
+
 keeps-taken : (n : ℕ) (s : State) (p : ℕ) → IsKept n s → KeepsOutcome n s (taken s p)
 keeps-taken n s p h = elim (next (apic_of s p)) as (λ o. Keeps n s (option_map_or (λ v. with_apic s p (taken_at s p v)) o s, [])) [
   | None ↦ keeps-nothing n s h
@@ -75,6 +79,7 @@ keeps-step n s (Read p number) fits h = on-board n s p (unchanged s (read s p nu
 keeps-step n s (Post port kind payload) fits h = keeps-posted n s port kind payload fits h
 keeps-step n s (Signal port flag) fits h = keeps-signalled n s port flag h
 keeps-step n s (Assert p v) fits h = on-board n s p (answered Done (requested s p v)) h (λ _. keeps-requested n s p v h)
+keeps-step n s (Absorb p part bits) fits h = on-board n s p (absorbed s p part bits) h (λ _. keeps-absorbed n s p part bits h)
 keeps-step n s (Store address bytes) fits h = keeps-stored_bytes n s address bytes.items h
 keeps-step n s (Load address count) fits h = keeps-unchanged n s (read_bytes s address count) h
 keeps-step n s (Tick moment) fits h = keeps-ticked n s moment h

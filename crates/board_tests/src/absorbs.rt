@@ -1,0 +1,101 @@
+// Posted vectors that are taken in.
+use board_terms::{Notice, Notices, Refusal, Vector, Vp};
+use std::test::Fail;
+use synic_board::{Board, Event, Reply};
+
+fn absorb(board: &mut Board, notices: &mut Notices, vp: u8, part: u8, bits: u64) -> Reply {
+    board.perform(&Event::Absorb { vp, part, bits }, notices)
+}
+
+/// What is told of a request of that vector at that processor.
+fn requested(vp: u8, vector: u8) -> Notice {
+    Notice::Requested {
+        vp: Vp::new(vp).unwrap(),
+        vector: Vector::new(vector).unwrap(),
+    }
+}
+
+#[test]
+fn posted_vectors_are_requested_rising(rt: HostRuntime) -> Result<(), Fail> {
+    let mut board = Board::open(rt.alloc(), 1, 1, 0)?;
+    let mut notices = Notices::open(rt.alloc())?;
+    assert_eq!(rt;
+        absorb(&mut board, &mut notices, 0, 1, 0x3_0000_0001),
+        Reply::Done
+    );
+    assert_eq!(rt;
+        notices.as_slice(),
+        [requested(0, 0x40), requested(0, 0x60), requested(0, 0x61)].as_slice()
+    );
+    assert_eq!(rt;
+        board.summary().next(Vp::new(0).unwrap()),
+        Vector::new(0x61)
+    );
+    Ok(())
+}
+
+#[test]
+fn what_is_below_sixteen_is_no_vector(rt: HostRuntime) -> Result<(), Fail> {
+    let mut board = Board::open(rt.alloc(), 1, 1, 0)?;
+    let mut notices = Notices::open(rt.alloc())?;
+    assert_eq!(rt;
+        absorb(&mut board, &mut notices, 0, 0, 0x1_ffff),
+        Reply::Done
+    );
+    assert_eq!(rt; notices.as_slice(), [requested(0, 0x10)].as_slice());
+    assert_eq!(rt; absorb(&mut board, &mut notices, 0, 0, 0xffff), Reply::Done);
+    assert!(rt; notices.as_slice().is_empty());
+    Ok(())
+}
+
+#[test]
+fn the_processor_is_judged_before_the_part(rt: HostRuntime) -> Result<(), Fail> {
+    let mut board = Board::open(rt.alloc(), 1, 1, 0)?;
+    let mut notices = Notices::open(rt.alloc())?;
+    for part in 4..7 {
+        assert_eq!(rt;
+            absorb(&mut board, &mut notices, 0, part, 1),
+            Reply::Refused(Refusal::BadTarget)
+        );
+        assert_eq!(rt;
+            absorb(&mut board, &mut notices, 1, part, 1),
+            Reply::Refused(Refusal::NoSuchProcessor)
+        );
+    }
+    assert_eq!(rt; board.summary().next(Vp::new(0).unwrap()), None);
+    Ok(())
+}
+
+#[test]
+fn all_vectors_of_a_processor_are_posted(rt: HostRuntime) -> Result<(), Fail> {
+    let mut board = Board::open(rt.alloc(), 8, 1, 0)?;
+    let mut notices = Notices::open(rt.alloc())?;
+    for vp in 0..8 {
+        let mut vector: u8 = 16;
+        for part in 0..4 {
+            assert_eq!(rt;
+                absorb(&mut board, &mut notices, vp, part, u64::MAX),
+                Reply::Done
+            );
+            let told = notices.as_slice();
+            assert_eq!(rt; told.len(), if part == 0 { 48 } else { 64 });
+            for notice in told {
+                assert_eq!(rt; *notice, requested(vp, vector));
+                vector = vector.wrapping_add(1);
+            }
+        }
+        // 255 was the last.
+        assert_eq!(rt; vector, 0);
+        assert_eq!(rt;
+            board.summary().next(Vp::new(vp).unwrap()),
+            Vector::new(255)
+        );
+        // Requests that stand merge.
+        assert_eq!(rt;
+            absorb(&mut board, &mut notices, vp, 3, u64::MAX),
+            Reply::Done
+        );
+        assert!(rt; notices.as_slice().is_empty());
+    }
+    Ok(())
+}
