@@ -2,3 +2,4 @@ pub mod PrintLemmas
 pub mod SummaryLemmas
 pub mod ByteFields
 pub mod ReadLemmas
+pub mod SizeLemmas

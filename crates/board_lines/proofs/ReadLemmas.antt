@@ -8,15 +8,15 @@ use Rattle.board_text.specs.Numbers.{hex, two_digits, byte_at}
 use Rattle.board_text.specs.Fields.{fields_of, words}
 use Rattle.board_text.proofs.NumberLemmas.{decimal_at-spelled, decimal_at-only, hex_at-spelled, hex_at-only, byte_at-spelled, byte_at-only}
 use Rattle.synic_board.specs.declared.event.Event.{Event}
-use Rattle.synic_board.specs.declared.event.Event.TheVariants.{OpenPort, ClosePort, Write, Read, Post, Signal, Assert, Store, Load, Tick, Take}
+use Rattle.synic_board.specs.declared.event.Event.TheVariants.{OpenPort, ClosePort, Write, Read, Post, Signal, Assert, Absorb, Store, Load, Tick, Take}
 use Rattle.board_terms.specs.declared.messages.PortShape.TheVariants.{Messages, Flags}
 use Rattle.board_lines.specs.Events.{event_fields, bytes_text, IsVector, IsEvent}
 use Rattle.board_lines.specs.Items.{Item, Opening, Performs, Summary, item_fields, IsItem, Means}
-use Rattle.board_lines.specs.Reading.{Fields, take_then, ended, u8_at, u16_at, bytes_at, u64_at, hex_u32_at, hex_u64_at, from_16, vector_at, messages_say, flags_say, shape_say, open_say, close_say, write_say, read_say, post_say, signal_say, assert_say, store_say, load_say, tick_say, take_say, opening_say, event_say, item_say, item_at}
+use Rattle.board_lines.specs.Reading.{Fields, take_then, ended, u8_at, u16_at, bytes_at, u64_at, hex_u32_at, hex_u64_at, from_16, vector_at, messages_say, flags_say, shape_say, open_say, close_say, write_say, read_say, post_say, signal_say, assert_say, absorb_say, store_say, load_say, tick_say, take_say, opening_say, event_say, item_say, item_at}
 use Rattle.board_lines.proofs.ByteFields.{bytes_at-only, bytes_at-spelled}
 
 -- What was read tells what stood there.
-then-some : {A B : Type 0} (read : List ℕ → Option B) (next : B → Fields → Option A) (fields : Fields) (a : A) (P : Type 0) →
+pub then-some : {A B : Type 0} (read : List ℕ → Option B) (next : B → Fields → Option A) (fields : Fields) (a : A) (P : Type 0) →
     ((field : List ℕ) (n : B) (rest : Fields) → fields ≡ field ∷ rest → read field ≡ Some n → next n rest ≡ Some a → P) → take_then read next fields ≡ Some a → P
 then-some read next [] a P k e = cc
 then-some {A} {B} read next (field ∷ rest) a P k e = go (read field) refl e
@@ -25,20 +25,20 @@ then-some {A} {B} read next (field ∷ rest) a P k e = go (read field) refl e
     go None is e = cc
     go (Some n) is e = k field n rest refl is e
 
-ended-some : {A : Type 0} (a : A) (fields : Fields) (b : A) (P : Type 0) → (fields ≡ [] → a ≡ b → P) → ended a fields ≡ Some b → P
+pub ended-some : {A : Type 0} (a : A) (fields : Fields) (b : A) (P : Type 0) → (fields ≡ [] → a ≡ b → P) → ended a fields ≡ Some b → P
 ended-some a [] b P k e = k refl cc
 ended-some a (field ∷ fields) b P k e = cc
 
 -- what is read only where the test says yes
-yes : {A : Type 0} (t : Bool) (x y : Option A) (a : A) (P : Type 0) → (t ≡ true → x ≡ Some a → P) → (y ≡ Some a → P) → cond t x y ≡ Some a → P
+pub yes : {A : Type 0} (t : Bool) (x y : Option A) (a : A) (P : Type 0) → (t ≡ true → x ≡ Some a → P) → (y ≡ Some a → P) → cond t x y ≡ Some a → P
 yes true x y a P h k e = h refl e
 yes false x y a P h k e = k e
 
-mapped : {A B : Type 0} (f : A → B) (x : Option A) (b : B) (P : Type 0) → ((a : A) → x ≡ Some a → f a ≡ b → P) → option_map f x ≡ Some b → P
+pub mapped : {A B : Type 0} (f : A → B) (x : Option A) (b : B) (P : Type 0) → ((a : A) → x ≡ Some a → f a ≡ b → P) → option_map f x ≡ Some b → P
 mapped f None b P h e = cc
 mapped f (Some a) b P h e = h a refl cc
 
-u8-only : (text : List ℕ) (n : ℕ) → u8_at text ≡ Some n → (n < 256) × (text ≡ decimal n)
+pub u8-only : (text : List ℕ) (n : ℕ) → u8_at text ≡ Some n → (n < 256) × (text ≡ decimal n)
 u8-only text n e = let h = decimal_at-only 255 text n e in let few = h.0 in (omega arith, h.1)
 
 u16-only : (text : List ℕ) (n : ℕ) → u16_at text ≡ Some n → (n < 65536) × (text ≡ decimal n)
@@ -92,6 +92,15 @@ assert-says fs event =
     ended-some (Assert vp vector) more' event (Says (codes "assert" ∷ fs) event) (λ none is.
     let h = u8-only a vp read in let h' = vector-only b vector read' in
     rw (at, at', none, h.1, h'.1, ← is) (record { same = refl; fits = (h.0, h'.0) }))))
+
+absorb-says : (fs : Fields) (event : Event) → absorb_say fs ≡ Some event → Says (codes "absorb" ∷ fs) event
+absorb-says fs event =
+    then-some u8_at _ fs event (Says (codes "absorb" ∷ fs) event) (λ a vp more at read.
+    then-some u8_at _ more event (Says (codes "absorb" ∷ fs) event) (λ b part more' at' read'.
+    then-some hex_u64_at _ more' event (Says (codes "absorb" ∷ fs) event) (λ c bits more'' at'' read''.
+    ended-some (Absorb vp part bits) more'' event (Says (codes "absorb" ∷ fs) event) (λ none is.
+    let h = u8-only a vp read in let h' = u8-only b part read' in let h'' = hex_u64-only c bits read'' in
+    rw (at, at', at'', none, h.1, h'.1, h''.1, ← is) (record { same = refl; fits = (h.0, h'.0, h''.0) })))))
 
 take-says : (fs : Fields) (event : Event) → take_say fs ≡ Some event → Says (codes "take" ∷ fs) event
 take-says fs event =
@@ -167,7 +176,7 @@ tick-says fs event =
     rw (at, none, h.1, ← is) (record { same = refl; fits = h.0 })))
 
 -- the word is this one
-worded : (P : List ℕ → Type 0) (word key : List ℕ) → bytes_eq word key ≡ true → P key → P word
+pub worded : (P : List ℕ → Type 0) (word key : List ℕ) → bytes_eq word key ≡ true → P key → P word
 worded P word key is h = rw ((bytes_eq-Decides word key).0 is) h
 
 shape-says : (port : ℕ) → port < 256 → (fs : Fields) (event : Event) → shape_say port fs ≡ Some event → Says (codes "open" ∷ decimal port ∷ fs) event
@@ -192,13 +201,14 @@ event-says (word ∷ fs) event e =
     (yes (bytes_eq word (codes "post")) (post_say fs) _ event (Says (word ∷ fs) event) (λ is e. worded (λ w. Says (w ∷ fs) event) word (codes "post") is (post-says fs event e))
     (yes (bytes_eq word (codes "signal")) (signal_say fs) _ event (Says (word ∷ fs) event) (λ is e. worded (λ w. Says (w ∷ fs) event) word (codes "signal") is (signal-says fs event e))
     (yes (bytes_eq word (codes "assert")) (assert_say fs) _ event (Says (word ∷ fs) event) (λ is e. worded (λ w. Says (w ∷ fs) event) word (codes "assert") is (assert-says fs event e))
+    (yes (bytes_eq word (codes "absorb")) (absorb_say fs) _ event (Says (word ∷ fs) event) (λ is e. worded (λ w. Says (w ∷ fs) event) word (codes "absorb") is (absorb-says fs event e))
     (yes (bytes_eq word (codes "store")) (store_say fs) _ event (Says (word ∷ fs) event) (λ is e. worded (λ w. Says (w ∷ fs) event) word (codes "store") is (store-says fs event e))
     (yes (bytes_eq word (codes "load")) (load_say fs) _ event (Says (word ∷ fs) event) (λ is e. worded (λ w. Says (w ∷ fs) event) word (codes "load") is (load-says fs event e))
     (yes (bytes_eq word (codes "tick")) (tick_say fs) _ event (Says (word ∷ fs) event) (λ is e. worded (λ w. Says (w ∷ fs) event) word (codes "tick") is (tick-says fs event e))
-    (yes (bytes_eq word (codes "take")) (take_say fs) None event (Says (word ∷ fs) event) (λ is e. worded (λ w. Says (w ∷ fs) event) word (codes "take") is (take-says fs event e)) (λ e. cc))))))))))) e
+    (yes (bytes_eq word (codes "take")) (take_say fs) None event (Says (word ∷ fs) event) (λ is e. worded (λ w. Says (w ∷ fs) event) word (codes "take") is (take-says fs event e)) (λ e. cc)))))))))))) e
 
 -- What is written so is read so.
-u8-spelled : (n : ℕ) → n < 256 → u8_at (decimal n) ≡ Some n
+pub u8-spelled : (n : ℕ) → n < 256 → u8_at (decimal n) ≡ Some n
 u8-spelled n h = decimal_at-spelled 255 n (omega arith) (omega arith)
 
 u16-spelled : (n : ℕ) → n < 65536 → u16_at (decimal n) ≡ Some n
@@ -216,7 +226,7 @@ hex_u64-spelled n h = hex_at-spelled (2 ^ 64 - 1) n (omega arith) (omega arith)
 vector-spelled : (v : ℕ) → IsVector v → vector_at (two_digits v) ≡ Some v
 vector-spelled v h = ap (option_and_then from_16) (byte_at-spelled v h.1) ∙ ap (λ (t : Bool). cond t (Some v) None) (le-leb 16 v h.0)
 
-then-read : {A B : Type 0} (read : List ℕ → Option B) (next : B → Fields → Option A) (field : List ℕ) (n : B) (rest : Fields) → read field ≡ Some n → take_then read next (field ∷ rest) ≡ next n rest
+pub then-read : {A B : Type 0} (read : List ℕ → Option B) (next : B → Fields → Option A) (field : List ℕ) (n : B) (rest : Fields) → read field ≡ Some n → take_then read next (field ∷ rest) ≡ next n rest
 then-read {A} {B} read next field n rest e = ap (λ (r : Option B). option_and_then (λ (p : B × Fields). next p.0 p.1) (option_map (λ (m : B). (m, rest)) r)) e
 
 pub says-event : (event : Event) → IsEvent event → event_say (event_fields event) ≡ Some event
@@ -231,13 +241,14 @@ says-event (Tick moment) h = then-read u64_at _ (decimal moment) moment [] (u64-
 says-event (Write vp register value) h = then-read u8_at _ (decimal vp) vp _ (u8-spelled vp h.0) ∙ then-read hex_u32_at _ (hex register) register _ (hex_u32-spelled register h.1) ∙ then-read hex_u64_at _ (hex value) value [] (hex_u64-spelled value h.2)
 says-event (Read vp register) h = then-read u8_at _ (decimal vp) vp _ (u8-spelled vp h.0) ∙ then-read hex_u32_at _ (hex register) register [] (hex_u32-spelled register h.1)
 says-event (Assert vp vector) h = then-read u8_at _ (decimal vp) vp _ (u8-spelled vp h.0) ∙ then-read vector_at _ (two_digits vector) vector [] (vector-spelled vector h.1)
+says-event (Absorb vp part bits) h = then-read u8_at _ (decimal vp) vp _ (u8-spelled vp h.0) ∙ then-read u8_at _ (decimal part) part _ (u8-spelled part h.1) ∙ then-read hex_u64_at _ (hex bits) bits [] (hex_u64-spelled bits h.2)
 says-event (Take vp) h = then-read u8_at _ (decimal vp) vp [] (u8-spelled vp h)
 
 pub record SaysItem (fields : Fields) (item : Item) : Type 0 where
   pub same : fields ≡ item_fields item
   pub fits : IsItem item
 
-opening-says : (fs : Fields) (p : ℕ × ℕ × ℕ) → opening_say fs ≡ Some p → SaysItem (codes "board" ∷ fs) (Opening p.0 p.1 p.2)
+pub opening-says : (fs : Fields) (p : ℕ × ℕ × ℕ) → opening_say fs ≡ Some p → SaysItem (codes "board" ∷ fs) (Opening p.0 p.1 p.2)
 opening-says fs p =
     then-some u8_at _ fs p (SaysItem (codes "board" ∷ fs) (Opening p.0 p.1 p.2)) (λ a n more at read.
     then-some u8_at _ more p (SaysItem (codes "board" ∷ fs) (Opening p.0 p.1 p.2)) (λ b g more' at' read'.
@@ -253,8 +264,11 @@ item-says (word ∷ fs) item e =
     (yes (bytes_eq word (codes "summary")) (ended Summary fs) _ item (SaysItem (word ∷ fs) item) (λ is e. worded (λ w. SaysItem (w ∷ fs) item) word (codes "summary") is (ended-some Summary fs item (SaysItem (codes "summary" ∷ fs) item) (λ none same. rw (none, ← same) (record { same = refl; fits = tt })) e))
     (λ e. mapped Performs (event_say (word ∷ fs)) item (SaysItem (word ∷ fs) item) (λ event said same. let h = event-says (word ∷ fs) event said in rw (← same) (record { same = h.same; fits = h.fits })) e)) e
 
+pub says-opening : (n g f : ℕ) → IsItem (Opening n g f) → opening_say (decimal n ∷ decimal g ∷ decimal f ∷ []) ≡ Some (n, g, f)
+says-opening n g f h = then-read u8_at _ (decimal n) n _ (u8-spelled n h.0) ∙ then-read u8_at _ (decimal g) g _ (u8-spelled g h.1) ∙ then-read u64_at _ (decimal f) f [] (u64-spelled f h.2)
+
 says-item : (item : Item) → IsItem item → item_say (item_fields item) ≡ Some item
-says-item (Opening n g f) h = ap (option_map (λ (p : ℕ × ℕ × ℕ). Opening p.0 p.1 p.2)) (then-read u8_at _ (decimal n) n _ (u8-spelled n h.0) ∙ then-read u8_at _ (decimal g) g _ (u8-spelled g h.1) ∙ then-read u64_at _ (decimal f) f [] (u64-spelled f h.2))
+says-item (Opening n g f) h = ap (option_map (λ (p : ℕ × ℕ × ℕ). Opening p.0 p.1 p.2)) (says-opening n g f h)
 says-item (Performs (OpenPort port vp sint (Messages buffers))) h = ap (option_map Performs) (says-event (OpenPort port vp sint (Messages buffers)) h)
 says-item (Performs (OpenPort port vp sint (Flags base count))) h = ap (option_map Performs) (says-event (OpenPort port vp sint (Flags base count)) h)
 says-item (Performs (ClosePort port)) h = ap (option_map Performs) (says-event (ClosePort port) h)
@@ -266,6 +280,7 @@ says-item (Performs (Tick moment)) h = ap (option_map Performs) (says-event (Tic
 says-item (Performs (Write vp register value)) h = ap (option_map Performs) (says-event (Write vp register value) h)
 says-item (Performs (Read vp register)) h = ap (option_map Performs) (says-event (Read vp register) h)
 says-item (Performs (Assert vp vector)) h = ap (option_map Performs) (says-event (Assert vp vector) h)
+says-item (Performs (Absorb vp part bits)) h = ap (option_map Performs) (says-event (Absorb vp part bits) h)
 says-item (Performs (Take vp)) h = ap (option_map Performs) (says-event (Take vp) h)
 says-item Summary h = refl
 

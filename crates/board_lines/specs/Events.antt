@@ -4,7 +4,7 @@ use Rattle.board_text.specs.Numbers.{hex, two_digits, spelled, AreBytes}
 use Rattle.board_terms.specs.declared.messages.PortShape.{PortShape}
 use Rattle.board_terms.specs.declared.messages.PortShape.TheVariants.{Messages, Flags}
 use Rattle.synic_board.specs.declared.event.Event.{Event}
-use Rattle.synic_board.specs.declared.event.Event.TheVariants.{OpenPort, ClosePort, Write, Read, Post, Signal, Assert, Store, Load, Tick, Take}
+use Rattle.synic_board.specs.declared.event.Event.TheVariants.{OpenPort, ClosePort, Write, Read, Post, Signal, Assert, Absorb, Store, Load, Tick, Take}
 
 -- bytes, two digits each, or `-` for none
 abbrev pub bytes_text : List ℕ → List ℕ
@@ -20,6 +20,7 @@ event_fields (Read vp register) = codes "read" ∷ decimal vp ∷ hex register �
 event_fields (Post port kind payload) = codes "post" ∷ decimal port ∷ hex kind ∷ bytes_text payload.items ∷ []
 event_fields (Signal port flag) = codes "signal" ∷ decimal port ∷ decimal flag ∷ []
 event_fields (Assert vp vector) = codes "assert" ∷ decimal vp ∷ two_digits vector ∷ []
+event_fields (Absorb vp part bits) = codes "absorb" ∷ decimal vp ∷ decimal part ∷ hex bits ∷ []
 event_fields (Store address bytes) = codes "store" ∷ hex address ∷ bytes_text bytes.items ∷ []
 event_fields (Load address count) = codes "load" ∷ hex address ∷ decimal count ∷ []
 event_fields (Tick moment) = codes "tick" ∷ decimal moment ∷ []
@@ -45,6 +46,7 @@ IsEvent (Read vp register) = (vp < 256) × (register < 2 ^ 32)
 IsEvent (Post port kind payload) = (port < 256) × (kind < 2 ^ 32) × FewBytes 240 payload.items
 IsEvent (Signal port flag) = (port < 256) × (flag < 65536)
 IsEvent (Assert vp vector) = (vp < 256) × IsVector vector
+IsEvent (Absorb vp part bits) = (vp < 256) × (part < 256) × (bits < 2 ^ 64)
 IsEvent (Store address bytes) = (address < 2 ^ 64) × FewBytes 8 bytes.items
 IsEvent (Load address count) = (address < 2 ^ 64) × (count < 256)
 IsEvent (Tick moment) = moment < 2 ^ 64

@@ -1,4 +1,5 @@
 pub mod Events
 pub mod Items
+pub mod Sizes
 pub mod Reading
 pub mod Printing

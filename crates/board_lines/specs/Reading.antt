@@ -5,7 +5,7 @@ use Rattle.std.specs.Str.{bytes_eq}
 use Rattle.board_text.specs.Numbers.{decimal_at, hex_at, byte_at}
 use Rattle.board_text.specs.Fields.{fields_of}
 use Rattle.synic_board.specs.declared.event.Event.{Event}
-use Rattle.synic_board.specs.declared.event.Event.TheVariants.{OpenPort, ClosePort, Write, Read, Post, Signal, Assert, Store, Load, Tick, Take}
+use Rattle.synic_board.specs.declared.event.Event.TheVariants.{OpenPort, ClosePort, Write, Read, Post, Signal, Assert, Absorb, Store, Load, Tick, Take}
 use Rattle.board_terms.specs.declared.messages.PortShape.TheVariants.{Messages, Flags}
 use Rattle.arrayvec.specs.ArrayVec.{ArrayVec}
 use Rattle.board_lines.specs.Items.{Item, Opening, Performs, Summary}
@@ -119,6 +119,9 @@ read_say = take_then u8_at (λ vp. take_then hex_u32_at (λ register. ended (Rea
 abbrev pub assert_say : Fields → Option Event
 assert_say = take_then u8_at (λ vp. take_then vector_at (λ vector. ended (Assert vp vector)))
 
+abbrev pub absorb_say : Fields → Option Event
+absorb_say = take_then u8_at (λ vp. take_then u8_at (λ part. take_then hex_u64_at (λ bits. ended (Absorb vp part bits))))
+
 abbrev pub take_say : Fields → Option Event
 take_say = take_then u8_at (λ vp. ended (Take vp))
 
@@ -136,6 +139,7 @@ event_say (word ∷ fields) =
     else if bytes_eq word (codes "post") then post_say fields
     else if bytes_eq word (codes "signal") then signal_say fields
     else if bytes_eq word (codes "assert") then assert_say fields
+    else if bytes_eq word (codes "absorb") then absorb_say fields
     else if bytes_eq word (codes "store") then store_say fields
     else if bytes_eq word (codes "load") then load_say fields
     else if bytes_eq word (codes "tick") then tick_say fields

@@ -1,6 +1,6 @@
 // The event that a line names.
 ghost use Rattle.std.specs.Prelude.{◌≡◌, ◌∷◌};
-ghost use Rattle.board_lines.specs.Reading.{event_say, open_say, messages_say, flags_say, close_say, write_say, read_say, post_say, signal_say, assert_say, store_say, load_say, tick_say, take_say};
+ghost use Rattle.board_lines.specs.Reading.{event_say, open_say, messages_say, flags_say, close_say, write_say, read_say, post_say, signal_say, assert_say, absorb_say, store_say, load_say, tick_say, take_say};
 
 use crate::numbers::{bytes_in, u16_of, hex_u32_of, u8_of, u64_of, hex_u64_of, vector_of};
 use board_terms::PortShape;
@@ -31,6 +31,9 @@ pub fn event_of(word: &[u8], fields: &mut Fields<'_>) -> Option<Event>
     }
     if word == b"assert".as_slice() {
         return assert_of(fields);
+    }
+    if word == b"absorb".as_slice() {
+        return absorb_of(fields);
     }
     if word == b"store".as_slice() {
         return store_of(fields);
@@ -205,6 +208,18 @@ fn assert_of(fields: &mut Fields<'_>) -> Option<Event>
         return None;
     }
     Some(Event::Assert { vp, vector })
+}
+
+fn absorb_of(fields: &mut Fields<'_>) -> Option<Event>
+    ensures { result ≡ absorb_say fields.old }
+{
+    let vp = u8_of(fields)?;
+    let part = u8_of(fields)?;
+    let bits = hex_u64_of(fields)?;
+    if !fields.is_empty() {
+        return None;
+    }
+    Some(Event::Absorb { vp, part, bits })
 }
 
 fn take_of(fields: &mut Fields<'_>) -> Option<Event>

@@ -1,7 +1,9 @@
 //! Laws of the definitions.
-ghost use Rattle.std.specs.Prelude.{◌≡◌, ◌↔◌, ℕ, List, Some};
+ghost use Rattle.std.specs.Prelude.{◌≡◌, ◌↔◌, ℕ, List, Some, IsTrue};
+ghost use Rattle.synic_board.specs.State.{AreSizes};
 ghost use Rattle.board_lines.specs.Items.{Item, Means};
 ghost use Rattle.board_lines.specs.Reading.{item_at};
+ghost use Rattle.board_lines.specs.Sizes.{are_sizes};
 
 /// What is read of a line is just what the line means.
 pub fn reading_is_meaning()
@@ -16,4 +18,9 @@ pub fn one_line()
 /// A line means one item at most.
 pub fn one_item()
     ensures { (line : List ℕ) (a b : Item) → Means line a → Means line b → a ≡ b }
+{}
+
+/// The sizes that the texts allow are those that a board may be opened with.
+pub fn sizes_are_those_of_open()
+    ensures { (processors pages : ℕ) → IsTrue (are_sizes processors pages) ↔ AreSizes processors pages }
 {}

@@ -1,15 +1,15 @@
 -- What is written for one line more.
-use Rattle.std.proofs.Common.{◌≡◌, ◌↔◌, ◌≤◌, ◌&&◌, Decides, nat_le, leb-true, le-leb, le-ltb, ap, sym, ◌∙◌, codes, ℕ, ◌+◌, List, [], ◌∷◌, ◌++◌, length, refl, cond, Bool, true, false, not, ◌||◌, nat_lt, Option, None, Some, is_some}
+use Rattle.std.proofs.Common.{◌≡◌, ◌≤◌, le-ltb, ap, sym, ◌∙◌, codes, ℕ, ◌+◌, List, [], ◌∷◌, ◌++◌, length, refl, cond, Bool, true, false, not, ◌||◌, nat_lt, Option, None, Some, is_some}
 use Rattle.std.specs.List.{cons_option}
-use Rattle.std.specs.Bool.{IsTrue}
 use Rattle.std.specs.Option.{option_map}
 use Rattle.std.specs.Str.{bytes_eq}
-use Rattle.std.proofs.lemmas.Bool.Decides.{Decides-and}
 use Rattle.synic_board.specs.State.{AreSizes}
 use Rattle.synic_board.specs.declared.event.Event.{Event}
 use Rattle.board_lines.specs.Items.{Item, Opening, Performs, Summary}
 use Rattle.board_lines.specs.Reading.{Fields, ended, opening_say, opening_item, event_say, item_say, item_at}
-use Rattle.board_script.specs.Script.{are_sizes, item_in, is_skipped, item_fault, line_fault, opens, good_items, first_fault}
+use Rattle.board_lines.specs.Sizes.{are_sizes}
+use Rattle.board_lines.proofs.SizeLemmas.{sizes-are}
+use Rattle.board_script.specs.Script.{item_in, is_skipped, item_fault, line_fault, opens, good_items, first_fault}
 use Rattle.board_script.specs.Output.{Machine, answers, output_from}
 use Rattle.board_text.specs.Fields.{fields_of}
 use Rattle.board_script.specs.Streams.{after_maybe, answer_maybe, AnswersItem, Answers}
@@ -17,16 +17,6 @@ use Rattle.board_script.specs.declared.respond.Answer.{Answer}
 use Rattle.board_script.specs.declared.respond.Answer.TheVariants as outcomes
 use Rattle.board_script.specs.declared.stream.ScriptFault.{ScriptFault}
 use Rattle.board_script.specs.declared.stream.ScriptFault.TheVariants as faults
-
--- between two numbers, as a test and as two orders
-between : (low n high : ℕ) → Decides (nat_le low n && nat_le n high) ((low ≤ n) × (n ≤ high))
-between low n high = Decides-and _ _ (leb-true low n, le-leb low n) (leb-true n high, le-leb n high)
-
-pub sizes-are : (processors pages : ℕ) → IsTrue (are_sizes processors pages) ↔ AreSizes processors pages
-sizes-are processors pages = let within = Decides-and _ _ (between 1 processors 8) (between 1 pages 64) in (
-  λ e. let h = within.0 e in record { some_processor = h.0.0; few_processors = h.0.1; some_page = h.1.0; few_pages = h.1.1 },
-  λ h. within.1 ((h.some_processor, h.few_processors), (h.some_page, h.few_pages)),
-)
 
 opens_by : (long skip : Bool) (machine : Machine) (item : Option Item) → cond long (Some faults.Long) (cond skip None (item_fault (is_some machine) item)) ≡ None → is_some (after_maybe machine (cond skip None item)) ≡ (is_some machine || not skip)
 opens_by true skip machine item e = cc

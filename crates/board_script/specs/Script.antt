@@ -1,8 +1,9 @@
 -- What is wrong with a script, and where first.
-use Rattle.std.specs.Prelude.{ℕ, ◌+◌, List, [], ◌∷◌, ◌==◌, ◌&&◌, ◌||◌, not, Bool, true, false, if◌then◌else◌, nat_lt, nat_le, length, Option, None, Some, is_some}
+use Rattle.std.specs.Prelude.{ℕ, ◌+◌, List, [], ◌∷◌, ◌==◌, ◌||◌, not, Bool, true, false, if◌then◌else◌, nat_lt, length, Option, None, Some, is_some}
 use Rattle.std.specs.List.{filter_map}
 use Rattle.board_lines.specs.Items.{Item, Opening, Performs, Summary}
 use Rattle.board_lines.specs.Reading.{item_at}
+use Rattle.board_lines.specs.Sizes.{are_sizes}
 use Rattle.board_script.specs.declared.stream.ScriptFault.{ScriptFault}
 use Rattle.board_script.specs.declared.stream.ScriptFault.TheVariants as faults
 
@@ -14,10 +15,6 @@ is_skipped (b ∷ bytes) = b == 35
 -- what a line asks for, if it is not skipped
 abbrev pub item_in : List ℕ → Option Item
 item_in line = if is_skipped line then None else item_at line
-
--- the sizes that a board may be opened with
-abbrev pub are_sizes : ℕ → ℕ → Bool
-are_sizes processors pages = (nat_le 1 processors && nat_le processors 8) && (nat_le 1 pages && nat_le pages 64)
 
 -- The first item opens the board, within the limits, and no other does.
 abbrev pub item_fault : Bool → Option Item → Option ScriptFault

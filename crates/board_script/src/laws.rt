@@ -1,13 +1,6 @@
 //! Laws of the definitions.
-ghost use Rattle.std.specs.Prelude.{◌≡◌, ◌↔◌, ℕ, [], IsTrue, codes, replicate};
-ghost use Rattle.synic_board.specs.State.{AreSizes};
-ghost use Rattle.board_script.specs.Script.{are_sizes};
+ghost use Rattle.std.specs.Prelude.{◌≡◌, [], codes, replicate};
 ghost use Rattle.board_script.specs.Output.{text};
-
-/// The sizes that are no fault of a script are those that a board may be opened with.
-pub fn sizes_are_those_of_open()
-    ensures { (processors pages : ℕ) → IsTrue (are_sizes processors pages) ↔ AreSizes processors pages }
-{}
 
 /// What is written for some small scripts.
 pub fn worked_texts()
