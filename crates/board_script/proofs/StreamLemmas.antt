@@ -7,10 +7,12 @@ use Rattle.std.proofs.lemmas.Bool.Decides.{Decides-ltb}
 use Rattle.board_text.specs.Held.{Held, at_start}
 use Rattle.synic_board.specs.State.{Held as Board}
 use Rattle.board_text.specs.Lines.{lines_of, rest_of, IsOneLine}
+use Rattle.board_text.specs.Streams.{ReadsUpTo}
+use Rattle.board_text.proofs.Budgets.{less_left, one_more, within_limit, on-input, end-input, taken-on}
 use Rattle.board_text.proofs.LineLemmas.{before_lines, before_rest, lines_of-line, rest_of-line, lines_of-more, rest_of-more, lines_of-rest, rest_of-rest}
 use Rattle.board_script.specs.Script.{item_in, line_fault, rest_fault, first_fault}
 use Rattle.board_script.specs.Output.{Machine, output_from, output_of, fault_of, fault_text, text}
-use Rattle.board_script.specs.Streams.{Begun, ReadsUpTo, Replays, Stops, after_maybe, answer_maybe, machine_of}
+use Rattle.board_script.specs.Streams.{Begun, Replays, Stops, after_maybe, answer_maybe, machine_of}
 use Rattle.board_script.specs.declared.stream.ScriptFault.{ScriptFault}
 use Rattle.board_script.specs.declared.stream.ScriptFault.TheVariants as faults
 use Rattle.board_script.specs.declared.stream.ReplayEnd.{ReplayEnd}
@@ -46,16 +48,6 @@ standing-start r w = record {
   counted = omega arith;
   spent = refl;
 }
-
--- A whole line was taken.
-pub smaller : (old new : Held) (came : List ℕ) → old.waiting ++ came ≡ new.line ++ 10 ∷ new.waiting → length came + new.budget ≡ old.budget → length new.waiting + new.budget < length old.waiting + old.budget
-smaller old new came split spent = omega (arith, ap length split, length-append old.waiting came, length-append new.line (10 ∷ new.waiting), spent)
-
-less_left : (old new : Held) (past came : List ℕ) → length past + (length old.waiting + old.budget) ≡ 1073741824 → old.waiting ++ came ≡ new.line ++ 10 ∷ new.waiting → length came + new.budget ≡ old.budget → length (past ++ (new.line ++ 10 ∷ [])) + (length new.waiting + new.budget) ≡ 1073741824
-less_left old new past came whole split spent = omega (arith, whole, spent, ap length split, length-append old.waiting came, length-append new.line (10 ∷ new.waiting), length-append past (new.line ++ 10 ∷ []), length-append new.line (10 ∷ []))
-
-one_more : (past line : List ℕ) (number : ℕ) → number ≤ length past → number + 1 ≤ length (past ++ (line ++ 10 ∷ []))
-one_more past line number few = omega (arith, few, length-append past (line ++ 10 ∷ []), length-append line (10 ∷ []))
 
 -- A flush changed nothing of it.
 pub standing-kept : (r0 r w0 w w1 : Option (List ℕ)) (source : Held) (machine : Machine) (number : ℕ) → Standing r0 r w0 w source machine number → Keeps w w1 → Standing r0 r w0 w1 source machine number
@@ -96,30 +88,15 @@ pub record Known (r0 r1 : Option (List ℕ)) (sent : List ℕ) (fault : Option (
 
 -- However it goes on.
 known-on : (r0 r1 : Option (List ℕ)) (taken sent : List ℕ) (fault : Option (ℕ × ScriptFault)) → Consumes r0 r1 taken → ((ys : List ℕ) → (output_of (taken ++ ys) ≡ sent) × (fault_of (taken ++ ys) ≡ fault)) → Known r0 r1 sent fault
-known-on r0 r1 taken sent fault reads on = record {
-  taken = taken;
-  reads = reads;
-  here = rw append-nil at (on []);
-  all = by r0 r1 reads;
-}
-  where
-    by : (r0 r1 : Option (List ℕ)) → Consumes r0 r1 taken → IfSome r0 (λ input. (output_of input ≡ sent) × (fault_of input ≡ fault))
-    by None r1 reads = tt
-    by (Some xs) None reads = absurd reads
-    by (Some xs) (Some ys) reads = rw reads (on ys)
+known-on r0 r1 taken sent fault reads on = record { taken = taken; reads = reads; here = rw append-nil at (on []); all = on-input r0 r1 taken (λ input. (output_of input ≡ sent) × (fault_of input ≡ fault)) reads on }
 
 -- Since there is no more.
 known-end : (r0 r1 : Option (List ℕ)) (taken sent : List ℕ) (fault : Option (ℕ × ScriptFault)) → Consumes r0 r1 taken → IsAtEnd r1 → (output_of taken ≡ sent) × (fault_of taken ≡ fault) → Known r0 r1 sent fault
-known-end r0 r1 taken sent fault reads end here = record { taken = taken; reads = reads; here = here; all = by r0 r1 reads end }
-  where
-    by : (r0 r1 : Option (List ℕ)) → Consumes r0 r1 taken → IsAtEnd r1 → IfSome r0 (λ input. (output_of input ≡ sent) × (fault_of input ≡ fault))
-    by None r1 reads end = tt
-    by (Some xs) None reads end = absurd reads
-    by (Some xs) (Some ys) reads end = rw (reads, end, append-nil) here
+known-end r0 r1 taken sent fault reads end here = record { taken = taken; reads = reads; here = here; all = end-input r0 r1 taken (λ input. (output_of input ≡ sent) × (fault_of input ≡ fault)) reads end here }
 
 pub known-bad : (r0 r r1 w0 w : Option (List ℕ)) (waiting left line came : List ℕ) (machine : Machine) (k : ℕ) (fault : ScriptFault) (h : Progress r0 r w0 w waiting machine k) → Consumes r r1 came → waiting ++ came ≡ line ++ 10 ∷ left → IsOneLine line → line_fault (is_some machine) line ≡ Some fault → Known r0 r1 h.sent (Some (k, fault))
 known-bad r0 r r1 w0 w waiting left line came machine k fault h reads split one bad =
-    let on : (ys : List ℕ) → ((h.past ++ waiting) ++ came) ++ ys ≡ h.past ++ (line ++ 10 ∷ (left ++ ys)) = λ ys. ap (λ (x : List ℕ). x ++ ys) (append_assoc h.past waiting came ∙ ap (λ (x : List ℕ). h.past ++ x) split) ∙ append_assoc h.past (line ++ 10 ∷ left) ys ∙ ap (λ (x : List ℕ). h.past ++ x) (append_assoc line (10 ∷ left) ys) in
+    let on : (ys : List ℕ) → ((h.past ++ waiting) ++ came) ++ ys ≡ h.past ++ (line ++ 10 ∷ (left ++ ys)) = λ ys. taken-on h.past waiting came (line ++ 10 ∷ left) ys split ∙ ap (λ (x : List ℕ). h.past ++ x) (append_assoc line (10 ∷ left) ys) in
     known-on r0 r1 ((h.past ++ waiting) ++ came) h.sent (Some (k, fault)) (Consumes-trans r0 r r1 (h.past ++ waiting) came h.reads reads)
     (λ ys. (
       ap output_of (on ys) ∙ h.answers (line ++ 10 ∷ (left ++ ys)) ∙ rw (lines_of-line line (left ++ ys) one, output_from-bad machine line (lines_of (left ++ ys)) fault bad) (append-nil h.sent),
@@ -143,7 +120,7 @@ long-on machine k line ys one long = rw (lines_of-more line ys one, rest_of-more
 
 pub known-long : (r0 r r1 w0 w : Option (List ℕ)) (waiting left line came : List ℕ) (machine : Machine) (k : ℕ) (h : Progress r0 r w0 w waiting machine k) → Consumes r r1 came → waiting ++ came ≡ line ++ left → IsOneLine line → 640 < length line → Known r0 r1 h.sent (Some (k, faults.Long))
 known-long r0 r r1 w0 w waiting left line came machine k h reads split one long =
-    let on : (ys : List ℕ) → ((h.past ++ waiting) ++ came) ++ ys ≡ h.past ++ (line ++ (left ++ ys)) = λ ys. ap (λ (x : List ℕ). x ++ ys) (append_assoc h.past waiting came ∙ ap (λ (x : List ℕ). h.past ++ x) split) ∙ append_assoc h.past (line ++ left) ys ∙ ap (λ (x : List ℕ). h.past ++ x) (append_assoc line left ys) in
+    let on : (ys : List ℕ) → ((h.past ++ waiting) ++ came) ++ ys ≡ h.past ++ (line ++ (left ++ ys)) = λ ys. taken-on h.past waiting came (line ++ left) ys split ∙ ap (λ (x : List ℕ). h.past ++ x) (append_assoc line left ys) in
     known-on r0 r1 ((h.past ++ waiting) ++ came) h.sent (Some (k, faults.Long)) (Consumes-trans r0 r r1 (h.past ++ waiting) came h.reads reads)
     (λ ys. let l = long-on machine k line (left ++ ys) one long in (
       ap output_of (on ys) ∙ h.answers (line ++ (left ++ ys)) ∙ rw l.0 (append-nil h.sent),
@@ -229,12 +206,7 @@ replays-unflushed r0 r1 w0 w sent h writes = record { taken = h.taken; sent = se
 
 -- No byte was read behind the one that shows the limit.
 pub limit-kept : (r0 r r1 w0 w : Option (List ℕ)) (source : Held) (machine : Machine) (number : ℕ) (came : List ℕ) → Standing r0 r w0 w source machine number → Consumes r r1 came → length came ≤ source.budget + 1 → ReadsUpTo 1073741825 r0 r1
-limit-kept r0 r r1 w0 w source machine number came h reads few =
-    let past = h.progress.past ++ source.waiting in
-    (past ++ came, Consumes-trans r0 r r1 past came h.progress.reads reads, let spent = h.spent in omega (arith, length-append past came, length-append h.progress.past source.waiting))
-
-pub limit-nothing : (r : Option (List ℕ)) → ReadsUpTo 1073741825 r r
-limit-nothing r = ([], Consumes-nil r, omega arith)
+limit-kept r0 r r1 w0 w source machine number came h reads few = within_limit r0 r r1 h.progress.past came source h.spent h.progress.reads reads few
 
 -- The fault of what is left at the end.
 pub rest-cut : (opened : Bool) (line : List ℕ) → length line ≤ 640 → 0 < length line → rest_fault opened line ≡ Some faults.Cut

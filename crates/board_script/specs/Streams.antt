@@ -1,5 +1,5 @@
 -- What a replay reads and writes.
-use Rattle.std.specs.Prelude.{◌≡◌, ℕ, ◌≤◌, length, List, [], ◌++◌, Option, None, Some, IfSome, is_some}
+use Rattle.std.specs.Prelude.{◌≡◌, ℕ, List, [], ◌++◌, Option, None, Some, IfSome, is_some}
 use Rattle.std.specs.Option.{option_map}
 use Rattle.std.specs.Io.KnownBytes.{Consumes, Appends}
 use Rattle.synic_board.specs.State.{Held}
@@ -20,10 +20,6 @@ pub record Begun (of : List ℕ → List ℕ) (r0 r1 w0 w1 : Option (List ℕ)) 
   pub reads : Consumes r0 r1 taken
   pub writes : Appends w0 w1 sent
   pub begins : of taken ≡ sent ++ unsent
-
--- at most so many bytes were read
-abbrev pub ReadsUpTo : ℕ → Option (List ℕ) → Option (List ℕ) → Type 0
-ReadsUpTo most r0 r1 = (taken : List ℕ) × Consumes r0 r1 taken × (length taken ≤ most)
 
 -- from what a reader had and a writer held to what they have and hold at the end
 abbrev pub Replays : ReplayEnd → Option (List ℕ) → Option (List ℕ) → Option (List ℕ) → Option (List ℕ) → Type 0

@@ -1,7 +1,8 @@
 // A script from a reader, its text to a writer.
 ghost use Rattle.std.specs.Prelude.{◌≡◌, [], Some, OnOk, ◌++◌};
 ghost use Rattle.board_script.specs.Output.{fault_word, fault_text};
-ghost use Rattle.board_script.specs.Streams.{Replays, ReadsUpTo, Stops};
+ghost use Rattle.board_text.specs.Streams.{ReadsUpTo};
+ghost use Rattle.board_script.specs.Streams.{Replays, Stops};
 
 use crate::respond::{Answer, respond};
 use board_terms::Notices;

@@ -4,3 +4,5 @@ pub mod ByteLemmas
 pub mod FieldLemmas
 pub mod LineLemmas
 pub mod SourceLemmas
+pub mod PlainWords
+pub mod Budgets

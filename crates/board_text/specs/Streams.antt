@@ -1,5 +1,6 @@
 -- What a source took from its reader, and what it left.
 use Rattle.std.specs.Prelude.{◌≡◌, ℕ, ◌+◌, ◌≤◌, ◌<◌, List, [], ◌∷◌, ◌++◌, length, take, Option, None, Some}
+use Rattle.std.specs.Io.KnownBytes.{Consumes}
 use Rattle.board_text.specs.Lines.{IsOneLine}
 use Rattle.board_text.specs.Held.{Held}
 use Rattle.board_text.specs.declared.source.Fill.{Fill}
@@ -40,3 +41,7 @@ Finds ends.Long at_end old new came = Grows old new came × IsOneLine (take 641 
 Finds ends.Last at_end old new came = (old.waiting ++ came ≡ new.line) × (new.waiting ≡ []) × at_end × IsOneLine new.line × (length new.line ≤ 640) × (length came + new.budget ≡ old.budget)
 Finds ends.ReadFailed at_end old new came = length came ≤ old.budget + 1
 Finds ends.FlushFailed at_end old new came = Grows old new came
+
+-- at most so many bytes were read
+abbrev pub ReadsUpTo : ℕ → Option (List ℕ) → Option (List ℕ) → Type 0
+ReadsUpTo most r0 r1 = (taken : List ℕ) × Consumes r0 r1 taken × (length taken ≤ most)

@@ -11,6 +11,7 @@ pub mod Posts
 pub mod Timers
 pub mod Registers
 pub mod Step
+pub mod Replies
 pub mod Places
 pub mod Sound
 pub mod View

@@ -4,7 +4,8 @@ use Rattle.std.proofs.KnownBytes.{Appends-kept}
 use Rattle.std.proofs.lemmas.Bool.Decides.{Decides-eqb, not_from_Decides}
 use Rattle.board_script.specs.Streams.{machine_of}
 use Rattle.board_script.specs.declared.stream.ScriptFault.TheVariants as faults
-use Rattle.board_script.proofs.StreamLemmas.{standing-start, known-bad, known-long, known-last, replays-done, replays-stopped, replays-reading, replays-writing, replays-nothing, begun-text, replays-unflushed, standing-kept, smaller, standing-line, rest-cut, rest-end, machine-some, limit-kept, limit-nothing}
+use Rattle.board_script.proofs.StreamLemmas.{standing-start, known-bad, known-long, known-last, replays-done, replays-stopped, replays-reading, replays-writing, replays-nothing, begun-text, replays-unflushed, standing-kept, standing-line, rest-cut, rest-end, machine-some, limit-kept}
+use Rattle.board_text.proofs.Budgets.{smaller, limit-nothing}
 use Rattle.std.proofs.lemmas.List.{take-append-drop, length-take-le}
 use Rattle.board_script.proofs.stream.replay.Goals as goal
 

@@ -1,0 +1,4 @@
+pub mod Written
+pub mod StageLemmas
+pub mod Progress
+pub mod LawLemmas

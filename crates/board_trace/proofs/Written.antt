@@ -1,0 +1,179 @@
+-- The lines of a trace, as they are written and read.
+use Rattle.std.proofs.Common.{◌≡◌, ℕ, ◌+◌, ◌*◌, ◌<◌, ◌≤◌, ◌^◌, List, [], ◌∷◌, length, Option, Some, None, refl, sym, ap, ◌∙◌, arith, cond, Bool, true, false, not, decimal, codes}
+use Rattle.std.specs.Bool.{IsTrue}
+use Rattle.std.specs.Option.{option_map, option_and_then}
+use Rattle.std.specs.Str.{bytes_eq}
+use Rattle.std.specs.Str.Parse.{digits_value}
+use Rattle.std.proofs.lemmas.Slice.Eq.{bytes_eq-Decides}
+use Rattle.std.proofs.lemmas.List.Splits.{join_with_byte-slice_split}
+use Rattle.std.proofs.lemmas.Fmt.{length-decimal-le}
+use Rattle.board_text.specs.Numbers.{hex, two_digits, spelled, decimal_at}
+use Rattle.board_text.specs.Fields.{fields_of, words}
+use Rattle.board_text.proofs.PlainWords.{IsPlain, ArePlain, plain_by, digits-plain, digits-short, two_digits-plain, spelled-plain, spelled-length, IsWritten, written}
+use Rattle.board_terms.specs.declared.messages.PortShape.TheVariants.{Messages, Flags}
+use Rattle.board_terms.specs.Numbers.{number_of}
+use Rattle.synic_board.specs.State.{AreSizes}
+use Rattle.synic_board.specs.declared.event.Event.{Event}
+use Rattle.synic_board.specs.declared.event.Event.TheVariants.{OpenPort, ClosePort, Write, Read, Post, Signal, Assert, Absorb, Store, Load, Tick, Take}
+use Rattle.synic_board.specs.declared.event.Reply.{Reply}
+use Rattle.synic_board.specs.declared.event.Reply.TheVariants as replies
+use Rattle.board_lines.specs.Events.{event_fields, bytes_text, IsEvent}
+use Rattle.board_lines.specs.Items.{Opening, item_fields, IsItem}
+use Rattle.board_lines.specs.Printing.{vector_or_none, reply_fields}
+use Rattle.board_lines.specs.Reading.{Fields, take_then, u8_at, event_say, opening_say}
+use Rattle.board_lines.specs.Sizes.{are_sizes}
+use Rattle.board_lines.proofs.ReadLemmas.{then-some, then-read, yes, u8-only, u8-spelled, Says, event-says, says-event, SaysItem, opening-says, says-opening}
+use Rattle.board_lines.proofs.SizeLemmas.{sizes-are}
+use Rattle.board_trace.specs.Trace.{title_fields, entry_fields, end_fields}
+use Rattle.board_trace.specs.Stages.{entry_say, entry_at, within_limits, board_say, board_at}
+use Rattle.synic_board.specs.Replies.{IsReply}
+
+bytes-plain : (bytes : List ℕ) → IsPlain (bytes_text bytes)
+bytes-plain [] = plain_by (codes "-") refl
+bytes-plain (b ∷ bytes) = spelled-plain (b ∷ bytes)
+
+bytes-short : (bytes : List ℕ) → length (bytes_text bytes) ≤ 2 * length bytes + 1
+bytes-short [] = omega arith
+bytes-short (b ∷ bytes) = omega (arith, spelled-length (b ∷ bytes))
+
+vector-plain : (vector : Option ℕ) → IsPlain (vector_or_none vector)
+vector-plain None = plain_by (codes "none") refl
+vector-plain (Some v) = two_digits-plain v
+
+vector-short : (vector : Option ℕ) → length (vector_or_none vector) ≤ 4
+vector-short None = omega arith
+vector-short (Some v) = omega arith
+
+actor-short : (actor : ℕ) → actor < 256 → length (decimal actor) ≤ 3
+actor-short actor small = length-decimal-le 3 actor (omega arith) (omega arith) (omega arith)
+
+pub entry-written : (actor : ℕ) (event : Event) → actor < 256 → IsEvent event → IsWritten (entry_fields actor event)
+entry-written actor (OpenPort port vp sint (Messages buffers)) small h = written _ _ (digits-plain 10 actor, (plain_by (codes "open") refl, (digits-plain 10 port, (plain_by (codes "message") refl, (digits-plain 10 vp, (digits-plain 10 sint, (digits-plain 10 buffers, tt))))))) (omega (arith, digits-short 10 actor, digits-short 10 port, digits-short 10 vp, digits-short 10 sint, digits-short 10 buffers))
+entry-written actor (OpenPort port vp sint (Flags base count)) small h = written _ _ (digits-plain 10 actor, (plain_by (codes "open") refl, (digits-plain 10 port, (plain_by (codes "event") refl, (digits-plain 10 vp, (digits-plain 10 sint, (digits-plain 10 base, (digits-plain 10 count, tt)))))))) (omega (arith, digits-short 10 actor, digits-short 10 port, digits-short 10 vp, digits-short 10 sint, digits-short 10 base, digits-short 10 count))
+entry-written actor (ClosePort port) small h = written _ _ (digits-plain 10 actor, (plain_by (codes "close") refl, (digits-plain 10 port, tt))) (omega (arith, digits-short 10 actor, digits-short 10 port))
+entry-written actor (Write vp register value) small h = written _ _ (digits-plain 10 actor, (plain_by (codes "write") refl, (digits-plain 10 vp, (digits-plain 16 register, (digits-plain 16 value, tt))))) (omega (arith, digits-short 10 actor, digits-short 10 vp, digits-short 16 register, digits-short 16 value))
+entry-written actor (Read vp register) small h = written _ _ (digits-plain 10 actor, (plain_by (codes "read") refl, (digits-plain 10 vp, (digits-plain 16 register, tt)))) (omega (arith, digits-short 10 actor, digits-short 10 vp, digits-short 16 register))
+entry-written actor (Post port kind payload) small h = written _ _ (digits-plain 10 actor, (plain_by (codes "post") refl, (digits-plain 10 port, (digits-plain 16 kind, (bytes-plain payload.items, tt))))) (omega (arith, actor-short actor small, digits-short 10 port, digits-short 16 kind, bytes-short payload.items, h.2.1))
+entry-written actor (Signal port flag) small h = written _ _ (digits-plain 10 actor, (plain_by (codes "signal") refl, (digits-plain 10 port, (digits-plain 10 flag, tt)))) (omega (arith, digits-short 10 actor, digits-short 10 port, digits-short 10 flag))
+entry-written actor (Assert vp vector) small h = written _ _ (digits-plain 10 actor, (plain_by (codes "assert") refl, (digits-plain 10 vp, (two_digits-plain vector, tt)))) (omega (arith, digits-short 10 actor, digits-short 10 vp))
+entry-written actor (Absorb vp part bits) small h = written _ _ (digits-plain 10 actor, (plain_by (codes "absorb") refl, (digits-plain 10 vp, (digits-plain 10 part, (digits-plain 16 bits, tt))))) (omega (arith, digits-short 10 actor, digits-short 10 vp, digits-short 10 part, digits-short 16 bits))
+entry-written actor (Store address bytes) small h = written _ _ (digits-plain 10 actor, (plain_by (codes "store") refl, (digits-plain 16 address, (bytes-plain bytes.items, tt)))) (omega (arith, digits-short 10 actor, digits-short 16 address, bytes-short bytes.items, h.1.1))
+entry-written actor (Load address count) small h = written _ _ (digits-plain 10 actor, (plain_by (codes "load") refl, (digits-plain 16 address, (digits-plain 10 count, tt)))) (omega (arith, digits-short 10 actor, digits-short 16 address, digits-short 10 count))
+entry-written actor (Tick moment) small h = written _ _ (digits-plain 10 actor, (plain_by (codes "tick") refl, (digits-plain 10 moment, tt))) (omega (arith, digits-short 10 actor, digits-short 10 moment))
+entry-written actor (Take vp) small h = written _ _ (digits-plain 10 actor, (plain_by (codes "take") refl, (digits-plain 10 vp, tt))) (omega (arith, digits-short 10 actor, digits-short 10 vp))
+
+pub title-written : IsWritten title_fields
+title-written = written _ _ (plain_by (codes "trace") refl, (plain_by (codes "1") refl, tt)) (omega arith)
+
+pub end-written : (n : ℕ) → IsWritten (end_fields n)
+end-written n = written _ _ (plain_by (codes "end") refl, (digits-plain 10 n, tt)) (omega (arith, digits-short 10 n))
+
+pub board-written : (p g f : ℕ) → IsWritten (item_fields (Opening p g f))
+board-written p g f = written _ _ (plain_by (codes "board") refl, (digits-plain 10 p, (digits-plain 10 g, (digits-plain 10 f, tt)))) (omega (arith, digits-short 10 p, digits-short 10 g, digits-short 10 f))
+
+pub reply-written : (reply : Reply) → IsReply reply → IsWritten (reply_fields reply)
+reply-written replies.Done h = written _ _ (plain_by (codes "=") refl, (plain_by (codes "done") refl, tt)) (omega arith)
+reply-written (replies.Value v) h = written _ _ (plain_by (codes "=") refl, (plain_by (codes "value") refl, (digits-plain 16 v, tt))) (omega (arith, digits-short 16 v))
+reply-written (replies.Bytes bytes) h = written _ _ (plain_by (codes "=") refl, (plain_by (codes "bytes") refl, (bytes-plain bytes.items, tt))) (omega (arith, bytes-short bytes.items, h))
+reply-written (replies.Taken vector) h = written _ _ (plain_by (codes "=") refl, (plain_by (codes "taken") refl, (vector-plain vector, tt))) (omega (arith, vector-short vector))
+reply-written (replies.Accepted t) h = written _ _ (plain_by (codes "=") refl, (plain_by (codes "accepted") refl, (digits-plain 10 t, tt))) (omega (arith, digits-short 10 t))
+reply-written replies.FlagWasClear h = written _ _ (plain_by (codes "=") refl, (plain_by (codes "clear") refl, tt)) (omega arith)
+reply-written replies.FlagWasSet h = written _ _ (plain_by (codes "=") refl, (plain_by (codes "set") refl, tt)) (omega arith)
+reply-written replies.GeneralProtection h = written _ _ (plain_by (codes "=") refl, (plain_by (codes "general") refl, (plain_by (codes "protection") refl, tt))) (omega arith)
+reply-written (replies.Refused r) h = written _ _ (plain_by (codes "=") refl, (plain_by (codes "refused") refl, (digits-plain 10 (number_of r), tt))) (omega (arith, digits-short 10 (number_of r)))
+
+-- a line is the words of its fields
+whole : (line : List ℕ) (fields : Fields) → fields_of line ≡ fields → line ≡ words fields
+whole line fields e = sym (join_with_byte-slice_split 32 line) ∙ ap words e
+
+-- A line is read as an entry exactly where it is written so.
+pub entry-reads : (actor : ℕ) (event : Event) → actor < 256 → IsEvent event → entry_at (words (entry_fields actor event)) ≡ Some event
+unfolding entry_at
+entry-reads actor event small fits =
+    ap entry_say (entry-written actor event small fits).read
+    ∙ then-read u8_at (λ (a : ℕ). event_say) (decimal actor) actor (event_fields event) (u8-spelled actor small)
+    ∙ says-event event fits
+
+pub record EntryLine (line : List ℕ) (event : Event) : Type 0 where
+  pub actor : ℕ
+  pub text : line ≡ words (entry_fields actor event)
+  pub small : actor < 256
+  pub fits : IsEvent event
+
+entry-says : (line : List ℕ) (fields : Fields) (event : Event) → fields_of line ≡ fields → entry_say fields ≡ Some event → EntryLine line event
+entry-says line fields event is =
+    then-some u8_at (λ (a : ℕ). event_say) fields event (EntryLine line event) (λ field actor more at read said.
+      let h = u8-only field actor read in
+      let k = event-says more event said in
+      let all : fields ≡ entry_fields actor event = at ∙ rw (h.1, k.same) refl in
+      record { actor = actor; text = whole line fields is ∙ ap words all; small = h.0; fits = k.fits })
+
+pub entry-only : (line : List ℕ) (event : Event) → entry_at line ≡ Some event → EntryLine line event
+unfolding entry_at
+entry-only line event e = entry-says line (fields_of line) event refl e
+
+-- an end is no entry
+pub end-no_entry : (n actor : ℕ) (event : Event) → actor < 256 → IsEvent event → words (end_fields n) ≡ words (entry_fields actor event) → ⊥
+end-no_entry n actor event small fits e =
+    let same : end_fields n ≡ entry_fields actor event = sym (end-written n).read ∙ ap fields_of e ∙ (entry-written actor event small fits).read in
+    let first : codes "end" ≡ decimal actor = cc in
+    let read : u8_at (codes "end") ≡ Some actor = ap u8_at first ∙ u8-spelled actor small in
+    cc
+
+-- A line is read as a board line exactly where it is written so.
+pub board-reads : (p g f : ℕ) → AreSizes p g → f < 2 ^ 64 → board_at (words (item_fields (Opening p g f))) ≡ Some (p, g, f)
+unfolding board_at
+board-reads p g f sizes given =
+    let said = says-opening p g f (omega (arith, sizes.few_processors), omega (arith, sizes.few_pages), given) in
+    ap board_say (board-written p g f).read
+    ∙ ap (option_and_then within_limits) said
+    ∙ rw ((sizes-are p g).1 sizes) refl
+
+pub record BoardLine (line : List ℕ) (p : ℕ × ℕ × ℕ) : Type 0 where
+  pub text : line ≡ words (item_fields (Opening p.0 p.1 p.2))
+  pub sizes : AreSizes p.0 p.1
+  pub given : p.2 < 2 ^ 64
+
+within-only : (p q : ℕ × ℕ × ℕ) → within_limits p ≡ Some q → (p ≡ q) × AreSizes p.0 p.1
+within-only p q e = go (are_sizes p.0 p.1) refl e
+  where
+    go : (t : Bool) → are_sizes p.0 p.1 ≡ t → cond t (Some p) None ≡ Some q → (p ≡ q) × AreSizes p.0 p.1
+    go true is e = (cc, (sizes-are p.0 p.1).0 is)
+    go false is e = cc
+
+board-says : (line : List ℕ) (fields : Fields) (q : ℕ × ℕ × ℕ) → fields_of line ≡ fields → board_say fields ≡ Some q → BoardLine line q
+board-says line [] q is e = cc
+board-says line (word ∷ fields) q is e =
+    yes (bytes_eq word (codes "board")) (option_and_then within_limits (opening_say fields)) None q (BoardLine line q) (λ test e. by ((bytes_eq-Decides word (codes "board")).0 test) (opening_say fields) refl e) (λ e. cc) e
+  where
+    by : word ≡ codes "board" → (r : Option (ℕ × ℕ × ℕ)) → opening_say fields ≡ r → option_and_then within_limits r ≡ Some q → BoardLine line q
+    by named None said e = cc
+    by named (Some p) said e =
+        let w = within-only p q e in
+        let h = opening-says fields p said in
+        let all : word ∷ fields ≡ item_fields (Opening p.0 p.1 p.2) = rw named h.same in
+        rw (← w.0) (record { text = whole line (word ∷ fields) is ∙ ap words all; sizes = w.1; given = h.fits.2 })
+
+pub board-only : (line : List ℕ) (q : ℕ × ℕ × ℕ) → board_at line ≡ Some q → BoardLine line q
+unfolding board_at
+board-only line q e = board-says line (fields_of line) q refl e
+
+-- a board was opened, so its sizes are within the limits
+within : (p : ℕ × ℕ × ℕ) → ((AreSizes p.0 p.1 → ⊥) → ⊥) → within_limits p ≡ Some p
+within p h = go (are_sizes p.0 p.1) refl
+  where
+    go : (t : Bool) → are_sizes p.0 p.1 ≡ t → cond t (Some p) None ≡ Some p
+    go true is = refl
+    go false is = absurd (h (λ sizes. let yes = (sizes-are p.0 p.1).1 sizes in cc))
+
+pub board-opened : (line word : List ℕ) (fields : Fields) (n g f : ℕ) → fields_of line ≡ word ∷ fields → word ≡ codes "board" → Some (n, g, f) ≡ opening_say fields → ((AreSizes n g → ⊥) → ⊥) → board_at line ≡ Some (n, g, f)
+unfolding board_at
+board-opened line word fields n g f are named said h =
+    ap board_say (are ∙ ap (λ (w : List ℕ). w ∷ fields) named) ∙ ap (option_and_then within_limits) (sym said) ∙ within (n, g, f) h
+
+pub same-word : (word key : List ℕ) → false ≡ not (bytes_eq word key) → word ≡ key
+same-word word key e = go (bytes_eq word key) refl e
+  where
+    go : (t : Bool) → bytes_eq word key ≡ t → false ≡ not t → word ≡ key
+    go true is e = (bytes_eq-Decides word key).0 is
+    go false is e = cc

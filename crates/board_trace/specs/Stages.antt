@@ -1,0 +1,101 @@
+-- What a trace may go on with: which line comes next.
+use Rattle.std.specs.Prelude.{◌≡◌, ℕ, ◌+◌, List, [], ◌∷◌, Bool, if◌then◌else◌, Option, None, Some, codes}
+use Rattle.std.specs.Option.{option_map, option_and_then}
+use Rattle.std.specs.Str.{bytes_eq}
+use Rattle.board_text.specs.Fields.{fields_of, words}
+use Rattle.synic_board.specs.State.{State, opened}
+use Rattle.synic_board.specs.Step.{step}
+use Rattle.synic_board.specs.declared.event.Event.{Event}
+use Rattle.synic_board.specs.declared.event.Reply.{Reply}
+use Rattle.board_lines.specs.Printing.{reply_fields}
+use Rattle.board_lines.specs.Reading.{Fields, take_then, u8_at, event_say, opening_say}
+use Rattle.board_lines.specs.Sizes.{are_sizes}
+use Rattle.board_trace.specs.Trace.{title_fields, end_fields}
+use Rattle.board_trace.specs.declared.stage.Stage.{Stage as Held}
+use Rattle.board_trace.specs.declared.stage.Stage.TheVariants as held
+use Rattle.board_trace.specs.declared.stage.Taken.{Taken}
+use Rattle.board_trace.specs.declared.stage.Taken.TheVariants as taken
+use Rattle.board_trace.specs.declared.stage.Opened.{Opened}
+use Rattle.board_trace.specs.declared.stage.Opened.TheVariants as openings
+use Rattle.board_trace.specs.declared.stage.Ran.{Ran}
+use Rattle.board_trace.specs.declared.stage.Ran.TheVariants as ran
+
+pub data Stage : Type 0 where
+  -- the title
+  Title : Stage
+  -- the board line
+  Opening : Stage
+  -- the reply that is due, or else an event or the end, behind so many entries
+  Running : State → ℕ → Option Reply → Stage
+  -- nothing
+  Over : ℕ → Stage
+
+-- the event that the fields name behind an actor's number, which is free
+abbrev pub entry_say : Fields → Option Event
+entry_say = take_then u8_at (λ (actor : ℕ). event_say)
+
+unfoldable pub entry_at : List ℕ → Option Event
+entry_at line = entry_say (fields_of line)
+
+-- the sizes, within the limits, and the first ticket that a board line names
+abbrev pub within_limits : ℕ × ℕ × ℕ → Option (ℕ × ℕ × ℕ)
+within_limits sizes = if are_sizes sizes.0 sizes.1 then Some sizes else None
+
+abbrev pub board_say : Fields → Option (ℕ × ℕ × ℕ)
+board_say [] = None
+board_say (word ∷ fields) = if bytes_eq word (codes "board") then option_and_then within_limits (opening_say fields) else None
+
+unfoldable pub board_at : List ℕ → Option (ℕ × ℕ × ℕ)
+board_at line = board_say (fields_of line)
+
+-- the event of one more entry is performed, and its reply is due
+abbrev pub performed : State → ℕ → Event → Stage
+performed s entries event = Running (step s event).0 (entries + 1) (Some (step s event).1)
+
+-- where a line leads, if it may stand there
+abbrev pub follow : Stage → List ℕ → Option Stage
+follow Title line = if bytes_eq line (words title_fields) then Some Opening else None
+follow Opening line = option_map (λ (sizes : ℕ × ℕ × ℕ). Running (opened sizes.0 sizes.1 sizes.2) 0 None) (board_at line)
+follow (Running s entries None) line =
+    if bytes_eq line (words (end_fields entries)) then Some (Over entries)
+    else option_map (performed s entries) (entry_at line)
+follow (Running s entries (Some due)) line = if bytes_eq line (words (reply_fields due)) then Some (Running s entries None) else None
+follow (Over entries) line = None
+
+-- the stage that a check keeps, with its board
+abbrev pub stage_of : Held → Stage
+stage_of held.Title = Title
+stage_of held.Opening = Opening
+stage_of (held.Running board entries due) = Running board.state entries due
+stage_of (held.Over entries) = Over entries
+
+-- the entries so far
+abbrev pub count : Stage → ℕ
+count Title = 0
+count Opening = 0
+count (Running s entries due) = entries
+count (Over entries) = entries
+
+-- a line was taken, or may not stand there
+abbrev pub Takes : Taken → Stage → Stage → List ℕ → Type 0
+Takes taken.Good old new line = follow old line ≡ Some new
+Takes taken.Wrong old new line = follow old line ≡ None
+Takes taken.Memory old new line = Unit {0}
+
+-- a board line opened a board, or may not stand there
+abbrev pub Opens : Opened → List ℕ → Type 0
+Opens (openings.Board board) line = follow Opening line ≡ Some (Running board.state 0 None)
+Opens openings.Wrong line = follow Opening line ≡ None
+Opens openings.Memory line = Unit {0}
+
+-- a line behind the board line
+abbrev pub Runs : Ran → State → ℕ → Option Reply → State → ℕ → Option Reply → List ℕ → Type 0
+Runs ran.On s entries due s' entries' due' line = follow (Running s entries due) line ≡ Some (Running s' entries' due')
+Runs ran.End s entries due s' entries' due' line = (entries' ≡ entries) × (follow (Running s entries due) line ≡ Some (Over entries))
+Runs ran.Wrong s entries due s' entries' due' line = follow (Running s entries due) line ≡ None
+Runs ran.Memory s entries due s' entries' due' line = Unit {0}
+
+-- the trace is over, behind so many entries
+abbrev pub IsOver : Option ℕ → Stage → Type 0
+IsOver None stage = (n : ℕ) → stage ≡ Over n → ⊥
+IsOver (Some n) stage = stage ≡ Over n

@@ -1,0 +1,55 @@
+-- What a check says of a text.
+use Rattle.std.specs.Prelude.{◌≡◌, ◌⊎◌, ℕ, ◌+◌, ◌≤◌, ◌<◌, List, [], ◌∷◌, ◌++◌, length, take, codes, decimal, Option, IfSome}
+use Rattle.std.specs.Io.KnownBytes.{Appends}
+use Rattle.board_text.specs.Lines.{lines_of}
+use Rattle.board_text.specs.Fields.{line_of}
+use Rattle.board_trace.specs.Trace.{IsTrace, Begins}
+use Rattle.board_trace.specs.declared.check.Verdict.{Verdict}
+use Rattle.board_trace.specs.declared.check.Verdict.TheVariants as verdicts
+use Rattle.board_trace.specs.declared.check.CheckEnd.{CheckEnd}
+use Rattle.board_trace.specs.declared.check.CheckEnd.TheVariants.{Legal, Refused, Memory, Reading, Writing}
+
+-- whole lines, each with its line feed
+abbrev pub joined : List (List ℕ) → List ℕ
+joined [] = []
+joined (line ∷ lines) = line ++ 10 ∷ joined lines
+
+-- The text is no legal trace. The whole lines before line k begin one; line k is not whole, or with it they begin none.
+pub record FirstWrong (text : List ℕ) (k : ℕ) : Type 0 where
+  pub before : ℕ
+  pub number : k ≡ before + 1
+  pub there : before ≤ length (lines_of text)
+  pub good : Begins (joined (take before (lines_of text)))
+  pub wrong : before < length (lines_of text) → Begins (joined (take (before + 1) (lines_of text))) → ⊥
+  pub none : (n : ℕ) → IsTrace text n → ⊥
+
+-- the text has this verdict
+abbrev pub Judges : Verdict → List ℕ → Type 0
+Judges (verdicts.Legal n) text = IsTrace text n
+Judges (verdicts.Refused k) text = FirstWrong text k
+
+abbrev pub verdict_text : Verdict → List ℕ
+verdict_text (verdicts.Legal n) = line_of (codes "legal" ∷ decimal n ∷ [])
+verdict_text (verdicts.Refused k) = line_of (codes "refused" ∷ decimal k ∷ [])
+
+-- Nothing was written, or a beginning of the text's verdict.
+pub record Begun (r0 w0 w1 : Option (List ℕ)) : Type 0 where
+  pub sent : List ℕ
+  pub writes : Appends w0 w1 sent
+  pub begins : (sent ≡ []) ⊎ ((verdict : Verdict) × (rest : List ℕ) × IfSome r0 (Judges verdict) × (verdict_text verdict ≡ sent ++ rest))
+
+-- from what a reader had and a writer held to what the writer holds at the end
+abbrev pub Checks : CheckEnd → Option (List ℕ) → Option (List ℕ) → Option (List ℕ) → Type 0
+Checks (Legal n) r0 w0 w1 = IfSome r0 (Judges (verdicts.Legal n)) × Appends w0 w1 (verdict_text (verdicts.Legal n))
+Checks (Refused k) r0 w0 w1 = IfSome r0 (Judges (verdicts.Refused k)) × Appends w0 w1 (verdict_text (verdicts.Refused k))
+Checks Memory r0 w0 w1 = Appends w0 w1 []
+Checks Reading r0 w0 w1 = Appends w0 w1 []
+Checks Writing r0 w0 w1 = Begun r0 w0 w1
+
+-- the verdict was written, or a beginning of it
+abbrev pub Says : CheckEnd → Verdict → Option (List ℕ) → Option (List ℕ) → Type 0
+Says (Legal n) verdict w0 w1 = (verdict ≡ verdicts.Legal n) × Appends w0 w1 (verdict_text verdict)
+Says (Refused k) verdict w0 w1 = (verdict ≡ verdicts.Refused k) × Appends w0 w1 (verdict_text verdict)
+Says Memory verdict w0 w1 = w1 ≡ w0
+Says Reading verdict w0 w1 = ⊥
+Says Writing verdict w0 w1 = (sent rest : List ℕ) × Appends w0 w1 sent × (verdict_text verdict ≡ sent ++ rest)

@@ -1,0 +1,122 @@
+// The check of a trace.
+ghost use Rattle.std.specs.Prelude.{◌≡◌, ◌++◌, [], OnOk};
+ghost use Rattle.board_text.specs.Streams.{ReadsUpTo};
+ghost use Rattle.board_trace.specs.Verdicts.{Checks, Says, verdict_text};
+
+use crate::stage::{Stage, Taken, entries_of, take_line};
+use board_terms::Notices;
+use board_text::{NextLine, Source, put_decimal, send};
+use std::alloc::{AllocError, Global};
+use std::io::{Read, Write};
+
+/// How a check ends.
+#[derive(Clone, Copy, PartialEq, Eq, Debug)]
+pub enum CheckEnd {
+    /// The input is the trace of a legal history of so many entries.
+    Legal(u64),
+    /// It is none; this line is the first that is wrong. Lines are counted from 1.
+    Refused(u64),
+    /// There was no memory.
+    Memory,
+    /// A read failed, or the input has more than 1,073,741,824 bytes.
+    Reading,
+    /// A write or a flush failed, or a write took nothing.
+    Writing,
+}
+
+/// What a check says.
+#[derive(Clone, Copy)]
+enum Verdict {
+    Legal(u64),
+    Refused(u64),
+}
+
+/// Checks whether the reader gives the trace of a legal history, and writes `legal` with the number
+/// of its entries, or `refused` with the first line that is wrong, behind which nothing is judged.
+/// The memory that this takes does not depend on the trace's length.
+pub fn check_trace<R: Read, W: Write>(
+    alloc: Global,
+    reader: &mut R,
+    writer: &mut W,
+) -> CheckEnd
+    ensures verdict { Checks result (R.remaining reader.old) (W.contents writer.old) (W.contents writer.new) }
+
+    // One byte more than the limit shows that there is one.
+    ensures limit { ReadsUpTo 1073741825 (R.remaining reader.old) (R.remaining reader.new) }
+{
+    let Ok(mut source) = Source::open(alloc) else {
+        return CheckEnd::Memory;
+    };
+    let Ok(mut notices) = Notices::open(alloc) else {
+        return CheckEnd::Memory;
+    };
+    let mut out = Vec::new(alloc);
+    let mut stage = Stage::Title;
+    let mut number: u64 = 0;
+    loop {
+        let end = source.next_line(reader, writer);
+        number += 1;
+        match end {
+            NextLine::Whole => match take_line(
+                alloc,
+                &mut stage,
+                source.line(),
+                &mut notices,
+                &mut out,
+            ) {
+                Taken::Good => {}
+                Taken::Wrong => return say(writer, &mut out, Verdict::Refused(number)),
+                Taken::Memory => return CheckEnd::Memory,
+            },
+            NextLine::Long => return say(writer, &mut out, Verdict::Refused(number)),
+            NextLine::Last => {
+                if !source.line().is_empty() {
+                    return say(writer, &mut out, Verdict::Refused(number));
+                }
+                let Some(entries) = entries_of(&stage) else {
+                    return say(writer, &mut out, Verdict::Refused(number));
+                };
+                return say(writer, &mut out, Verdict::Legal(entries));
+            }
+            NextLine::ReadFailed => return CheckEnd::Reading,
+            NextLine::FlushFailed => return CheckEnd::Writing,
+        }
+    }
+}
+
+/// Writes the verdict's line, and flushes.
+fn say<W: Write>(writer: &mut W, out: &mut Vec<u8>, verdict: Verdict) -> CheckEnd
+    ensures { Says result verdict (W.contents writer.old) (W.contents writer.new) }
+{
+    out.clear();
+    if put_verdict(out, verdict).is_err() {
+        return CheckEnd::Memory;
+    }
+    if !send(writer, out.as_slice()) {
+        return CheckEnd::Writing;
+    }
+    if writer.flush().is_err() {
+        return CheckEnd::Writing;
+    }
+    match verdict {
+        Verdict::Legal(entries) => CheckEnd::Legal(entries),
+        Verdict::Refused(line) => CheckEnd::Refused(line),
+    }
+}
+
+/// Writes the verdict's line at the end of `out`.
+fn put_verdict(out: &mut Vec<u8>, verdict: Verdict) -> Result<(), AllocError>
+    ensures { OnOk result (out.new.items ≡ out.old.items ++ verdict_text verdict) }
+{
+    match verdict {
+        Verdict::Legal(entries) => {
+            out.extend_from_slice(b"legal ")?;
+            put_decimal(out, entries)?;
+        }
+        Verdict::Refused(line) => {
+            out.extend_from_slice(b"refused ")?;
+            put_decimal(out, line)?;
+        }
+    }
+    out.extend_from_slice(b"\n")
+}

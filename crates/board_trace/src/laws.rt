@@ -1,0 +1,22 @@
+//! Laws of the definitions.
+ghost use Rattle.std.specs.Prelude.{◌≡◌, ◌<◌, ◌^◌, ℕ, List, length};
+ghost use Rattle.std.specs.List.{All};
+ghost use Rattle.synic_board.specs.State.{AreSizes, opened};
+ghost use Rattle.board_trace.specs.Trace.{Entry, IsEntry, IsLegal, IsTrace, trace};
+ghost use Rattle.board_trace.specs.Verdicts.{FirstWrong};
+
+/// A text has one first wrong line at most.
+pub fn one_wrong_line()
+    ensures { (text : List ℕ) (k l : ℕ) → FirstWrong text k → FirstWrong text l → k ≡ l }
+{}
+
+/// A text tells how many entries it has.
+pub fn one_count()
+    ensures { (text : List ℕ) (m n : ℕ) → IsTrace text m → IsTrace text n → m ≡ n }
+{}
+
+/// What is written of a legal history is its trace, which is read as one.
+pub fn written_is_legal()
+    ensures { (processors pages ticket : ℕ) (history : List Entry) → AreSizes processors pages → ticket < 2 ^ 64 → All IsEntry history
+        → IsLegal (opened processors pages ticket) history → IsTrace (trace processors pages ticket history) (length history) }
+{}

@@ -1,0 +1,8 @@
+//! Traces: what a board was asked and what it answered, line by line, and the check of such a text.
+#![tactic(auto)]
+
+mod check;
+pub mod laws;
+mod stage;
+
+pub use check::{CheckEnd, check_trace};

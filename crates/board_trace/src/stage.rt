@@ -1,0 +1,214 @@
+// What a trace may go on with, and the board that it tells of.
+ghost use Rattle.std.specs.Prelude.{◌≡◌, ◌<◌, ◌-◌, ◌^◌, ◌++◌, OnOk, IfOk};
+ghost use Rattle.std.specs.Str.{bytes_eq};
+ghost use Rattle.board_text.specs.Fields.{words};
+ghost use Rattle.board_lines.specs.Printing.{reply_fields};
+ghost use Rattle.board_trace.specs.Trace.{end_fields};
+ghost use Rattle.board_trace.specs.Stages.{entry_at, board_at, stage_of, count, Takes, Opens, Runs, IsOver};
+
+use board_lines::{event_of, opening_of, put_reply, u8_of};
+use board_terms::Notices;
+use board_text::{Fields, put_decimal};
+use std::alloc::{AllocError, Global};
+use synic_board::{Board, Event, OpenFault, Reply};
+
+/// Which line of a trace comes next.
+#[derive(Drop)]
+pub(crate) enum Stage {
+    /// The title.
+    Title,
+    /// The board line.
+    Opening,
+    /// The reply that is due, or else an event or the end, behind so many entries.
+    Running {
+        board: Board,
+        entries: u64,
+        due: Option<Reply>,
+    },
+    /// Nothing, behind so many entries.
+    Over(u64),
+}
+
+/// What came of a line.
+#[derive(Clone, Copy)]
+pub(crate) enum Taken {
+    Good,
+    Wrong,
+    Memory,
+}
+
+/// What came of a board line.
+#[derive(Drop)]
+enum Opened {
+    Board(Board),
+    Wrong,
+    Memory,
+}
+
+/// What came of a line behind the board line.
+#[derive(Clone, Copy)]
+enum Ran {
+    On,
+    End,
+    Wrong,
+    Memory,
+}
+
+/// Takes a line, if it may stand here.
+pub(crate) fn take_line(
+    alloc: Global,
+    stage: &mut Stage,
+    line: &[u8],
+    notices: &mut Notices,
+    out: &mut Vec<u8>,
+) -> Taken
+    requires few { count (stage_of stage.old) < 2 ^ 64 - 1 }
+    ensures { Takes result (stage_of stage.old) (stage_of stage.new) line.now }
+{
+    match stage {
+        Stage::Title => {
+            if line != b"trace 1".as_slice() {
+                return Taken::Wrong;
+            }
+            *stage = Stage::Opening;
+            Taken::Good
+        }
+        Stage::Opening => match open(alloc, line) {
+            Opened::Board(board) => {
+                *stage = Stage::Running {
+                    board,
+                    entries: 0,
+                    due: None,
+                };
+                Taken::Good
+            }
+            Opened::Wrong => Taken::Wrong,
+            Opened::Memory => Taken::Memory,
+        },
+        Stage::Running {
+            board,
+            entries,
+            due,
+        } => match run_line(board, entries, due, line, notices, out) {
+            Ran::On => Taken::Good,
+            Ran::End => {
+                let all = *entries;
+                *stage = Stage::Over(all);
+                Taken::Good
+            }
+            Ran::Wrong => Taken::Wrong,
+            Ran::Memory => Taken::Memory,
+        },
+        Stage::Over(_) => Taken::Wrong,
+    }
+}
+
+/// The entries of a trace that is over.
+pub(crate) fn entries_of(stage: &Stage) -> Option<u64>
+    ensures { IsOver result (stage_of stage.now) }
+{
+    match stage {
+        Stage::Over(entries) => Some(*entries),
+        _ => None,
+    }
+}
+
+/// Opens the board that a board line names.
+#[tactic(auto, unfolding(crate::specs::Stages::board_at))]
+fn open(alloc: Global, line: &[u8]) -> Opened
+    ensures { Opens result line.now }
+{
+    let mut fields = Fields::new(line);
+    let Some(word) = fields.next() else {
+        return Opened::Wrong;
+    };
+    if word != b"board".as_slice() {
+        return Opened::Wrong;
+    }
+    let Some((processors, pages, ticket)) = opening_of(&mut fields) else {
+        return Opened::Wrong;
+    };
+    match Board::open(alloc, processors, pages, ticket) {
+        Ok(board) => Opened::Board(board),
+        Err(OpenFault::BadSize) => Opened::Wrong,
+        Err(OpenFault::Memory) => Opened::Memory,
+    }
+}
+
+/// Takes a line behind the board line: the reply that is due, an event, which is performed, or the end.
+fn run_line(
+    board: &mut Board,
+    entries: &mut u64,
+    due: &mut Option<Reply>,
+    line: &[u8],
+    notices: &mut Notices,
+    out: &mut Vec<u8>,
+) -> Ran
+    requires few { entries.old < 2 ^ 64 - 1 }
+    ensures { Runs result board.old.state entries.old due.old board.new.state entries.new due.new line.now }
+{
+    if let Some(reply) = due {
+        return match is_reply(reply, line, out) {
+            Ok(true) => {
+                *due = None;
+                Ran::On
+            }
+            Ok(false) => Ran::Wrong,
+            Err(_) => Ran::Memory,
+        };
+    }
+    match is_end(*entries, line, out) {
+        Ok(true) => return Ran::End,
+        Ok(false) => {}
+        Err(_) => return Ran::Memory,
+    }
+    let Some(event) = entry_of(line) else {
+        return Ran::Wrong;
+    };
+    let reply = board.perform(&event, notices);
+    *due = Some(reply);
+    *entries += 1;
+    Ran::On
+}
+
+/// Whether a line is that of this reply.
+fn is_reply(reply: &Reply, line: &[u8], out: &mut Vec<u8>) -> Result<bool, AllocError>
+    ensures { IfOk result (λ is. is ≡ bytes_eq line.now (words (reply_fields reply.now))) }
+{
+    out.clear();
+    put_reply(out, reply)?;
+    Ok(line == out.as_slice())
+}
+
+/// Whether a line is the end behind so many entries.
+fn is_end(entries: u64, line: &[u8], out: &mut Vec<u8>) -> Result<bool, AllocError>
+    ensures { IfOk result (λ is. is ≡ bytes_eq line.now (words (end_fields entries))) }
+{
+    if line.first() != Some(&b'e') {
+        return Ok(false);
+    }
+    out.clear();
+    put_end(out, entries)?;
+    Ok(line == out.as_slice())
+}
+
+/// Writes the end at the end of `out`, without a line feed.
+fn put_end(out: &mut Vec<u8>, entries: u64) -> Result<(), AllocError>
+    ensures { OnOk result (out.new.items ≡ out.old.items ++ words (end_fields entries)) }
+{
+    out.extend_from_slice(b"end ")?;
+    put_decimal(out, entries)
+}
+
+/// The event that a line names behind an actor's number.
+#[tactic(auto, unfolding(crate::specs::Stages::entry_at))]
+fn entry_of(line: &[u8]) -> Option<Event>
+    ensures { result ≡ entry_at line.now }
+{
+    let mut fields = Fields::new(line);
+    u8_of(&mut fields)?;
+    let Some(word) = fields.next() else {
+        return None;
+    };
+    event_of(word, &mut fields)
+}
