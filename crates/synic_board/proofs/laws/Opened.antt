@@ -15,7 +15,7 @@ use Rattle.synic_board.specs.Places.{times, places}
 use Rattle.synic_board.specs.Sound.{IsSound, IsMessage}
 use Rattle.synic_board.proofs.Openings.{idle-opened}
 use Rattle.synic_board.proofs.laws.Counts.{in_queue, in_slot, times-places}
-use Rattle.synic_board.proofs.laws.Wholes.{IsKept, sound_from_kept}
+use Rattle.synic_board.proofs.laws.Wholes.{IsIntact, sound_from_kept}
 
 -- nothing stands anywhere in a list of nothing
 none-at : {A : Type 0} (n k : ℕ) → slice_index_or {A = Option A} (replicate n None) k None ≡ None
@@ -23,7 +23,7 @@ none-at zero k = refl
 none-at (suc n) zero = refl
 none-at (suc n) (suc k) = none-at n k
 
-kept-opened : (n pages ticket : ℕ) → IsKept n (opened n pages ticket)
+kept-opened : (n pages ticket : ℕ) → IsIntact n (opened n pages ticket)
 kept-opened n pages ticket = record {
   count = length-replicate n empty_apic;
   whole = record {
