@@ -12,5 +12,6 @@ pub mod Timers
 pub mod Registers
 pub mod Step
 pub mod Places
+pub mod Run
 pub mod Sound
 pub mod View

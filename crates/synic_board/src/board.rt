@@ -110,6 +110,7 @@ impl Board {
     pub fn perform(&mut self, event: &Event, notices: &mut Notices) -> Reply
         ensures step { (self.new.state, result, notices.new) ≡ step self.old.state event.now }
         ensures conserves { Conserves self.old.state self.new.state notices.new }
+        ensures later { self.old.state.next_ticket ≤ self.new.state.next_ticket }
         ensures rises { self.old.writes ≤ self.new.writes }
         ensures few { self.new.writes ≤ self.old.writes + (8 + length notices.new) }
     {

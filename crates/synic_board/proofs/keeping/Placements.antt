@@ -18,9 +18,9 @@ use Rattle.synic_board.specs.State.{State, space_of, slot_of}
 use Rattle.synic_board.specs.Delivery.{placed_state, placed_head, placed_notices, placed}
 use Rattle.synic_board.specs.Places.{times, places}
 use Rattle.synic_board.specs.Sound.{IsWhole, IsFree, IsMessage}
-use Rattle.synic_board.proofs.laws.Counts.{in_queue, in_slot, one, times-places, in_queue-cons, given-none}
-use Rattle.synic_board.proofs.laws.Wholes.{IsIntact, Keeps, EndsNone}
-use Rattle.synic_board.proofs.laws.Slots.{length-with_slot, other_place}
+use Rattle.synic_board.proofs.keeping.Counts.{in_queue, in_slot, one, times-places, in_queue-cons, given-none}
+use Rattle.synic_board.proofs.keeping.Wholes.{IsIntact, Keeps, EndsNone}
+use Rattle.synic_board.proofs.keeping.Slots.{length-with_slot, other_place}
 
 -- the message page of a processor
 abbrev pub page_of : State → ℕ → List ℕ

@@ -21,10 +21,10 @@ use Rattle.synic_board.specs.declared.event.Reply.TheVariants.{Done, Accepted, R
 use Rattle.synic_board.specs.Interrupts.{raised}
 use Rattle.synic_board.specs.Delivery.{delivered}
 use Rattle.synic_board.specs.Posts.{with_port, opened_port, withdrawn, without_port, closed_at, closed, post_refusal, posted_at, posted, with_flag, flagged, signalled_place, signalled_at, signalled}
-use Rattle.synic_board.proofs.laws.Wholes.{IsIntact, KeepsOutcome, AreStill, keeps-still, keeps-unchanged, keeps-after}
-use Rattle.synic_board.proofs.laws.Requests.{either, keeps-raised}
-use Rattle.synic_board.proofs.laws.Attempts.{keeps-delivered, keeps-withdrawn}
-use Rattle.synic_board.proofs.laws.Changes.{kept-port, kept-without_port, kept-flag}
+use Rattle.synic_board.proofs.keeping.Wholes.{IsIntact, KeepsOutcome, AreStill, keeps-still, keeps-unchanged, keeps-after}
+use Rattle.synic_board.proofs.keeping.Requests.{either, keeps-raised}
+use Rattle.synic_board.proofs.keeping.Attempts.{keeps-delivered, keeps-withdrawn}
+use Rattle.synic_board.proofs.keeping.Changes.{kept-port, kept-without_port, kept-flag}
 
 -- a port is opened only to a source of a processor on the board
 not-refused : (a b t f : Bool) (x y z : Refusal) → (if a then Some x else if b then Some y else if not (t && f) then Some z else None) ≡ None → t ≡ true

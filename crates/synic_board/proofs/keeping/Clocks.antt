@@ -15,11 +15,11 @@ use Rattle.synic_board.specs.State.{State, bank_of, with_bank}
 use Rattle.synic_board.specs.declared.event.Reply.TheVariants.{Done, Refused}
 use Rattle.synic_board.specs.Timers.{mode_at, is_ready_for, is_ready, expired_notices, skipped_notices, expiry_notices, told_by, signalled_by, expired_state, expiry_at, fired, attempted, attempted_all, written_timer, at_moment, ticked}
 use Rattle.synic_board.specs.Places.{ended}
-use Rattle.synic_board.proofs.laws.Counts.{ended-append}
-use Rattle.synic_board.proofs.laws.Wholes.{IsIntact, Keeps, KeepsOutcome, EndsNone, keeps-still, keeps-nothing, keeps-unchanged, keeps-after}
-use Rattle.synic_board.proofs.laws.Requests.{either, keeps-requested}
-use Rattle.synic_board.proofs.laws.Attempts.{keeps-delivered}
-use Rattle.synic_board.proofs.laws.Changes.{kept-timer, kept-moment}
+use Rattle.synic_board.proofs.keeping.Counts.{ended-append}
+use Rattle.synic_board.proofs.keeping.Wholes.{IsIntact, Keeps, KeepsOutcome, EndsNone, keeps-still, keeps-nothing, keeps-unchanged, keeps-after}
+use Rattle.synic_board.proofs.keeping.Requests.{either, keeps-requested}
+use Rattle.synic_board.proofs.keeping.Attempts.{keeps-delivered}
+use Rattle.synic_board.proofs.keeping.Changes.{kept-timer, kept-moment}
 
 -- a timer that is due is one of a processor on the board
 due-at : (timers : List Timer) (k : ℕ) → slice_index_or (map (λ (x : Timer). x.due) timers) k None ≡ (slice_index_or timers k idle_timer).due

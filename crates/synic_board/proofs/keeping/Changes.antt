@@ -17,7 +17,7 @@ use Rattle.synic_board.specs.State.{State, space_of, bank_of, with_regs, with_ba
 use Rattle.synic_board.specs.Posts.{with_port, without_port, with_flag}
 use Rattle.synic_board.specs.Timers.{at_moment}
 use Rattle.synic_board.proofs.Clocks.{idle-written}
-use Rattle.synic_board.proofs.laws.Wholes.{IsIntact}
+use Rattle.synic_board.proofs.keeping.Wholes.{IsIntact}
 
 pub kept-regs : (n : ℕ) (s : State) (p : ℕ) (r : Regs) → IsIntact n s → IsIntact n (with_regs s p r)
 kept-regs n s p r h = record {

@@ -22,11 +22,11 @@ use Rattle.synic_board.specs.Stores.{consumed_ticket, consumed, consumed_below, 
 use Rattle.synic_board.specs.declared.event.Reply.TheVariants.{Refused}
 use Rattle.synic_board.specs.Places.{ended, Conserves}
 use Rattle.synic_board.proofs.Overlays.{length-overlays}
-use Rattle.synic_board.proofs.laws.Counts.{in_slot, one, times-places, given-none}
+use Rattle.synic_board.proofs.keeping.Counts.{in_slot, one, times-places, given-none}
 use Rattle.synic_board.specs.Sound.{IsWhole, IsFree}
-use Rattle.synic_board.proofs.laws.Wholes.{IsIntact, Keeps, AreStill, KeepsOutcome, keeps-unchanged, still, conserves-after}
-use Rattle.synic_board.proofs.laws.Requests.{either}
-use Rattle.synic_board.proofs.laws.Placements.{page_of}
+use Rattle.synic_board.proofs.keeping.Wholes.{IsIntact, Keeps, AreStill, KeepsOutcome, keeps-unchanged, still, conserves-after}
+use Rattle.synic_board.proofs.keeping.Requests.{either}
+use Rattle.synic_board.proofs.keeping.Placements.{page_of}
 
 -- the slots of processor p from number i on may be empty and hold a ticket still
 record IsPartly (n p i : ℕ) (s : State) : Type 0 where

@@ -8,7 +8,7 @@ use Rattle.synic_board.specs.declared.event.Reply.{Reply}
 use Rattle.synic_board.specs.Effects.{Effect, Outcome, nothing, after, unchanged}
 use Rattle.synic_board.specs.Places.{places, times, ended, Conserves, AreTickets}
 use Rattle.synic_board.specs.Sound.{IsWhole, IsFree, IsSound}
-use Rattle.synic_board.proofs.laws.Counts.{in_queues, in_slots, times-places, ended-append, given-after, given-none, given-low, given-high, given-le}
+use Rattle.synic_board.proofs.keeping.Counts.{in_queues, in_slots, times-places, ended-append, given-after, given-none, given-low, given-high, given-le}
 
 -- a state with n processors is sound, apart from its tickets
 pub record IsIntact (n : ℕ) (s : State) : Type 0 where

@@ -11,3 +11,4 @@ pub mod Posts
 pub mod Clocks
 pub mod Steps
 pub mod Opened
+pub mod Runs

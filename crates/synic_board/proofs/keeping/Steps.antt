@@ -1,5 +1,5 @@
 -- What every event keeps.
-use Rattle.std.proofs.Common.{◌≡◌, ℕ, ◌%◌, ◌<◌, List, [], refl, sym, subst, arith, nat_lt}
+use Rattle.std.proofs.Common.{◌≡◌, ℕ, ◌%◌, ◌<◌, ◌≤◌, List, [], refl, sym, subst, arith, nat_lt}
 use Rattle.std.specs.Prelude.{Option, None, Some, nat_le}
 use Rattle.std.specs.Option.{option_map_or}
 use Rattle.std.proofs.lemmas.Bool.Decides.{nat_tests}
@@ -24,13 +24,13 @@ use Rattle.synic_board.specs.Stores.{read_bytes}
 use Rattle.synic_board.specs.Step.{step}
 use Rattle.synic_board.specs.Places.{Conserves}
 use Rattle.synic_board.specs.Sound.{IsSound, PayloadFits}
-use Rattle.synic_board.proofs.laws.Wholes.{IsIntact, Keeps, KeepsOutcome, kept_from_sound, sound_from_kept, tickets-conserved, kept-apic, keeps-still, keeps-nothing, keeps-unchanged}
-use Rattle.synic_board.proofs.laws.Requests.{either, still-apic, keeps-requested, keeps-absorbed_below}
-use Rattle.synic_board.proofs.laws.Attempts.{keeps-tried_below}
-use Rattle.synic_board.proofs.laws.Changes.{kept-regs}
-use Rattle.synic_board.proofs.laws.Posts.{keeps-opened_port, keeps-closed, keeps-posted, keeps-signalled}
-use Rattle.synic_board.proofs.laws.Stores.{keeps-stored_bytes}
-use Rattle.synic_board.proofs.laws.Clocks.{keeps-written_config, keeps-written_count, keeps-ticked}
+use Rattle.synic_board.proofs.keeping.Wholes.{IsIntact, Keeps, KeepsOutcome, kept_from_sound, sound_from_kept, tickets-conserved, kept-apic, keeps-still, keeps-nothing, keeps-unchanged}
+use Rattle.synic_board.proofs.keeping.Requests.{either, still-apic, keeps-requested, keeps-absorbed_below}
+use Rattle.synic_board.proofs.keeping.Attempts.{keeps-tried_below}
+use Rattle.synic_board.proofs.keeping.Changes.{kept-regs}
+use Rattle.synic_board.proofs.keeping.Posts.{keeps-opened_port, keeps-closed, keeps-posted, keeps-signalled}
+use Rattle.synic_board.proofs.keeping.Stores.{keeps-stored_bytes}
+use Rattle.synic_board.proofs.keeping.Clocks.{keeps-written_config, keeps-written_count, keeps-ticked}
 
 keeps-stored : (n : ℕ) (s : State) (p : ℕ) (r : Register) (value : ℕ) → IsIntact n s → KeepsOutcome n s (stored s p r value)
 keeps-stored n s p r value h =
@@ -70,7 +70,7 @@ keeps-taken n s p h = elim (next (apic_of s p)) as (λ o. Keeps n s (option_map_
 on-board : (n : ℕ) (s : State) (p : ℕ) (o : Outcome) → IsIntact n s → (p < n → KeepsOutcome n s o) → KeepsOutcome n s (at_processor s p o)
 on-board n s p o h there = either (KeepsOutcome n s) (nat_lt p (processors s)) _ _ (λ on. there (let c = h.count in grind (arith, nat_tests))) (λ _. keeps-unchanged n s (Refused NoSuchProcessor) h)
 
-keeps-step : (n : ℕ) (s : State) (e : Event) → PayloadFits e → IsIntact n s → KeepsOutcome n s (step s e)
+pub keeps-step : (n : ℕ) (s : State) (e : Event) → PayloadFits e → IsIntact n s → KeepsOutcome n s (step s e)
 unfolding step
 keeps-step n s (OpenPort port p i shape) fits h = keeps-opened_port n s port p i shape h
 keeps-step n s (ClosePort port) fits h = keeps-closed n s port h
@@ -88,6 +88,10 @@ keeps-step n s (Take p) fits h = on-board n s p (taken s p) h (λ _. keeps-taken
 -- each accepted message stays in one place, or ends once
 pub conserves : (s now : State) (e : Event) (reply : Reply) (notices : List Notice) → PayloadFits e → (now, reply, notices) ≡ step s e → IsSound s → Conserves s now notices
 conserves s now e reply notices fits is sound = subst (λ (o : Outcome). Conserves s o.0 o.2) (sym is) (keeps-step (processors s) s e fits (kept_from_sound s sound)).conserves
+
+-- no ticket is given again
+pub later : (s now : State) (e : Event) (reply : Reply) (notices : List Notice) → PayloadFits e → (now, reply, notices) ≡ step s e → IsSound s → s.next_ticket ≤ now.next_ticket
+later s now e reply notices fits is sound = subst (λ (o : Outcome). s.next_ticket ≤ o.0.next_ticket) (sym is) (keeps-step (processors s) s e fits (kept_from_sound s sound)).later
 
 -- every event keeps the state sound
 pub sound : (s now : State) (e : Event) (reply : Reply) (notices : List Notice) → PayloadFits e → (now, reply, notices) ≡ step s e → IsSound s → IsSound now

@@ -21,11 +21,11 @@ use Rattle.synic_board.specs.Delivery.{delivers, is_slot_empty, placed, marked, 
 use Rattle.synic_board.specs.Posts.{withdrawn}
 use Rattle.synic_board.specs.Places.{times, tells_end, ended}
 use Rattle.synic_board.specs.Sound.{IsWhole, IsMessage}
-use Rattle.synic_board.proofs.laws.Counts.{in_queue, one, times-places, in_queue-cons, in_queue-push, given-none, given-one}
-use Rattle.synic_board.proofs.laws.Wholes.{IsIntact, Keeps, EndsNone, keeps-still, keeps-nothing, keeps-after}
-use Rattle.synic_board.proofs.laws.Requests.{either, keeps-raised}
-use Rattle.synic_board.proofs.laws.Slots.{slot_type-pending}
-use Rattle.synic_board.proofs.laws.Placements.{page_of, page-long, queue-good, keeps-placed}
+use Rattle.synic_board.proofs.keeping.Counts.{in_queue, one, times-places, in_queue-cons, in_queue-push, given-none, given-one}
+use Rattle.synic_board.proofs.keeping.Wholes.{IsIntact, Keeps, EndsNone, keeps-still, keeps-nothing, keeps-after}
+use Rattle.synic_board.proofs.keeping.Requests.{either, keeps-raised}
+use Rattle.synic_board.proofs.keeping.Slots.{slot_type-pending}
+use Rattle.synic_board.proofs.keeping.Placements.{page_of, page-long, queue-good, keeps-placed}
 
 -- an occupied slot is marked
 
