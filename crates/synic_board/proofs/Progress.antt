@@ -10,7 +10,7 @@ use Rattle.synic_board.specs.Effects.{Outcome}
 use Rattle.synic_board.specs.Step.{step}
 use Rattle.synic_board.specs.Places.{Conserves}
 use Rattle.synic_board.specs.Run.{Run, run_of, followed_by, told_behind}
-use Rattle.synic_board.proofs.keeping.Wholes.{AreStill, still, conserves-after}
+use Rattle.synic_board.proofs.keeping.Wholes.{still, conserves-after}
 
 abbrev goes_on : Run → Event → Run
 goes_on r e = ((step r.0 e).0, r.1 ++ (step r.0 e).1 ∷ [], r.2 ++ (step r.0 e).2)
@@ -59,8 +59,3 @@ behind_more s es i e before now next replies more reply told louder ns lt at h s
 pub behind_all : (s : State) (es : List Event) (i : ℕ) (before : List Notice) (now : State) (replies : List Reply) (told : List Notice) → length es ≤ i → AreBehind s es i before now replies told →
     (now, replies, told) ≡ told_behind before (run_of s es)
 behind_all s es i before now replies told h behind = behind.is ∙ ap (λ xs. told_behind before (run_of s xs)) (take_all i es h)
-
-pub behind-conserves : (s : State) (es : List Event) (i : ℕ) (before : List Notice) (now : State) (replies : List Reply) (told : List Notice) → AreBehind s es i before now replies told → Conserves s now (drop (length before) told)
-behind-conserves s es i before now replies told h =
-    let r : Run = run_of s (take i es) in
-    subst (Conserves s now) (sym (ap (λ (x : Run). drop (length before) x.2) h.is ∙ drop-append_seam before r.2)) h.conserves

@@ -1,6 +1,6 @@
 use Rattle.std.proofs.Common.{◌++◌, ◌∷◌, [], ap, sym, ◌∙◌, arith, length, length-append}
 use Rattle.std.proofs.lemmas.Bool.{eqb-true}
-use Rattle.synic_board.proofs.Progress.{behind_none, behind_more, behind_all, behind-conserves}
+use Rattle.synic_board.proofs.Progress.{behind_none, behind_more, behind_all}
 use Rattle.synic_board.proofs.runs.run.Goals as goal
 
 pub returns-then-is_empty-clause-all : goal.returns-then-is_empty-clause-all
@@ -19,8 +19,8 @@ loop-done-preserved c =
     let told = c.keep.ensures ∙ (ap (λ ns. ns ++ c.as_slice.result.now) c.reserve-else-is_err.ensures.items ∙ ap (λ ns. c.loop-done.notices.items ++ ns) c.as_slice.ensures.value) in
     record {
       behind = behind_more _ _ _ _ _ _ _ _ _ _ _ _ _ (omega arith) c.index-events-done.is c.loop-done.invariant.behind c.perform-reply.ensures.step c.perform-reply.ensures.conserves c.perform-reply.ensures.later
-        (c.push_reserved.ensures.items ∙ ap (λ rs. rs ++ c.perform-reply.result ∷ []) c.reserve.ensures.items)
-        told;
+          (c.push_reserved.ensures.items ∙ ap (λ rs. rs ++ c.perform-reply.result ∷ []) c.reserve.ensures.items)
+          told;
       rises = omega arith;
       few = omega (arith, ap length told, length-append c.loop-done.notices.items c.perform-reply.new.notices);
     }
