@@ -1,6 +1,5 @@
 -- A run goes on by one event.
-use Rattle.std.proofs.Common.{◌≡◌, ℕ, ◌+◌, ◌<◌, ◌≤◌, List, [], ◌∷◌, ◌++◌, refl, ap, sym, subst, ◌∙◌, arith, append_assoc, append-nil, length, take, drop, get_or}
-use Rattle.std.proofs.Math.Seq.{drop-append_seam}
+use Rattle.std.proofs.Common.{◌≡◌, ℕ, ◌+◌, ◌<◌, ◌≤◌, List, [], ◌∷◌, ◌++◌, refl, ap, sym, subst, ◌∙◌, arith, append_assoc, append-nil, length, take, get_or}
 use Rattle.std.proofs.lemmas.List.{take_more, take_all}
 use Rattle.board_terms.specs.declared.notices.Notice.{Notice}
 use Rattle.synic_board.specs.declared.event.Event.{Event}

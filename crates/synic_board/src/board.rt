@@ -106,7 +106,8 @@ impl Board {
     }
 
     /// Performs an event, leaves its notices in order in `notices`, and answers. It takes no memory.
-    /// Each accepted message is then queued, in a slot, consumed or withdrawn, exactly once.
+    /// Each accepted message is then queued, in a slot, consumed or withdrawn, exactly once, and no
+    /// ticket is given twice.
     pub fn perform(&mut self, event: &Event, notices: &mut Notices) -> Reply
         ensures step { (self.new.state, result, notices.new) ≡ step self.old.state event.now }
         ensures conserves { Conserves self.old.state self.new.state notices.new }
