@@ -11,3 +11,5 @@ mod openings;
 mod overlays;
 #[cfg(test)]
 mod ports;
+#[cfg(test)]
+mod runs;

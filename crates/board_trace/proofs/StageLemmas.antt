@@ -10,15 +10,16 @@ use Rattle.board_text.specs.Fields.{words, line_of}
 use Rattle.board_text.proofs.PlainWords.{IsWritten}
 use Rattle.synic_board.specs.State.{State, AreSizes, opened}
 use Rattle.synic_board.specs.Step.{step}
+use Rattle.synic_board.specs.Run.{run_of}
 use Rattle.synic_board.specs.declared.event.Event.{Event}
 use Rattle.synic_board.specs.declared.event.Reply.{Reply}
 use Rattle.board_lines.specs.Items.{Opening as Board, item_fields}
 use Rattle.board_lines.specs.Printing.{text_of, reply_fields}
 use Rattle.board_lines.proofs.ReadLemmas.{yes, mapped}
-use Rattle.board_trace.specs.Trace.{Entry, replies, IsLegal, IsEntry, title_fields, entry_fields, end_fields, history_lines, trace, IsTrace}
+use Rattle.board_trace.specs.Trace.{Entry, IsLegal, IsEntry, title_fields, entry_fields, end_fields, history_lines, trace, IsTrace}
 use Rattle.board_trace.specs.Stages.{Stage, Title, Opening, Running, Over, entry_at, board_at, performed, follow, count}
 use Rattle.synic_board.specs.Replies.{IsReply}
-use Rattle.synic_board.proofs.laws.Replies.{step-fits}
+use Rattle.synic_board.proofs.keeping.Replies.{step-fits}
 use Rattle.board_trace.proofs.Written.{title-written, board-written, entry-written, reply-written, end-written, EntryLine, entry-reads, entry-only, end-no_entry, BoardLine, board-reads, board-only}
 
 -- the lines of entries, and the end
@@ -147,6 +148,7 @@ on-opening : (line ys : List ℕ) (n : ℕ) (q : ℕ × ℕ × ℕ) → BoardLin
 on-opening line ys n q o h = record { processors = q.0; pages = q.1; ticket = q.2; sizes = o.sizes; given = o.given; rest = ys; text = ap (λ (x : List ℕ). x ++ 10 ∷ ys) o.text; goes = h }
 
 back-entry : (s : State) (c : ℕ) (line ys : List ℕ) (n : ℕ) (history : List Entry) → IsOneLine line → All IsEntry history → IsLegal s history → c + length history ≡ n → line ++ 10 ∷ ys ≡ text_of (left history n) → Follow (Running s c None) line ys n
+unfolding run_of
 back-entry s c line ys n [] one fits legal counted text =
     let same : n ≡ c = omega (arith, counted) in
     let cut = first_line line ys (words (end_fields n)) [] one (end-written n).one (text ∙ text-line (end_fields n) []) in
@@ -172,9 +174,11 @@ back-entry s c line ys n (e ∷ history) one fits legal counted text =
     }
 
 on-end : (s : State) (c : ℕ) (line ys : List ℕ) (n : ℕ) → line ≡ words (end_fields c) → (ys ≡ []) × (n ≡ c) → Goes s c (line ++ 10 ∷ ys) n
+unfolding run_of
 on-end s c line ys n is h = record { history = []; fits = All-nil IsEntry; legal = refl; counted = omega (arith, h.1); text = rw (is, h.0, h.1) (sym (text-line (end_fields c) [])) }
 
 on-entry : (s : State) (c : ℕ) (line ys : List ℕ) (n : ℕ) (event : Event) → EntryLine line event → Due (step s event).0 (c + 1) (step s event).1 ys n → Goes s c (line ++ 10 ∷ ys) n
+unfolding run_of
 on-entry s c line ys n event l h =
     let rest = left h.goes.history n in
     let r = (step s event).1 in
@@ -280,6 +284,7 @@ pub record Alive (stage : Stage) : Type 0 where
   pub on : Continues stage rest entries
 
 goes-end : (s : State) (c : ℕ) → Goes s c (text_of (left [] c)) c
+unfolding run_of
 goes-end s c = record { history = []; fits = All-nil IsEntry; legal = refl; counted = omega arith; text = refl }
 
 opens-end : Opens (words (item_fields (Board 1 1 0)) ++ 10 ∷ text_of (left [] 0)) 0

@@ -2,7 +2,7 @@
 use Rattle.std.specs.Prelude.{◌≡◌, ℕ, ◌<◌, ◌≤◌, ◌^◌, List, [], ◌∷◌, ◌++◌, length, map, codes, decimal}
 use Rattle.std.specs.List.{All}
 use Rattle.synic_board.specs.State.{State, AreSizes, opened}
-use Rattle.synic_board.specs.Step.{step}
+use Rattle.synic_board.specs.Run.{run_of}
 use Rattle.synic_board.specs.declared.event.Event.{Event}
 use Rattle.synic_board.specs.declared.event.Reply.{Reply}
 use Rattle.synic_board.specs.declared.event.Reply.TheVariants.{Bytes}
@@ -16,14 +16,9 @@ pub record Entry : Type 0 where
   pub event : Event
   pub reply : Reply
 
--- the replies to a list of events
-abbrev pub replies : State → List Event → List Reply
-replies s [] = []
-replies s (event ∷ events) = (step s event).1 ∷ replies (step s event).0 events
-
--- A history is legal if its replies are those to its events.
+-- A history is legal if its replies are those of the run of its events.
 abbrev pub IsLegal : State → List Entry → Type 0
-IsLegal s history = map (λ (e : Entry). e.reply) history ≡ replies s (map (λ (e : Entry). e.event) history)
+IsLegal s history = map (λ (e : Entry). e.reply) history ≡ (run_of s (map (λ (e : Entry). e.event) history)).1
 
 -- the ranges of an entry's fields
 abbrev pub IsEntry : Entry → Type 0

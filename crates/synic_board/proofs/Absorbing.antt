@@ -10,7 +10,7 @@ use Rattle.board_terms.specs.declared.notices.Notice.{Notice}
 use Rattle.synic_board.specs.State.{State}
 use Rattle.synic_board.specs.Effects.{Effect, nothing, after, appended}
 use Rattle.synic_board.specs.Interrupts.{requested}
-use Rattle.synic_board.specs.Absorbing.{is_posted, absorbed_bit, absorbed_below}
+use Rattle.synic_board.specs.Absorbing.{absorbed_bit, absorbed_below}
 use Rattle.synic_board.proofs.Folds.{IsFold, fold_none, fold_more}
 
 absorbs : (p part bits : ℕ) → IsFold (λ s n. absorbed_below s p part bits n) (λ s i. absorbed_bit s p part bits i)

@@ -1,4 +1,4 @@
-pub mod laws
+pub mod keeping
 pub mod Rules
 pub mod Openings
 pub mod Overlays
@@ -10,3 +10,4 @@ pub mod Storing
 pub mod Telling
 pub mod Clocks
 pub mod Sizes
+pub mod Progress

@@ -13,5 +13,6 @@ pub mod Registers
 pub mod Step
 pub mod Replies
 pub mod Places
+pub mod Run
 pub mod Sound
 pub mod View

@@ -2,11 +2,10 @@
 use Rattle.std.specs.Prelude.{◌≡◌, ◌≢◌, ◌≤◌, ◌<◌, ◌*◌, ◌^◌, ℕ, length, None, Some, slice_index_or}
 use Rattle.std.specs.List.{All}
 use Rattle.board_terms.specs.declared.messages.Message.{Message}
-use Rattle.board_terms.specs.declared.messages.Message.TheVariants.{FromPort, FromTimer}
 use Rattle.board_terms.specs.declared.pages.Kind.TheVariants.{Sim}
 use Rattle.event_ports.specs.declared.ports.Port.{Port}
 use Rattle.event_ports.specs.Ports.{port_at}
-use Rattle.message_queues.specs.Image.{slot_type}
+use Rattle.message_queues.specs.Image.{type_of, FitsSlot, slot_type}
 use Rattle.gpa_space.specs.Space.{own_page}
 use Rattle.stimer_bank.specs.Bank.{dues}
 use Rattle.synic_board.specs.State.{State, processors, space_of, ports_of, bank_of, slot_of}
@@ -16,13 +15,12 @@ use Rattle.synic_board.specs.Places.{AreTickets}
 
 -- a message that may be queued: its type is not 0 and has 32 bits, and its payload fits
 abbrev pub IsMessage : Message → Type 0
-IsMessage (FromPort ticket port kind payload) = (kind ≢ 0) × (kind < 2 ^ 32) × (length payload.items ≤ 240)
-IsMessage (FromTimer ticket timer expiration) = Unit {0}
+IsMessage m = (type_of m ≢ 0) × (type_of m < 2 ^ 32) × FitsSlot m
 
--- an event that may be performed: the payload of a post fits, as its type has it
-abbrev pub IsEvent : Event → Type 0
-IsEvent (Post port kind payload) = length payload.items ≤ 240
-IsEvent _ = Unit {0}
+-- the payload of a post fits a message, as its type has it
+abbrev pub PayloadFits : Event → Type 0
+PayloadFits (Post port kind payload) = length payload.items ≤ 240
+PayloadFits _ = Unit {0}
 
 -- what a state with n processors has
 pub record IsWhole (n : ℕ) (s : State) : Type 0 where

@@ -106,10 +106,12 @@ impl Board {
     }
 
     /// Performs an event, leaves its notices in order in `notices`, and answers. It takes no memory.
-    /// Each accepted message is then queued, in a slot, consumed or withdrawn, exactly once.
+    /// Each accepted message is then queued, in a slot, consumed or withdrawn, exactly once, and no
+    /// ticket is given twice.
     pub fn perform(&mut self, event: &Event, notices: &mut Notices) -> Reply
         ensures step { (self.new.state, result, notices.new) ≡ step self.old.state event.now }
         ensures conserves { Conserves self.old.state self.new.state notices.new }
+        ensures later { self.old.state.next_ticket ≤ self.new.state.next_ticket }
         ensures rises { self.old.writes ≤ self.new.writes }
         ensures few { self.new.writes ≤ self.old.writes + (8 + length notices.new) }
     {

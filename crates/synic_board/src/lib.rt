@@ -3,9 +3,12 @@
 
 mod board;
 mod event;
+pub mod laws;
 mod machine;
+mod runs;
 mod summary;
 
 pub use board::{Board, OpenFault};
 pub use event::{Event, Reply};
+pub use runs::{Stopped, run};
 pub use summary::Summary;

@@ -3,7 +3,7 @@ ghost use Rattle.std.specs.Prelude.{◌≡◌, ◌<◌, ◌≤◌, ◌+◌, ◌�
 ghost use Rattle.synic_board.specs.State.{AreSizes, opened, processors};
 ghost use Rattle.synic_board.specs.Scratch.{scratch, kept, TellsOf};
 ghost use Rattle.synic_board.specs.Step.{step};
-ghost use Rattle.synic_board.specs.Sound.{IsEvent};
+ghost use Rattle.synic_board.specs.Sound.{PayloadFits};
 
 mod absorbing;
 mod delivery;
@@ -139,7 +139,7 @@ impl Machine {
     #[tactic(auto, unfolding(crate::specs::Step::step))]
     pub(crate) fn perform(&mut self, event: &Event, notices: &mut Notices) -> Reply
         ensures step { (self.new.state, result, notices.new) ≡ step self.old.state event.now }
-        ensures fits { IsEvent event.now }
+        ensures fits { PayloadFits event.now }
         ensures rises { self.old.writes ≤ self.new.writes }
         ensures few { self.new.writes ≤ self.old.writes + (8 + length notices.new) }
     {

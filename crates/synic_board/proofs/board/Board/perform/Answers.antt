@@ -1,7 +1,7 @@
-use Rattle.std.proofs.Common.{subst}
+use Rattle.std.proofs.Common.{◌≤◌, subst}
 use Rattle.synic_board.specs.State.{Held}
 use Rattle.synic_board.specs.Places.{Conserves}
-use Rattle.synic_board.proofs.laws.Steps.{sound, conserves}
+use Rattle.synic_board.proofs.keeping.Steps.{sound, conserves, later}
 use Rattle.synic_board.proofs.board.Board.perform.Goals as goal
 
 pub invariant_of-self : goal.invariant_of-self
@@ -9,3 +9,6 @@ invariant_of-self c = sound _ _ _ _ _ c.perform.ensures.fits c.perform.ensures.s
 
 pub returns-clause-conserves : goal.returns-clause-conserves
 returns-clause-conserves c = subst (λ (h : Held). Conserves h.state c.perform.new.self.state c.perform.new.notices) c.self.view_is (conserves _ _ _ _ _ c.perform.ensures.fits c.perform.ensures.step c.self.invariant)
+
+pub returns-clause-later : goal.returns-clause-later
+returns-clause-later c = subst (λ (h : Held). h.state.next_ticket ≤ c.perform.new.self.state.next_ticket) c.self.view_is (later _ _ _ _ _ c.perform.ensures.fits c.perform.ensures.step c.self.invariant)

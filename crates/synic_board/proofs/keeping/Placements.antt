@@ -18,9 +18,9 @@ use Rattle.synic_board.specs.State.{State, space_of, slot_of}
 use Rattle.synic_board.specs.Delivery.{placed_state, placed_head, placed_notices, placed}
 use Rattle.synic_board.specs.Places.{times, places}
 use Rattle.synic_board.specs.Sound.{IsWhole, IsFree, IsMessage}
-use Rattle.synic_board.proofs.laws.Counts.{in_queue, in_slot, one, times-places, in_queue-cons, given-none}
-use Rattle.synic_board.proofs.laws.Wholes.{IsKept, Keeps, EndsNone}
-use Rattle.synic_board.proofs.laws.Slots.{length-with_slot, fits-message, small-type, some-type, other_place}
+use Rattle.synic_board.proofs.keeping.Counts.{in_queue, in_slot, one, times-places, in_queue-cons, given-none}
+use Rattle.synic_board.proofs.keeping.Wholes.{IsIntact, Keeps, EndsNone}
+use Rattle.synic_board.proofs.keeping.Slots.{length-with_slot, other_place}
 
 -- the message page of a processor
 abbrev pub page_of : State → ℕ → List ℕ
@@ -44,7 +44,7 @@ placed-whole : (n : ℕ) (s : State) (p i : ℕ) (m : Message) (rest : List Mess
 placed-whole n s p i m rest h below under good more = record {
   registers = h.registers;
   own = length-set s.own (2 * p) (with_slot (page_of s p) i (image_of s m rest)) ∙ h.own;
-  pages = All-set (λ page. length page ≡ 4096) s.own (2 * p) (with_slot (page_of s p) i (image_of s m rest)) (length-with_slot (page_of s p) (image_of s m rest) i (page-long n s p h below) (length-image m (nat_lt 0 (length rest)) s.moment (fits-message m good)) under) h.pages;
+  pages = All-set (λ page. length page ≡ 4096) s.own (2 * p) (with_slot (page_of s p) i (image_of s m rest)) (length-with_slot (page_of s p) (image_of s m rest) i (page-long n s p h below) (length-image m (nat_lt 0 (length rest)) s.moment good.2) under) h.pages;
   queues = length-set s.queues (place_of p i) rest ∙ h.queues;
   slots = length-set s.slots (place_of p i) (Some (ticket_of m)) ∙ h.slots;
   ports = h.ports;
@@ -53,7 +53,7 @@ placed-whole n s p i m rest h below under good more = record {
 }
 
 -- the slots of other sources stay as they are, and that of the source is occupied
-free-other : (n : ℕ) (s : State) (p i q j : ℕ) (m : Message) (rest : List Message) → IsKept n s → p < n → i < 16 → q < n → j < 16 → IsMessage m → (p ≡ q → i ≢ j) → IsFree (placed_state s p i m rest) q j
+free-other : (n : ℕ) (s : State) (p i q j : ℕ) (m : Message) (rest : List Message) → IsIntact n s → p < n → i < 16 → q < n → j < 16 → IsMessage m → (p ≡ q → i ≢ j) → IsFree (placed_state s p i m rest) q j
 free-other n s p i q j m rest h below under within inside good apart e =
     get_or-set_other s.slots (place_of p i) (place_of q j) (Some (ticket_of m)) None (λ same. other_place p i q j under inside apart (sym same))
     ∙ h.empty q j within inside (sym (same_type (cases_eq q p)) ∙ e)
@@ -62,17 +62,17 @@ free-other n s p i q j m rest h below under within inside good apart e =
     same_type (inl same) =
         ap (λ k. slot_type (slice_index_or (slice_set s.own (2 * p) (with_slot (page_of s p) i (image_of s m rest))) (2 * k) []) j) same
         ∙ ap (λ page. slot_type page j) (get_or-set_same s.own (2 * p) (with_slot (page_of s p) i (image_of s m rest)) [] (omega (arith, h.whole.own)))
-        ∙ slot_type-other (page_of s p) (image_of s m rest) i j (page-long n s p h.whole below) (length-image m (nat_lt 0 (length rest)) s.moment (fits-message m good)) under inside (λ e. apart (sym same) (sym e))
+        ∙ slot_type-other (page_of s p) (image_of s m rest) i j (page-long n s p h.whole below) (length-image m (nat_lt 0 (length rest)) s.moment good.2) under inside (λ e. apart (sym same) (sym e))
         ∙ ap (λ k. slot_type (page_of s k) j) (sym same)
     same_type (inr ne) = ap (λ page. slot_type page j) (get_or-set_other s.own (2 * p) (2 * q) (with_slot (page_of s p) i (image_of s m rest)) [] (λ e. ne (omega (arith, e))))
 
-occupied : (n : ℕ) (s : State) (p i : ℕ) (m : Message) (rest : List Message) → IsKept n s → p < n → i < 16 → IsMessage m → slot_type (page_of (placed_state s p i m rest) p) i ≢ 0
+occupied : (n : ℕ) (s : State) (p i : ℕ) (m : Message) (rest : List Message) → IsIntact n s → p < n → i < 16 → IsMessage m → slot_type (page_of (placed_state s p i m rest) p) i ≢ 0
 occupied n s p i m rest h below under good e =
-    some-type m good
-    (sym (slot_type-written (page_of s p) i m (nat_lt 0 (length rest)) s.moment (page-long n s p h.whole below) under (fits-message m good) (small-type m good))
+    good.0
+    (sym (slot_type-written (page_of s p) i m (nat_lt 0 (length rest)) s.moment (page-long n s p h.whole below) under good.2 good.1)
     ∙ sym (ap (λ page. slot_type page i) (get_or-set_same s.own (2 * p) (with_slot (page_of s p) i (image_of s m rest)) [] (omega (arith, h.whole.own)))) ∙ e)
 
-placed-empty : (n : ℕ) (s : State) (p i : ℕ) (m : Message) (rest : List Message) → IsKept n s → p < n → i < 16 → IsMessage m → (q j : ℕ) → q < n → j < 16 → IsFree (placed_state s p i m rest) q j
+placed-empty : (n : ℕ) (s : State) (p i : ℕ) (m : Message) (rest : List Message) → IsIntact n s → p < n → i < 16 → IsMessage m → (q j : ℕ) → q < n → j < 16 → IsFree (placed_state s p i m rest) q j
 placed-empty n s p i m rest h below under good q j within inside = split (cases_eq p q) (cases_eq i j)
   where
     split : (p ≡ q) ⊎ (p ≢ q) → (i ≡ j) ⊎ (i ≢ j) → IsFree (placed_state s p i m rest) q j
@@ -95,7 +95,7 @@ no-ends : (ticket p i : ℕ) (pending : Bool) → EndsNone (placed_notices ticke
 no-ends ticket p i true t = refl
 no-ends ticket p i false t = refl
 
-keeps-head : (n : ℕ) (s : State) (p i : ℕ) (m : Message) (rest : List Message) → IsKept n s → p < n → i < 16 → queue_of s.queues p i ≡ m ∷ rest → slot_of s p i ≡ None → Keeps n s (placed_head s p i (m ∷ rest))
+keeps-head : (n : ℕ) (s : State) (p i : ℕ) (m : Message) (rest : List Message) → IsIntact n s → p < n → i < 16 → queue_of s.queues p i ≡ m ∷ rest → slot_of s p i ≡ None → Keeps n s (placed_head s p i (m ∷ rest))
 keeps-head n s p i m rest h below under is free =
     let good = tail-good m rest (subst (All IsMessage) is (queue-good n s p i h.whole below under)) in
     record {
@@ -105,7 +105,7 @@ keeps-head n s p i m rest h below under is free =
     }
 
 -- a message of a queue that is not empty is placed in an empty slot
-pub keeps-placed : (n : ℕ) (s : State) (p i : ℕ) → IsKept n s → p < n → i < 16 → nat_lt 0 (length (queue_of s.queues p i)) ≡ true → slot_type (page_of s p) i ≡ 0 → Keeps n s (placed s p i)
+pub keeps-placed : (n : ℕ) (s : State) (p i : ℕ) → IsIntact n s → p < n → i < 16 → nat_lt 0 (length (queue_of s.queues p i)) ≡ true → slot_type (page_of s p) i ≡ 0 → Keeps n s (placed s p i)
 keeps-placed n s p i h below under some empty = go (queue_of s.queues p i) refl some
   where
     go : (q : List Message) → queue_of s.queues p i ≡ q → nat_lt 0 (length q) ≡ true → Keeps n s (placed s p i)

@@ -10,7 +10,7 @@ use Rattle.synic_board.specs.State.{State, apic_of, regs_of, with_apic}
 use Rattle.synic_board.specs.Effects.{nothing}
 use Rattle.synic_board.specs.Interrupts.{requested, raised}
 use Rattle.synic_board.specs.Absorbing.{is_posted, absorbed_bit, absorbed_below}
-use Rattle.synic_board.proofs.laws.Wholes.{IsKept, Keeps, AreStill, keeps-still, keeps-nothing, keeps-after, kept-apic}
+use Rattle.synic_board.proofs.keeping.Wholes.{IsIntact, Keeps, AreStill, keeps-still, keeps-nothing, keeps-after, kept-apic}
 
 -- a choice, from both sides
 pub either : {X : Type 0} (P : X → Type 0) (b : Bool) (x y : X) → (b ≡ true → P x) → (b ≡ false → P y) → P (if b then x else y)
@@ -20,20 +20,20 @@ either P false x y p q = q refl
 pub still-apic : (s : State) (p : ℕ) (a : Apic) → AreStill s (with_apic s p a)
 still-apic s p a = record { queues = refl; slots = refl; next = refl }
 
-pub keeps-requested : (n : ℕ) (s : State) (p v : ℕ) → IsKept n s → Keeps n s (requested s p v)
+pub keeps-requested : (n : ℕ) (s : State) (p v : ℕ) → IsIntact n s → Keeps n s (requested s p v)
 keeps-requested n s p v h =
     either (Keeps n s) (set.contains (apic_of s p).requested v) _ _
     (λ _. keeps-nothing n s h)
     (λ _. keeps-still n s (with_apic s p (request (apic_of s p) v), Requested p v ∷ []) (kept-apic n s p (request (apic_of s p) v) h) (still-apic s p (request (apic_of s p) v)) (λ t. refl))
 
-pub keeps-raised : (n : ℕ) (s : State) (p i : ℕ) → IsKept n s → Keeps n s (raised s p i)
+pub keeps-raised : (n : ℕ) (s : State) (p i : ℕ) → IsIntact n s → Keeps n s (raised s p i)
 keeps-raised n s p i h = elim (raised_by (regs_of s p) i) as (λ o. Keeps n s (option_map_or (requested s p) o (nothing s))) [ None ↦ keeps-nothing n s h | Some v ↦ keeps-requested n s p v h ]
 
 -- posted vectors
-keeps-absorbed_bit : (n : ℕ) (s : State) (p part bits i : ℕ) → IsKept n s → Keeps n s (absorbed_bit s p part bits i)
+keeps-absorbed_bit : (n : ℕ) (s : State) (p part bits i : ℕ) → IsIntact n s → Keeps n s (absorbed_bit s p part bits i)
 keeps-absorbed_bit n s p part bits i h = either (Keeps n s) (is_posted part bits i) _ _ (λ _. keeps-requested n s p (64 * part + i) h) (λ _. keeps-nothing n s h)
 
-pub keeps-absorbed_below : (n : ℕ) (s : State) (p part bits i : ℕ) → IsKept n s → Keeps n s (absorbed_below s p part bits i)
+pub keeps-absorbed_below : (n : ℕ) (s : State) (p part bits i : ℕ) → IsIntact n s → Keeps n s (absorbed_below s p part bits i)
 unfolding absorbed_below
 keeps-absorbed_below n s p part bits zero h = keeps-nothing n s h
 keeps-absorbed_below n s p part bits (suc i) h =

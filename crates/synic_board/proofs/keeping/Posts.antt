@@ -21,10 +21,10 @@ use Rattle.synic_board.specs.declared.event.Reply.TheVariants.{Done, Accepted, R
 use Rattle.synic_board.specs.Interrupts.{raised}
 use Rattle.synic_board.specs.Delivery.{delivered}
 use Rattle.synic_board.specs.Posts.{with_port, opened_port, withdrawn, without_port, closed_at, closed, post_refusal, posted_at, posted, with_flag, flagged, signalled_place, signalled_at, signalled}
-use Rattle.synic_board.proofs.laws.Wholes.{IsKept, KeepsOutcome, AreStill, keeps-still, keeps-unchanged, keeps-after}
-use Rattle.synic_board.proofs.laws.Requests.{either, keeps-raised}
-use Rattle.synic_board.proofs.laws.Attempts.{keeps-delivered, keeps-withdrawn}
-use Rattle.synic_board.proofs.laws.Changes.{kept-port, kept-without_port, kept-flag}
+use Rattle.synic_board.proofs.keeping.Wholes.{IsIntact, KeepsOutcome, AreStill, keeps-still, keeps-unchanged, keeps-after}
+use Rattle.synic_board.proofs.keeping.Requests.{either, keeps-raised}
+use Rattle.synic_board.proofs.keeping.Attempts.{keeps-delivered, keeps-withdrawn}
+use Rattle.synic_board.proofs.keeping.Changes.{kept-port, kept-without_port, kept-flag}
 
 -- a port is opened only to a source of a processor on the board
 not-refused : (a b t f : Bool) (x y z : Refusal) → (if a then Some x else if b then Some y else if not (t && f) then Some z else None) ≡ None → t ≡ true
@@ -33,7 +33,7 @@ not-refused false true t f x y z e = absurd (cc)
 not-refused false false false f x y z e = absurd (cc)
 not-refused false false true f x y z e = refl
 
-pub keeps-opened_port : (n : ℕ) (s : State) (port p i : ℕ) (shape : PortShape) → IsKept n s → KeepsOutcome n s (opened_port s port p i shape)
+pub keeps-opened_port : (n : ℕ) (s : State) (port p i : ℕ) (shape : PortShape) → IsIntact n s → KeepsOutcome n s (opened_port s port p i shape)
 keeps-opened_port n s port p i shape h = judged (open_refusal (ports_of s) port p i shape) refl
   where
     judged : (o : Option Refusal) → open_refusal (ports_of s) port p i shape ≡ o → KeepsOutcome n s (option_map_or (refused s) o (unchanged (with_port s port (record { vp = p; sint = i; shape = shape })) Done))
@@ -44,7 +44,7 @@ keeps-opened_port n s port p i shape h = judged (open_refusal (ports_of s) port 
         let under : i < 16 = grind (arith, nat_tests) in
         keeps-still n s (with_port s port (record { vp = p; sint = i; shape = shape }), []) (kept-port n s port (record { vp = p; sint = i; shape = shape }) below under h) (record { queues = refl; slots = refl; next = refl }) (λ t. refl)
 
-pub keeps-closed : (n : ℕ) (s : State) (port : ℕ) → IsKept n s → KeepsOutcome n s (closed s port)
+pub keeps-closed : (n : ℕ) (s : State) (port : ℕ) → IsIntact n s → KeepsOutcome n s (closed s port)
 keeps-closed n s port h = found (port_at (ports_of s) port) refl
   where
     found : (o : Option Port) → port_at (ports_of s) port ≡ o → KeepsOutcome n s (closed_at s port (option_map_or (λ p. Ok p) o (Err UnknownPort)))
@@ -61,7 +61,7 @@ some-kind kind e z = absurd (grind (arith, nat_tests))
 small-kind : (kind : ℕ) → is_posted_type kind ≡ true → kind < 2 ^ 32
 small-kind kind e = let low : kind < 0x80000000 = grind (arith, nat_tests) in omega arith
 
-pub keeps-posted : (n : ℕ) (s : State) (port kind : ℕ) (payload : ArrayVec ℕ) → length payload.items ≤ 240 → IsKept n s → KeepsOutcome n s (posted s port kind payload)
+pub keeps-posted : (n : ℕ) (s : State) (port kind : ℕ) (payload : ArrayVec ℕ) → length payload.items ≤ 240 → IsIntact n s → KeepsOutcome n s (posted s port kind payload)
 keeps-posted n s port kind payload size h = found (port_at (ports_of s) port) refl
   where
     judged : (p : Port) → port_at (ports_of s) port ≡ Some p → is_posted_type kind ≡ true → KeepsOutcome n s (posted_at s port kind payload (Ok p))
@@ -78,7 +78,7 @@ keeps-posted n s port kind payload size h = found (port_at (ports_of s) port) re
     found None is = keeps-unchanged n s (Refused UnknownPort) h
     found (Some p) is = shaped p is p.shape
 
-keeps-signalled_place : (n : ℕ) (s : State) (p i flag : ℕ) → IsKept n s → p < n → KeepsOutcome n s (signalled_place s (p, i, flag))
+keeps-signalled_place : (n : ℕ) (s : State) (p i flag : ℕ) → IsIntact n s → p < n → KeepsOutcome n s (signalled_place s (p, i, flag))
 keeps-signalled_place n s p i flag h below =
     let quiet : AreStill s (with_flag s p i flag) = record { queues = refl; slots = refl; next = refl } in
     either (KeepsOutcome n s) (not (has (regs_of s p).control enable && has (regs_of s p).sief enable)) _ _
@@ -88,7 +88,7 @@ keeps-signalled_place n s p i flag h below =
     (λ _. let first = keeps-still n s (with_flag s p i flag, FlagSet p i flag ∷ []) (kept-flag n s p i flag below h) quiet (λ t. refl) in
     keeps-after n s (flagged s p i flag) (raised (with_flag s p i flag) p i) first (keeps-raised n (with_flag s p i flag) p i first.kept)))
 
-pub keeps-signalled : (n : ℕ) (s : State) (port flag : ℕ) → IsKept n s → KeepsOutcome n s (signalled s port flag)
+pub keeps-signalled : (n : ℕ) (s : State) (port flag : ℕ) → IsIntact n s → KeepsOutcome n s (signalled s port flag)
 keeps-signalled n s port flag h = found (port_at (ports_of s) port) refl
   where
     shaped : (p : Port) → port_at (ports_of s) port ≡ Some p → (shape : PortShape) → KeepsOutcome n s (signalled_at s (flag_place_at flag p shape))

@@ -2,28 +2,13 @@
 use Rattle.std.proofs.Common.{◌≡◌, ◌≢◌, ℕ, ◌+◌, ◌*◌, ◌^◌, ◌<◌, List, ◌++◌, length, take, drop, refl, sym, arith, length-append, length-take, length-drop}
 use Rattle.std.specs.Prelude.{slice_index_or, bit_or}
 use Rattle.std.proofs.lemmas.List.{get_or-set_other}
-use Rattle.board_terms.specs.declared.messages.Message.{Message}
-use Rattle.board_terms.specs.declared.messages.Message.TheVariants.{FromPort, FromTimer}
 use Rattle.message_queues.specs.Queues.{place_of}
-use Rattle.message_queues.specs.Image.{type_of, FitsSlot, slot_type}
+use Rattle.message_queues.specs.Image.{slot_type}
 use Rattle.gpa_space.specs.Page.{with_slot, with_bit, pending_place}
-use Rattle.synic_board.specs.Sound.{IsMessage}
 
 pub length-with_slot : (page bytes : List ℕ) (i : ℕ) → length page ≡ 4096 → length bytes ≡ 256 → i < 16 → length (with_slot page i bytes) ≡ 4096
 length-with_slot page bytes i l size below =
     omega (arith, length-append (take (256 * i) page ++ bytes) (drop (256 * i + 256) page), length-append (take (256 * i) page) bytes, length-take (256 * i) page, length-drop (256 * i + 256) page)
-
-pub fits-message : (m : Message) → IsMessage m → FitsSlot m
-fits-message (FromPort ticket port kind payload) h = h.2
-fits-message (FromTimer ticket timer expiration) h = tt
-
-pub small-type : (m : Message) → IsMessage m → type_of m < 2 ^ 32
-small-type (FromPort ticket port kind payload) h = h.1
-small-type (FromTimer ticket timer expiration) h = omega arith
-
-pub some-type : (m : Message) → IsMessage m → type_of m ≢ 0
-some-type (FromPort ticket port kind payload) h = h.0
-some-type (FromTimer ticket timer expiration) h = λ e. omega (arith, e)
 
 -- a bit of another byte
 pub slot_type-bit : (page : List ℕ) (at bit i : ℕ) → (at ≢ 256 * i + 0) × (at ≢ 256 * i + 1) × (at ≢ 256 * i + 2) × (at ≢ 256 * i + 3) → slot_type (with_bit page at bit) i ≡ slot_type page i

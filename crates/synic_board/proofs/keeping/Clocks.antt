@@ -15,11 +15,11 @@ use Rattle.synic_board.specs.State.{State, bank_of, with_bank}
 use Rattle.synic_board.specs.declared.event.Reply.TheVariants.{Done, Refused}
 use Rattle.synic_board.specs.Timers.{mode_at, is_ready_for, is_ready, expired_notices, skipped_notices, expiry_notices, told_by, signalled_by, expired_state, expiry_at, fired, attempted, attempted_all, written_timer, at_moment, ticked}
 use Rattle.synic_board.specs.Places.{ended}
-use Rattle.synic_board.proofs.laws.Counts.{ended-append}
-use Rattle.synic_board.proofs.laws.Wholes.{IsKept, Keeps, KeepsOutcome, EndsNone, keeps-still, keeps-nothing, keeps-unchanged, keeps-after}
-use Rattle.synic_board.proofs.laws.Requests.{either, keeps-requested}
-use Rattle.synic_board.proofs.laws.Attempts.{keeps-delivered}
-use Rattle.synic_board.proofs.laws.Changes.{kept-timer, kept-moment}
+use Rattle.synic_board.proofs.keeping.Counts.{ended-append}
+use Rattle.synic_board.proofs.keeping.Wholes.{IsIntact, Keeps, KeepsOutcome, EndsNone, keeps-still, keeps-nothing, keeps-unchanged, keeps-after}
+use Rattle.synic_board.proofs.keeping.Requests.{either, keeps-requested}
+use Rattle.synic_board.proofs.keeping.Attempts.{keeps-delivered}
+use Rattle.synic_board.proofs.keeping.Changes.{kept-timer, kept-moment}
 
 -- a timer that is due is one of a processor on the board
 due-at : (timers : List Timer) (k : ℕ) → slice_index_or (map (λ (x : Timer). x.due) timers) k None ≡ (slice_index_or timers k idle_timer).due
@@ -27,7 +27,7 @@ due-at [] k = refl
 due-at (x ∷ timers) zero = refl
 due-at (x ∷ timers) (suc k) = due-at timers k
 
-due-on : (n : ℕ) (s : State) (t : ℕ × ℕ) → IsKept n s → is_due (timer_in (bank_of s) t) s.moment ≡ true → number_of t < 4 * n
+due-on : (n : ℕ) (s : State) (t : ℕ × ℕ) → IsIntact n s → is_due (timer_in (bank_of s) t) s.moment ≡ true → number_of t < 4 * n
 due-on n s t h due = split (cases_lt (number_of t) (4 * n))
   where
     split : (number_of t < 4 * n) ⊎ (4 * n ≤ number_of t) → number_of t < 4 * n
@@ -55,15 +55,15 @@ Names (Posted i) = i < 16
 mode-names : (config : ℕ) → Names (mode_of config)
 mode-names config = either Names (is_direct config) (Direct (vector_of config)) (Posted (sint_of config)) (λ _. tt) (λ _. omega arith)
 
-keeps-told : (n : ℕ) (s : State) (t : ℕ × ℕ) (mode : Mode) (d : ℕ) → IsKept n s → t.0 < n → Names mode → Keeps n s (told_by s t mode d)
+keeps-told : (n : ℕ) (s : State) (t : ℕ × ℕ) (mode : Mode) (d : ℕ) → IsIntact n s → t.0 < n → Names mode → Keeps n s (told_by s t mode d)
 keeps-told n s t (Direct v) d h below names = keeps-requested n s t.0 v h
-keeps-told n s t (Posted i) d h below names = keeps-delivered n s t.0 i (FromTimer s.next_ticket t d) h below names tt refl
+keeps-told n s t (Posted i) d h below names = keeps-delivered n s t.0 i (FromTimer s.next_ticket t d) h below names ((λ e. omega (arith, e)), omega arith, tt) refl
 
-keeps-signal : (n : ℕ) (s : State) (t : ℕ × ℕ) (mode : Mode) (o : Option ℕ) → IsKept n s → t.0 < n → Names mode → Keeps n s (signalled_by s t mode o)
+keeps-signal : (n : ℕ) (s : State) (t : ℕ × ℕ) (mode : Mode) (o : Option ℕ) → IsIntact n s → t.0 < n → Names mode → Keeps n s (signalled_by s t mode o)
 keeps-signal n s t mode None h below names = keeps-nothing n s h
 keeps-signal n s t mode (Some d) h below names = keeps-told n s t mode d h below names
 
-keeps-fired : (n : ℕ) (s : State) (t : ℕ × ℕ) (mode : Mode) → IsKept n s → number_of t < 4 * n → Names mode → Keeps n s (fired s t mode)
+keeps-fired : (n : ℕ) (s : State) (t : ℕ × ℕ) (mode : Mode) → IsIntact n s → number_of t < 4 * n → Names mode → Keeps n s (fired s t mode)
 keeps-fired n s t mode h low names =
     let now : State = expired_state s t in
     let told = expiry_notices t (expiry_at s t).signal (expiry_at s t).skipped in
@@ -74,33 +74,33 @@ first-of : (a b : Bool) → (a && b) ≡ true → a ≡ true
 first-of true b e = refl
 first-of false b e = absurd (cc)
 
-pub keeps-attempted : (n : ℕ) (s : State) (t : ℕ × ℕ) → IsKept n s → Keeps n s (attempted s t)
+pub keeps-attempted : (n : ℕ) (s : State) (t : ℕ × ℕ) → IsIntact n s → Keeps n s (attempted s t)
 unfolding attempted
 keeps-attempted n s t h =
     either (Keeps n s) (is_ready s t) _ _
     (λ ready. keeps-fired n s t (mode_at s t) h (due-on n s t h (first-of (is_due (timer_in (bank_of s) t) s.moment) (is_ready_for s t (mode_at s t)) ready)) (mode-names (timer_in (bank_of s) t).config))
     (λ _. keeps-nothing n s h)
 
-keeps-attempted_all : (n : ℕ) (s : State) (ts : List (ℕ × ℕ)) → IsKept n s → Keeps n s (attempted_all s ts)
+keeps-attempted_all : (n : ℕ) (s : State) (ts : List (ℕ × ℕ)) → IsIntact n s → Keeps n s (attempted_all s ts)
 unfolding attempted_all
 keeps-attempted_all n s [] h = keeps-nothing n s h
 keeps-attempted_all n s (t ∷ ts) h =
     let first = keeps-attempted n s t h in
     keeps-after n s (attempted s t) (attempted_all (attempted s t).0 ts) first (keeps-attempted_all n (attempted s t).0 ts first.kept)
 
-keeps-written : (n : ℕ) (s : State) (t : ℕ × ℕ) (x : Timer) → number_of t < 4 * n → IsKept n s → KeepsOutcome n s (written_timer s (with_timer (bank_of s) t x) t)
+keeps-written : (n : ℕ) (s : State) (t : ℕ × ℕ) (x : Timer) → number_of t < 4 * n → IsIntact n s → KeepsOutcome n s (written_timer s (with_timer (bank_of s) t x) t)
 keeps-written n s t x low h =
     let now : State = with_bank s (with_timer (bank_of s) t x) in
     let first = keeps-still n s (now, []) (kept-timer n s t x low h) (record { queues = refl; slots = refl; next = refl }) (λ _. refl) in
     keeps-after n s (now, []) (attempted now t) first (keeps-attempted n now t first.kept)
 
-pub keeps-written_config : (n : ℕ) (s : State) (t : ℕ × ℕ) (value : ℕ) → number_of t < 4 * n → IsKept n s → KeepsOutcome n s (written_timer s (with_config (bank_of s) t value s.moment) t)
+pub keeps-written_config : (n : ℕ) (s : State) (t : ℕ × ℕ) (value : ℕ) → number_of t < 4 * n → IsIntact n s → KeepsOutcome n s (written_timer s (with_config (bank_of s) t value s.moment) t)
 keeps-written_config n s t value low h = keeps-written n s t (after_config (timer_in (bank_of s) t) value s.moment) low h
 
-pub keeps-written_count : (n : ℕ) (s : State) (t : ℕ × ℕ) (value : ℕ) → number_of t < 4 * n → IsKept n s → KeepsOutcome n s (written_timer s (with_count (bank_of s) t value s.moment) t)
+pub keeps-written_count : (n : ℕ) (s : State) (t : ℕ × ℕ) (value : ℕ) → number_of t < 4 * n → IsIntact n s → KeepsOutcome n s (written_timer s (with_count (bank_of s) t value s.moment) t)
 keeps-written_count n s t value low h = keeps-written n s t (after_count (timer_in (bank_of s) t) value s.moment) low h
 
-pub keeps-ticked : (n : ℕ) (s : State) (moment : ℕ) → IsKept n s → KeepsOutcome n s (ticked s moment)
+pub keeps-ticked : (n : ℕ) (s : State) (moment : ℕ) → IsIntact n s → KeepsOutcome n s (ticked s moment)
 keeps-ticked n s moment h =
     let now : State = at_moment s moment in
     let ts : List (ℕ × ℕ) = due_list (dues (bank_of s)) moment in

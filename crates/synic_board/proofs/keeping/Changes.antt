@@ -17,9 +17,9 @@ use Rattle.synic_board.specs.State.{State, space_of, bank_of, with_regs, with_ba
 use Rattle.synic_board.specs.Posts.{with_port, without_port, with_flag}
 use Rattle.synic_board.specs.Timers.{at_moment}
 use Rattle.synic_board.proofs.Clocks.{idle-written}
-use Rattle.synic_board.proofs.laws.Wholes.{IsKept}
+use Rattle.synic_board.proofs.keeping.Wholes.{IsIntact}
 
-pub kept-regs : (n : ℕ) (s : State) (p : ℕ) (r : Regs) → IsKept n s → IsKept n (with_regs s p r)
+pub kept-regs : (n : ℕ) (s : State) (p : ℕ) (r : Regs) → IsIntact n s → IsIntact n (with_regs s p r)
 kept-regs n s p r h = record {
   count = h.count;
   whole = record {
@@ -35,7 +35,7 @@ kept-regs n s p r h = record {
   empty = h.empty;
 }
 
-pub kept-moment : (n : ℕ) (s : State) (moment : ℕ) → IsKept n s → IsKept n (at_moment s moment)
+pub kept-moment : (n : ℕ) (s : State) (moment : ℕ) → IsIntact n s → IsIntact n (at_moment s moment)
 kept-moment n s moment h = record {
   count = h.count;
   whole = record {
@@ -52,7 +52,7 @@ kept-moment n s moment h = record {
 }
 
 -- a timer of a processor on the board
-pub kept-timer : (n : ℕ) (s : State) (t : ℕ × ℕ) (x : Timer) → number_of t < 4 * n → IsKept n s → IsKept n (with_bank s (with_timer (bank_of s) t x))
+pub kept-timer : (n : ℕ) (s : State) (t : ℕ × ℕ) (x : Timer) → number_of t < 4 * n → IsIntact n s → IsIntact n (with_bank s (with_timer (bank_of s) t x))
 kept-timer n s t x low h = record {
   count = h.count;
   whole = record {
@@ -80,7 +80,7 @@ written-at {A} xs k m x y e = split (cases_eq m k) (cases_lt k (length xs))
 abbrev IsReached : ℕ → Port → Type 0
 IsReached n p = (p.vp < n) × (p.sint < 16)
 
-kept-ports : (n : ℕ) (s : State) (ports : List (Option Port)) → ((k : ℕ) (p : Port) → slice_index_or ports k None ≡ Some p → IsReached n p) → IsKept n s → IsKept n (record s { ports = ports })
+kept-ports : (n : ℕ) (s : State) (ports : List (Option Port)) → ((k : ℕ) (p : Port) → slice_index_or ports k None ≡ Some p → IsReached n p) → IsIntact n s → IsIntact n (record s { ports = ports })
 kept-ports n s ports reached h = record {
   count = h.count;
   whole = record {
@@ -96,14 +96,14 @@ kept-ports n s ports reached h = record {
   empty = h.empty;
 }
 
-pub kept-port : (n : ℕ) (s : State) (port : ℕ) (p : Port) → p.vp < n → p.sint < 16 → IsKept n s → IsKept n (with_port s port p)
+pub kept-port : (n : ℕ) (s : State) (port : ℕ) (p : Port) → p.vp < n → p.sint < 16 → IsIntact n s → IsIntact n (with_port s port p)
 kept-port n s port p below under h = kept-ports n s (slice_set s.ports port (Some p)) (λ k q e. from k q (written-at s.ports port k (Some p) q e)) h
   where
     from : (k : ℕ) (q : Port) → (Some p ≡ Some q) ⊎ (slice_index_or s.ports k None ≡ Some q) → IsReached n q
     from k q (inl same) = let is : p ≡ q = cc in subst (IsReached n) is (below, under)
     from k q (inr old) = h.whole.ports k q old
 
-pub kept-without_port : (n : ℕ) (s : State) (port : ℕ) → IsKept n s → IsKept n (without_port s port)
+pub kept-without_port : (n : ℕ) (s : State) (port : ℕ) → IsIntact n s → IsIntact n (without_port s port)
 kept-without_port n s port h = kept-ports n s (slice_set s.ports port None) (λ k q e. from k q (written-at s.ports port k None q e)) h
   where
     from : (k : ℕ) (q : Port) → (None ≡ Some q) ⊎ (slice_index_or s.ports k None ≡ Some q) → IsReached n q
@@ -111,7 +111,7 @@ kept-without_port n s port h = kept-ports n s (slice_set s.ports port None) (λ 
     from k q (inr old) = h.whole.ports k q old
 
 -- a page of event flags has no message slots
-pub kept-flag : (n : ℕ) (s : State) (p i flag : ℕ) → p < n → IsKept n s → IsKept n (with_flag s p i flag)
+pub kept-flag : (n : ℕ) (s : State) (p i flag : ℕ) → p < n → IsIntact n s → IsIntact n (with_flag s p i flag)
 kept-flag n s p i flag below h = record {
   count = h.count;
   whole = record {

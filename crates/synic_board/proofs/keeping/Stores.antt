@@ -22,11 +22,11 @@ use Rattle.synic_board.specs.Stores.{consumed_ticket, consumed, consumed_below, 
 use Rattle.synic_board.specs.declared.event.Reply.TheVariants.{Refused}
 use Rattle.synic_board.specs.Places.{ended, Conserves}
 use Rattle.synic_board.proofs.Overlays.{length-overlays}
-use Rattle.synic_board.proofs.laws.Counts.{in_slot, one, times-places, given-none}
+use Rattle.synic_board.proofs.keeping.Counts.{in_slot, one, times-places, given-none}
 use Rattle.synic_board.specs.Sound.{IsWhole, IsFree}
-use Rattle.synic_board.proofs.laws.Wholes.{IsKept, Keeps, AreStill, KeepsOutcome, keeps-unchanged, still, conserves-after}
-use Rattle.synic_board.proofs.laws.Requests.{either}
-use Rattle.synic_board.proofs.laws.Placements.{page_of}
+use Rattle.synic_board.proofs.keeping.Wholes.{IsIntact, Keeps, AreStill, KeepsOutcome, keeps-unchanged, still, conserves-after}
+use Rattle.synic_board.proofs.keeping.Requests.{either}
+use Rattle.synic_board.proofs.keeping.Placements.{page_of}
 
 -- the slots of processor p from number i on may be empty and hold a ticket still
 record IsPartly (n p i : ℕ) (s : State) : Type 0 where
@@ -137,10 +137,10 @@ own-whole n s k page h l = record {
 }
 
 -- the slots of another page
-own-other : (n : ℕ) (s : State) (k q j : ℕ) (page : List ℕ) → IsKept n s → q < n → j < 16 → 2 * q ≢ k → IsFree (with_own s k page) q j
+own-other : (n : ℕ) (s : State) (k q j : ℕ) (page : List ℕ) → IsIntact n s → q < n → j < 16 → 2 * q ≢ k → IsFree (with_own s k page) q j
 own-other n s k q j page h within inside ne z = h.empty q j within inside (sym (ap (λ x. slot_type x j) (get_or-set_other s.own k (2 * q) page [] ne)) ∙ z)
 
-keeps-own : (n : ℕ) (s : State) (k : ℕ) (page : List ℕ) → IsKept n s → k < 2 * n → length page ≡ 4096 → Keeps n s (consumed_in (with_own s k page) (overlay_owner k))
+keeps-own : (n : ℕ) (s : State) (k : ℕ) (page : List ℕ) → IsIntact n s → k < 2 * n → length page ≡ 4096 → Keeps n s (consumed_in (with_own s k page) (overlay_owner k))
 keeps-own n s k page h low l =
     either (λ o. Keeps n s (consumed_in (with_own s k page) o)) (k % 2 == 0) _ _
     (λ e. keeps-consumed n s (with_own s k page) (k / 2) (record { queues = refl; slots = refl; next = refl })
@@ -152,7 +152,7 @@ keeps-own n s k page h low l =
       conserves = still s (with_own s k page) [] (record { queues = refl; slots = refl; next = refl }) (λ t. refl);
     })
 
-guest-kept : (n : ℕ) (s : State) (pages : List (List ℕ)) → IsKept n s → IsKept n (record s { pages = pages })
+guest-kept : (n : ℕ) (s : State) (pages : List (List ℕ)) → IsIntact n s → IsIntact n (record s { pages = pages })
 guest-kept n s pages h = record {
   count = h.count;
   whole = record {
@@ -174,7 +174,7 @@ store_at s page at bytes o =
     let stored : List ℕ = overwritten (option_map_or (λ overlay. slice_index_or s.own overlay []) o (slice_index_or s.pages page [])) at bytes in
     option_map_or (λ overlay. record (space_of s) { own = slice_set s.own overlay stored }) o (record (space_of s) { pages = slice_set s.pages page stored })
 
-keeps-store_at : (n : ℕ) (s : State) (page at : ℕ) (bytes : List ℕ) → IsKept n s → at + length bytes ≤ 4096 → nat_lt page (length s.pages) ≡ true → (o : Option ℕ) → visible (space_of s) page ≡ o →
+keeps-store_at : (n : ℕ) (s : State) (page at : ℕ) (bytes : List ℕ) → IsIntact n s → at + length bytes ≤ 4096 → nat_lt page (length s.pages) ≡ true → (o : Option ℕ) → visible (space_of s) page ≡ o →
     Keeps n s (consumed_in (with_space s (store_at s page at bytes o)) (if nat_lt page (length s.pages) then option_map_or overlay_owner o Guest else Nothing))
 keeps-store_at n s page at bytes h fits inside o is = rw inside (seen o is)
   where
@@ -194,7 +194,7 @@ fits-page s address count none = grind (arith, nat_tests)
 in-space : (s : Space) (address count : ℕ) → refusal_of s address count ≡ None → nat_lt (address / 4096) (length s.pages) ≡ true
 in-space s address count none = grind (arith, nat_tests)
 
-pub keeps-stored_bytes : (n : ℕ) (s : State) (address : ℕ) (bytes : List ℕ) → IsKept n s → KeepsOutcome n s (stored_bytes s address bytes)
+pub keeps-stored_bytes : (n : ℕ) (s : State) (address : ℕ) (bytes : List ℕ) → IsIntact n s → KeepsOutcome n s (stored_bytes s address bytes)
 keeps-stored_bytes n s address bytes h = judged (refusal_of (space_of s) address (length bytes)) refl
   where
     judged : (o : Option Refusal) → refusal_of (space_of s) address (length bytes) ≡ o → KeepsOutcome n s (stored_bytes s address bytes)

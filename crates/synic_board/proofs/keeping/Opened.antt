@@ -14,8 +14,8 @@ use Rattle.synic_board.specs.State.{opened}
 use Rattle.synic_board.specs.Places.{times, places}
 use Rattle.synic_board.specs.Sound.{IsSound, IsMessage}
 use Rattle.synic_board.proofs.Openings.{idle-opened}
-use Rattle.synic_board.proofs.laws.Counts.{in_queue, in_slot, times-places}
-use Rattle.synic_board.proofs.laws.Wholes.{IsKept, sound_from_kept}
+use Rattle.synic_board.proofs.keeping.Counts.{in_queue, in_slot, times-places}
+use Rattle.synic_board.proofs.keeping.Wholes.{IsIntact, sound_from_kept}
 
 -- nothing stands anywhere in a list of nothing
 none-at : {A : Type 0} (n k : ℕ) → slice_index_or {A = Option A} (replicate n None) k None ≡ None
@@ -23,7 +23,7 @@ none-at zero k = refl
 none-at (suc n) zero = refl
 none-at (suc n) (suc k) = none-at n k
 
-kept-opened : (n pages ticket : ℕ) → IsKept n (opened n pages ticket)
+kept-opened : (n pages ticket : ℕ) → IsIntact n (opened n pages ticket)
 kept-opened n pages ticket = record {
   count = length-replicate n empty_apic;
   whole = record {
@@ -39,7 +39,7 @@ kept-opened n pages ticket = record {
   empty = λ p i below under z. none-at (16 * n) (place_of p i);
 }
 
-no-places : (n pages ticket t : ℕ) → times t (places (opened n pages ticket)) ≡ 0
+pub no-places : (n pages ticket t : ℕ) → times t (places (opened n pages ticket)) ≡ 0
 no-places n pages ticket t = omega (arith, times-places t (opened n pages ticket), sum_by-replicate (in_queue t) (16 * n) [], sum_by-replicate (in_slot t) (16 * n) None)
 
 pub sound-opened : (n pages ticket : ℕ) → IsSound (opened n pages ticket)

@@ -8,23 +8,23 @@ use Rattle.synic_board.specs.declared.event.Reply.{Reply}
 use Rattle.synic_board.specs.Effects.{Effect, Outcome, nothing, after, unchanged}
 use Rattle.synic_board.specs.Places.{places, times, ended, Conserves, AreTickets}
 use Rattle.synic_board.specs.Sound.{IsWhole, IsFree, IsSound}
-use Rattle.synic_board.proofs.laws.Counts.{in_queues, in_slots, times-places, ended-append, given-after, given-none, given-low, given-high, given-le}
+use Rattle.synic_board.proofs.keeping.Counts.{in_queues, in_slots, times-places, ended-append, given-after, given-none, given-low, given-high, given-le}
 
 -- a state with n processors is sound, apart from its tickets
-pub record IsKept (n : ℕ) (s : State) : Type 0 where
+pub record IsIntact (n : ℕ) (s : State) : Type 0 where
   pub count : processors s ≡ n
   pub whole : IsWhole n s
   pub empty : (p i : ℕ) → p < n → i < 16 → IsFree s p i
 
-pub kept_from_sound : (s : State) → IsSound s → IsKept (processors s) s
+pub kept_from_sound : (s : State) → IsSound s → IsIntact (processors s) s
 kept_from_sound s h = record { count = refl; whole = h.whole; empty = h.empty }
 
-pub sound_from_kept : (n : ℕ) (s : State) → IsKept n s → AreTickets s → IsSound s
-sound_from_kept n s kept tickets = let h = subst (λ k. IsKept k s) (sym kept.count) kept in record { whole = h.whole; empty = h.empty; tickets = tickets }
+pub sound_from_kept : (n : ℕ) (s : State) → IsIntact n s → AreTickets s → IsSound s
+sound_from_kept n s kept tickets = let h = subst (λ k. IsIntact k s) (sym kept.count) kept in record { whole = h.whole; empty = h.empty; tickets = tickets }
 
 -- an effect conserves the messages and keeps the rest
 pub record Keeps (n : ℕ) (s : State) (e : Effect) : Type 0 where
-  pub kept : IsKept n e.0
+  pub kept : IsIntact n e.0
   pub later : s.next_ticket ≤ e.0.next_ticket
   pub conserves : Conserves s e.0 e.1
 
@@ -42,17 +42,17 @@ pub still : (s now : State) (notices : List Notice) → AreStill s now → EndsN
 still s now notices same none t =
     omega (arith, times-places t s, times-places t now, none t, given-none t s now same.next, ap (in_queues t) same.queues, ap (in_slots t) same.slots)
 
-pub keeps-still : (n : ℕ) (s : State) (e : Effect) → IsKept n e.0 → AreStill s e.0 → EndsNone e.1 → Keeps n s e
+pub keeps-still : (n : ℕ) (s : State) (e : Effect) → IsIntact n e.0 → AreStill s e.0 → EndsNone e.1 → Keeps n s e
 keeps-still n s e h same none = record { kept = h; later = omega (arith, same.next); conserves = still s e.0 e.1 same none }
 
-pub keeps-nothing : (n : ℕ) (s : State) → IsKept n s → Keeps n s (nothing s)
+pub keeps-nothing : (n : ℕ) (s : State) → IsIntact n s → Keeps n s (nothing s)
 keeps-nothing n s h = keeps-still n s (nothing s) h (record { queues = refl; slots = refl; next = refl }) (λ t. refl)
 
 -- an outcome, apart from its reply
 abbrev pub KeepsOutcome : ℕ → State → Outcome → Type 0
 KeepsOutcome n s o = Keeps n s (o.0, o.2)
 
-pub keeps-unchanged : (n : ℕ) (s : State) (reply : Reply) → IsKept n s → KeepsOutcome n s (unchanged s reply)
+pub keeps-unchanged : (n : ℕ) (s : State) (reply : Reply) → IsIntact n s → KeepsOutcome n s (unchanged s reply)
 keeps-unchanged n s reply h = keeps-nothing n s h
 
 -- one effect after another
@@ -77,7 +77,7 @@ tickets-conserved s now notices later conserves tickets = record { once = once; 
     given_before t h = omega (arith, conserves t, tickets.given_before t (omega arith), given-high t s now h)
 
 -- another local APIC
-pub kept-apic : (n : ℕ) (s : State) (p : ℕ) (a : Apic) → IsKept n s → IsKept n (with_apic s p a)
+pub kept-apic : (n : ℕ) (s : State) (p : ℕ) (a : Apic) → IsIntact n s → IsIntact n (with_apic s p a)
 kept-apic n s p a h = record {
   count = length-set s.apics p a ∙ h.count;
   whole = record {

@@ -11,4 +11,5 @@ pub mod Posts
 pub mod Clocks
 pub mod Steps
 pub mod Opened
+pub mod Runs
 pub mod Replies

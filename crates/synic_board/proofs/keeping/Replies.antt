@@ -29,7 +29,7 @@ use Rattle.synic_board.specs.Posts.{with_port, closed_at, post_refusal, posted_a
 use Rattle.synic_board.specs.Stores.{with_bytes, consumed_in, load_reply, read_bytes}
 use Rattle.synic_board.specs.Step.{step}
 use Rattle.synic_board.specs.Replies.{IsReply}
-use Rattle.synic_board.proofs.laws.Requests.{either}
+use Rattle.synic_board.proofs.keeping.Requests.{either}
 
 -- the reply of an outcome
 record Fits (outcome : Outcome) : Type 0 where

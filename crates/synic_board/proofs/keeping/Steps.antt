@@ -1,5 +1,5 @@
 -- What every event keeps.
-use Rattle.std.proofs.Common.{◌≡◌, ℕ, ◌%◌, ◌<◌, List, [], refl, sym, subst, arith, nat_lt}
+use Rattle.std.proofs.Common.{◌≡◌, ℕ, ◌%◌, ◌<◌, ◌≤◌, List, [], refl, sym, subst, arith, nat_lt}
 use Rattle.std.specs.Prelude.{Option, None, Some, nat_le}
 use Rattle.std.specs.Option.{option_map_or}
 use Rattle.std.proofs.lemmas.Bool.Decides.{nat_tests}
@@ -18,27 +18,27 @@ use Rattle.synic_board.specs.declared.event.Reply.TheVariants.{Done, GeneralProt
 use Rattle.synic_board.specs.State.{State, processors, apic_of, regs_of, with_apic, with_regs}
 use Rattle.synic_board.specs.Effects.{Outcome, at_processor, answered, unchanged}
 use Rattle.synic_board.specs.Interrupts.{requested, taken_at, taken, ended, with_priority}
-use Rattle.synic_board.specs.Absorbing.{absorbed, absorbed_below}
+use Rattle.synic_board.specs.Absorbing.{absorbed}
 use Rattle.synic_board.specs.Registers.{stored, written_register, written, read}
 use Rattle.synic_board.specs.Stores.{read_bytes}
 use Rattle.synic_board.specs.Step.{step}
 use Rattle.synic_board.specs.Places.{Conserves}
-use Rattle.synic_board.specs.Sound.{IsSound, IsEvent}
-use Rattle.synic_board.proofs.laws.Wholes.{IsKept, Keeps, KeepsOutcome, kept_from_sound, sound_from_kept, tickets-conserved, kept-apic, keeps-still, keeps-nothing, keeps-unchanged}
-use Rattle.synic_board.proofs.laws.Requests.{either, still-apic, keeps-requested, keeps-absorbed_below}
-use Rattle.synic_board.proofs.laws.Attempts.{keeps-tried_below}
-use Rattle.synic_board.proofs.laws.Changes.{kept-regs}
-use Rattle.synic_board.proofs.laws.Posts.{keeps-opened_port, keeps-closed, keeps-posted, keeps-signalled}
-use Rattle.synic_board.proofs.laws.Stores.{keeps-stored_bytes}
-use Rattle.synic_board.proofs.laws.Clocks.{keeps-written_config, keeps-written_count, keeps-ticked}
+use Rattle.synic_board.specs.Sound.{IsSound, PayloadFits}
+use Rattle.synic_board.proofs.keeping.Wholes.{IsIntact, Keeps, KeepsOutcome, kept_from_sound, sound_from_kept, tickets-conserved, kept-apic, keeps-still, keeps-nothing, keeps-unchanged}
+use Rattle.synic_board.proofs.keeping.Requests.{either, still-apic, keeps-requested, keeps-absorbed_below}
+use Rattle.synic_board.proofs.keeping.Attempts.{keeps-tried_below}
+use Rattle.synic_board.proofs.keeping.Changes.{kept-regs}
+use Rattle.synic_board.proofs.keeping.Posts.{keeps-opened_port, keeps-closed, keeps-posted, keeps-signalled}
+use Rattle.synic_board.proofs.keeping.Stores.{keeps-stored_bytes}
+use Rattle.synic_board.proofs.keeping.Clocks.{keeps-written_config, keeps-written_count, keeps-ticked}
 
-keeps-stored : (n : ℕ) (s : State) (p : ℕ) (r : Register) (value : ℕ) → IsKept n s → KeepsOutcome n s (stored s p r value)
+keeps-stored : (n : ℕ) (s : State) (p : ℕ) (r : Register) (value : ℕ) → IsIntact n s → KeepsOutcome n s (stored s p r value)
 keeps-stored n s p r value h =
     either (KeepsOutcome n s) (is_refused r value) _ _
     (λ _. keeps-unchanged n s GeneralProtection h)
     (λ _. keeps-still n s (with_regs s p (with_value (regs_of s p) r value), []) (kept-regs n s p (with_value (regs_of s p) r value) h) (record { queues = refl; slots = refl; next = refl }) (λ t. refl))
 
-keeps-written_register : (n : ℕ) (s : State) (p : ℕ) (r : Register) (value : ℕ) → IsKept n s → p < n → Exists r → KeepsOutcome n s (written_register s p r value)
+keeps-written_register : (n : ℕ) (s : State) (p : ℕ) (r : Register) (value : ℕ) → IsIntact n s → p < n → Exists r → KeepsOutcome n s (written_register s p r value)
 keeps-written_register n s p ReferenceCounter value h below exists = keeps-unchanged n s GeneralProtection h
 keeps-written_register n s p Eoi value h below exists = keeps-still n s (ended s p, []) (kept-apic n s p (after_end (apic_of s p)) h) (still-apic s p (after_end (apic_of s p))) (λ t. refl)
 keeps-written_register n s p Tpr value h below exists = keeps-still n s (with_priority s p value, []) (kept-apic n s p (with_task_priority (apic_of s p) (value % 256)) h) (still-apic s p (with_task_priority (apic_of s p) (value % 256))) (λ t. refl)
@@ -51,26 +51,26 @@ keeps-written_register n s p (Source k) value h below exists = keeps-stored n s 
 keeps-written_register n s p (TimerConfig k) value h below exists = keeps-written_config n s (p, k) value (omega (arith, below, exists)) h
 keeps-written_register n s p (TimerCount k) value h below exists = keeps-written_count n s (p, k) value (omega (arith, below, exists)) h
 
-keeps-written : (n : ℕ) (s : State) (p number value : ℕ) → IsKept n s → p < n → KeepsOutcome n s (written s p number value)
+keeps-written : (n : ℕ) (s : State) (p number value : ℕ) → IsIntact n s → p < n → KeepsOutcome n s (written s p number value)
 keeps-written n s p number value h below = named (register_of number) refl
   where
     named : (o : Option Register) → register_of number ≡ o → KeepsOutcome n s (option_map_or (λ r. written_register s p r value) o (unchanged s GeneralProtection))
     named None is = keeps-unchanged n s GeneralProtection h
     named (Some r) is = keeps-written_register n s p r value h below ((have_their_numbers number r).0 is).0
 
-keeps-absorbed : (n : ℕ) (s : State) (p part bits : ℕ) → IsKept n s → KeepsOutcome n s (absorbed s p part bits)
+keeps-absorbed : (n : ℕ) (s : State) (p part bits : ℕ) → IsIntact n s → KeepsOutcome n s (absorbed s p part bits)
 keeps-absorbed n s p part bits h = either (KeepsOutcome n s) (nat_le part 3) _ _ (λ _. keeps-absorbed_below n s p part bits 64 h) (λ _. keeps-unchanged n s (Refused BadTarget) h)
 
-keeps-taken : (n : ℕ) (s : State) (p : ℕ) → IsKept n s → KeepsOutcome n s (taken s p)
+keeps-taken : (n : ℕ) (s : State) (p : ℕ) → IsIntact n s → KeepsOutcome n s (taken s p)
 keeps-taken n s p h = elim (next (apic_of s p)) as (λ o. Keeps n s (option_map_or (λ v. with_apic s p (taken_at s p v)) o s, [])) [
   | None ↦ keeps-nothing n s h
   | Some v ↦ keeps-still n s (with_apic s p (taken_at s p v), []) (kept-apic n s p (taken_at s p v) h) (still-apic s p (taken_at s p v)) (λ t. refl)
 ]
 
-on-board : (n : ℕ) (s : State) (p : ℕ) (o : Outcome) → IsKept n s → (p < n → KeepsOutcome n s o) → KeepsOutcome n s (at_processor s p o)
+on-board : (n : ℕ) (s : State) (p : ℕ) (o : Outcome) → IsIntact n s → (p < n → KeepsOutcome n s o) → KeepsOutcome n s (at_processor s p o)
 on-board n s p o h there = either (KeepsOutcome n s) (nat_lt p (processors s)) _ _ (λ on. there (let c = h.count in grind (arith, nat_tests))) (λ _. keeps-unchanged n s (Refused NoSuchProcessor) h)
 
-keeps-step : (n : ℕ) (s : State) (e : Event) → IsEvent e → IsKept n s → KeepsOutcome n s (step s e)
+pub keeps-step : (n : ℕ) (s : State) (e : Event) → PayloadFits e → IsIntact n s → KeepsOutcome n s (step s e)
 unfolding step
 keeps-step n s (OpenPort port p i shape) fits h = keeps-opened_port n s port p i shape h
 keeps-step n s (ClosePort port) fits h = keeps-closed n s port h
@@ -86,11 +86,15 @@ keeps-step n s (Tick moment) fits h = keeps-ticked n s moment h
 keeps-step n s (Take p) fits h = on-board n s p (taken s p) h (λ _. keeps-taken n s p h)
 
 -- each accepted message stays in one place, or ends once
-pub conserves : (s now : State) (e : Event) (reply : Reply) (notices : List Notice) → IsEvent e → (now, reply, notices) ≡ step s e → IsSound s → Conserves s now notices
+pub conserves : (s now : State) (e : Event) (reply : Reply) (notices : List Notice) → PayloadFits e → (now, reply, notices) ≡ step s e → IsSound s → Conserves s now notices
 conserves s now e reply notices fits is sound = subst (λ (o : Outcome). Conserves s o.0 o.2) (sym is) (keeps-step (processors s) s e fits (kept_from_sound s sound)).conserves
 
+-- no ticket is given again
+pub later : (s now : State) (e : Event) (reply : Reply) (notices : List Notice) → PayloadFits e → (now, reply, notices) ≡ step s e → IsSound s → s.next_ticket ≤ now.next_ticket
+later s now e reply notices fits is sound = subst (λ (o : Outcome). s.next_ticket ≤ o.0.next_ticket) (sym is) (keeps-step (processors s) s e fits (kept_from_sound s sound)).later
+
 -- every event keeps the state sound
-pub sound : (s now : State) (e : Event) (reply : Reply) (notices : List Notice) → IsEvent e → (now, reply, notices) ≡ step s e → IsSound s → IsSound now
+pub sound : (s now : State) (e : Event) (reply : Reply) (notices : List Notice) → PayloadFits e → (now, reply, notices) ≡ step s e → IsSound s → IsSound now
 sound s now e reply notices fits is before =
     let k = keeps-step (processors s) s e fits (kept_from_sound s before) in
     subst (λ (o : Outcome). IsSound o.0) (sym is) (sound_from_kept (processors s) (step s e).0 k.kept (tickets-conserved s (step s e).0 (step s e).2 k.later k.conserves before.tickets))

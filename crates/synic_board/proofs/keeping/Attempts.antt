@@ -21,11 +21,11 @@ use Rattle.synic_board.specs.Delivery.{delivers, is_slot_empty, placed, marked, 
 use Rattle.synic_board.specs.Posts.{withdrawn}
 use Rattle.synic_board.specs.Places.{times, tells_end, ended}
 use Rattle.synic_board.specs.Sound.{IsWhole, IsMessage}
-use Rattle.synic_board.proofs.laws.Counts.{in_queue, one, times-places, in_queue-cons, in_queue-push, given-none, given-one}
-use Rattle.synic_board.proofs.laws.Wholes.{IsKept, Keeps, EndsNone, keeps-still, keeps-nothing, keeps-after}
-use Rattle.synic_board.proofs.laws.Requests.{either, keeps-raised}
-use Rattle.synic_board.proofs.laws.Slots.{slot_type-pending}
-use Rattle.synic_board.proofs.laws.Placements.{page_of, page-long, queue-good, keeps-placed}
+use Rattle.synic_board.proofs.keeping.Counts.{in_queue, one, times-places, in_queue-cons, in_queue-push, given-none, given-one}
+use Rattle.synic_board.proofs.keeping.Wholes.{IsIntact, Keeps, EndsNone, keeps-still, keeps-nothing, keeps-after}
+use Rattle.synic_board.proofs.keeping.Requests.{either, keeps-raised}
+use Rattle.synic_board.proofs.keeping.Slots.{slot_type-pending}
+use Rattle.synic_board.proofs.keeping.Placements.{page_of, page-long, queue-good, keeps-placed}
 
 -- an occupied slot is marked
 
@@ -59,7 +59,7 @@ marked-ends : (b : Bool) (p i : ℕ) → EndsNone (if b then [] else Pending p i
 marked-ends true p i t = refl
 marked-ends false p i t = refl
 
-keeps-marked : (n : ℕ) (s : State) (p i : ℕ) → IsKept n s → p < n → Keeps n s (marked s p i)
+keeps-marked : (n : ℕ) (s : State) (p i : ℕ) → IsIntact n s → p < n → Keeps n s (marked s p i)
 keeps-marked n s p i h below =
     keeps-still n s (marked s p i) (record { count = h.count; whole = marked-whole n s p i h.whole below; empty = λ q j within inside z. h.empty q j within inside (sym (marked-type n s p i q j h.whole below) ∙ z) })
     (record { queues = refl; slots = refl; next = refl }) (marked-ends (is_pending (space_of s) p i) p i)
@@ -68,7 +68,7 @@ both : (a b : Bool) → (a && b) ≡ true → b ≡ true
 both true b e = e
 both false b e = absurd (cc)
 
-pub keeps-tried : (n : ℕ) (s : State) (p i : ℕ) → IsKept n s → p < n → i < 16 → Keeps n s (tried s p i)
+pub keeps-tried : (n : ℕ) (s : State) (p i : ℕ) → IsIntact n s → p < n → i < 16 → Keeps n s (tried s p i)
 unfolding tried
 keeps-tried n s p i h below under =
     either (Keeps n s) (delivers s p && nat_lt 0 (length (queue_of s.queues p i))) _ _
@@ -78,7 +78,7 @@ keeps-tried n s p i h below under =
     (λ _. keeps-marked n s p i h below))
     (λ _. keeps-nothing n s h)
 
-pub keeps-tried_below : (n : ℕ) (s : State) (p i : ℕ) → IsKept n s → p < n → i ≤ 16 → Keeps n s (tried_below s p i)
+pub keeps-tried_below : (n : ℕ) (s : State) (p i : ℕ) → IsIntact n s → p < n → i ≤ 16 → Keeps n s (tried_below s p i)
 unfolding tried_below
 keeps-tried_below n s p zero h below few = keeps-nothing n s h
 keeps-tried_below n s p (suc i) h below few =
@@ -86,7 +86,7 @@ keeps-tried_below n s p (suc i) h below few =
     keeps-after n s (tried_below s p i) (tried (tried_below s p i).0 p i) first (keeps-tried n (tried_below s p i).0 p i first.kept below (omega arith))
 
 -- a message that takes the next ticket joins its queue
-keeps-accepted : (n : ℕ) (s : State) (p i : ℕ) (m : Message) → IsKept n s → p < n → i < 16 → IsMessage m → ticket_of m ≡ s.next_ticket → Keeps n s (accepted s p i m)
+keeps-accepted : (n : ℕ) (s : State) (p i : ℕ) (m : Message) → IsIntact n s → p < n → i < 16 → IsMessage m → ticket_of m ≡ s.next_ticket → Keeps n s (accepted s p i m)
 keeps-accepted n s p i m h below under good next =
     let q : List Message = queue_of s.queues p i ++ m ∷ [] in
     let more : All IsMessage q = All-append IsMessage (queue_of s.queues p i) (m ∷ []) (queue-good n s p i h.whole below under) (All-cons IsMessage m [] good (All-nil IsMessage)) in
@@ -112,7 +112,7 @@ keeps-accepted n s p i m h below under good next =
     accepted-ends : EndsNone (Accepted (ticket_of m) p i ∷ [])
     accepted-ends t = refl
 
-pub keeps-delivered : (n : ℕ) (s : State) (p i : ℕ) (m : Message) → IsKept n s → p < n → i < 16 → IsMessage m → ticket_of m ≡ s.next_ticket → Keeps n s (delivered s p i m)
+pub keeps-delivered : (n : ℕ) (s : State) (p i : ℕ) (m : Message) → IsIntact n s → p < n → i < 16 → IsMessage m → ticket_of m ≡ s.next_ticket → Keeps n s (delivered s p i m)
 keeps-delivered n s p i m h below under good next =
     let first = keeps-accepted n s p i m h below under good next in
     keeps-after n s (accepted s p i m) (tried (accepted s p i m).0 p i) first (keeps-tried n (accepted s p i m).0 p i first.kept below under)
@@ -133,7 +133,7 @@ parted t port (m ∷ q) = go (is_from_port port m) (parted t port q)
     go true more = omega (arith, more, in_queue-cons t m q, in_queue-cons t m (filter (is_from_port port) q))
     go false more = omega (arith, more, in_queue-cons t m q, in_queue-cons t m (left_of port q))
 
-pub keeps-withdrawn : (n : ℕ) (s : State) (p i port : ℕ) → IsKept n s → p < n → i < 16 → Keeps n s (withdrawn s p i port)
+pub keeps-withdrawn : (n : ℕ) (s : State) (p i port : ℕ) → IsIntact n s → p < n → i < 16 → Keeps n s (withdrawn s p i port)
 keeps-withdrawn n s p i port h below under =
     let q : List Message = left_of port (queue_of s.queues p i) in
     record {

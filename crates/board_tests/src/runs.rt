@@ -1,0 +1,197 @@
+// Lists of events, and runs that stop for want of memory and go on.
+use arrayvec::ArrayVec;
+use board_terms::{Notice, PortShape, Refusal, Sint, Vector, Vp};
+use std::test::Fail;
+use synic_board::{Board, Event, Reply, run};
+
+const SCONTROL: u32 = 0x4000_0080;
+
+const SIMP: u32 = 0x4000_0083;
+
+const EOM: u32 = 0x4000_0084;
+
+const SINT2: u32 = 0x4000_0092;
+
+fn write(register: u32, value: u64) -> Event {
+    Event::Write {
+        vp: 0,
+        register,
+        value,
+    }
+}
+
+fn post(byte: u8) -> Event {
+    Event::Post {
+        port: 3,
+        kind: 1,
+        payload: bytes(&[byte]),
+    }
+}
+
+fn load(address: u64, length: u8) -> Event {
+    Event::Load { address, length }
+}
+
+/// As many of the bytes as there is room for.
+fn bytes<const N: usize>(values: &[u8]) -> ArrayVec<u8, N> {
+    let mut all = ArrayVec::new();
+    for value in values {
+        let _ = all.try_push(*value);
+    }
+    all
+}
+
+/// A port with two buffers takes three posts and refuses a fourth; then the guest empties the slot,
+/// and writes EOM.
+fn end_of_message() -> [Event; 15] {
+    [
+        write(SCONTROL, 1),
+        write(SIMP, 0x2001),
+        write(SINT2, 0x50),
+        Event::OpenPort {
+            port: 3,
+            vp: 0,
+            sint: 2,
+            shape: PortShape::Messages { buffers: 2 },
+        },
+        post(0x0a),
+        load(0x2200, 8),
+        load(0x2208, 8),
+        load(0x2210, 1),
+        post(0x0b),
+        post(0x0c),
+        load(0x2205, 1),
+        post(0x0d),
+        Event::Store {
+            address: 0x2200,
+            bytes: bytes(&[0, 0, 0, 0]),
+        },
+        write(EOM, 0),
+        load(0x2200, 8),
+    ]
+}
+
+fn replies_to_it() -> [Reply; 15] {
+    [
+        Reply::Done,
+        Reply::Done,
+        Reply::Done,
+        Reply::Done,
+        Reply::Accepted(0),
+        Reply::Bytes(bytes(&[1, 0, 0, 0, 1, 0, 0, 0])),
+        Reply::Bytes(bytes(&[3, 0, 0, 0, 0, 0, 0, 0])),
+        Reply::Bytes(bytes(&[0x0a])),
+        Reply::Accepted(1),
+        Reply::Accepted(2),
+        Reply::Bytes(bytes(&[1])),
+        Reply::Refused(Refusal::NoBuffers),
+        Reply::Done,
+        Reply::Done,
+        Reply::Bytes(bytes(&[1, 0, 0, 0, 1, 1, 0, 0])),
+    ]
+}
+
+fn notices_of_it() -> [Notice; 9] {
+    let (vp, sint) = (Vp::new(0).unwrap(), Sint::new(2).unwrap());
+    let vector = Vector::new(0x50).unwrap();
+    [
+        Notice::Accepted {
+            ticket: 0,
+            vp,
+            sint,
+        },
+        Notice::Placed {
+            ticket: 0,
+            vp,
+            sint,
+        },
+        Notice::Requested { vp, vector },
+        Notice::Accepted {
+            ticket: 1,
+            vp,
+            sint,
+        },
+        Notice::Pending { vp, sint },
+        Notice::Accepted {
+            ticket: 2,
+            vp,
+            sint,
+        },
+        Notice::Consumed {
+            ticket: 0,
+            vp,
+            sint,
+        },
+        Notice::Placed {
+            ticket: 1,
+            vp,
+            sint,
+        },
+        Notice::Pending { vp, sint },
+    ]
+}
+
+#[test]
+fn a_run_goes_on_where_it_stopped(rt: HostRuntime) -> Result<(), Fail> {
+    let Ok(mut board) = Board::open(rt.alloc(), 1, 4, 0) else {
+        return Ok(());
+    };
+    let events = end_of_message();
+    let expected = replies_to_it();
+    let mut notices = Vec::new(rt.alloc());
+    match run(rt.alloc(), &mut board, &events, &mut notices) {
+        Ok(replies) => assert_eq!(rt; replies.as_slice(), expected.as_slice()),
+        // Each request for memory can be refused in turn: then it stops once, before some event.
+        Err(stopped) => {
+            let done = stopped.done;
+            assert!(rt; done < events.len());
+            assert_eq!(rt; stopped.replies.as_slice(), &expected[..done]);
+            let rest = run(rt.alloc(), &mut board, &events[done..], &mut notices)?;
+            assert_eq!(rt; rest.as_slice(), &expected[done..]);
+        }
+    }
+    assert_eq!(rt; notices.as_slice(), notices_of_it().as_slice());
+    assert_eq!(rt; board.next_ticket(), 3);
+    Ok(())
+}
+
+#[test]
+fn notices_are_appended(rt: HostRuntime) -> Result<(), Fail> {
+    let mut board = Board::open(rt.alloc(), 1, 1, 0)?;
+    let (vp, vector) = (Vp::new(0).unwrap(), Vector::new(0x50).unwrap());
+    let mut notices = Vec::new(rt.alloc());
+    let events = [Event::Assert { vp: 0, vector }, Event::Take { vp: 0 }];
+    for told in 1..4 {
+        let replies = run(rt.alloc(), &mut board, &events, &mut notices)?;
+        assert_eq!(rt;
+            replies.as_slice(),
+            [Reply::Done, taken(told, vector)].as_slice()
+        );
+    }
+    // The first was taken and stays in service; the second stands, and the third merges with it.
+    assert_eq!(rt;
+        notices.as_slice(),
+        [
+            Notice::Requested { vp, vector },
+            Notice::Requested { vp, vector }
+        ]
+        .as_slice()
+    );
+    Ok(())
+}
+
+/// The vector is taken the first time only.
+fn taken(time: u8, vector: Vector) -> Reply {
+    Reply::Taken(if time == 1 { Some(vector) } else { None })
+}
+
+#[test]
+fn no_events_need_no_memory(rt: HostRuntime) -> Result<(), Fail> {
+    let Ok(mut board) = Board::open(rt.alloc(), 1, 1, 0) else {
+        return Ok(());
+    };
+    let mut notices = Vec::new(rt.alloc());
+    assert!(rt; run(rt.alloc(), &mut board, &[], &mut notices)?.is_empty());
+    assert!(rt; notices.is_empty());
+    Ok(())
+}

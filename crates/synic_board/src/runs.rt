@@ -1,0 +1,61 @@
+// A list of events, one after another.
+ghost use Rattle.std.specs.Prelude.{◌≡◌, ◌<◌, ◌≤◌, ◌+◌, ◌*◌, ◌++◌, ◌∷◌, [], length, take, drop, vec_len, vec_capacity, IfOk, IfErr};
+ghost use Rattle.synic_board.specs.Run.{run_of, told_behind};
+ghost use Rattle.synic_board.specs.Places.{Conserves};
+
+use crate::board::Board;
+use crate::event::{Event, Reply};
+use board_terms::{Notice, Notices};
+use std::alloc::Global;
+use thiserror::Error;
+
+/// A run that stopped for want of memory: the first `done` events were performed, with these
+/// replies, and no other event was.
+#[derive(Debug, Drop, Error)]
+#[error("out of memory after {done} events")]
+pub struct Stopped {
+    pub done: usize,
+    pub replies: Vec<Reply>,
+}
+
+/// Performs events in order, appends their notices to `notices`, and answers all replies. Room is
+/// made before each event, so that one that is performed is also told of.
+pub fn run(
+    alloc: Global,
+    board: &mut Board,
+    events: &[Event],
+    notices: &mut Vec<Notice>,
+) -> Result<Vec<Reply>, Stopped>
+    ensures all { IfOk result (λ replies. (board.new.state, replies.items, notices.new.items) ≡ told_behind notices.old.items (run_of board.old.state events.now)) }
+    ensures stopped { IfErr result (λ stopped. (board.new.state, stopped.replies.items, notices.new.items) ≡ told_behind notices.old.items (run_of board.old.state (take stopped.done events.now))) }
+    ensures within { IfErr result (λ stopped. stopped.done < length events.now) }
+    ensures conserves { Conserves board.old.state board.new.state (drop (length notices.old.items) notices.new.items) }
+    ensures later { board.old.state.next_ticket ≤ board.new.state.next_ticket }
+    ensures rises { board.old.writes ≤ board.new.writes }
+    ensures few { board.new.writes + length notices.old.items ≤ board.old.writes + 8 * length events.now + length notices.new.items }
+{
+    let mut replies = Vec::new(alloc);
+    if events.is_empty() {
+        return Ok(replies);
+    }
+    let Ok(mut told) = Notices::open(alloc) else {
+        return Err(Stopped { done: 0, replies });
+    };
+    for (done, event) in events.iter().enumerate() {
+        if replies.reserve(1).is_err() || notices.reserve(320).is_err() {
+            return Err(Stopped { done, replies });
+        }
+        let reply = board.perform(event, &mut told);
+        replies.push_reserved(reply);
+        keep(notices, told.as_slice());
+    }
+    Ok(replies)
+}
+
+/// Appends notices that there is room for.
+fn keep(notices: &mut Vec<Notice>, more: &[Notice])
+    requires { vec_len notices.old + length more.now ≤ vec_capacity notices.old }
+    ensures { notices.new.items ≡ notices.old.items ++ more.now }
+{
+    let _ = notices.extend_from_slice(more);
+}
