@@ -7,4 +7,5 @@ mod stream;
 #[cfg(test)]
 mod tests;
 
+pub use board_trace::{CheckEnd, check_trace};
 pub use stream::{ReplayEnd, ScriptFault, replay};

@@ -1,7 +1,7 @@
-//! `synicboard`: a script of events in, the board's answers out.
+//! `synicboard`: a script of events in, the board's answers out; or a recorded trace in, and whether it is legal.
 #![tactic(auto)]
 
-use board_script::{ReplayEnd, replay};
+use board_script::{CheckEnd, ReplayEnd, check_trace, replay};
 use clap::error::ErrorKind;
 use clap::{Command, Error};
 use std::alloc::{AllocError, Global};
@@ -13,6 +13,8 @@ const SCRIPT_FAULT: u8 = 1;
 
 const USAGE_FAULT: u8 = 2;
 
+const REFUSED: u8 = 3;
+
 const NO_MEMORY: u8 = 4;
 
 const STREAM_FAULT: u8 = 5;
@@ -20,6 +22,7 @@ const STREAM_FAULT: u8 = 5;
 /// What the command line asks for.
 enum Asked {
     Replay,
+    Check,
     /// Nothing more: it asked for help, which was shown, or it was wrong, which was said.
     Nothing(ExitCode),
     /// It could not be read for want of memory.
@@ -29,6 +32,7 @@ enum Asked {
 fn main(rt: HostRuntime) -> ExitCode {
     match judge_command_line(&rt) {
         Asked::Replay => replay_input(&rt),
+        Asked::Check => check_input(&rt),
         Asked::Nothing(code) => code,
         Asked::Memory => fail(&rt, "out of memory", NO_MEMORY),
     }
@@ -39,11 +43,15 @@ fn command<'a>(alloc: Global) -> Result<Command<'a>, AllocError> {
     let replay = Command::new(alloc, "replay").about(
         "Performs the script on standard input, and writes each reply, notice and summary",
     );
+    let check = Command::new(alloc, "check").about(
+        "Reads a trace on standard input, and says whether it is legal, or the first line that is wrong",
+    );
     Command::new(alloc, "synicboard")
         .about("The interrupt side of a partition: a script of events in, the board's answers out")
         .after_help(EXAMPLE)
         .subcommand_required(true)
-        .subcommand(replay)
+        .subcommand(replay)?
+        .subcommand(check)
 }
 
 const EXAMPLE: &str =
@@ -62,7 +70,10 @@ fn judge_command_line(rt: &HostRuntime) -> Asked {
         return Asked::Memory;
     };
     match command.try_get_matches_from(words.as_slice()) {
-        Ok(_) => Asked::Replay,
+        Ok(matches) => match matches.subcommand_name() {
+            Some("check") => Asked::Check,
+            _ => Asked::Replay,
+        },
         Err(error) => show(rt, error),
     }
 }
@@ -104,6 +115,21 @@ fn replay_input(rt: &HostRuntime) -> ExitCode {
         ReplayEnd::Memory => fail(rt, "out of memory", NO_MEMORY),
         ReplayEnd::Reading => fail(rt, "read failed", STREAM_FAULT),
         ReplayEnd::Writing => fail(rt, "write failed", STREAM_FAULT),
+    }
+}
+
+/// Checks the trace on standard input.
+fn check_input(rt: &HostRuntime) -> ExitCode {
+    let mut reader = rt.reader();
+    let Ok(mut writer) = BufWriter::new(rt.alloc(), io::writer(rt)) else {
+        return fail(rt, "out of memory", NO_MEMORY);
+    };
+    match check_trace(rt.alloc(), &mut reader, &mut writer) {
+        CheckEnd::Legal(_) => ExitCode::SUCCESS,
+        CheckEnd::Refused(_) => ExitCode::from(REFUSED),
+        CheckEnd::Memory => fail(rt, "out of memory", NO_MEMORY),
+        CheckEnd::Reading => fail(rt, "read failed", STREAM_FAULT),
+        CheckEnd::Writing => fail(rt, "write failed", STREAM_FAULT),
     }
 }
 
