@@ -84,12 +84,10 @@ pub(crate) fn post(port: u8) -> Event {
     }
 }
 
-/// A guest stores bytes, of which eight are taken at most.
+/// A guest stores bytes, eight at most.
 pub(crate) fn store(address: u64, items: &[u8]) -> Event {
     let mut bytes = Bytes8::new();
-    for byte in items.iter().take(8) {
-        let _ = bytes.try_push(*byte);
-    }
+    let _ = bytes.try_extend_from_slice(items);
     Event::Store { address, bytes }
 }
 

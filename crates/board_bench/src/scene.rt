@@ -66,6 +66,9 @@ const MESSAGE_STEP: Moment = 125;
 /// The bytes that a guest stores into moving pages.
 const STORED: [u8; 8] = [1, 2, 3, 4, 5, 6, 7, 8];
 
+/// How many of them it loads: all.
+const LOADED: u8 = 8;
+
 /// A board's sizes, the events before the time runs, and those that are timed.
 #[derive(Drop)]
 pub(crate) struct Scene {
@@ -145,7 +148,10 @@ fn pages(alloc: Global) -> Result<Scene, AllocError> {
         let address = page as u64 * PAGE;
         round.push(write(page % PROCESSORS, SIMP, overlay_at(page)))?;
         round.push(store(address, &STORED))?;
-        round.push(Event::Load { address, length: 8 })?;
+        round.push(Event::Load {
+            address,
+            length: LOADED,
+        })?;
     }
     Ok(Scene {
         processors: PROCESSORS,

@@ -8,6 +8,9 @@ const FACTOR: u64 = 0x0100_0000_01b3;
 /// Where a digest begins.
 const START: u64 = 0xcbf2_9ce4_8422_2325;
 
+/// How many sources a processor has.
+const SOURCES: u8 = 16;
+
 /// What is kept of what events gave.
 pub(crate) trait Tally {
     /// An event gave a reply and notices.
@@ -90,7 +93,7 @@ impl Digest {
         for vp in (0..board.processors()).filter_map(|vp| Vp::new(vp)) {
             let next = summary.next(vp).map_or(0, |vector| vector.number());
             self.add_all(&[next as u64]);
-            for sint in (0..16).filter_map(|sint| Sint::new(sint)) {
+            for sint in (0..SOURCES).filter_map(|sint| Sint::new(sint)) {
                 self.add_all(&[summary.queued(vp, sint) as u64]);
             }
         }
