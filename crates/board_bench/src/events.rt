@@ -1,0 +1,109 @@
+// The events that workloads are made of, and the registers that they write.
+use board_terms::{Bytes8, Moment, PayloadBytes, PortShape, Vector};
+use synic_board::Event;
+
+pub(crate) const EOI: u32 = 0x4000_0070;
+
+pub(crate) const SCONTROL: u32 = 0x4000_0080;
+
+pub(crate) const SIEFP: u32 = 0x4000_0082;
+
+pub(crate) const SIMP: u32 = 0x4000_0083;
+
+pub(crate) const EOM: u32 = 0x4000_0084;
+
+const SINT0: u32 = 0x4000_0090;
+
+const STIMER0_CONFIG: u32 = 0x4000_00b0;
+
+const STIMER0_COUNT: u32 = 0x4000_00b1;
+
+/// The enable bit of SCONTROL, SIEFP and SIMP.
+pub(crate) const ENABLE: u64 = 1;
+
+/// The size of a page.
+pub(crate) const PAGE: u64 = 4096;
+
+/// The size of a message slot, and of the event flags of a source.
+const SLOT: u64 = 256;
+
+/// The vector that devices assert.
+const DEVICE_VECTOR: u8 = 0x60;
+
+/// The type of the messages that are posted.
+const MESSAGE_TYPE: u32 = 1;
+
+/// What a message carries.
+const MESSAGE_BYTE: u8 = 0x0a;
+
+pub(crate) fn write(vp: u8, register: u32, value: u64) -> Event {
+    Event::Write {
+        vp,
+        register,
+        value,
+    }
+}
+
+/// A source is unmasked with a vector.
+pub(crate) fn write_source(vp: u8, sint: u8, vector: u8) -> Event {
+    write(vp, SINT0 + sint as u32, vector as u64)
+}
+
+/// The configuration of a timer is written.
+pub(crate) fn write_timer_config(vp: u8, index: u8, config: u64) -> Event {
+    write(vp, STIMER0_CONFIG + 2 * index as u32, config)
+}
+
+/// The count of a timer is written.
+pub(crate) fn write_timer_count(vp: u8, index: u8, count: u64) -> Event {
+    write(vp, STIMER0_COUNT + 2 * index as u32, count)
+}
+
+pub(crate) fn open_port(port: u8, sint: u8, shape: PortShape) -> Event {
+    Event::OpenPort {
+        port,
+        vp: 0,
+        sint,
+        shape,
+    }
+}
+
+pub(crate) fn assert_vector(vp: u8) -> Event {
+    let vector = Vector::new(DEVICE_VECTOR).unwrap();
+    Event::Assert { vp, vector }
+}
+
+/// A message of one byte is posted.
+pub(crate) fn post(port: u8) -> Event {
+    let mut payload = PayloadBytes::new();
+    payload.push(MESSAGE_BYTE);
+    Event::Post {
+        port,
+        kind: MESSAGE_TYPE,
+        payload,
+    }
+}
+
+/// A guest stores bytes, eight at most.
+pub(crate) fn store(address: u64, items: &[u8]) -> Event {
+    let mut bytes = Bytes8::new();
+    let _ = bytes.try_extend_from_slice(items);
+    Event::Store { address, bytes }
+}
+
+/// A guest empties the slot of a source in the page of messages that lies at `page`.
+pub(crate) fn empty_slot(page: u8, sint: u8) -> Event {
+    store(page as u64 * PAGE + sint as u64 * SLOT, &[0; 4])
+}
+
+/// A guest clears the first 64 event flags of a source in the page that lies at `page`.
+pub(crate) fn clear_flags(page: u8, sint: u8) -> Event {
+    store(page as u64 * PAGE + sint as u64 * SLOT, &[0; 8])
+}
+
+/// Puts a tick off by a span, and leaves other events as they are.
+pub(crate) fn put_off(event: &mut Event, span: Moment) {
+    if let Event::Tick { moment } = event {
+        *moment = moment.saturating_add(span);
+    }
+}

@@ -1,0 +1,248 @@
+// The board of a workload, what is done on it first, and what is then done over and over.
+use crate::events::{
+    ENABLE, EOI, EOM, PAGE, SCONTROL, SIEFP, SIMP, assert_vector, clear_flags, empty_slot,
+    open_port, post, store, write, write_source, write_timer_config, write_timer_count,
+};
+use crate::faults::Fault;
+use crate::workload::Workload;
+use board_terms::{Moment, Notices, PortShape};
+use std::alloc::{AllocError, Global};
+use synic_board::{Board, Event};
+
+const PROCESSORS: u8 = 8;
+
+const PORTS: u8 = 16;
+
+/// How many timers a processor has.
+const TIMERS: u8 = 4;
+
+/// How many guest pages there are where overlays move.
+const PAGES: u8 = 64;
+
+/// How many guest pages there are where one overlay stays.
+const FEW_PAGES: u8 = 4;
+
+/// The page of an overlay that stays.
+const OVERLAY_PAGE: u8 = 1;
+
+const BUFFERS: u8 = 2;
+
+/// How many flags the event port has.
+const FLAGS: u16 = 64;
+
+/// The source of event flags and of timers.
+const SOURCE: u8 = 2;
+
+const SOURCE_VECTOR: u8 = 0x50;
+
+/// The vector of the first source or timer, below those of the others.
+const FIRST_VECTOR: u8 = 0x40;
+
+/// The period of the first timer, below those of the others.
+const SHORTEST_PERIOD: u64 = 1000;
+
+/// By how much the periods of one processor's timers differ from those of the next.
+const PERIOD_STEP: u64 = 10;
+
+/// The bits of a timer's configuration: enabled and periodic.
+const PERIODIC: u64 = 0x3;
+
+/// The bit of a timer's configuration for direct mode.
+const DIRECT: u64 = 0x1000;
+
+/// Where the vector and the source stand in a timer's configuration, as factors.
+const VECTOR_PLACE: u64 = 1 << 4;
+
+const SOURCE_PLACE: u64 = 1 << 16;
+
+/// How many ticks are in a round of dense ticks, and how far apart they are.
+const DENSE_TICKS: u64 = 64;
+
+const DENSE_STEP: Moment = 50;
+
+/// How far apart ticks are where messages are consumed: a round is the shortest period.
+const MESSAGE_STEP: Moment = 125;
+
+/// The bytes that a guest stores into moving pages.
+const STORED: [u8; 8] = [1, 2, 3, 4, 5, 6, 7, 8];
+
+/// How many of them it loads: all.
+const LOADED: u8 = 8;
+
+/// A board's sizes, the events before the time runs, and those that are timed.
+#[derive(Drop)]
+pub(crate) struct Scene {
+    processors: u8,
+    pages: u8,
+    setup: Vec<Event>,
+    /// What is done over and over.
+    pub(crate) round: Vec<Event>,
+    /// By how much ticks are put off from one round to the next.
+    pub(crate) span: Moment,
+}
+
+impl Scene {
+    /// The scene of a workload.
+    pub(crate) fn of(alloc: Global, workload: Workload) -> Result<Scene, AllocError> {
+        match workload {
+            Workload::Interrupts => interrupts(alloc),
+            Workload::Messages => messages(alloc),
+            Workload::Pages => pages(alloc),
+            Workload::Flags => flags(alloc),
+            Workload::Timers => timers(alloc),
+            Workload::TimerMessages => timer_messages(alloc),
+        }
+    }
+
+    /// A board on which all was done that comes before the time runs.
+    pub(crate) fn open(&self, alloc: Global, notices: &mut Notices) -> Result<Board, Fault> {
+        let mut board = Board::open(alloc, self.processors, self.pages, 0)?;
+        for event in &self.setup {
+            let _ = board.perform(event, notices);
+        }
+        Ok(board)
+    }
+}
+
+fn interrupts(alloc: Global) -> Result<Scene, AllocError> {
+    let mut round = Vec::new(alloc);
+    for vp in 0..PROCESSORS {
+        round.push(assert_vector(vp))?;
+        round.push(Event::Take { vp })?;
+        round.push(write(vp, EOI, 0))?;
+    }
+    Ok(Scene {
+        processors: PROCESSORS,
+        pages: 1,
+        setup: Vec::new(alloc),
+        round,
+        span: 0,
+    })
+}
+
+fn messages(alloc: Global) -> Result<Scene, AllocError> {
+    let mut setup = Vec::new(alloc);
+    let mut round = Vec::new(alloc);
+    let shape = PortShape::Messages { buffers: BUFFERS };
+    setup.push(write(0, SCONTROL, ENABLE))?;
+    setup.push(write(0, SIMP, overlay_at(OVERLAY_PAGE)))?;
+    for port in 0..PORTS {
+        setup.push(write_source(0, port, FIRST_VECTOR + port))?;
+        setup.push(open_port(port, port, shape))?;
+        round.push(post(port))?;
+        round.push(empty_slot(OVERLAY_PAGE, port))?;
+        round.push(write(0, EOM, 0))?;
+    }
+    Ok(Scene {
+        processors: 1,
+        pages: FEW_PAGES,
+        setup,
+        round,
+        span: 0,
+    })
+}
+
+fn pages(alloc: Global) -> Result<Scene, AllocError> {
+    let mut round = Vec::new(alloc);
+    for page in 0..PAGES {
+        let address = page as u64 * PAGE;
+        round.push(write(page % PROCESSORS, SIMP, overlay_at(page)))?;
+        round.push(store(address, &STORED))?;
+        round.push(Event::Load {
+            address,
+            length: LOADED,
+        })?;
+    }
+    Ok(Scene {
+        processors: PROCESSORS,
+        pages: PAGES,
+        setup: Vec::new(alloc),
+        round,
+        span: 0,
+    })
+}
+
+fn flags(alloc: Global) -> Result<Scene, AllocError> {
+    let mut setup = Vec::new(alloc);
+    let mut round = Vec::new(alloc);
+    let shape = PortShape::Flags {
+        base: 0,
+        count: FLAGS,
+    };
+    setup.push(write(0, SCONTROL, ENABLE))?;
+    setup.push(write(0, SIEFP, overlay_at(OVERLAY_PAGE)))?;
+    setup.push(write_source(0, SOURCE, SOURCE_VECTOR))?;
+    setup.push(open_port(0, SOURCE, shape))?;
+    for flag in 0..FLAGS {
+        round.push(Event::Signal { port: 0, flag })?;
+    }
+    round.push(clear_flags(OVERLAY_PAGE, SOURCE))?;
+    Ok(Scene {
+        processors: 1,
+        pages: FEW_PAGES,
+        setup,
+        round,
+        span: 0,
+    })
+}
+
+fn timers(alloc: Global) -> Result<Scene, AllocError> {
+    let mut setup = Vec::new(alloc);
+    let mut round = Vec::new(alloc);
+    for vp in 0..PROCESSORS {
+        for index in 0..TIMERS {
+            let vector = (FIRST_VECTOR + index) as u64;
+            let config = PERIODIC + DIRECT + VECTOR_PLACE * vector;
+            setup.push(write_timer_count(vp, index, period(vp, index)))?;
+            setup.push(write_timer_config(vp, index, config))?;
+        }
+    }
+    for number in 1..=DENSE_TICKS {
+        let moment = DENSE_STEP * number;
+        round.push(Event::Tick { moment })?;
+    }
+    Ok(Scene {
+        processors: PROCESSORS,
+        pages: 1,
+        setup,
+        round,
+        span: DENSE_STEP * DENSE_TICKS,
+    })
+}
+
+/// All timers of a processor post to one source, as a guest has them: three of four messages wait.
+fn timer_messages(alloc: Global) -> Result<Scene, AllocError> {
+    let mut setup = Vec::new(alloc);
+    let mut round = Vec::new(alloc);
+    for vp in 0..PROCESSORS {
+        setup.push(write(vp, SCONTROL, ENABLE))?;
+        setup.push(write(vp, SIMP, overlay_at(vp)))?;
+        setup.push(write_source(vp, SOURCE, SOURCE_VECTOR))?;
+        let moment = MESSAGE_STEP * (vp as u64 + 1);
+        round.push(Event::Tick { moment })?;
+        for index in 0..TIMERS {
+            let config = PERIODIC + SOURCE_PLACE * SOURCE as u64;
+            setup.push(write_timer_count(vp, index, period(vp, index)))?;
+            setup.push(write_timer_config(vp, index, config))?;
+            round.push(empty_slot(vp, SOURCE))?;
+            round.push(write(vp, EOM, 0))?;
+        }
+    }
+    Ok(Scene {
+        processors: PROCESSORS,
+        pages: PROCESSORS,
+        setup,
+        round,
+        span: MESSAGE_STEP * PROCESSORS as u64,
+    })
+}
+
+/// The value of SIMP or SIEFP with which an overlay lies at a page.
+fn overlay_at(page: u8) -> u64 {
+    page as u64 * PAGE + ENABLE
+}
+
+/// The period of a timer, another one for each.
+fn period(vp: u8, index: u8) -> u64 {
+    SHORTEST_PERIOD + PERIOD_STEP * vp as u64 + index as u64
+}

@@ -1,0 +1,50 @@
+// The workloads by their names.
+
+/// What is done over and over.
+#[derive(Clone, Copy, PartialEq, Eq, Debug)]
+pub(crate) enum Workload {
+    /// Assert, take and end on eight processors.
+    Interrupts,
+    /// Post, consume and EOM over sixteen ports.
+    Messages,
+    /// Overlays of eight processors that move, with loads and stores.
+    Pages,
+    /// Signals of an event port, and stores that clear the flags.
+    Flags,
+    /// 32 periodic timers in direct mode, and dense ticks.
+    Timers,
+    /// 32 periodic timers whose messages are consumed.
+    TimerMessages,
+}
+
+impl Workload {
+    /// All workloads, in the order in which they are measured.
+    pub(crate) const ALL: [Workload; 6] = [
+        Workload::Interrupts,
+        Workload::Messages,
+        Workload::Pages,
+        Workload::Flags,
+        Workload::Timers,
+        Workload::TimerMessages,
+    ];
+
+    /// The name, as the command line has it.
+    pub(crate) fn name(self) -> &'static str {
+        match self {
+            Workload::Interrupts => "interrupts",
+            Workload::Messages => "messages",
+            Workload::Pages => "pages",
+            Workload::Flags => "flags",
+            Workload::Timers => "timers",
+            Workload::TimerMessages => "timer-messages",
+        }
+    }
+
+    /// The workload of a name.
+    pub(crate) fn named(name: &str) -> Option<Workload> {
+        Workload::ALL
+            .iter()
+            .copied()
+            .find(|workload| workload.name() == name)
+    }
+}
