@@ -1,4 +1,6 @@
 // Posted vectors that are taken in.
+ghost use Rattle.std.specs.Prelude.{◌<◌, ◌≤◌};
+
 use board_terms::{Notice, Notices, Refusal, Vector, Vp};
 use std::test::Fail;
 use synic_board::{Board, Event, Reply};
@@ -8,7 +10,10 @@ fn absorb(board: &mut Board, notices: &mut Notices, vp: u8, part: u8, bits: u64)
 }
 
 /// What is told of a request of that vector at that processor.
-fn requested(vp: u8, vector: u8) -> Notice {
+fn requested(vp: u8, vector: u8) -> Notice
+    requires on { vp < 8 }
+    requires valid { 16 ≤ vector }
+{
     Notice::Requested {
         vp: Vp::new(vp).unwrap(),
         vector: Vector::new(vector).unwrap(),
@@ -70,29 +75,27 @@ fn the_processor_is_judged_before_the_part(rt: HostRuntime) -> Result<(), Fail> 
 fn all_vectors_of_a_processor_are_posted(rt: HostRuntime) -> Result<(), Fail> {
     let mut board = Board::open(rt.alloc(), 8, 1, 0)?;
     let mut notices = Notices::open(rt.alloc())?;
-    for vp in 0..8 {
-        let mut vector: u8 = 16;
+    for number in 0..8 {
+        let vp = Vp::new(number).expect(&rt, "a processor");
+        let mut next: u8 = 16;
         for part in 0..4 {
             assert_eq!(rt;
-                absorb(&mut board, &mut notices, vp, part, u64::MAX),
+                absorb(&mut board, &mut notices, number, part, u64::MAX),
                 Reply::Done
             );
-            let told = notices.as_slice();
-            assert_eq!(rt; told.len(), if part == 0 { 48 } else { 64 });
-            for notice in told {
-                assert_eq!(rt; *notice, requested(vp, vector));
-                vector = vector.wrapping_add(1);
+            assert_eq!(rt; notices.as_slice().len(), if part == 0 { 48 } else { 64 });
+            for notice in notices.as_slice() {
+                let vector = Vector::new(next).expect(&rt, "a vector");
+                assert_eq!(rt; *notice, Notice::Requested { vp, vector });
+                next = next.wrapping_add(1);
             }
         }
         // 255 was the last.
-        assert_eq!(rt; vector, 0);
-        assert_eq!(rt;
-            board.summary().next(Vp::new(vp).unwrap()),
-            Vector::new(255)
-        );
+        assert_eq!(rt; next, 0);
+        assert_eq!(rt; board.summary().next(vp), Vector::new(255));
         // Requests that stand merge.
         assert_eq!(rt;
-            absorb(&mut board, &mut notices, vp, 3, u64::MAX),
+            absorb(&mut board, &mut notices, number, 3, u64::MAX),
             Reply::Done
         );
         assert!(rt; notices.as_slice().is_empty());
