@@ -2,26 +2,19 @@
 use Rattle.std.proofs.Common.{◌≡◌, ℕ, zero, suc, ◌<◌, ◌≤◌, List, [], ◌∷◌, length, Option, Some, None, refl, ap, ◌∙◌, cond, arith, Bool, true, false, nat_le, leb-true, le-leb, codes, ◌==◌}
 use Rattle.std.specs.Option.{option_map, option_and_then}
 use Rattle.std.specs.Str.{bytes_eq}
+use Rattle.std.proofs.lemmas.List.Elements.{All-nil, All-cons, All-head, All-tail}
 use Rattle.std.proofs.lemmas.Slice.Eq.{bytes_eq-Decides}
-use Rattle.board_text.specs.Numbers.{spelled, byte_at, AreBytes}
+use Rattle.board_text.specs.Numbers.{spelled, byte_at, IsByte, AreBytes}
 use Rattle.board_text.proofs.NumberLemmas.{byte_at-spelled, byte_at-only}
 use Rattle.board_lines.specs.Events.{bytes_text, FewBytes}
 use Rattle.board_lines.specs.Reading.{spelled_at, some_bytes, bytes_at, taken}
-
--- none, or one before others
-no-bytes : AreBytes []
-no-bytes k d h = absurd (omega (arith, h))
-
-all-onto : (b : ℕ) (bytes : List ℕ) → b < 256 → AreBytes bytes → AreBytes (b ∷ bytes)
-all-onto b bytes first all zero d h = first
-all-onto b bytes first all (suc k) d h = all k d (omega (arith, h))
 
 pub record Spells (text bytes : List ℕ) : Type 0 where
   pub same : text ≡ spelled bytes
   pub all : AreBytes bytes
 
 pub spelled_at-only : (text bytes : List ℕ) → spelled_at text ≡ Some bytes → Spells text bytes
-spelled_at-only [] [] e = record { same = refl; all = no-bytes }
+spelled_at-only [] [] e = record { same = refl; all = All-nil IsByte }
 spelled_at-only [] (b ∷ bytes) e = cc
 spelled_at-only (high ∷ []) bytes e = cc
 spelled_at-only (high ∷ low ∷ text) bytes e = go (byte_at (high ∷ low ∷ [])) refl (spelled_at text) refl (λ bs was. spelled_at-only text bs was) e
@@ -35,13 +28,13 @@ spelled_at-only (high ∷ low ∷ text) bytes e = go (byte_at (high ∷ low ∷ 
         let same : b ∷ bs ≡ bytes = cc in
         let digits = h.1 in
         let rest = tail.same in
-        rw (← same) (record { same = cc; all = all-onto b bs h.0 tail.all })
+        rw (← same) (record { same = cc; all = All-cons IsByte b bs h.0 tail.all })
 
 pub spelled_at-spelled : (bytes : List ℕ) → AreBytes bytes → spelled_at (spelled bytes) ≡ Some bytes
 spelled_at-spelled [] all = refl
 spelled_at-spelled (b ∷ bytes) all =
-    ap (option_and_then (λ (c : ℕ). option_map (λ (bs : List ℕ). c ∷ bs) (spelled_at (spelled bytes)))) (byte_at-spelled b (all 0 0 (omega arith)))
-    ∙ ap (option_map (λ (bs : List ℕ). b ∷ bs)) (spelled_at-spelled bytes (λ k d h. all (suc k) d (omega (arith, h))))
+    ap (option_and_then (λ (c : ℕ). option_map (λ (bs : List ℕ). c ∷ bs) (spelled_at (spelled bytes)))) (byte_at-spelled b (All-head IsByte b bytes all))
+    ∙ ap (option_map (λ (bs : List ℕ). b ∷ bs)) (spelled_at-spelled bytes (All-tail IsByte b bytes all))
 
 pub record Reads (most : ℕ) (text bytes : List ℕ) : Type 0 where
   pub same : text ≡ bytes_text bytes
@@ -61,7 +54,7 @@ bytes_at-only most text bytes e = go (bytes_eq text (codes "-")) refl (spelled_a
     go : (t : Bool) → bytes_eq text (codes "-") ≡ t → (r : Option (List ℕ)) → spelled_at text ≡ r → cond t (Some []) (option_and_then (some_bytes most) r) ≡ Some bytes → Reads most text bytes
     go true is r was e =
         let none : [] ≡ bytes = cc in
-        rw (← none) (record { same = (bytes_eq-Decides text (codes "-")).0 is; few = (no-bytes, omega arith) })
+        rw (← none) (record { same = (bytes_eq-Decides text (codes "-")).0 is; few = (All-nil IsByte, omega arith) })
     go false is None was e = cc
     go false is (Some some) was e = some-only most text some bytes (spelled_at-only text some was) e
 

@@ -1,5 +1,5 @@
 -- Lines that are written one after the other.
-use Rattle.std.proofs.Common.{◌≡◌, ◌≤◌, ◌<◌, ℕ, ◌+◌, get_or, List, [], ◌∷◌, ◌++◌, length, drop, Result, Ok, Err, OnOk, refl, sym, ap, ◌∙◌, append_assoc, append-nil}
+use Rattle.std.proofs.Common.{◌≡◌, ◌≤◌, ◌<◌, ℕ, ◌+◌, get_or, List, [], ◌∷◌, ◌++◌, length, drop, refl, sym, ap, ◌∙◌, append_assoc, append-nil}
 use Rattle.std.proofs.lemmas.List.{drop_all, drop_more}
 use Rattle.board_text.specs.Fields.{line_of}
 use Rattle.board_lines.specs.Printing.{text_of, numbered}
@@ -7,10 +7,6 @@ use Rattle.board_lines.specs.Printing.{text_of, numbered}
 pub text_of-append : (xs ys : List (List (List ℕ))) → text_of (xs ++ ys) ≡ text_of xs ++ text_of ys
 text_of-append [] ys = refl
 text_of-append (fields ∷ xs) ys = ap (λ (rest : List ℕ). line_of fields ++ rest) (text_of-append xs ys) ∙ sym (append_assoc (line_of fields) (text_of xs) (text_of ys))
-
-pub on_ok : {E : Type 0} (r : Result (Unit {0}) E) (P Q : Type 0) → (P → Q) → OnOk r P → OnOk r Q
-on_ok (Ok x) P Q f h = f h
-on_ok (Err e) P Q f h = tt
 
 -- three words behind one another
 pub three-words : (out a b c one two three four : List ℕ) → one ≡ out ++ (a ++ 32 ∷ []) → two ≡ one ++ b → three ≡ two ++ 32 ∷ [] → four ≡ three ++ c → four ≡ out ++ (a ++ 32 ∷ (b ++ 32 ∷ c))

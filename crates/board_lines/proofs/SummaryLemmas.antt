@@ -1,6 +1,7 @@
 -- The lines of a summary, one part behind another.
 use Rattle.std.proofs.Common.{◌≡◌, ◌+◌, ℕ, List, [], ◌∷◌, ◌++◌, ◌||◌, map, cond, Bool, true, false, refl, sym, ap, ◌∙◌, append_assoc, append-nil, decimal, arith}
 use Rattle.std.specs.FinSet as set
+use Rattle.std.proofs.Math.Bool.{or-true, or-false}
 use Rattle.std.proofs.lemmas.List.{map-append}
 use Rattle.std.proofs.lemmas.List.FromFn.{filter_of_map_range_with_len_more}
 use Rattle.lapic_core.specs.Vectors.{Vectors}
@@ -26,14 +27,6 @@ some-more v (u ∷ found) = refl
 
 below-more : (n : ℕ) (vectors : Vectors) → below (n + 1) vectors ≡ below n vectors ++ cond (set.contains vectors (16 + n)) ((16 + n) ∷ []) []
 below-more n vectors = filter_of_map_range_with_len_more (λ (v : ℕ). set.contains vectors v) (λ (i : ℕ). 16 + i) 0 n n (omega arith)
-
-or-true : (a : Bool) → (a || true) ≡ true
-or-true true = refl
-or-true false = refl
-
-or-false : (a : Bool) → (a || false) ≡ a
-or-false true = refl
-or-false false = refl
 
 pub auto-step : (p n : ℕ) (vectors : Vectors) (any now : Bool) (start so_far new : List ℕ) → so_far ≡ start ++ auto_text p (below n vectors) → any ≡ is_some_vector (below n vectors) →
     now ≡ (any || set.contains vectors (16 + n)) → new ≡ so_far ++ cond (set.contains vectors (16 + n)) (auto_part p (16 + n) any) [] →

@@ -1,7 +1,7 @@
 use Rattle.std.proofs.Common.{ap, ◌≡◌, ◌++◌, ◌∙◌, Option, ℕ}
 use Rattle.board_text.specs.Fields.{line_of}
 use Rattle.board_lines.specs.Printing.{text_of, numbered, queue_lines, timer_line, summary_lines}
-use Rattle.board_lines.proofs.PrintLemmas.{on_ok}
+use Rattle.std.proofs.lemmas.Result.{on_ok_weaker}
 use Rattle.board_lines.proofs.SummaryLemmas.{parts}
 use Rattle.board_lines.proofs.print.summary.put_summary.Goals as goal
 
@@ -11,4 +11,4 @@ returns c =
     let timer = c.in_ok-put_earliest.ensures ∙ ap (λ (earliest : Option (ℕ × (ℕ × ℕ))). c.put_autos.new.out.items ++ line_of (timer_line earliest)) c.earliest.ensures in
     let last : c.put_queues.new.out.items ≡ c.put_pages.new.out.items ++ text_of (numbered queue_lines 0 values.queued) → c.put_queues.new.out.items ≡ c.args.out.now.items ++ text_of (summary_lines values) =
     parts values c.args.out.now.items c.put_nexts.new.out.items c.put_autos.new.out.items c.put_earliest.new.out.items c.put_pages.new.out.items c.put_queues.new.out.items c.in_ok-put_nexts.ensures c.in_ok-put_autos.ensures timer c.in_ok-put_pages.ensures in
-    on_ok c.put_queues.result (c.put_queues.new.out.items ≡ c.put_pages.new.out.items ++ text_of (numbered queue_lines 0 values.queued)) (c.put_queues.new.out.items ≡ c.args.out.now.items ++ text_of (summary_lines values)) last c.put_queues.ensures
+    on_ok_weaker c.put_queues.result last c.put_queues.ensures
