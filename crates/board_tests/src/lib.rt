@@ -13,3 +13,5 @@ mod overlays;
 mod ports;
 #[cfg(test)]
 mod runs;
+#[cfg(test)]
+mod steps;

@@ -1,43 +1,11 @@
 // Event flags at the edges of a port, and ports that share a queue and are closed.
-use board_terms::{Notice, Notices, PayloadBytes, PortShape, Refusal, Sint, Vp};
+use crate::steps::{SCONTROL, SIEFP, open, open_messages, post, write};
+use board_terms::{Notice, Notices, PortShape, Refusal, Sint, Vp};
 use std::test::Fail;
 use synic_board::{Board, Event, Reply};
 
-const SCONTROL: u32 = 0x4000_0080;
-
-const SIEFP: u32 = 0x4000_0082;
-
-/// Enables the SynIC, or the page of event flags at page 0.
-fn enable(board: &mut Board, notices: &mut Notices, register: u32) -> Reply {
-    let event = Event::Write {
-        vp: 0,
-        register,
-        value: 1,
-    };
-    board.perform(&event, notices)
-}
-
-fn open_port(board: &mut Board, notices: &mut Notices, port: u8, shape: PortShape) -> Reply {
-    let event = Event::OpenPort {
-        port,
-        vp: 0,
-        sint: 2,
-        shape,
-    };
-    board.perform(&event, notices)
-}
-
 fn signal(board: &mut Board, notices: &mut Notices, port: u8, flag: u16) -> Reply {
     board.perform(&Event::Signal { port, flag }, notices)
-}
-
-fn post(board: &mut Board, notices: &mut Notices, port: u8) -> Reply {
-    let event = Event::Post {
-        port,
-        kind: 1,
-        payload: PayloadBytes::new(),
-    };
-    board.perform(&event, notices)
 }
 
 fn close(board: &mut Board, notices: &mut Notices, port: u8) -> Reply {
@@ -57,10 +25,16 @@ fn flags_reach_from_the_first_to_the_last(rt: HostRuntime) -> Result<(), Fail> {
         base: 2040,
         count: 8,
     };
-    assert_eq!(rt; enable(&mut board, &mut notices, SCONTROL), Reply::Done);
-    assert_eq!(rt; enable(&mut board, &mut notices, SIEFP), Reply::Done);
-    assert_eq!(rt; open_port(&mut board, &mut notices, 0, all), Reply::Done);
-    assert_eq!(rt; open_port(&mut board, &mut notices, 1, last), Reply::Done);
+    assert_eq!(rt;
+        board.perform(&write(0, SCONTROL, 1), &mut notices),
+        Reply::Done
+    );
+    assert_eq!(rt;
+        board.perform(&write(0, SIEFP, 1), &mut notices),
+        Reply::Done
+    );
+    assert_eq!(rt; board.perform(&open(0, 0, all), &mut notices), Reply::Done);
+    assert_eq!(rt; board.perform(&open(1, 0, last), &mut notices), Reply::Done);
     assert_eq!(rt; signal(&mut board, &mut notices, 0, 0), Reply::FlagWasClear);
     assert_eq!(rt;
         notices.as_slice(),
@@ -100,7 +74,7 @@ fn flags_outside_a_page_are_no_port(rt: HostRuntime) -> Result<(), Fail> {
     for (base, count) in [(2040, 9), (2048, 1), (0, 2049), (0, 0), (65535, 65535)] {
         let shape = PortShape::Flags { base, count };
         assert_eq!(rt;
-            open_port(&mut board, &mut notices, 0, shape),
+            board.perform(&open(0, 0, shape), &mut notices),
             Reply::Refused(Refusal::BadTarget)
         );
     }
@@ -109,14 +83,13 @@ fn flags_outside_a_page_are_no_port(rt: HostRuntime) -> Result<(), Fail> {
 
 /// Two ports of one queue in turn: the messages 0 and 2 are of port 0, 1 and 3 of port 1.
 fn take_turns(board: &mut Board, notices: &mut Notices) -> bool {
-    let shape = PortShape::Messages { buffers: 2 };
-    enable(board, notices, SCONTROL) == Reply::Done
-        && open_port(board, notices, 0, shape) == Reply::Done
-        && open_port(board, notices, 1, shape) == Reply::Done
-        && post(board, notices, 0) == Reply::Accepted(0)
-        && post(board, notices, 1) == Reply::Accepted(1)
-        && post(board, notices, 0) == Reply::Accepted(2)
-        && post(board, notices, 1) == Reply::Accepted(3)
+    board.perform(&write(0, SCONTROL, 1), notices) == Reply::Done
+        && board.perform(&open_messages(0, 0, 2), notices) == Reply::Done
+        && board.perform(&open_messages(1, 0, 2), notices) == Reply::Done
+        && board.perform(&post(0, &[]), notices) == Reply::Accepted(0)
+        && board.perform(&post(1, &[]), notices) == Reply::Accepted(1)
+        && board.perform(&post(0, &[]), notices) == Reply::Accepted(2)
+        && board.perform(&post(1, &[]), notices) == Reply::Accepted(3)
 }
 
 #[test]
