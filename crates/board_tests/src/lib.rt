@@ -12,6 +12,8 @@ mod overlays;
 #[cfg(test)]
 mod ports;
 #[cfg(test)]
+mod queues;
+#[cfg(test)]
 mod runs;
 #[cfg(test)]
 mod steps;
