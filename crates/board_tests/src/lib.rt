@@ -17,3 +17,5 @@ mod queues;
 mod runs;
 #[cfg(test)]
 mod steps;
+#[cfg(test)]
+mod timers;
