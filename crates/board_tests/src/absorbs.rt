@@ -1,23 +1,11 @@
 // Posted vectors that are taken in.
-ghost use Rattle.std.specs.Prelude.{◌<◌, ◌≤◌};
-
+use crate::steps::requested;
 use board_terms::{Notice, Notices, Refusal, Vector, Vp};
 use std::test::Fail;
 use synic_board::{Board, Event, Reply};
 
 fn absorb(board: &mut Board, notices: &mut Notices, vp: u8, part: u8, bits: u64) -> Reply {
     board.perform(&Event::Absorb { vp, part, bits }, notices)
-}
-
-/// What is told of a request of that vector at that processor.
-fn requested(vp: u8, vector: u8) -> Notice
-    requires on { vp < 8 }
-    requires valid { 16 ≤ vector }
-{
-    Notice::Requested {
-        vp: Vp::new(vp).unwrap(),
-        vector: Vector::new(vector).unwrap(),
-    }
 }
 
 #[test]

@@ -12,4 +12,10 @@ mod overlays;
 #[cfg(test)]
 mod ports;
 #[cfg(test)]
+mod queues;
+#[cfg(test)]
 mod runs;
+#[cfg(test)]
+mod steps;
+#[cfg(test)]
+mod timers;

@@ -1,11 +1,8 @@
 // Eight processors whose sixteen overlays lie at one page.
+use crate::steps::{SIEFP, SIMP, write};
 use board_terms::{Notices, Owner, Vp};
 use std::test::Fail;
-use synic_board::{Board, Event, Reply};
-
-const SIEFP: u32 = 0x4000_0082;
-
-const SIMP: u32 = 0x4000_0083;
+use synic_board::{Board, Reply};
 
 /// Page 3, enabled.
 const HERE: u64 = 0x3001;
@@ -15,12 +12,8 @@ const AWAY: u64 = 0x3000;
 
 /// Writes the register of overlay `number`: those of processor 0 first, SIMP before SIEFP.
 fn put(board: &mut Board, notices: &mut Notices, number: u8, value: u64) -> bool {
-    let event = Event::Write {
-        vp: number / 2,
-        register: if number % 2 == 0 { SIMP } else { SIEFP },
-        value,
-    };
-    board.perform(&event, notices) == Reply::Done
+    let register = if number % 2 == 0 { SIMP } else { SIEFP };
+    board.perform(&write(number / 2, register, value), notices) == Reply::Done
 }
 
 /// Whose page lies there where overlay `number` is the first.

@@ -1,54 +1,20 @@
 // Event flags at the edges of a port, and ports that share a queue and are closed.
-use board_terms::{Notice, Notices, PayloadBytes, PortShape, Refusal, Sint, Vp};
+use crate::steps::{SCONTROL, SIEFP, are_done, open, open_messages, post, write};
+use board_terms::{Notice, Notices, PortShape, Refusal, Sint, Ticket, Vp};
 use std::test::Fail;
 use synic_board::{Board, Event, Reply};
 
-const SCONTROL: u32 = 0x4000_0080;
-
-const SIEFP: u32 = 0x4000_0082;
-
-/// Enables the SynIC, or the page of event flags at page 0.
-fn enable(board: &mut Board, notices: &mut Notices, register: u32) -> Reply {
-    let event = Event::Write {
-        vp: 0,
-        register,
-        value: 1,
-    };
-    board.perform(&event, notices)
-}
-
-fn open_port(board: &mut Board, notices: &mut Notices, port: u8, shape: PortShape) -> Reply {
-    let event = Event::OpenPort {
-        port,
-        vp: 0,
-        sint: 2,
-        shape,
-    };
-    board.perform(&event, notices)
-}
-
 fn signal(board: &mut Board, notices: &mut Notices, port: u8, flag: u16) -> Reply {
     board.perform(&Event::Signal { port, flag }, notices)
-}
-
-fn post(board: &mut Board, notices: &mut Notices, port: u8) -> Reply {
-    let event = Event::Post {
-        port,
-        kind: 1,
-        payload: PayloadBytes::new(),
-    };
-    board.perform(&event, notices)
 }
 
 fn close(board: &mut Board, notices: &mut Notices, port: u8) -> Reply {
     board.perform(&Event::ClosePort { port }, notices)
 }
 
-#[test]
-fn flags_reach_from_the_first_to_the_last(rt: HostRuntime) -> Result<(), Fail> {
-    let mut board = Board::open(rt.alloc(), 1, 1, 0)?;
-    let mut notices = Notices::open(rt.alloc())?;
-    let (vp, sint) = (Vp::new(0).unwrap(), Sint::new(2).unwrap());
+/// The SynIC and the page of flags of processor 0, and two ports: one for all flags, and one for the
+/// last eight.
+fn with_flags() -> [Event; 4] {
     let all = PortShape::Flags {
         base: 0,
         count: 2048,
@@ -57,39 +23,48 @@ fn flags_reach_from_the_first_to_the_last(rt: HostRuntime) -> Result<(), Fail> {
         base: 2040,
         count: 8,
     };
-    assert_eq!(rt; enable(&mut board, &mut notices, SCONTROL), Reply::Done);
-    assert_eq!(rt; enable(&mut board, &mut notices, SIEFP), Reply::Done);
-    assert_eq!(rt; open_port(&mut board, &mut notices, 0, all), Reply::Done);
-    assert_eq!(rt; open_port(&mut board, &mut notices, 1, last), Reply::Done);
+    [
+        write(0, SCONTROL, 1),
+        write(0, SIEFP, 1),
+        open(0, 0, all),
+        open(1, 0, last),
+    ]
+}
+
+#[test]
+fn flags_reach_from_the_first_to_the_last(rt: HostRuntime) -> Result<(), Fail> {
+    let mut board = Board::open(rt.alloc(), 1, 1, 0)?;
+    let mut notices = Notices::open(rt.alloc())?;
+    let (vp, sint) = (Vp::new(0).unwrap(), Sint::new(2).unwrap());
+    assert!(rt; are_done(&mut board, &mut notices, &with_flags()));
     assert_eq!(rt; signal(&mut board, &mut notices, 0, 0), Reply::FlagWasClear);
-    assert_eq!(rt;
-        notices.as_slice(),
-        [Notice::FlagSet { vp, sint, flag: 0 }].as_slice()
-    );
+    let flag = 0;
+    let first = Notice::FlagSet { vp, sint, flag };
+    assert_eq!(rt; notices.as_slice(), [first].as_slice());
     assert_eq!(rt; signal(&mut board, &mut notices, 0, 0), Reply::FlagWasSet);
     assert!(rt; notices.as_slice().is_empty());
     assert_eq!(rt; signal(&mut board, &mut notices, 1, 7), Reply::FlagWasClear);
+    let flag = 2047;
+    let last = Notice::FlagSet { vp, sint, flag };
+    assert_eq!(rt; notices.as_slice(), [last].as_slice());
     assert_eq!(rt;
-        notices.as_slice(),
-        [Notice::FlagSet {
-            vp,
-            sint,
-            flag: 2047
-        }]
-        .as_slice()
-    );
-    assert_eq!(rt;
-        signal(&mut board, &mut notices, 0, 2047),
+        signal(&mut board, &mut notices, 0, flag),
         Reply::FlagWasSet
     );
-    assert_eq!(rt;
-        signal(&mut board, &mut notices, 1, 8),
-        Reply::Refused(Refusal::BadFlag)
-    );
-    assert_eq!(rt;
-        signal(&mut board, &mut notices, 0, 2048),
-        Reply::Refused(Refusal::BadFlag)
-    );
+    Ok(())
+}
+
+#[test]
+fn flags_outside_a_port_are_refused(rt: HostRuntime) -> Result<(), Fail> {
+    let mut board = Board::open(rt.alloc(), 1, 1, 0)?;
+    let mut notices = Notices::open(rt.alloc())?;
+    assert!(rt; are_done(&mut board, &mut notices, &with_flags()));
+    for (port, flag) in [(0, 2048), (0, 65535), (1, 8), (1, 2047)] {
+        assert_eq!(rt;
+            signal(&mut board, &mut notices, port, flag),
+            Reply::Refused(Refusal::BadFlag)
+        );
+    }
     Ok(())
 }
 
@@ -100,7 +75,7 @@ fn flags_outside_a_page_are_no_port(rt: HostRuntime) -> Result<(), Fail> {
     for (base, count) in [(2040, 9), (2048, 1), (0, 2049), (0, 0), (65535, 65535)] {
         let shape = PortShape::Flags { base, count };
         assert_eq!(rt;
-            open_port(&mut board, &mut notices, 0, shape),
+            board.perform(&open(0, 0, shape), &mut notices),
             Reply::Refused(Refusal::BadTarget)
         );
     }
@@ -109,43 +84,31 @@ fn flags_outside_a_page_are_no_port(rt: HostRuntime) -> Result<(), Fail> {
 
 /// Two ports of one queue in turn: the messages 0 and 2 are of port 0, 1 and 3 of port 1.
 fn take_turns(board: &mut Board, notices: &mut Notices) -> bool {
-    let shape = PortShape::Messages { buffers: 2 };
-    enable(board, notices, SCONTROL) == Reply::Done
-        && open_port(board, notices, 0, shape) == Reply::Done
-        && open_port(board, notices, 1, shape) == Reply::Done
-        && post(board, notices, 0) == Reply::Accepted(0)
-        && post(board, notices, 1) == Reply::Accepted(1)
-        && post(board, notices, 0) == Reply::Accepted(2)
-        && post(board, notices, 1) == Reply::Accepted(3)
+    let opening = [
+        write(0, SCONTROL, 1),
+        open_messages(0, 0, 2),
+        open_messages(1, 0, 2),
+    ];
+    are_done(board, notices, &opening)
+        && board.perform(&post(0, &[]), notices) == Reply::Accepted(0)
+        && board.perform(&post(1, &[]), notices) == Reply::Accepted(1)
+        && board.perform(&post(0, &[]), notices) == Reply::Accepted(2)
+        && board.perform(&post(1, &[]), notices) == Reply::Accepted(3)
+}
+
+fn withdrawn(ticket: Ticket) -> Notice {
+    Notice::Withdrawn {
+        ticket,
+        vp: Vp::new(0).unwrap(),
+        sint: Sint::new(2).unwrap(),
+    }
 }
 
 #[test]
 fn ports_of_one_queue_are_closed_in_both_orders(rt: HostRuntime) -> Result<(), Fail> {
     let (vp, sint) = (Vp::new(0).unwrap(), Sint::new(2).unwrap());
-    let of_port_0 = [
-        Notice::Withdrawn {
-            ticket: 0,
-            vp,
-            sint,
-        },
-        Notice::Withdrawn {
-            ticket: 2,
-            vp,
-            sint,
-        },
-    ];
-    let of_port_1 = [
-        Notice::Withdrawn {
-            ticket: 1,
-            vp,
-            sint,
-        },
-        Notice::Withdrawn {
-            ticket: 3,
-            vp,
-            sint,
-        },
-    ];
+    let of_port_0 = [withdrawn(0), withdrawn(2)];
+    let of_port_1 = [withdrawn(1), withdrawn(3)];
     let mut notices = Notices::open(rt.alloc())?;
     // The message page is disabled, so that all four are queued.
     let mut board = Board::open(rt.alloc(), 1, 1, 0)?;

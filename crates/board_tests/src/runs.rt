@@ -1,72 +1,27 @@
 // Lists of events, and runs that stop for want of memory and go on.
-use arrayvec::ArrayVec;
-use board_terms::{Notice, PortShape, Refusal, Sint, Vector, Vp};
+use crate::steps::{EOM, SCONTROL, SIMP, SINT2, bytes, load, open_messages, post, store, write};
+use board_terms::{Notice, Refusal, Sint, Vector, Vp};
 use std::test::Fail;
 use synic_board::{Board, Event, Reply, run};
-
-const SCONTROL: u32 = 0x4000_0080;
-
-const SIMP: u32 = 0x4000_0083;
-
-const EOM: u32 = 0x4000_0084;
-
-const SINT2: u32 = 0x4000_0092;
-
-fn write(register: u32, value: u64) -> Event {
-    Event::Write {
-        vp: 0,
-        register,
-        value,
-    }
-}
-
-fn post(byte: u8) -> Event {
-    Event::Post {
-        port: 3,
-        kind: 1,
-        payload: bytes(&[byte]),
-    }
-}
-
-fn load(address: u64, length: u8) -> Event {
-    Event::Load { address, length }
-}
-
-/// As many of the bytes as there is room for.
-fn bytes<const N: usize>(values: &[u8]) -> ArrayVec<u8, N> {
-    let mut all = ArrayVec::new();
-    for value in values {
-        let _ = all.try_push(*value);
-    }
-    all
-}
 
 /// A port with two buffers takes three posts and refuses a fourth; then the guest empties the slot,
 /// and writes EOM.
 fn end_of_message() -> [Event; 15] {
     [
-        write(SCONTROL, 1),
-        write(SIMP, 0x2001),
-        write(SINT2, 0x50),
-        Event::OpenPort {
-            port: 3,
-            vp: 0,
-            sint: 2,
-            shape: PortShape::Messages { buffers: 2 },
-        },
-        post(0x0a),
+        write(0, SCONTROL, 1),
+        write(0, SIMP, 0x2001),
+        write(0, SINT2, 0x50),
+        open_messages(3, 0, 2),
+        post(3, &[0x0a]),
         load(0x2200, 8),
         load(0x2208, 8),
         load(0x2210, 1),
-        post(0x0b),
-        post(0x0c),
+        post(3, &[0x0b]),
+        post(3, &[0x0c]),
         load(0x2205, 1),
-        post(0x0d),
-        Event::Store {
-            address: 0x2200,
-            bytes: bytes(&[0, 0, 0, 0]),
-        },
-        write(EOM, 0),
+        post(3, &[0x0d]),
+        store(0x2200, &[0, 0, 0, 0]),
+        write(0, EOM, 0),
         load(0x2200, 8),
     ]
 }
