@@ -69,12 +69,12 @@ impl VectorSet {
     pub fn greatest(&self) -> Option<Vector>
         ensures { result ≡ greatest self.now }
     {
-        let mut best = None;
-        for number in 16..256usize {
+        // from the top down, so that the first member ends the search
+        for number in (16..256usize).rev() {
             if self.marks[number] {
-                best = Vector::new(number as u8);
+                return Vector::new(number as u8);
             }
         }
-        best
+        None
     }
 }

@@ -1,16 +1,22 @@
 -- Timers that are written and expire, and the stored earliest one.
-use Rattle.std.proofs.Common.{◌≡◌, ◌≢◌, ℕ, ◌*◌, ◌<◌, ◌≤◌, List, [], ◌∷◌, length, refl, ap, ◌∙◌, arith, get_or, nat_lt, true, false, zero, suc}
-use Rattle.std.specs.Prelude.{Option, None}
+use Rattle.std.proofs.Common.{◌≡◌, ◌≢◌, ℕ, ◌*◌, ◌<◌, ◌≤◌, List, [], ◌∷◌, length, refl, sym, ap, ◌∙◌, arith, get_or, nat_lt, true, false, zero, suc}
+use Rattle.std.specs.Prelude.{Option, None, Some, ◌==◌, if◌then◌else◌}
+use Rattle.std.specs.Option.{option_map_or, option_map}
 use Rattle.std.proofs.lemmas.List.{get_or-set_other, map-set}
 use Rattle.std.proofs.lemmas.Bool.Decides.{nat_tests}
 use Rattle.lapic_core.specs.Vectors.{Vectors}
 use Rattle.board_terms.specs.declared.pages.Owner.{Owner}
-use Rattle.board_terms.specs.Dues.{number_of}
+use Rattle.board_terms.specs.Dues.{Dues, number_of, timer_of, earlier, least, least_below}
 use Rattle.stimer_bank.specs.declared.timer.Timer.{Timer}
 use Rattle.stimer_bank.specs.Bank.{Bank, with_timer, dues, due_list}
 use Rattle.stimer_bank.specs.DueList.{Each, IsDueBy}
 use Rattle.stimer_bank.proofs.Sorted.{sorted}
+use Rattle.board_terms.specs.declared.refusal.Refusal.TheVariants.{ClockBack}
+use Rattle.synic_board.specs.declared.event.Reply.TheVariants.{Done}
+use Rattle.synic_board.specs.State.{State, bank_of}
+use Rattle.synic_board.specs.Effects.{answered, unchanged, refused}
 use Rattle.synic_board.specs.Scratch.{Values}
+use Rattle.synic_board.specs.Timers.{is_any_due, at_moment, attempted_all, ticked}
 
 -- the timers of processors that are not on the board stay idle
 pub idle-written : (b now : Bank) (t : ℕ × ℕ) (x : Timer) (m : ℕ) → now ≡ with_timer b t x → number_of t < 4 * m → ((k : ℕ) → 4 * m ≤ k → get_or (dues b) k None ≡ None) → (k : ℕ) → 4 * m ≤ k → get_or (dues now) k None ≡ None
@@ -40,3 +46,62 @@ listed_on b moment m idle k h = on (get_or (due_list (dues b) moment) k (0, 0)) 
           | true ↦ λ e. grind (arith, nat_tests)
           | false ↦ λ e. let high : m ≤ t.0 = grind (arith, nat_tests) in let none = idle (number_of t) (omega arith) in let some = due.is in absurd (cc)
         ] refl
+
+-- the earliest so far is due at d or before
+abbrev IsBy : Option (ℕ × ℕ) → ℕ → Type 0
+IsBy None d = ⊥
+IsBy (Some r) d = r.0 ≤ d
+
+by_new : (o : Option (ℕ × ℕ)) (d n : ℕ) → IsBy (Some (earlier o (d, n))) d
+by_new None d n = omega arith
+by_new (Some r) d n = elim (nat_lt d r.0) as (λ b. nat_lt d r.0 ≡ b → (if b then (d, n) else r).0 ≤ d) [
+  | true ↦ λ e. omega arith
+  | false ↦ λ e. grind (arith, nat_tests)
+] refl
+
+by_more : (o : Option (ℕ × ℕ)) (x : Option ℕ) (d n : ℕ) → IsBy o d → IsBy (option_map_or (λ e. Some (earlier o (e, n))) x o) d
+by_more o None d n h = h
+by_more None (Some e) d n h = absurd h
+by_more (Some r) (Some e) d n h = elim (nat_lt e r.0) as (λ b. nat_lt e r.0 ≡ b → (if b then (e, n) else r).0 ≤ d) [
+  | true ↦ λ w. let less : e < r.0 = grind (arith, nat_tests) in omega (arith, less, h)
+  | false ↦ λ w. h
+] refl
+
+by_due : (m : Dues) (n k d : ℕ) → k < n → get_or m k None ≡ Some d → IsBy (least_below m n) d
+unfolding least_below
+by_due m zero k d h e = absurd (omega arith)
+by_due m (suc n) k d h e =
+    elim (k == n) as (λ b. (k == n) ≡ b → IsBy (option_map_or (λ e. Some (earlier (least_below m n) (e, n))) (get_or m n None) (least_below m n)) d) [
+      | true ↦ λ w. let same : k ≡ n = grind (arith, nat_tests) in
+          let is : get_or m n None ≡ Some d = ap (λ i. get_or m i None) (sym same) ∙ e in
+          rw is (by_new (least_below m n) d n)
+      | false ↦ λ w. let other : k ≢ n = grind (arith, nat_tests) in by_more (least_below m n) (get_or m n None) d n (by_due m n k d (omega arith) e)
+    ] refl
+
+some_due : (o : Option (ℕ × ℕ)) (d moment : ℕ) → IsBy o d → d ≤ moment → is_any_due (option_map (λ r. (r.0, timer_of r.1)) o) moment ≡ true
+some_due None d moment h le = absurd h
+some_due (Some r) d moment h le = let low : r.0 ≤ moment = omega (arith, h, le) in grind (arith, nat_tests)
+
+listed_due : (m : Dues) (moment k d : ℕ) → k < 32 → get_or m k None ≡ Some d → d ≤ moment → is_any_due (least m) moment ≡ true
+unfolding least
+listed_due m moment k d h e le = some_due (least_below m 32) d moment (by_due m 32 k d h e) le
+
+-- no timer is listed before the earliest is due
+none_listed : (m : Dues) (moment : ℕ) → is_any_due (least m) moment ≡ false → due_list m moment ≡ []
+none_listed m moment none = empty (due_list m moment) (sorted m moment).each
+  where
+    empty : (ts : List (ℕ × ℕ)) → Each (IsDueBy m moment 32) ts → ts ≡ []
+    empty [] h = refl
+    empty (t ∷ ts) h = let some = listed_due m moment (number_of t) h.0.due h.0.low h.0.is h.0.by in absurd (cc)
+
+nothing_tried : (s : State) → attempted_all s [] ≡ (s, [])
+unfolding attempted_all
+nothing_tried s = refl
+
+-- a tick before the earliest timer is due changes the moment alone
+pub ticked_before : (s : State) (moment : ℕ) → s.moment ≤ moment → moment ≢ s.moment → is_any_due (least (dues (bank_of s))) moment ≡ false → ticked s moment ≡ (at_moment s moment, Done, [])
+ticked_before s moment on other none =
+    let back : nat_lt moment s.moment ≡ false = grind (arith, nat_tests) in
+    let same : (moment == s.moment) ≡ false = grind (arith, nat_tests) in
+    let tried = ap (attempted_all (at_moment s moment)) (none_listed (dues (bank_of s)) moment none) ∙ nothing_tried (at_moment s moment) in
+    λ i. if back i then refused s ClockBack else if same i then unchanged s Done else answered Done (tried i)

@@ -1,5 +1,5 @@
 -- Timers that are written, that are tried, and the clock (TLFS, "Synthetic Timers"; the rules on late and lazy timers are this profile's).
-use Rattle.std.specs.Prelude.{ℕ, Bool, true, ◌==◌, ◌&&◌, ◌<◌, nat_lt, List, [], ◌∷◌, ◌++◌, length, slice_index_or, Option, if◌then◌else◌}
+use Rattle.std.specs.Prelude.{ℕ, Bool, true, false, ◌==◌, ◌&&◌, ◌<◌, nat_lt, nat_le, List, [], ◌∷◌, ◌++◌, length, slice_index_or, Option, if◌then◌else◌}
 use Rattle.std.specs.Option.{option_map_or}
 use Rattle.board_terms.specs.declared.messages.Message.TheVariants.{FromTimer}
 use Rattle.board_terms.specs.declared.notices.Notice.{Notice}
@@ -76,6 +76,10 @@ AllOn s ts = (k : ℕ) → k < length ts → (slice_index_or ts k (0, 0)).0 < pr
 -- a timer that is written is tried once, if it is due then
 abbrev pub written_timer : State → Bank → ℕ × ℕ → Outcome
 written_timer s b t = answered Done (attempted (with_bank s b) t)
+
+-- the earliest timer is due at the moment, so that some timer is
+abbrev pub is_any_due : Option (ℕ × (ℕ × ℕ)) → ℕ → Bool
+is_any_due first moment = option_map_or (λ e. nat_le e.0 moment) first false
 
 -- the clock goes on, and the timers that are due then are tried in the order of (due, processor, index)
 abbrev pub at_moment : State → ℕ → State

@@ -1,14 +1,13 @@
 -- No reply of the machine has more than 8 bytes.
-use Rattle.std.proofs.Common.{◌≡◌, ℕ, ◌+◌, ◌<◌, ◌≤◌, zero, suc, List, [], ◌∷◌, length, take, drop, Option, None, Some, Result, Ok, Err, refl, arith, cond, Bool, true, false, nat_lt, nat_le, ◌/◌, ◌%◌, ◌==◌, ◌||◌, ◌&&◌, not}
+use Rattle.std.proofs.Common.{◌≡◌, ℕ, ◌+◌, ◌≤◌, zero, suc, List, [], ◌∷◌, length, take, drop, Option, None, Some, Result, Ok, Err, refl, arith, cond, Bool, true, false, nat_lt, nat_le, ◌/◌, ◌%◌, ◌==◌, ◌||◌, ◌&&◌, not}
 use Rattle.std.specs.Option.{option_map_or}
 use Rattle.std.proofs.lemmas.Bool.{ltb-false}
-use Rattle.arrayvec.specs.ArrayVec.{ArrayVec}
 use Rattle.board_terms.specs.declared.refusal.Refusal.{Refusal}
 use Rattle.board_terms.specs.declared.refusal.Refusal.TheVariants.{BadTarget, SynicOff, ClockBack, OutsideSpace, CrossesPage, BadLength, NoSuchProcessor}
 use Rattle.board_terms.specs.declared.messages.Message.TheVariants.{FromPort}
 use Rattle.event_ports.specs.declared.ports.Port.{Port}
 use Rattle.event_ports.specs.Ports.{open_refusal, target_of, message_target_of, flag_place_of}
-use Rattle.gpa_space.specs.Space.{refusal_of, loaded, shown, owner_of, is_flag_set}
+use Rattle.gpa_space.specs.Space.{refusal_of, shown, owner_of, is_flag_set}
 use Rattle.synic_regs.specs.Registers.{register_of}
 use Rattle.synic_regs.specs.Regs.{has, enable, is_refused, with_value}
 use Rattle.stimer_bank.specs.Bank.{dues, due_list}
@@ -16,7 +15,6 @@ use Rattle.synic_regs.specs.declared.register.Register.{Register}
 use Rattle.synic_regs.specs.declared.register.Register.TheVariants.{ReferenceCounter, Eoi, Tpr, Control, Version, Sief, Sim, Eom, Source, TimerConfig, TimerCount}
 use Rattle.synic_board.specs.declared.event.Event.{Event}
 use Rattle.synic_board.specs.declared.event.Event.TheVariants.{OpenPort, ClosePort, Write, Read, Post, Signal, Assert, Absorb, Store, Load, Tick, Take}
-use Rattle.synic_board.specs.declared.event.Reply.{Reply}
 use Rattle.synic_board.specs.declared.event.Reply.TheVariants as replies
 use Rattle.synic_board.specs.State.{State, processors, regs_of, space_of, ports_of, bank_of, with_regs}
 use Rattle.synic_board.specs.Effects.{Outcome, after, at_processor, answered, unchanged, refused}
@@ -108,6 +106,7 @@ fits-load s address count = long (nat_lt 8 count) refl
         either_true : (b : Bool) → (b || true) ≡ true
         either_true true = refl
         either_true false = refl
+
         by : (t : Bool) → t ≡ true → IsReply (load_reply (option_map_or (λ r. Err r) (cond t (Some BadLength) (cond (not (nat_lt (address / 4096) (length s.pages))) (Some OutsideSpace) (cond (nat_lt 4096 (address % 4096 + count)) (Some CrossesPage) None))) (Ok (record { items = bytes }))))
         by true e = tt
         by false e = cc

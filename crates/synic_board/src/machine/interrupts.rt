@@ -57,7 +57,7 @@ impl Machine {
         ensures few { self.new.writes ≤ self.old.writes + 1 }
     {
         let at = vp.number() as usize;
-        let vector = self.lapics[at].next()?;
+        let vector = self.summary.next(vp)?;
         let auto = self.regs[at].is_auto(vector);
         let lapic = &mut self.lapics[at];
         let _ = lapic.take(auto);

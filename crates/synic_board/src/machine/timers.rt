@@ -1,11 +1,12 @@
 // Timers that are written and tried, and the clock.
 ghost use Rattle.std.specs.Prelude.{◌≡◌, ◌<◌, ◌≤◌, ◌+◌, ◌*◌, ◌++◌, [], length, IsTrue, IsSome};
 ghost use Rattle.synic_regs.specs.declared.register.Register.TheVariants as register;
+ghost use Rattle.board_terms.specs.Dues.{least};
 ghost use Rattle.stimer_bank.specs.Timer.{is_due};
-ghost use Rattle.stimer_bank.specs.Bank.{timer_in, with_config, with_count};
+ghost use Rattle.stimer_bank.specs.Bank.{timer_in, with_config, with_count, dues};
 ghost use Rattle.synic_board.specs.State.{processors, bank_of, with_bank};
 ghost use Rattle.synic_board.specs.Effects.{appended};
-ghost use Rattle.synic_board.specs.Timers.{is_ready_for, mode_at, is_ready, expiry_notices, expired_state, expiry_at, told_by, signalled_by, fired, attempted, attempted_all, AllOn, ticked};
+ghost use Rattle.synic_board.specs.Timers.{is_ready_for, mode_at, is_ready, expiry_notices, expired_state, expiry_at, told_by, signalled_by, fired, attempted, attempted_all, AllOn, is_any_due, ticked};
 ghost use Rattle.synic_board.specs.Registers.{written_register};
 
 use crate::event::Reply;
@@ -71,10 +72,25 @@ impl Machine {
         if moment == self.moment {
             return Reply::Done;
         }
+        let some = self.is_any_due(moment);
         self.moment = moment;
+        if !some {
+            return Reply::Done;
+        }
         let due = self.timers.due_list(moment);
         self.attempt_all(due.as_slice(), notices);
         Reply::Done
+    }
+
+    /// Whether a timer is due at a moment. The stored earliest tells, so that most ticks look at no
+    /// timer.
+    fn is_any_due(&self, moment: Moment) -> bool
+        ensures { result ≡ is_any_due (least (dues (bank_of self.now.state))) moment }
+    {
+        match self.summary.earliest() {
+            Some(first) => first.0 <= moment as u128,
+            None => false,
+        }
     }
 
     /// Tries timers one after another.

@@ -1,8 +1,11 @@
-use Rattle.std.proofs.Common.{◌≡◌, length, ◌∙◌, subst, sym, ℕ, List}
+use Rattle.std.proofs.Common.{◌≡◌, [], false, ap, length, ◌∙◌, subst, sym, ℕ, List}
 use Rattle.stimer_bank.specs.Bank.{dues, due_list}
-use Rattle.synic_board.specs.Timers.{AllOn}
+use Rattle.board_terms.specs.Dues.{least}
+use Rattle.synic_board.specs.declared.event.Reply.TheVariants.{Done}
+use Rattle.synic_board.specs.Timers.{AllOn, is_any_due, at_moment, ticked}
+use Rattle.synic_board.specs.State.{State, Held, bank_of}
 use Rattle.synic_board.specs.View.{state_of}
-use Rattle.synic_board.proofs.Clocks.{listed_on}
+use Rattle.synic_board.proofs.Clocks.{listed_on, ticked_before}
 use Rattle.synic_board.proofs.machine.Machine.tick.Goals as goal
 
 pub attempt_all-requires-clause-on : goal.attempt_all-requires-clause-on
@@ -10,3 +13,11 @@ attempt_all-requires-clause-on c =
     let on : AllOn (state_of c.self.inside) (due_list (dues c.self.inside.timers) c.args.moment) = listed_on c.self.inside.timers c.args.moment (length c.self.inside.lapics.items) c.self.invariant.idle in
     let same : due_list (dues c.self.inside.timers) c.args.moment ≡ c.as_slice.result.now = sym (c.as_slice.ensures.value ∙ c.due_list-due.ensures) in
     subst (λ (ts : List (ℕ × ℕ)). AllOn (state_of c.self.inside) ts) same on
+
+pub returns-then-not-some-clause-step : goal.returns-then-not-some-clause-step
+returns-then-not-some-clause-step c =
+    let was = state_of c.self.inside in
+    let view : was ≡ c.args.self.now.state = ap (λ (h : Held). h.state) c.self.view_is in
+    let none : is_any_due (least (dues (bank_of was))) c.args.moment ≡ false = ap (λ (s : State). is_any_due (least (dues (bank_of s))) c.args.moment) view ∙ sym c.is_any_due-some.ensures ∙ c.if-not-some.true in
+    let told : ticked was c.args.moment ≡ (at_moment was c.args.moment, Done, []) = ticked_before was c.args.moment c.if-moment-self.false c.if-moment-self-2.false none in
+    (λ i. (at_moment was c.args.moment, Done, c.requires i)) ∙ sym told ∙ ap (λ (s : State). ticked s c.args.moment) view
