@@ -4,5 +4,7 @@
 mod check;
 pub mod laws;
 mod stage;
+#[cfg(test)]
+mod tests;
 
 pub use check::{CheckEnd, check_trace};
