@@ -1,11 +1,11 @@
 -- Laws of traces.
-use Rattle.std.proofs.Common.{◌≡◌, ◌⊎◌, inl, inr, ℕ, ◌+◌, ◌<◌, ◌≤◌, ◌^◌, List, [], ◌∷◌, ◌++◌, length, length-append, take, drop, append_assoc, Some, refl, sym, ap, subst, ◌∙◌, arith, zero, suc}
+use Rattle.std.proofs.Common.{◌≡◌, ◌⊎◌, inl, inr, ℕ, ◌+◌, ◌<◌, ◌≤◌, ◌^◌, List, [], ◌∷◌, ◌++◌, length, length-append, take, drop, append_assoc, refl, sym, ap, subst, ◌∙◌, arith, zero, suc}
 use Rattle.std.specs.List.{All}
 use Rattle.std.proofs.lemmas.List.{take-append-drop, take-take}
 use Rattle.board_text.specs.Lines.{lines_of}
 use Rattle.synic_board.specs.State.{AreSizes, opened}
 use Rattle.board_trace.specs.Trace.{Entry, IsEntry, IsTrace, Begins, IsLegal, trace}
-use Rattle.board_trace.specs.Stages.{Stage, Title, Over, follow}
+use Rattle.board_trace.specs.Stages.{Stage, Title, Over}
 use Rattle.board_trace.specs.Verdicts.{joined, FirstWrong}
 use Rattle.board_trace.proofs.StageLemmas.{Continues, Fits, back, move, reached, Starts, starts}
 

@@ -1,5 +1,5 @@
 -- How far a check has come.
-use Rattle.std.proofs.Common.{◌≡◌, ◌⊎◌, inl, inr, ℕ, ◌+◌, ◌<◌, ◌≤◌, ◌≢◌, List, [], ◌∷◌, ◌++◌, length, length-append, take, drop, append_assoc, append-nil, Option, Some, None, refl, sym, ap, subst, ◌∙◌, arith}
+use Rattle.std.proofs.Common.{◌≡◌, ◌⊎◌, inl, inr, ℕ, ◌+◌, ◌<◌, ◌≤◌, List, [], ◌∷◌, ◌++◌, length, length-append, take, append_assoc, append-nil, Option, Some, None, refl, sym, ap, subst, ◌∙◌, arith}
 use Rattle.std.proofs.Math.Seq.{take-append_seam, take-append-add}
 use Rattle.std.specs.Io.KnownBytes.{Consumes, Appends, Keeps, IsAtEnd}
 use Rattle.std.proofs.KnownBytes.{Consumes-nil, Consumes-trans, Appends-nil, Appends-trans, Appends-kept}
@@ -10,13 +10,12 @@ use Rattle.board_text.specs.Streams.{ReadsUpTo}
 use Rattle.board_text.proofs.LineLemmas.{lines_of-line, lines_of-more, lines_of-rest, before_lines}
 use Rattle.board_text.proofs.Budgets.{less_left, one_more, within_limit, on-input, end-input, taken-on}
 use Rattle.board_trace.specs.Trace.{IsTrace, Begins}
-use Rattle.board_trace.specs.Stages.{Stage, Title, Opening, Running, Over, follow, count}
-use Rattle.board_trace.specs.Verdicts.{joined, FirstWrong, Judges, verdict_text, Begun, Checks, Says}
+use Rattle.board_trace.specs.Stages.{Stage, Title, Over, follow, count}
+use Rattle.board_trace.specs.Verdicts.{joined, FirstWrong, Judges, verdict_text, Checks, Says}
 use Rattle.board_trace.specs.declared.check.Verdict.{Verdict}
-use Rattle.board_trace.specs.declared.check.Verdict.TheVariants as verdicts
 use Rattle.board_trace.specs.declared.check.CheckEnd.{CheckEnd}
 use Rattle.board_trace.specs.declared.check.CheckEnd.TheVariants.{Legal, Refused, Memory, Reading, Writing}
-use Rattle.board_trace.proofs.StageLemmas.{Continues, Fits, Follow, back, forward, move, reached, Starts, starts, Alive, alive}
+use Rattle.board_trace.proofs.StageLemmas.{Continues, Fits, back, forward, move, reached, Starts, starts, alive}
 
 abbrev pub AreLines : List (List ℕ) → Type 0
 AreLines [] = Unit {0}
@@ -117,14 +116,15 @@ WrongAt r0 k = IfSome r0 (λ text. FirstWrong text k)
 pub wrong-line : (r0 r r1 : Option (List ℕ)) (waiting left line came : List ℕ) (stage : Stage) (k : ℕ) → Progress r0 r waiting stage k → Consumes r r1 came → waiting ++ came ≡ line ++ 10 ∷ left → IsOneLine line → follow stage line ≡ None → WrongAt r0 k
 wrong-line r0 r r1 waiting left line came stage k h reads split one is =
     on-input r0 r1 ((joined h.lines ++ waiting) ++ came) _ (Consumes-trans r0 r r1 (joined h.lines ++ waiting) came h.reads reads)
-      (λ ys. rw (taken-on (joined h.lines) waiting came (line ++ 10 ∷ left) ys split, append_assoc line (10 ∷ left) ys, h.number) (wrong (left ++ ys)))
+    (λ ys. rw (taken-on (joined h.lines) waiting came (line ++ 10 ∷ left) ys split, append_assoc line (10 ∷ left) ys, h.number) (wrong (left ++ ys)))
   where
     bad : (rest : List ℕ) (n : ℕ) → IsTrace (joined h.lines ++ (line ++ 10 ∷ rest)) n → ⊥
     bad rest n t = let f = back stage line rest n h.fits one (h.must (line ++ 10 ∷ rest) n t) in let off : None ≡ Some f.next = sym is ∙ f.is in cc
+
     wrong : (more : List ℕ) → FirstWrong (joined h.lines ++ (line ++ 10 ∷ more)) (length h.lines + 1)
     wrong more = first-wrong h.lines (line ++ 10 ∷ more) h.each (begins r0 r waiting stage k h)
-      (λ l ls rest n e t. let same : line ∷ lines_of more ≡ l ∷ ls = sym (lines_of-line line more one) ∙ e in let it : l ≡ line = cc in bad rest n (subst (λ (x : List ℕ). IsTrace (joined h.lines ++ (x ++ 10 ∷ rest)) n) it t))
-      (λ n t. bad more n t)
+        (λ l ls rest n e t. let same : line ∷ lines_of more ≡ l ∷ ls = sym (lines_of-line line more one) ∙ e in let it : l ≡ line = cc in bad rest n (subst (λ (x : List ℕ). IsTrace (joined h.lines ++ (x ++ 10 ∷ rest)) n) it t))
+        (λ n t. bad more n t)
 
 prefix_short : (xs ys line rest : List ℕ) → IsOneLine xs → xs ++ ys ≡ line ++ 10 ∷ rest → length xs ≤ length line
 prefix_short [] ys line rest h e = omega arith
@@ -141,19 +141,21 @@ too_long stage line ys n fits one long h = by (starts stage (line ++ ys) n fits 
 pub wrong-long : (r0 r r1 : Option (List ℕ)) (waiting left line came : List ℕ) (stage : Stage) (k : ℕ) → Progress r0 r waiting stage k → Consumes r r1 came → waiting ++ came ≡ line ++ left → IsOneLine line → 640 < length line → WrongAt r0 k
 wrong-long r0 r r1 waiting left line came stage k h reads split one long =
     on-input r0 r1 ((joined h.lines ++ waiting) ++ came) _ (Consumes-trans r0 r r1 (joined h.lines ++ waiting) came h.reads reads)
-      (λ ys. rw (taken-on (joined h.lines) waiting came (line ++ left) ys split, append_assoc line left ys, h.number) (wrong (left ++ ys)))
+    (λ ys. rw (taken-on (joined h.lines) waiting came (line ++ left) ys split, append_assoc line left ys, h.number) (wrong (left ++ ys)))
   where
     bad : (rest : List ℕ) (n : ℕ) → IsTrace (joined h.lines ++ (line ++ rest)) n → ⊥
     bad rest n t = too_long stage line rest n h.fits one long (h.must (line ++ rest) n t)
+
     longer : (l : List ℕ) (lines ls : List (List ℕ)) → before_lines line lines ≡ l ∷ ls → (l' : List ℕ) × (l ≡ line ++ l')
     longer l [] ls e = cc
     longer l (x ∷ lines) ls e = (x, cc)
+
     wrong : (more : List ℕ) → FirstWrong (joined h.lines ++ (line ++ more)) (length h.lines + 1)
     wrong more = first-wrong h.lines (line ++ more) h.each (begins r0 r waiting stage k h)
-      (λ l ls rest n e t.
+        (λ l ls rest n e t.
         let m = longer l (lines_of more) ls (sym (lines_of-more line more one) ∙ e) in
         bad (m.0 ++ 10 ∷ rest) n (subst (λ (x : List ℕ). IsTrace (joined h.lines ++ x) n) (ap (λ (x : List ℕ). x ++ 10 ∷ rest) m.1 ∙ append_assoc line m.0 (10 ∷ rest)) t))
-      (λ n t. bad more n t)
+        (λ n t. bad more n t)
 
 no_feed : (line l rest : List ℕ) → IsOneLine line → line ≡ l ++ 10 ∷ rest → ⊥
 no_feed [] [] rest h e = cc
@@ -165,9 +167,9 @@ pub wrong-last : (r0 r r1 : Option (List ℕ)) (waiting line came : List ℕ) (s
 wrong-last r0 r r1 waiting line came stage k h reads split one end still =
     let whole : (joined h.lines ++ waiting) ++ came ≡ joined h.lines ++ line = append_assoc (joined h.lines) waiting came ∙ ap (λ (x : List ℕ). joined h.lines ++ x) split in
     end-input r0 r1 (joined h.lines ++ line) _ (subst (λ (x : List ℕ). Consumes r0 r1 x) whole (Consumes-trans r0 r r1 (joined h.lines ++ waiting) came h.reads reads)) end
-      (rw h.number (first-wrong h.lines line h.each (begins r0 r waiting stage k h)
-        (λ l ls rest n e t. let off : [] ≡ l ∷ ls = sym (lines_of-rest line one) ∙ e in cc)
-        (λ n t. by n (starts stage line n h.fits (h.must line n t)))))
+    (rw h.number (first-wrong h.lines line h.each (begins r0 r waiting stage k h)
+    (λ l ls rest n e t. let off : [] ≡ l ∷ ls = sym (lines_of-rest line one) ∙ e in cc)
+    (λ n t. by n (starts stage line n h.fits (h.must line n t)))))
   where
     by : (n : ℕ) → ((stage ≡ Over n) × (line ≡ [])) ⊎ Starts line → ⊥
     by n (inl e) = still n e.0 e.1

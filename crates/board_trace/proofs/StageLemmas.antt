@@ -1,12 +1,12 @@
 -- How a trace goes on from a stage of its check.
-use Rattle.std.proofs.Common.{◌≡◌, ◌≢◌, ◌⊎◌, inl, inr, ℕ, ◌+◌, ◌<◌, ◌≤◌, ◌^◌, List, [], ◌∷◌, ◌++◌, map, length, length-append, append_assoc, Option, Some, None, refl, sym, ap, subst, ◌∙◌, arith, Bool, true, false}
+use Rattle.std.proofs.Common.{◌≡◌, ◌⊎◌, inl, inr, ℕ, ◌+◌, ◌<◌, ◌≤◌, ◌^◌, List, [], ◌∷◌, ◌++◌, length, append_assoc, Some, None, refl, sym, ap, subst, ◌∙◌, arith, Bool, true, false}
 use Rattle.std.specs.Option.{option_map}
 use Rattle.std.specs.List.{All}
 use Rattle.std.specs.Str.{bytes_eq}
 use Rattle.std.proofs.lemmas.Slice.Eq.{bytes_eq-Decides}
 use Rattle.std.proofs.lemmas.List.Elements.{All-nil, All-head, All-tail, All-cons}
 use Rattle.board_text.specs.Lines.{IsOneLine}
-use Rattle.board_text.specs.Fields.{words, line_of}
+use Rattle.board_text.specs.Fields.{words}
 use Rattle.board_text.proofs.PlainWords.{IsWritten}
 use Rattle.synic_board.specs.State.{State, AreSizes, opened}
 use Rattle.synic_board.specs.Step.{step}
@@ -16,7 +16,7 @@ use Rattle.synic_board.specs.declared.event.Reply.{Reply}
 use Rattle.board_lines.specs.Items.{Opening as Board, item_fields}
 use Rattle.board_lines.specs.Printing.{text_of, reply_fields}
 use Rattle.board_lines.proofs.ReadLemmas.{yes, mapped}
-use Rattle.board_trace.specs.Trace.{Entry, IsLegal, IsEntry, title_fields, entry_fields, end_fields, history_lines, trace, IsTrace}
+use Rattle.board_trace.specs.Trace.{Entry, IsLegal, IsEntry, title_fields, entry_fields, end_fields, history_lines, IsTrace}
 use Rattle.board_trace.specs.Stages.{Stage, Title, Opening, Running, Over, entry_at, board_at, performed, follow, count}
 use Rattle.synic_board.specs.Replies.{IsReply}
 use Rattle.synic_board.proofs.keeping.Replies.{step-fits}
@@ -215,20 +215,20 @@ move from to ys n e h = let same : from ≡ to = cc in subst (λ (s : Stage). Co
 pub forward : (stage next : Stage) (line ys : List ℕ) (n : ℕ) → follow stage line ≡ Some next → Continues next ys n → Continues stage (line ++ 10 ∷ ys) n
 forward Title next line ys n e h =
     yes (bytes_eq line (words title_fields)) (Some Opening) None next _
-      (λ is e. on-title line ys n ((bytes_eq-Decides line (words title_fields)).0 is) (move next Opening ys n e h))
-      (λ e. cc) e
+    (λ is e. on-title line ys n ((bytes_eq-Decides line (words title_fields)).0 is) (move next Opening ys n e h))
+    (λ e. cc) e
 forward Opening next line ys n e h =
     mapped (λ (p : ℕ × ℕ × ℕ). Running (opened p.0 p.1 p.2) 0 None) (board_at line) next _
-      (λ q is e. on-opening line ys n q (board-only line q is) (move next (Running (opened q.0 q.1 q.2) 0 None) ys n (ap (λ (s : Stage). Some s) e) h)) e
+    (λ q is e. on-opening line ys n q (board-only line q is) (move next (Running (opened q.0 q.1 q.2) 0 None) ys n (ap (λ (s : Stage). Some s) e) h)) e
 forward (Running s c None) next line ys n e h =
     yes (bytes_eq line (words (end_fields c))) (Some (Over c)) (option_map (performed s c) (entry_at line)) next _
-      (λ is e. on-end s c line ys n ((bytes_eq-Decides line (words (end_fields c))).0 is) (move next (Over c) ys n e h))
-      (λ e. mapped (performed s c) (entry_at line) next _
-        (λ event is e. on-entry s c line ys n event (entry-only line event is) (move next (performed s c event) ys n (ap (λ (s : Stage). Some s) e) h)) e) e
+    (λ is e. on-end s c line ys n ((bytes_eq-Decides line (words (end_fields c))).0 is) (move next (Over c) ys n e h))
+    (λ e. mapped (performed s c) (entry_at line) next _
+    (λ event is e. on-entry s c line ys n event (entry-only line event is) (move next (performed s c event) ys n (ap (λ (s : Stage). Some s) e) h)) e) e
 forward (Running s c (Some r)) next line ys n e h =
     yes (bytes_eq line (words (reply_fields r))) (Some (Running s c None)) None next _
-      (λ is e. record { rest = ys; text = ap (λ (x : List ℕ). x ++ 10 ∷ ys) ((bytes_eq-Decides line (words (reply_fields r))).0 is); goes = move next (Running s c None) ys n e h })
-      (λ e. cc) e
+    (λ is e. record { rest = ys; text = ap (λ (x : List ℕ). x ++ 10 ∷ ys) ((bytes_eq-Decides line (words (reply_fields r))).0 is); goes = move next (Running s c None) ys n e h })
+    (λ e. cc) e
 forward (Over c) next line ys n e h = cc
 
 -- at most one entry more, and a short reply
@@ -244,8 +244,8 @@ reached Title next line e = yes (bytes_eq line (words title_fields)) (Some Openi
 reached Opening next line e = mapped (λ (p : ℕ × ℕ × ℕ). Running (opened p.0 p.1 p.2) 0 None) (board_at line) next (Reached Opening next) (λ q is e. subst (Reached Opening) e (record { few = omega arith; fits = tt })) e
 reached (Running s c None) next line e =
     yes (bytes_eq line (words (end_fields c))) (Some (Over c)) (option_map (performed s c) (entry_at line)) next (Reached (Running s c None) next)
-      (λ is e. let same : Over c ≡ next = cc in subst (Reached (Running s c None)) same (reached-running s c))
-      (λ e. mapped (performed s c) (entry_at line) next (Reached (Running s c None) next) (λ event is e. subst (Reached (Running s c None)) e (record { few = omega arith; fits = step-fits s event })) e) e
+    (λ is e. let same : Over c ≡ next = cc in subst (Reached (Running s c None)) same (reached-running s c))
+    (λ e. mapped (performed s c) (entry_at line) next (Reached (Running s c None) next) (λ event is e. subst (Reached (Running s c None)) e (record { few = omega arith; fits = step-fits s event })) e) e
 reached (Running s c (Some r)) next line e = yes (bytes_eq line (words (reply_fields r))) (Some (Running s c None)) None next (Reached (Running s c (Some r)) next) (λ is e. let same : Running s c None ≡ next = cc in subst (Reached (Running s c (Some r))) same (record { few = omega arith; fits = tt })) (λ e. cc) e
 reached (Over c) next line e = cc
 

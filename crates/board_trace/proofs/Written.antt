@@ -1,15 +1,12 @@
 -- The lines of a trace, as they are written and read.
 use Rattle.std.proofs.Common.{◌≡◌, ℕ, ◌+◌, ◌*◌, ◌<◌, ◌≤◌, ◌^◌, List, [], ◌∷◌, length, Option, Some, None, refl, sym, ap, ◌∙◌, arith, cond, Bool, true, false, not, decimal, codes}
-use Rattle.std.specs.Bool.{IsTrue}
-use Rattle.std.specs.Option.{option_map, option_and_then}
+use Rattle.std.specs.Option.{option_and_then}
 use Rattle.std.specs.Str.{bytes_eq}
-use Rattle.std.specs.Str.Parse.{digits_value}
 use Rattle.std.proofs.lemmas.Slice.Eq.{bytes_eq-Decides}
 use Rattle.std.proofs.lemmas.List.Splits.{join_with_byte-slice_split}
 use Rattle.std.proofs.lemmas.Fmt.{length-decimal-le}
-use Rattle.board_text.specs.Numbers.{hex, two_digits, spelled, decimal_at}
 use Rattle.board_text.specs.Fields.{fields_of, words}
-use Rattle.board_text.proofs.PlainWords.{IsPlain, ArePlain, plain_by, digits-plain, digits-short, two_digits-plain, spelled-plain, spelled-length, IsWritten, written}
+use Rattle.board_text.proofs.PlainWords.{IsPlain, plain_by, digits-plain, digits-short, two_digits-plain, spelled-plain, spelled-length, IsWritten, written}
 use Rattle.board_terms.specs.declared.messages.PortShape.TheVariants.{Messages, Flags}
 use Rattle.board_terms.specs.Numbers.{number_of}
 use Rattle.synic_board.specs.State.{AreSizes}
@@ -18,11 +15,11 @@ use Rattle.synic_board.specs.declared.event.Event.TheVariants.{OpenPort, ClosePo
 use Rattle.synic_board.specs.declared.event.Reply.{Reply}
 use Rattle.synic_board.specs.declared.event.Reply.TheVariants as replies
 use Rattle.board_lines.specs.Events.{event_fields, bytes_text, IsEvent}
-use Rattle.board_lines.specs.Items.{Opening, item_fields, IsItem}
+use Rattle.board_lines.specs.Items.{Opening, item_fields}
 use Rattle.board_lines.specs.Printing.{vector_or_none, reply_fields}
-use Rattle.board_lines.specs.Reading.{Fields, take_then, u8_at, event_say, opening_say}
+use Rattle.board_lines.specs.Reading.{Fields, u8_at, event_say, opening_say}
 use Rattle.board_lines.specs.Sizes.{are_sizes}
-use Rattle.board_lines.proofs.ReadLemmas.{then-some, then-read, yes, u8-only, u8-spelled, Says, event-says, says-event, SaysItem, opening-says, says-opening}
+use Rattle.board_lines.proofs.ReadLemmas.{then-some, then-read, yes, u8-only, u8-spelled, event-says, says-event, opening-says, says-opening}
 use Rattle.board_lines.proofs.SizeLemmas.{sizes-are}
 use Rattle.board_trace.specs.Trace.{title_fields, entry_fields, end_fields}
 use Rattle.board_trace.specs.Stages.{entry_say, entry_at, within_limits, board_say, board_at}
@@ -103,10 +100,10 @@ pub record EntryLine (line : List ℕ) (event : Event) : Type 0 where
 entry-says : (line : List ℕ) (fields : Fields) (event : Event) → fields_of line ≡ fields → entry_say fields ≡ Some event → EntryLine line event
 entry-says line fields event is =
     then-some u8_at (λ (a : ℕ). event_say) fields event (EntryLine line event) (λ field actor more at read said.
-      let h = u8-only field actor read in
-      let k = event-says more event said in
-      let all : fields ≡ entry_fields actor event = at ∙ rw (h.1, k.same) refl in
-      record { actor = actor; text = whole line fields is ∙ ap words all; small = h.0; fits = k.fits })
+    let h = u8-only field actor read in
+    let k = event-says more event said in
+    let all : fields ≡ entry_fields actor event = at ∙ rw (h.1, k.same) refl in
+    record { actor = actor; text = whole line fields is ∙ ap words all; small = h.0; fits = k.fits })
 
 pub entry-only : (line : List ℕ) (event : Event) → entry_at line ≡ Some event → EntryLine line event
 unfolding entry_at

@@ -1,11 +1,10 @@
 -- Histories, those that are legal, and the text of one.
-use Rattle.std.specs.Prelude.{◌≡◌, ℕ, ◌<◌, ◌≤◌, ◌^◌, List, [], ◌∷◌, ◌++◌, length, map, codes, decimal}
+use Rattle.std.specs.Prelude.{◌≡◌, ℕ, ◌<◌, ◌^◌, List, [], ◌∷◌, ◌++◌, length, map, codes, decimal}
 use Rattle.std.specs.List.{All}
 use Rattle.synic_board.specs.State.{State, AreSizes, opened}
 use Rattle.synic_board.specs.Run.{run_of}
 use Rattle.synic_board.specs.declared.event.Event.{Event}
 use Rattle.synic_board.specs.declared.event.Reply.{Reply}
-use Rattle.synic_board.specs.declared.event.Reply.TheVariants.{Bytes}
 use Rattle.board_lines.specs.Events.{event_fields, IsEvent}
 use Rattle.board_lines.specs.Items.{Opening, item_fields}
 use Rattle.board_lines.specs.Printing.{text_of, reply_fields}

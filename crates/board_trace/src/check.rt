@@ -34,11 +34,7 @@ enum Verdict {
 /// Checks whether the reader gives the trace of a legal history, and writes `legal` with the number
 /// of its entries, or `refused` with the first line that is wrong, behind which nothing is judged.
 /// The memory that this takes does not depend on the trace's length.
-pub fn check_trace<R: Read, W: Write>(
-    alloc: Global,
-    reader: &mut R,
-    writer: &mut W,
-) -> CheckEnd
+pub fn check_trace<R: Read, W: Write>(alloc: Global, reader: &mut R, writer: &mut W) -> CheckEnd
     ensures verdict { Checks result (R.remaining reader.old) (W.contents writer.old) (W.contents writer.new) }
 
     // One byte more than the limit shows that there is one.
