@@ -2,7 +2,7 @@
 ghost use Rattle.std.specs.Prelude.{◌≡◌, ◌∷◌};
 ghost use Rattle.board_lines.specs.Reading.{event_say, open_say, messages_say, flags_say, close_say, write_say, read_say, post_say, signal_say, assert_say, absorb_say, store_say, load_say, tick_say, take_say};
 
-use crate::numbers::{bytes_in, u16_of, hex_u32_of, u8_of, u64_of, hex_u64_of, vector_of};
+use crate::numbers::{bytes_in, hex_u32_of, hex_u64_of, u8_of, u16_of, u64_of, vector_of};
 use board_terms::PortShape;
 use board_text::Fields;
 use synic_board::Event;
