@@ -1,6 +1,7 @@
 -- Laws of traces.
 use Rattle.std.proofs.Common.{◌≡◌, ◌⊎◌, inl, inr, ℕ, ◌+◌, ◌<◌, ◌≤◌, ◌^◌, List, [], ◌∷◌, ◌++◌, length, length-append, take, drop, append_assoc, refl, sym, ap, subst, ◌∙◌, arith, zero, suc}
 use Rattle.std.specs.List.{All}
+use Rattle.std.proofs.lemmas.Bool.{cases_order}
 use Rattle.std.proofs.lemmas.List.{take-append-drop, take-take}
 use Rattle.board_text.specs.Lines.{lines_of}
 use Rattle.synic_board.specs.State.{AreSizes, opened}
@@ -24,24 +25,13 @@ begins-fewer lines m n le b =
 not-before : (text : List ℕ) (k l : ℕ) (a : FirstWrong text k) (b : FirstWrong text l) → a.before < b.before → ⊥
 not-before text k l a b less = a.wrong (omega (arith, b.there)) (begins-fewer (lines_of text) (a.before + 1) b.before (omega arith) b.good)
 
-compare : (m n : ℕ) → (m < n) ⊎ ((n < m) ⊎ (m ≡ n))
-compare zero zero = inr (inr refl)
-compare zero (suc n) = inl (omega arith)
-compare (suc m) zero = inr (inl (omega arith))
-compare (suc m) (suc n) = up (compare m n)
-  where
-    up : (m < n) ⊎ ((n < m) ⊎ (m ≡ n)) → (suc m < suc n) ⊎ ((suc n < suc m) ⊎ (suc m ≡ suc n))
-    up (inl h) = inl (omega arith)
-    up (inr (inl h)) = inr (inl (omega arith))
-    up (inr (inr h)) = inr (inr (omega arith))
-
 pub wrong-once : (text : List ℕ) (k l : ℕ) → FirstWrong text k → FirstWrong text l → k ≡ l
-wrong-once text k l a b = by (compare a.before b.before)
+wrong-once text k l a b = by (cases_order a.before b.before)
   where
-    by : (a.before < b.before) ⊎ ((b.before < a.before) ⊎ (a.before ≡ b.before)) → k ≡ l
-    by (inl h) = absurd (not-before text k l a b h)
-    by (inr (inl h)) = absurd (not-before text l k b a h)
-    by (inr (inr h)) = omega (arith, a.number, b.number)
+    by : (a.before ≡ b.before) ⊎ ((a.before < b.before) ⊎ (b.before < a.before)) → k ≡ l
+    by (inl h) = omega (arith, a.number, b.number)
+    by (inr (inl h)) = absurd (not-before text k l a b h)
+    by (inr (inr h)) = absurd (not-before text l k b a h)
 
 pub trace-is : (processors pages ticket : ℕ) (history : List Entry) → AreSizes processors pages → ticket < 2 ^ 64 → All IsEntry history → IsLegal (opened processors pages ticket) history → IsTrace (trace processors pages ticket history) (length history)
 trace-is processors pages ticket history sizes given fits legal = record { processors = processors; pages = pages; ticket = ticket; history = history; sizes = sizes; given = given; fits = fits; legal = legal; counted = refl; written = refl }

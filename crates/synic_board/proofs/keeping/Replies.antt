@@ -1,7 +1,8 @@
 -- No reply of the machine has more than 8 bytes.
-use Rattle.std.proofs.Common.{◌≡◌, ℕ, ◌+◌, ◌≤◌, zero, suc, List, [], ◌∷◌, length, take, drop, Option, None, Some, Result, Ok, Err, refl, arith, cond, Bool, true, false, nat_lt, nat_le, ◌/◌, ◌%◌, ◌==◌, ◌||◌, ◌&&◌, not}
+use Rattle.std.proofs.Common.{◌≡◌, ℕ, ◌+◌, ◌≤◌, List, [], length, take, drop, Option, None, Some, Result, Ok, Err, refl, arith, cond, Bool, true, false, nat_lt, nat_le, ◌/◌, ◌%◌, ◌==◌, ◌||◌, ◌&&◌, not}
 use Rattle.std.specs.Option.{option_map_or}
 use Rattle.std.proofs.lemmas.Bool.{ltb-false}
+use Rattle.std.proofs.lemmas.List.{length-take}
 use Rattle.board_terms.specs.declared.refusal.Refusal.{Refusal}
 use Rattle.board_terms.specs.declared.refusal.Refusal.TheVariants.{BadTarget, SynicOff, ClockBack, OutsideSpace, CrossesPage, BadLength, NoSuchProcessor}
 use Rattle.board_terms.specs.declared.messages.Message.TheVariants.{FromPort}
@@ -84,11 +85,6 @@ fits-read s p number = by (register_of number)
     by None = tt
     by (Some r) = fits-register s p r
 
-take_few : (n : ℕ) (xs : List ℕ) → length (take n xs) ≤ n
-take_few zero xs = omega arith
-take_few (suc n) [] = omega arith
-take_few (suc n) (x ∷ xs) = let h = take_few n xs in omega arith
-
 -- a load of more than 8 bytes is refused
 fits-load : (s : State) (address count : ℕ) → IsReply (read_bytes s address count)
 fits-load s address count = long (nat_lt 8 count) refl
@@ -97,7 +93,7 @@ fits-load s address count = long (nat_lt 8 count) refl
     bytes = take count (drop (address % 4096) (shown (space_of s) (address / 4096)))
 
     answered : (r : Option Refusal) → count ≤ 8 → IsReply (load_reply (option_map_or (λ r. Err r) r (Ok (record { items = bytes }))))
-    answered None few = let h = take_few count (drop (address % 4096) (shown (space_of s) (address / 4096))) in omega (arith, few, h)
+    answered None few = let h = length-take count (drop (address % 4096) (shown (space_of s) (address / 4096))) in omega (arith, few, h)
     answered (Some r) few = tt
 
     long : (t : Bool) → nat_lt 8 count ≡ t → IsReply (read_bytes s address count)
