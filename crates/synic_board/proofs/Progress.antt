@@ -11,10 +11,10 @@ use Rattle.synic_board.specs.Places.{Conserves}
 use Rattle.synic_board.specs.Run.{Run, run_of, followed_by, told_behind}
 use Rattle.synic_board.proofs.keeping.Wholes.{still, conserves-after}
 
-abbrev goes_on : Run → Event → Run
+abbrev pub goes_on : Run → Event → Run
 goes_on r e = ((step r.0 e).0, r.1 ++ (step r.0 e).1 ∷ [], r.2 ++ (step r.0 e).2)
 
-run_of-push : (s : State) (es : List Event) (e : Event) → run_of s (es ++ e ∷ []) ≡ goes_on (run_of s es) e
+pub run_of-push : (s : State) (es : List Event) (e : Event) → run_of s (es ++ e ∷ []) ≡ goes_on (run_of s es) e
 unfolding run_of
 run_of-push s [] e = ap (λ ns. ((step s e).0, (step s e).1 ∷ [], ns)) (append-nil (step s e).2)
 run_of-push s (x ∷ es) e =

@@ -14,5 +14,6 @@ pub mod Step
 pub mod Replies
 pub mod Places
 pub mod Run
+pub mod History
 pub mod Sound
 pub mod View

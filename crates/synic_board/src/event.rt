@@ -1,4 +1,7 @@
 // What the board is asked, and what it answers.
+ghost use Rattle.std.specs.Prelude.{◌≡◌};
+
+use arrayvec::ArrayVec;
 use board_terms::{Bytes8, Moment, PayloadBytes, PortShape, Refusal, Ticket, Vector};
 
 /// What the board is asked. Processor, source, port and register numbers are plain data, which the board judges.
@@ -90,4 +93,99 @@ pub enum Reply {
     GeneralProtection,
     /// The event was refused; nothing was changed.
     Refused(Refusal),
+}
+
+impl Event {
+    /// An equal event, by writing no more bytes than this one has.
+    pub fn copy(&self) -> Event
+        ensures { result ≡ self.now }
+    {
+        match self {
+            Event::OpenPort {
+                port,
+                vp,
+                sint,
+                shape,
+            } => Event::OpenPort {
+                port: *port,
+                vp: *vp,
+                sint: *sint,
+                shape: *shape,
+            },
+            Event::ClosePort { port } => Event::ClosePort { port: *port },
+            Event::Write {
+                vp,
+                register,
+                value,
+            } => Event::Write {
+                vp: *vp,
+                register: *register,
+                value: *value,
+            },
+            Event::Read { vp, register } => Event::Read {
+                vp: *vp,
+                register: *register,
+            },
+            Event::Post {
+                port,
+                kind,
+                payload,
+            } => Event::Post {
+                port: *port,
+                kind: *kind,
+                payload: bytes_of(payload),
+            },
+            Event::Signal { port, flag } => Event::Signal {
+                port: *port,
+                flag: *flag,
+            },
+            Event::Assert { vp, vector } => Event::Assert {
+                vp: *vp,
+                vector: *vector,
+            },
+            Event::Absorb { vp, part, bits } => Event::Absorb {
+                vp: *vp,
+                part: *part,
+                bits: *bits,
+            },
+            Event::Store { address, bytes } => Event::Store {
+                address: *address,
+                bytes: bytes_of(bytes),
+            },
+            Event::Load { address, length } => Event::Load {
+                address: *address,
+                length: *length,
+            },
+            Event::Tick { moment } => Event::Tick { moment: *moment },
+            Event::Take { vp } => Event::Take { vp: *vp },
+        }
+    }
+}
+
+impl Reply {
+    /// An equal reply, by writing no more bytes than this one has.
+    pub fn copy(&self) -> Reply
+        ensures { result ≡ self.now }
+    {
+        match self {
+            Reply::Done => Reply::Done,
+            Reply::Value(value) => Reply::Value(*value),
+            Reply::Bytes(bytes) => Reply::Bytes(bytes_of(bytes)),
+            Reply::Taken(vector) => Reply::Taken(*vector),
+            Reply::Accepted(ticket) => Reply::Accepted(*ticket),
+            Reply::FlagWasClear => Reply::FlagWasClear,
+            Reply::FlagWasSet => Reply::FlagWasSet,
+            Reply::GeneralProtection => Reply::GeneralProtection,
+            Reply::Refused(refusal) => Reply::Refused(*refusal),
+        }
+    }
+}
+
+/// Equal bytes.
+fn bytes_of<const N: usize>(bytes: &ArrayVec<u8, N>) -> ArrayVec<u8, N>
+    ensures { result ≡ bytes.now }
+{
+    let mut copy = ArrayVec::new();
+    let _ = copy.try_extend_from_slice(bytes.as_slice());
+    copy
 }

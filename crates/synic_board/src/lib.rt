@@ -3,6 +3,7 @@
 
 mod board;
 mod event;
+mod history;
 pub mod laws;
 mod machine;
 mod runs;
@@ -10,5 +11,6 @@ mod summary;
 
 pub use board::{Board, OpenFault};
 pub use event::{Event, Reply};
+pub use history::Entry;
 pub use runs::{Stopped, run};
 pub use summary::Summary;
