@@ -1,0 +1,70 @@
+-- The rule at the end, where one seat stands for all tokens.
+use Rattle.std.proofs.Common.{◌≡◌, ℕ, ◌+◌, ◌≤◌, List, [], ◌∷◌, ◌++◌, length, All, sym, ap, ◌∙◌, subst, map, arith, length-append}
+use Rattle.std.specs.Prelude.{slice_index, sum_by}
+use Rattle.std.specs.Int.{bit_at}
+use Rattle.std.proofs.lemmas.List.Elements.{All-append, All-weaker}
+use Rattle.std.proofs.lemmas.List.Sums.{sum_by-append}
+use Rattle.std.proofs.lemmas.List.Elements.{All-take, All-drop}
+use Rattle.std.proofs.Math.Seq.{take-append_seam, drop-append_seam}
+use mathlib.Core.List.{map-append}
+use Rattle.atomic_table.specs.Table.{Final, Seen}
+use Rattle.posted_words.specs.declared.rule.Did.{Did}
+use Rattle.posted_words.specs.declared.rule.View.{View}
+use Rattle.posted_words.specs.Did.{fresh, taken}
+use Rattle.posted_words.specs.Settled.{all_fresh, all_taken, Bounded, Settled}
+use Rattle.posted_words.specs.Posted.{view_of, views_fresh, views_taken, IsIdle, IsBounded, Posted}
+use Rattle.posted_words.specs.Words.{Token, did_of}
+use Rattle.posted_words.proofs.Lists.{All-found, found-le-sum_by, Follows, sum_by-alone}
+use Rattle.posted_words.proofs.Steps.{fresh_of, taken_of, Bounded-more}
+
+pub closes : (key : ℕ × ℕ) (id : ℕ) (v : View) (words : List ℕ) (slots : List (Unit {0})) → Final (Seen (Posted key) id v) words slots → key.1 ≤ v.parts → Settled key.0 v.logs words
+closes key id v words slots final whole =
+    let s = final.0 in
+    let h = final.1.0 in
+    let at = final.1.1 in
+    let parts : View → ℕ = λ u. u.parts in
+    let o = found-le-sum_by parts s.views id v at in
+    let all : sum_by parts s.views ≡ parts v = omega (arith, h.whole) in
+    let F : (w b : ℕ) → views_fresh s.views w b ≡ all_fresh v.logs w b = λ w b. sum_by-alone parts (fresh_of w b) s.views id v at all (All-weaker IsIdle (Follows parts (fresh_of w b)) (λ u idle z. ap (λ logs. all_fresh logs w b) (idle z)) s.views h.idle) in
+    let T : (w b : ℕ) → views_taken s.views w b ≡ all_taken v.logs w b = λ w b. sum_by-alone parts (taken_of w b) s.views id v at all (All-weaker IsIdle (Follows parts (taken_of w b)) (λ u idle z. ap (λ logs. all_taken logs w b) (idle z)) s.views h.idle) in
+    record {
+      even = λ w b lt. (let p = F w b in let q = T w b in let e = h.even w b lt in let is = ap (λ ws. bit_at (slice_index ws w) b) final.2 in omega arith);
+      bounded = All-weaker (Bounded (views_fresh s.views) (views_taken s.views)) (Bounded (all_fresh v.logs) (all_taken v.logs))
+          (λ ds. Bounded-more (views_fresh s.views) (views_taken s.views) (all_fresh v.logs) (all_taken v.logs) ds (λ w b. (let p = F w b in omega arith)) (λ w b. (let p = T w b in omega arith)))
+          v.logs (All-found (IsBounded (views_fresh s.views) (views_taken s.views)) s.views id v at h.bounded);
+    }
+
+-- the order of the tokens is of no account
+Settled-append_comm : (n : ℕ) (xs ys : List (List Did)) (words : List ℕ) → Settled n (xs ++ ys) words → Settled n (ys ++ xs) words
+Settled-append_comm n xs ys words h =
+    let F : (w b : ℕ) → all_fresh (xs ++ ys) w b ≡ all_fresh (ys ++ xs) w b = λ w b. (let l = sum_by-append (fresh w b) xs ys in let r = sum_by-append (fresh w b) ys xs in omega arith) in
+    let T : (w b : ℕ) → all_taken (xs ++ ys) w b ≡ all_taken (ys ++ xs) w b = λ w b. (let l = sum_by-append (taken w b) xs ys in let r = sum_by-append (taken w b) ys xs in omega arith) in
+    let B = Bounded (all_fresh (ys ++ xs)) (all_taken (ys ++ xs)) in
+    let both : All B (xs ++ ys) = All-weaker (Bounded (all_fresh (xs ++ ys)) (all_taken (xs ++ ys))) B
+    (λ ds. Bounded-more (all_fresh (xs ++ ys)) (all_taken (xs ++ ys)) (all_fresh (ys ++ xs)) (all_taken (ys ++ xs)) ds (λ w b. (let p = F w b in omega arith)) (λ w b. (let p = T w b in omega arith)))
+    (xs ++ ys) h.bounded in
+    record {
+      even = λ w b lt. (let p = F w b in let q = T w b in let e = h.even w b lt in omega arith);
+      bounded = All-append B ys xs
+          (subst (All B) (drop-append_seam xs ys) (All-drop B (length xs) (xs ++ ys) both))
+          (subst (All B) (take-append_seam xs ys) (All-take B (length xs) (xs ++ ys) both));
+    }
+
+-- a seat that stands for the last of some tokens, after it took over the others
+pub stands_for_all : (seat : View) (rest all : List Token) (t : Token) (n : ℕ) → seat ≡ view_of 1 (t.did ∷ []) → all ≡ rest ++ t ∷ [] → n ≡ length rest
+    → view_of (seat.parts + n) (map did_of rest ++ seat.logs) ≡ view_of (length all) (map did_of all)
+stands_for_all seat rest all t n own is many =
+    let parts : seat.parts + n ≡ length all = omega (arith, ap (λ (v : View). v.parts) own, many, ap (λ (ts : List Token). length ts) is, length-append rest (t ∷ [])) in
+    let logs : map did_of rest ++ seat.logs ≡ map did_of all = ap (λ (v : View). map did_of rest ++ v.logs) own ∙ sym (map-append did_of rest (t ∷ [])) ∙ ap (map did_of) (sym is) in
+    λ i. view_of (parts i) (logs i)
+
+-- a seat that took over the lines, after it stood for all sweepers
+pub gathered : (key : ℕ × ℕ) (n tokens id : ℕ) (seat v : View) (words : List ℕ) (slots : List (Unit {0})) (sweepers lines : List Token) (m : ℕ)
+    → key ≡ (n, tokens) → Final (Seen (Posted key) id v) words slots
+    → seat ≡ view_of (length sweepers) (map did_of sweepers) → v ≡ view_of (seat.parts + m) (map did_of lines ++ seat.logs) → m ≡ length lines
+    → tokens ≤ length sweepers + length lines → Settled n (map did_of (sweepers ++ lines)) words
+gathered key n tokens id seat v words slots sweepers lines m is final first last many enough =
+    let parts : key.1 ≤ v.parts = omega (arith, ap (λ (k : ℕ × ℕ). k.1) is, ap (λ (u : View). u.parts) first, ap (λ (u : View). u.parts) last) in
+    let logs : v.logs ≡ map did_of lines ++ map did_of sweepers = ap (λ (u : View). u.logs) last ∙ ap (λ (u : View). map did_of lines ++ u.logs) first in
+    let all : Settled n (map did_of lines ++ map did_of sweepers) words = subst (λ (z : ℕ × List (List Did)). Settled z.0 z.1 words) (λ i. ((is i).0, logs i)) (closes key id v words slots final parts) in
+    subst (λ ls. Settled n ls words) (sym (map-append did_of sweepers lines)) (Settled-append_comm n (map did_of lines) (map did_of sweepers) words all)

@@ -1,0 +1,5 @@
+pub mod Lists
+pub mod Bits
+pub mod Steps
+pub mod Seats
+pub mod Closing

@@ -1,0 +1,161 @@
+-- A raise and a sweep keep the rule.
+use Rattle.std.proofs.Common.{◌≡◌, ℕ, ◌+◌, ◌<◌, ◌≤◌, Bool, List, [], ◌∷◌, length, set, refl, sym, ap, ◌∙◌, subst, ⊎_elim, arith, length-set}
+use Rattle.std.specs.Prelude.{◌==◌, if◌then◌else◌, bit_or, slice_index}
+use Rattle.std.specs.Int.{bit_at}
+use Rattle.std.proofs.lemmas.Bool.Decides.{nat_tests}
+use Rattle.std.proofs.lemmas.List.Elements.{All-nil, All-cons, All-head, All-set, All-weaker}
+use mathlib.Core.Logic.{dite}
+use native.Mathlib.Decide.{ℕ_discrete}
+use mathlib.Core.Option.{none, some}
+use lib.ListN.{get_elem?}
+use Rattle.atomic_table.specs.Table.{State, Me, step, keeps, Allows}
+use Rattle.posted_words.specs.declared.rule.Did.{Did}
+use Rattle.posted_words.specs.declared.rule.Did.TheVariants.{Raise, Sweep}
+use Rattle.posted_words.specs.declared.rule.View.{View}
+use Rattle.posted_words.specs.Did.{raises_at, is_fresh_at, takes_at, swept, taken, taken_then, fresh, fresh_then, one_if}
+use Rattle.posted_words.specs.Settled.{all_fresh, all_taken, Bounded}
+use Rattle.posted_words.specs.Posted.{view_of, views_fresh, views_taken, IsIdle, IsBounded, Posted, mask_of, raised_as, swept_as}
+use Rattle.posted_words.proofs.Lists.{All-found, sum_by-set_found, found-le-sum_by}
+use Rattle.posted_words.proofs.Bits.{same_bit, raised_stands, raised-bit, mask_of-injective, swept_is_clear, swept-bit}
+
+-- a token did nothing yet
+pub Bounded-nil : (F T : ℕ → ℕ → ℕ) → Bounded F T []
+Bounded-nil F T = record { raises = λ w b r. absurd (omega arith); sweeps = λ w b r. absurd (omega arith) }
+
+-- lower bounds last while what all tokens did grows
+pub Bounded-more : (F T F' T' : ℕ → ℕ → ℕ) (ds : List Did) → ((w b : ℕ) → F w b ≤ F' w b) → ((w b : ℕ) → T w b ≤ T' w b) → Bounded F T ds → Bounded F' T' ds
+Bounded-more F T F' T' ds f t h = record { raises = λ w b r. (let p = h.raises w b r in let q = f w b in omega arith); sweeps = λ w b r. (let p = h.sweeps w b r in let q = t w b in omega arith) }
+
+pub IsBounded-more : (F T F' T' : ℕ → ℕ → ℕ) (v : View) → ((w b : ℕ) → F w b ≤ F' w b) → ((w b : ℕ) → T w b ≤ T' w b) → IsBounded F T v → IsBounded F' T' v
+IsBounded-more F T F' T' v f t = All-weaker (Bounded F T) (Bounded F' T') (λ ds. Bounded-more F T F' T' ds f t) v.logs
+
+-- what a seat's tokens did
+abbrev pub fresh_of : ℕ → ℕ → View → ℕ
+fresh_of w b v = all_fresh v.logs w b
+
+abbrev pub taken_of : ℕ → ℕ → View → ℕ
+taken_of w b v = all_taken v.logs w b
+
+-- the seat of one token
+abbrev pub own : List Did → View
+own ds = view_of 1 (ds ∷ [])
+
+own_bounded : (F T : ℕ → ℕ → ℕ) (ds : List Did) → IsBounded F T (own ds) → Bounded F T ds
+own_bounded F T ds all = All-head (Bounded F T) ds [] all
+
+pub bounded_own : (F T : ℕ → ℕ → ℕ) (ds : List Did) → Bounded F T ds → IsBounded F T (own ds)
+bounded_own F T ds one = All-cons (Bounded F T) ds [] one (All-nil (Bounded F T))
+
+-- a state in which one view has changed, by a step that lets no count fall
+module _ (key : ℕ × ℕ) (s : State (Unit {0}) View) (id : ℕ) (v w : View) (words : List ℕ) where
+  abbrev views' : List View
+  views' = set s.views id w
+
+  changed : Posted key s → get_elem? s.views id ≡ some v → length words ≡ key.0 → w.parts ≡ v.parts → IsIdle w
+      → ((x b : ℕ) → fresh_of x b v ≤ fresh_of x b w) → ((x b : ℕ) → taken_of x b v ≤ taken_of x b w)
+      → ((x b : ℕ) → x < key.0 → views_fresh views' x b ≡ views_taken views' x b + bit_at (slice_index words x) b)
+      → IsBounded (views_fresh views') (views_taken views') w
+      → Posted key record { words = words; homes = s.homes; views = views' }
+  changed h at long same idle more_fresh more_taken even mine =
+      let F = views_fresh s.views in
+      let T = views_taken s.views in
+      let F' = views_fresh views' in
+      let T' = views_taken views' in
+      let f : (x b : ℕ) → F x b ≤ F' x b = λ x b. (let e = sum_by-set_found (fresh_of x b) s.views id v w at in let m = more_fresh x b in omega arith) in
+      let t : (x b : ℕ) → T x b ≤ T' x b = λ x b. (let e = sum_by-set_found (taken_of x b) s.views id v w at in let m = more_taken x b in omega arith) in
+      record {
+        width = long;
+        whole = (let e = sum_by-set_found (λ (u : View). u.parts) s.views id v w at in let p = h.whole in omega arith);
+        idle = All-set IsIdle s.views id w idle h.idle;
+        even = even;
+        bounded = All-set (IsBounded F' T') s.views id w mine (All-weaker (IsBounded F T) (IsBounded F' T') (λ u. IsBounded-more F T F' T' u f t) s.views h.bounded);
+      }
+
+raises : (key : ℕ × ℕ) (slots id w k : ℕ) (ds : List Did) → w < key.0 → k < 64
+    → Allows (Posted key) slots id (own ds, []) w (λ n. bit_or n (mask_of k)) (raised_as (step slots w (mask_of k) 0 none) (own ds, []))
+raises key slots id w k ds in_words small s h _ at _ =
+    let n : ℕ = slice_index s.words w in
+    let d : Did = Raise w k (bit_at n k == 0) in
+    let u : View = own (d ∷ ds) in
+    let words : List ℕ = set s.words w (bit_or n (mask_of k)) in
+    let views : List View = set s.views id u in
+    let wide : w < length s.words = omega (arith, h.width) in
+    let F : (x b : ℕ) → views_fresh views x b ≡ views_fresh s.views x b + one_if (is_fresh_at x b d) = λ x b. (let e = sum_by-set_found (fresh_of x b) s.views id (own ds) u at in omega arith) in
+    let T : (x b : ℕ) → views_taken views x b ≡ views_taken s.views x b = λ x b. (let e = sum_by-set_found (taken_of x b) s.views id (own ds) u at in omega arith) in
+    let even : (x b : ℕ) → x < key.0 → views_fresh views x b ≡ views_taken views x b + bit_at (slice_index words x) b = λ x b lt. (let p = F x b in let q = T x b in let r = raised-bit s.words w k x b n wide refl small in let e = h.even x b lt in omega (arith, p, q, r, e)) in
+    let before : Bounded (views_fresh s.views) (views_taken s.views) ds = own_bounded (views_fresh s.views) (views_taken s.views) ds (All-found (IsBounded (views_fresh s.views) (views_taken s.views)) s.views id (own ds) at h.bounded) in
+    let mine : Bounded (views_fresh views) (views_taken views) (d ∷ ds) = record {
+      raises = λ x b r. ⊎_elim
+          (λ t.
+          let e = even x b (omega (arith, t.0)) in
+          let q = T x b in
+          let o = found-le-sum_by (taken_of x b) s.views id (own ds) at in
+          let stands : bit_at (slice_index words x) b ≡ 1 = raised_stands s.words w k x b n wide small t.0 t.1 in
+          let marked : taken_then x b (d ∷ ds) ≡ taken x b ds = ap (λ (c : Bool). if c then taken x b ds else taken_then x b ds) t.2 in
+          omega (arith, e, q, o, stands, marked))
+          (λ t.
+          let marked : taken_then x b (d ∷ ds) ≡ taken_then x b ds = ap (λ (c : Bool). if c then taken x b ds else taken_then x b ds) t.1 in
+          let none_here : one_if (raises_at x b d) ≡ 0 = ap one_if t.1 in
+          let p = before.raises x b (omega (arith, none_here, r)) in
+          let q = F x b in
+          omega (arith, marked, p, q))
+          (same_bit x w b k);
+      sweeps = λ x b r. (let p = before.sweeps x b (omega arith) in let q = T x b in omega arith);
+    } in (
+      u,
+      keeps,
+      tt,
+      changed key s id (own ds) u words h at (length-set s.words w (bit_or n (mask_of k)) ∙ h.width) refl (λ (z : 1 ≡ 0). absurd (omega arith))
+          (λ x b. omega arith) (λ x b. omega arith) even (bounded_own (views_fresh views) (views_taken views) (d ∷ ds) mine),
+      ((λ j little e. ap (λ (i : ℕ). own (Raise w i (bit_at n i == 0) ∷ ds)) (sym (mask_of-injective k j small little e))), refl),
+    )
+
+sweeps : (key : ℕ × ℕ) (slots id w : ℕ) (ds : List Did) → w < key.0
+    → Allows (Posted key) slots id (own ds, []) w (λ _. 0) (swept_as (step slots w 0 0 none) (own ds, []))
+sweeps key slots id w ds in_words s h _ at _ =
+    let n : ℕ = slice_index s.words w in
+    let d : Did = Sweep w n in
+    let u : View = own (d ∷ ds) in
+    let words : List ℕ = set s.words w 0 in
+    let views : List View = set s.views id u in
+    let wide : w < length s.words = omega (arith, h.width) in
+    let F : (x b : ℕ) → views_fresh views x b ≡ views_fresh s.views x b = λ x b. (let e = sum_by-set_found (fresh_of x b) s.views id (own ds) u at in omega arith) in
+    let T : (x b : ℕ) → views_taken views x b ≡ views_taken s.views x b + takes_at x b d = λ x b. (let e = sum_by-set_found (taken_of x b) s.views id (own ds) u at in omega arith) in
+    let even : (x b : ℕ) → x < key.0 → views_fresh views x b ≡ views_taken views x b + bit_at (slice_index words x) b = λ x b lt. (let p = F x b in let q = T x b in let r = swept-bit s.words w x b n wide refl in let e = h.even x b lt in omega (arith, p, q, r, e)) in
+    let before : Bounded (views_fresh s.views) (views_taken s.views) ds = own_bounded (views_fresh s.views) (views_taken s.views) ds (All-found (IsBounded (views_fresh s.views) (views_taken s.views)) s.views id (own ds) at h.bounded) in
+    let mine : Bounded (views_fresh views) (views_taken views) (d ∷ ds) = record {
+      raises = λ x b r. (let p = before.raises x b (omega arith) in let q = F x b in omega arith);
+      sweeps = λ x b r. dite (ℕ_discrete x w)
+          (λ t.
+          let e = even x b (omega (arith, t)) in
+          let q = F x b in
+          let o = found-le-sum_by (fresh_of x b) s.views id (own ds) at in
+          let gone : bit_at (slice_index words x) b ≡ 0 = swept_is_clear s.words w x b wide t in
+          let marked : fresh_then x b (d ∷ ds) ≡ fresh x b ds = grind (arith, nat_tests) in
+          omega (arith, e, q, o, gone, marked))
+          (λ t.
+          let marked : fresh_then x b (d ∷ ds) ≡ fresh_then x b ds = grind (arith, nat_tests) in
+          let was : swept x (d ∷ ds) ≡ swept x ds = grind (arith, nat_tests) in
+          let p = before.sweeps x b (omega (arith, was, r)) in
+          let q = T x b in
+          omega (arith, marked, p, q));
+    } in (
+      u,
+      keeps,
+      tt,
+      changed key s id (own ds) u words h at (length-set s.words w 0 ∙ h.width) refl (λ (z : 1 ≡ 0). absurd (omega arith))
+          (λ x b. omega arith) (λ x b. omega arith) even (bounded_own (views_fresh views) (views_taken views) (d ∷ ds) mine),
+      (refl, refl),
+    )
+
+-- a raise by a seat of one token
+pub raises_as : (key : ℕ × ℕ) (slots id w k : ℕ) (me : Me (Unit {0}) View) (ds : List Did) → me ≡ (own ds, []) → w < key.0 → k < 64
+    → Allows (Posted key) slots id me w (λ n. bit_or n (mask_of k)) (raised_as (step slots w (mask_of k) 0 none) me)
+raises_as key slots id w k me ds is in_words small =
+    subst (λ (m : Me (Unit {0}) View). Allows (Posted key) slots id m w (λ n. bit_or n (mask_of k)) (raised_as (step slots w (mask_of k) 0 none) m)) (sym is) (raises key slots id w k ds in_words small)
+
+-- a sweep by a seat of one token
+pub sweeps_as : (key : ℕ × ℕ) (slots id w : ℕ) (me : Me (Unit {0}) View) (ds : List Did) → me ≡ (own ds, []) → w < key.0
+    → Allows (Posted key) slots id me w (λ _. 0) (swept_as (step slots w 0 0 none) me)
+sweeps_as key slots id w me ds is in_words =
+    subst (λ (m : Me (Unit {0}) View). Allows (Posted key) slots id m w (λ _. 0) (swept_as (step slots w 0 0 none) m)) (sym is) (sweeps key slots id w ds in_words)

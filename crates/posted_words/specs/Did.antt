@@ -1,0 +1,58 @@
+-- What a token did, counted. A log has the last step first.
+use Rattle.std.specs.Prelude.{ℕ, ◌+◌, ◌==◌, ◌&&◌, Bool, false, if◌then◌else◌, List, [], ◌∷◌}
+use Rattle.std.specs.Int.{bit_at}
+use Rattle.posted_words.specs.declared.rule.Did.{Did}
+use Rattle.posted_words.specs.declared.rule.Did.TheVariants.{Raise, Sweep}
+
+abbrev pub one_if : Bool → ℕ
+one_if b = if b then 1 else 0
+
+-- whether a step raised the bit b of the word w
+abbrev pub raises_at : ℕ → ℕ → Did → Bool
+raises_at w b (Raise word bit fresh) = (w == word) && (b == bit)
+raises_at w b (Sweep word bits) = false
+
+-- whether it did, and made it pending
+abbrev pub is_fresh_at : ℕ → ℕ → Did → Bool
+is_fresh_at w b (Raise word bit fresh) = ((w == word) && (b == bit)) && fresh
+is_fresh_at w b (Sweep word bits) = false
+
+-- whether it swept the word w
+abbrev pub sweeps_at : ℕ → Did → Bool
+sweeps_at w (Raise word bit fresh) = false
+sweeps_at w (Sweep word bits) = w == word
+
+-- 1 if it took the bit b of the word w, and 0 if not
+abbrev pub takes_at : ℕ → ℕ → Did → ℕ
+takes_at w b (Raise word bit fresh) = 0
+takes_at w b (Sweep word bits) = if w == word then bit_at bits b else 0
+
+-- how often a token raised the bit b of the word w
+abbrev pub raised : ℕ → ℕ → List Did → ℕ
+raised w b [] = 0
+raised w b (d ∷ ds) = one_if (raises_at w b d) + raised w b ds
+
+-- how often it was answered Fresh there
+abbrev pub fresh : ℕ → ℕ → List Did → ℕ
+fresh w b [] = 0
+fresh w b (d ∷ ds) = one_if (is_fresh_at w b d) + fresh w b ds
+
+-- how often it swept the word w
+abbrev pub swept : ℕ → List Did → ℕ
+swept w [] = 0
+swept w (d ∷ ds) = one_if (sweeps_at w d) + swept w ds
+
+-- how often it took the bit b of the word w
+abbrev pub taken : ℕ → ℕ → List Did → ℕ
+taken w b [] = 0
+taken w b (d ∷ ds) = takes_at w b d + taken w b ds
+
+-- how often it had taken the bit at its last raise of it
+abbrev pub taken_then : ℕ → ℕ → List Did → ℕ
+taken_then w b [] = 0
+taken_then w b (d ∷ ds) = if raises_at w b d then taken w b ds else taken_then w b ds
+
+-- how often it had been answered Fresh there at its last sweep of the word
+abbrev pub fresh_then : ℕ → ℕ → List Did → ℕ
+fresh_then w b [] = 0
+fresh_then w b (d ∷ ds) = if sweeps_at w d then fresh w b ds else fresh_then w b ds

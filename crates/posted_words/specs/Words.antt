@@ -1,0 +1,55 @@
+-- What callers see of the words and of a token.
+use Rattle.std.specs.Prelude.{ℕ, ◌+◌, ◌*◌, ◌/◌, ◌%◌, ◌≤◌, Bool, List, [], ◌∷◌}
+use Rattle.atomic_table.specs.Seated.{TableId}
+use Rattle.posted_words.specs.declared.rule.Did.{Did}
+use Rattle.posted_words.specs.declared.rule.Did.TheVariants.{Raise, Sweep}
+
+-- which words, and how many processors, sweepers and lines they were opened for
+pub record Words : Type 0 where
+  pub name : TableId
+  pub processors : ℕ
+  pub sweepers : ℕ
+  pub lines : ℕ
+
+abbrev pub words : TableId → ℕ → ℕ → ℕ → Words
+words name processors sweepers lines = record { name = name; processors = processors; sweepers = sweepers; lines = lines }
+
+-- the sizes that words may be opened with
+pub record AreSizes (processors sweepers lines : ℕ) : Type 0 where
+  pub some_processor : 1 ≤ processors
+  pub few_processors : processors ≤ 8
+  pub some_sweeper : 1 ≤ sweepers
+  pub few_sweepers : sweepers ≤ 16
+  pub few_lines : lines ≤ 16
+
+-- of which words a token is, and what it did, its last step first
+pub record Token : Type 0 where
+  pub of : TableId
+  pub did : List Did
+
+abbrev pub token : TableId → List Did → Token
+token name did = record { of = name; did = did }
+
+-- a token after one step more
+abbrev pub after : Token → Did → Token
+after t d = token t.of (d ∷ t.did)
+
+abbrev pub did_of : Token → List Did
+did_of t = t.did
+
+-- the log of a token that stands for itself alone
+abbrev pub first_log : List (List Did) → List Did
+first_log [] = []
+first_log (log ∷ logs) = log
+
+-- a processor has four words, its parts 0 to 3
+abbrev pub word_of : ℕ → ℕ → ℕ
+word_of vp part = 4 * vp + part
+
+-- the step of a raise: a part has 64 vectors
+abbrev pub raise_of : ℕ → ℕ → Bool → Did
+raise_of vp vector fresh = Raise (word_of vp (vector / 64)) (vector % 64) fresh
+
+-- the step of a sweep
+abbrev pub sweep_of : ℕ → ℕ → ℕ → Did
+sweep_of vp part bits = Sweep (word_of vp part) bits

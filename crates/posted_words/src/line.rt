@@ -1,0 +1,48 @@
+// The tokens that raise and sweep.
+ghost use Rattle.std.specs.Prelude.{◌≡◌, [], ◌∷◌};
+ghost use Rattle.posted_words.specs.Posted.{view_of};
+ghost use Rattle.posted_words.specs.Words.{token};
+
+use crate::rule::View;
+use atomic_table::Seat;
+use std::marker::Model;
+
+/// Whether a raise made its vector pending.
+#[derive(Clone, Copy, PartialEq, Eq, Debug)]
+pub enum Raised {
+    /// The bit was clear, and this raise set it.
+    Fresh,
+    /// The bit was set already.
+    Already,
+}
+
+/// The right to step at some words, which has no bytes and is held by one thread at a time. Contracts
+/// see which words it is of and what it did.
+#[derive(Drop)]
+pub struct Line {
+    pub(crate) seat: Seat<(), View>,
+}
+
+/// The line of an actor, which sweeps.
+pub type Sweeper = Line;
+
+impl Model for Line {
+    ghost use Rattle.std.specs.Prelude.{◌≡◌, [], ◌∷◌};
+    ghost use Rattle.posted_words.specs.Words.{Token, token, first_log};
+    ghost use Rattle.posted_words.specs.Posted.{view_of};
+
+    ghost Value = { Token };
+
+    ghost view = { λ l. token l.seat.table_id (first_log l.seat.me.0.logs) };
+
+    ghost invariant = { λ l. l.seat.me ≡ (view_of 1 (first_log l.seat.me.0.logs ∷ []), []) };
+}
+
+impl Line {
+    pub(crate) fn new(seat: Seat<(), View>) -> Line
+        requires { seat.me ≡ (view_of 1 ([] ∷ []), []) }
+        ensures { result ≡ token seat.table_id [] }
+    {
+        Line { seat }
+    }
+}

@@ -1,0 +1,73 @@
+// The rule of the words, what a seat at them knows, and what each kind of step does to that.
+use atomic_table::{Join, Play, Split, TableRule};
+use std::collections::LinkedList;
+
+/// One step of a token. It exists in contracts alone.
+pub enum Did {
+    /// A raise of a bit of a word, and whether the bit was clear.
+    Raise { word: u64, bit: u64, fresh: bool },
+    /// A sweep of a word, and the bits that it took.
+    Sweep { word: u64, bits: u64 },
+}
+
+/// What a seat knows. It exists in contracts alone.
+pub struct View {
+    /// How many tokens the seat stands for.
+    pub parts: u64,
+    /// What each of them did, its last step first.
+    pub logs: LinkedList<LinkedList<Did>>,
+}
+
+/// The rule. Its key is how many words there are, and how many tokens.
+pub struct Counted;
+
+impl TableRule<(), View, (u64, u64)> for Counted {
+    ghost use Rattle.posted_words.specs.Posted.{Posted, view_of};
+    ghost use Rattle.std.specs.Prelude.{[], ◌∷◌};
+
+    ghost holds = { Posted };
+
+    ghost first = { λ key. view_of key.1 ([] ∷ []) };
+}
+
+/// A raise: one `fetch_or` with the mask of a bit.
+pub struct Raises;
+
+impl Play<(), View> for Raises {
+    ghost use Rattle.posted_words.specs.Posted.{raised_as};
+
+    ghost then = { raised_as };
+}
+
+/// A sweep: one `swap` with zero.
+pub struct Sweeps;
+
+impl Play<(), View> for Sweeps {
+    ghost use Rattle.posted_words.specs.Posted.{swept_as};
+
+    ghost then = { swept_as };
+}
+
+/// A token that did nothing is split off a seat.
+pub struct Deals;
+
+impl Split<View> for Deals {
+    ghost use Rattle.posted_words.specs.Posted.{view_of};
+    ghost use Rattle.std.specs.Prelude.{◌-◌, [], ◌∷◌};
+
+    ghost left = { λ v. view_of (v.parts - 1) v.logs };
+
+    ghost right = { λ v. view_of 1 ([] ∷ []) };
+}
+
+/// A seat takes over what another stands for.
+pub struct Gathers;
+
+impl Join<View> for Gathers {
+    ghost use Rattle.posted_words.specs.Posted.{view_of};
+    ghost use Rattle.std.specs.Prelude.{◌+◌, [], ◌++◌};
+
+    ghost both = { λ v w. view_of (v.parts + w.parts) (w.logs ++ v.logs) };
+
+    ghost spent = { view_of 0 [] };
+}

@@ -1,0 +1,32 @@
+// The bits that no sweep took.
+ghost use Rattle.std.specs.Prelude.{◌≡◌, ◌<◌, length, slice_index};
+ghost use Rattle.posted_words.specs.Words.{word_of};
+
+use crate::words::place_of;
+use board_terms::Vp;
+use std::marker::Model;
+
+/// The bits that stood when the tokens were gathered, four words for each processor.
+#[derive(Drop)]
+pub struct Standing {
+    pub(crate) words: Vec<u64>,
+}
+
+impl Model for Standing {
+    ghost use Rattle.std.specs.Prelude.{ℕ, List};
+
+    ghost Value = { List ℕ };
+
+    ghost view = { λ s. s.words.items };
+}
+
+impl Standing {
+    /// The bits of a processor's word: bit `n` of part `p` stands for vector `64 * p + n`.
+    pub fn word(&self, vp: Vp, part: u8) -> u64
+        requires there { word_of vp part < length self.now }
+        requires part { part < 4 }
+        ensures { result ≡ slice_index self.now (word_of vp part) }
+    {
+        self.words[place_of(vp, part)]
+    }
+}

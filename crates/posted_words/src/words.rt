@@ -1,0 +1,249 @@
+// The words, and the four kinds of step at them.
+ghost use Rattle.std.specs.Prelude.{◌≡◌, ◌+◌, ◌*◌, ◌-◌, ◌<◌, ◌≤◌, ◌⊎◌, ◌↔◌, [], ◌∷◌, ◌++◌, map, replicate, All, IfOk, IsErrOf, vec_len, length};
+ghost use Rattle.std.specs.Mem.Slots.{slots_items, IsFull};
+ghost use Rattle.posted_words.specs.Posted.{view_of};
+ghost use Rattle.posted_words.specs.Settled.{Settled};
+ghost use Rattle.posted_words.specs.Words.{words, AreSizes, token, after, did_of, word_of, raise_of, sweep_of};
+ghost use Rattle.posted_words.specs.Answers.{is_fresh};
+
+use crate::line::{Line, Raised, Sweeper};
+use crate::rule::{Counted, Deals, Gathers, Raises, Sweeps, View};
+use crate::standing::Standing;
+use atomic_table::{Closed, Seat, Shared, Table};
+use board_terms::{Vector, Vp};
+use std::alloc::{AllocError, Global};
+use std::marker::Model;
+use thiserror::Error;
+
+/// Why words were not opened.
+#[derive(Clone, Copy, PartialEq, Eq, Debug, Drop, Error)]
+pub enum PostedFault {
+    #[error("the sizes are outside the limits")]
+    BadSize = 1,
+    #[error("out of memory")]
+    Memory = 2,
+}
+
+/// Why tokens were not gathered.
+#[derive(Clone, Copy, PartialEq, Eq, Debug, Drop, Error)]
+pub enum GatherFault {
+    #[error("a sweeper or a line is missing")]
+    Missing = 1,
+    #[error("out of memory")]
+    Memory = 2,
+}
+
+/// Four words of 64 bits for each processor, a bit for each vector that was raised and not yet swept.
+/// Threads share it by reference, and each steps with a token of its own.
+#[derive(Drop)]
+pub struct PostedWords {
+    alloc: Global,
+    table: Table<(), View, (u64, u64), Counted, Global>,
+    processors: u8,
+    sweepers: u8,
+    lines: u8,
+}
+
+impl Model for PostedWords {
+    ghost use Rattle.std.specs.Prelude.{◌≡◌, ◌+◌, ◌*◌};
+    ghost use Rattle.posted_words.specs.Words.{Words, words, AreSizes};
+
+    ghost Value = { Words };
+
+    ghost view = { λ p. words p.table.shared.table_id p.processors p.sweepers p.lines };
+
+    ghost invariant = { λ p. (p.table.shared.key ≡ (4 * p.processors, p.sweepers + p.lines)) × (p.table.shared.table_id.words ≡ 4 * p.processors) × (p.table.shared.table_id.slots ≡ 0) × AreSizes p.processors p.sweepers p.lines };
+}
+
+type Places = Shared<(), View, (u64, u64), Counted>;
+
+/// The place of a processor's word, of its parts 0 to 3.
+pub(crate) fn place_of(vp: Vp, part: u8) -> usize
+    requires { part < 4 }
+    ensures { result ≡ word_of vp part }
+{
+    4 * usize::from(vp.number()) + usize::from(part)
+}
+
+// That many tokens, each split off the seat.
+fn deal(
+    alloc: Global,
+    places: &Places,
+    seat: &mut Seat<(), View>,
+    count: usize,
+) -> Result<Vec<Line>, AllocError>
+    requires own { seat.old.table_id ≡ places.now.table_id }
+    requires some_word { 0 < places.now.table_id.words }
+    requires enough { count < seat.old.me.0.parts }
+    requires new { seat.old.me ≡ (view_of seat.old.me.0.parts ([] ∷ []), []) }
+    ensures own { IfOk result (λ _. seat.new.table_id ≡ seat.old.table_id) }
+    ensures left { IfOk result (λ _. seat.new.me ≡ (view_of (seat.old.me.0.parts - count) ([] ∷ []), [])) }
+    ensures dealt { IfOk result (λ v. v.items ≡ replicate count (token seat.old.table_id [])) }
+{
+    let mut tokens = Vec::new(alloc);
+    for _ in 0..count {
+        let token = Line::new(places.split_seat::<Deals>(seat));
+        tokens.push(token)?;
+    }
+    Ok(tokens)
+}
+
+// The seat stands for all the tokens too.
+fn join_all(places: &Places, seat: &mut Seat<(), View>, mut tokens: Vec<Line>)
+    requires own { seat.old.table_id ≡ places.now.table_id }
+    requires some_word { 0 < places.now.table_id.words }
+    requires some_part { 0 < seat.old.me.0.parts }
+    requires no_slot { seat.old.me.1 ≡ [] }
+    requires tokens { All (λ t. t.of ≡ places.now.table_id) tokens.items }
+    ensures own { seat.new.table_id ≡ seat.old.table_id }
+    ensures joined { seat.new.me ≡ (view_of (seat.old.me.0.parts + vec_len tokens) (map did_of tokens.items ++ seat.old.me.0.logs), []) }
+{
+    while let Some(token) = tokens.pop() {
+        let Line { seat: other } = token;
+        places.join_seat::<Gathers>(seat, other);
+    }
+}
+
+// The words of a closed table.
+fn read(alloc: Global, closed: &Closed<(), Global>) -> Result<Vec<u64>, AllocError>
+    requires { IsFull closed.now.words }
+    ensures { IfOk result (λ v. v.items ≡ slots_items closed.now.words) }
+{
+    let mut words = Vec::new(alloc);
+    for i in 0..closed.words.len() {
+        words.push(closed.word(i))?;
+    }
+    Ok(words)
+}
+
+impl PostedWords {
+    /// Words of that many processors, all zero, with a sweeper for each actor and a line for each
+    /// device, none of which did a step. `BadSize` unless there are 1 to 8 processors, 1 to 16
+    /// sweepers and at most 16 lines.
+    pub fn open(
+        alloc: Global,
+        processors: u8,
+        sweepers: u8,
+        lines: u8,
+    ) -> Result<(PostedWords, Vec<Sweeper>, Vec<Line>), PostedFault>
+        ensures size { IsErrOf result PostedFault.BadSize ↔ (¬ AreSizes processors sweepers lines) }
+        ensures sizes { IfOk result (λ _. AreSizes processors sweepers lines) }
+        ensures words { IfOk result (λ r. r.0 ≡ words r.0.name processors sweepers lines) }
+        ensures sweepers { IfOk result (λ r. r.1.items ≡ replicate sweepers (token r.0.name [])) }
+        ensures lines { IfOk result (λ r. r.2.items ≡ replicate lines (token r.0.name [])) }
+    {
+        if processors < 1 || processors > 8 || sweepers < 1 || sweepers > 16 || lines > 16 {
+            return Err(PostedFault::BadSize);
+        }
+        match PostedWords::open_sized(alloc, processors, sweepers, lines) {
+            Ok(opened) => Ok(opened),
+            Err(_) => Err(PostedFault::Memory),
+        }
+    }
+
+    fn open_sized(
+        alloc: Global,
+        processors: u8,
+        sweepers: u8,
+        lines: u8,
+    ) -> Result<(PostedWords, Vec<Sweeper>, Vec<Line>), AllocError>
+        requires { AreSizes processors sweepers lines }
+        ensures words { IfOk result (λ r. r.0 ≡ words r.0.name processors sweepers lines) }
+        ensures sweepers { IfOk result (λ r. r.1.items ≡ replicate sweepers (token r.0.name [])) }
+        ensures lines { IfOk result (λ r. r.2.items ≡ replicate lines (token r.0.name [])) }
+    {
+        let zeros = Vec::from_elem(alloc, 0, 4 * usize::from(processors))?;
+        let key = (
+            4 * u64::from(processors),
+            u64::from(sweepers) + u64::from(lines),
+        );
+        let (table, mut seat) = Table::of_words(alloc, zeros.as_slice(), &key)?;
+        let given_lines = deal(alloc, &table.shared, &mut seat, usize::from(lines))?;
+        let mut given_sweepers = deal(alloc, &table.shared, &mut seat, usize::from(sweepers) - 1)?;
+        given_sweepers.push(Line::new(seat))?;
+        let words = PostedWords {
+            alloc,
+            table,
+            processors,
+            sweepers,
+            lines,
+        };
+        Ok((words, given_sweepers, given_lines))
+    }
+
+    /// How many processors the words are for.
+    pub fn processors(&self) -> u8
+        ensures count { result ≡ self.now.processors }
+        ensures few { result ≤ 8 }
+    {
+        self.processors
+    }
+
+    /// Raises a vector of a processor, and never waits. One atomic step, the `fetch_or` of the
+    /// vector's bit, is enough: it sets the bit and finds what it was. `Fresh` tells the device's line
+    /// that this raise and no other made the vector pending, so it has to kick an actor; `Already`
+    /// that the bit stood, and whoever sweeps next takes both raises at once.
+    pub fn raise(&self, line: &mut Line, vp: Vp, vector: Vector) -> Raised
+        requires own { line.old.of ≡ self.now.name }
+        requires there { vp < self.now.processors }
+        ensures { line.new ≡ after line.old (raise_of vp vector (is_fresh result)) }
+    {
+        let number = vector.number();
+        let bit = number % 64;
+        let found = self
+            .table
+            .shared
+            .fetch_or::<Raises>(&mut line.seat, place_of(vp, number / 64), 1 << bit);
+        if (found >> bit) & 1 == 0 {
+            Raised::Fresh
+        } else {
+            Raised::Already
+        }
+    }
+
+    /// Takes the bits of a part of a processor, and never waits: bit `n` of part `p` stands for vector
+    /// `64 * p + n`. One atomic step, the `swap` with zero, is enough: a raise comes before it, and its
+    /// bit is taken, or after it, and is `Fresh` again. So no raise is lost and none is taken twice.
+    pub fn sweep(&self, sweeper: &mut Sweeper, vp: Vp, part: u8) -> u64
+        requires own { sweeper.old.of ≡ self.now.name }
+        requires there { vp < self.now.processors }
+        requires part { part < 4 }
+        ensures { sweeper.new ≡ after sweeper.old (sweep_of vp part result) }
+    {
+        self.table
+            .shared
+            .swap::<Sweeps>(&mut sweeper.seat, place_of(vp, part), 0)
+    }
+
+    /// The bits that stand once all tokens are back. `Missing` where there are fewer sweepers or lines
+    /// than were opened, which is judged first. On either fault all is given up.
+    pub fn gather(
+        self,
+        mut sweepers: Vec<Sweeper>,
+        lines: Vec<Line>,
+    ) -> Result<Standing, GatherFault>
+        requires sweepers { All (λ t. t.of ≡ self.name) sweepers.items }
+        requires lines { All (λ t. t.of ≡ self.name) lines.items }
+        ensures missing { IsErrOf result GatherFault.Missing ↔ (vec_len sweepers < self.sweepers) ⊎ (vec_len lines < self.lines) }
+        ensures width { IfOk result (λ s. length s ≡ 4 * self.processors) }
+        ensures settled { IfOk result (λ s. Settled (4 * self.processors) (map did_of (sweepers.items ++ lines.items)) s) }
+    {
+        if sweepers.len() < usize::from(self.sweepers) || lines.len() < usize::from(self.lines) {
+            return Err(GatherFault::Missing);
+        }
+        let Some(last) = sweepers.pop() else {
+            unreachable!()
+        };
+        let PostedWords { alloc, table, .. } = self;
+        let Line { mut seat } = last;
+        join_all(&table.shared, &mut seat, sweepers);
+        join_all(&table.shared, &mut seat, lines);
+        let closed = table.close_with(seat);
+        let words = read(alloc, &closed);
+        closed.free();
+        match words {
+            Ok(words) => Ok(Standing { words }),
+            Err(_) => Err(GatherFault::Memory),
+        }
+    }
+}
