@@ -1,0 +1,6 @@
+pub mod Runs
+pub mod Sweeping
+pub mod Numbering
+pub mod Matching
+pub mod Counting
+pub mod Absorbs

@@ -1,0 +1,61 @@
+-- What a sweeper did are the absorbs among its actor's calls.
+use Rattle.std.proofs.Common.{◌≡◌, ℕ, Bool, true, false, List, [], ◌∷◌, ◌++◌, refl, sym, ap, ◌∙◌, reverse}
+use Rattle.std.specs.Prelude.{if◌then◌else◌, nat_lt, nat_le, ◌&&◌, not}
+use Rattle.std.specs.List.{flat_map}
+use Rattle.std.proofs.lemmas.List.{reverse-append}
+use Rattle.board_terms.specs.declared.refusal.Refusal.TheVariants.{BadTarget, NoSuchProcessor}
+use Rattle.synic_board.specs.State.{State, processors}
+use Rattle.synic_board.specs.Effects.{Effect, Outcome, answered, refused}
+use Rattle.synic_board.specs.Absorbing.{absorbed_below}
+use Rattle.synic_board.specs.Step.{step}
+use Rattle.synic_board.specs.declared.event.Event.{Event}
+use Rattle.synic_board.specs.declared.event.Event.TheVariants.{OpenPort, ClosePort, Write, Read, Post, Signal, Assert, Absorb, Store, Load, Tick, Take}
+use Rattle.synic_board.specs.declared.event.Reply.{Reply}
+use Rattle.synic_board.specs.declared.event.Reply.TheVariants.{Done}
+use Rattle.posted_words.specs.declared.rule.Did.{Did}
+use Rattle.posted_words.specs.Words.{sweep_of}
+use Rattle.board_threads.specs.History.{Call}
+use Rattle.board_threads.specs.Sweeps.{is_absorb, is_refused, sweep_in, sweeps_of}
+
+sweeps-push : (calls : List Call) (e : Event) (r : Reply) → sweeps_of (calls ++ (e, r) ∷ []) ≡ sweep_in e r ++ sweeps_of calls
+sweeps-push calls e r = ap (flat_map (λ (c : Call). sweep_in c.0 c.1)) (reverse-append calls ((e, r) ∷ []))
+
+-- an event that is no absorb sweeps nothing
+none-swept : (e : Event) (r : Reply) → is_absorb e ≡ false → sweep_in e r ≡ []
+none-swept (OpenPort port p i shape) r h = refl
+none-swept (ClosePort port) r h = refl
+none-swept (Write p number value) r h = refl
+none-swept (Read p number) r h = refl
+none-swept (Post port kind payload) r h = refl
+none-swept (Signal port flag) r h = refl
+none-swept (Assert p v) r h = refl
+none-swept (Absorb p part bits) r h = absurd (cc)
+none-swept (Store address bytes) r h = refl
+none-swept (Load address count) r h = refl
+none-swept (Tick moment) r h = refl
+none-swept (Take p) r h = refl
+
+pub perform-pushes : (old new : List Call) (e : Event) (r : Reply) (did : List Did) → did ≡ sweeps_of old → is_absorb e ≡ false → new ≡ old ++ (e, r) ∷ [] → did ≡ sweeps_of new
+perform-pushes old new e r did was other is = was ∙ sym (ap (λ ds. ds ++ sweeps_of old) (none-swept e r other)) ∙ sym (sweeps-push old e r) ∙ ap sweeps_of (sym is)
+
+by-cases : (s : State) (a b : Bool) (e : Effect) (vp part bits : ℕ) (ds : List Did)
+    → sweep_in (Absorb vp part bits) (if a then (if b then answered Done e else refused s BadTarget) else refused s NoSuchProcessor).1 ++ ds ≡ (if a && b then sweep_of vp part bits ∷ ds else ds)
+by-cases s true true e vp part bits ds = refl
+by-cases s true false e vp part bits ds = refl
+by-cases s false b e vp part bits ds = refl
+
+-- an absorb is refused exactly where no word is swept
+absorb-sweeps : (s : State) (n vp part bits : ℕ) (r : Reply) (ds : List Did) → r ≡ (step s (Absorb vp part bits)).1 → processors s ≡ n
+    → sweep_in (Absorb vp part bits) r ++ ds ≡ (if nat_lt vp n && nat_le part 3 then sweep_of vp part bits ∷ ds else ds)
+unfolding step
+absorb-sweeps s n vp part bits r ds is many =
+    ap (λ x. sweep_in (Absorb vp part bits) x ++ ds) is ∙ by-cases s (nat_lt vp (processors s)) (nat_le part 3) (absorbed_below s vp part bits 64) vp part bits ds
+    ∙ ap (λ m. if nat_lt vp m && nat_le part 3 then sweep_of vp part bits ∷ ds else ds) many
+
+pub absorb-pushes : (old new : List Call) (s : State) (n vp part bits : ℕ) (r : Reply) (ds ds' : List Did) → ds ≡ sweeps_of old
+    → ds' ≡ (if nat_lt vp n && nat_le part 3 then sweep_of vp part bits ∷ ds else ds)
+    → r ≡ (step s (Absorb vp part bits)).1 → processors s ≡ n → new ≡ old ++ (Absorb vp part bits, r) ∷ []
+    → (ds' ≡ sweeps_of new) × (ds' ≡ sweep_in (Absorb vp part bits) r ++ ds)
+absorb-pushes old new s n vp part bits r ds ds' was now same many is =
+    let e : ds' ≡ sweep_in (Absorb vp part bits) r ++ ds = now ∙ sym (absorb-sweeps s n vp part bits r ds same many) in
+    (e ∙ ap (λ x. sweep_in (Absorb vp part bits) r ++ x) was ∙ sym (sweeps-push old (Absorb vp part bits) r) ∙ ap sweeps_of (sym is), e)

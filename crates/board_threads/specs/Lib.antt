@@ -1,0 +1,4 @@
+pub mod History
+pub mod Sweeps
+pub mod Sharing
+pub mod Settling

@@ -1,0 +1,58 @@
+-- What holds once the threads have ended.
+use Rattle.std.specs.Prelude.{◌≡◌, ◌≢◌, ℕ, ◌+◌, ◌<◌, List, [], ◌∷◌, All, Bool, true, false, length, slice_index}
+use Rattle.std.specs.List.{sum_by}
+use Rattle.std.specs.Int.{bit_at}
+use Rattle.synic_board.specs.State.{State}
+use Rattle.synic_board.specs.History.{IsLegal, leads_to}
+use Rattle.synic_board.specs.declared.history.Entry.{Entry}
+use Rattle.posted_words.specs.declared.rule.Did.{Did}
+use Rattle.posted_words.specs.declared.rule.Did.TheVariants.{Raise, Sweep}
+use Rattle.posted_words.specs.Did.{raised}
+use Rattle.posted_words.specs.Settled.{all_fresh}
+use Rattle.board_threads.specs.History.{Call, calls_by}
+use Rattle.board_threads.specs.Sweeps.{absorbed}
+use Rattle.board_threads.specs.Sharing.{Acting}
+use Rattle.board_threads.specs.declared.settling.ActorCalls.{ActorCalls}
+use Rattle.board_threads.specs.declared.settling.Ended.{Ended}
+
+-- no two have one number
+abbrev pub HaveOwnNumbers : List ActorCalls → Type 0
+HaveOwnNumbers [] = Unit {0}
+HaveOwnNumbers (a ∷ rest) = All (λ (b : ActorCalls). b.number ≢ a.number) rest × HaveOwnNumbers rest
+
+-- The history is what each of these actors called, and nothing else.
+pub record AreAllOf (history : List Entry) (actors : List ActorCalls) : Type 0 where
+  pub numbers : HaveOwnNumbers actors
+  -- the entries with an actor's number are its calls, in its order
+  pub own : All (λ (a : ActorCalls). calls_by a.number history ≡ a.calls.items) actors
+  -- and there are no other entries
+  pub all : sum_by (λ (a : ActorCalls). length a.calls.items) actors ≡ length history
+
+-- What a board that was opened in a state comes to: a run of one thread.
+pub record IsSettled (start : State) (e : Ended) : Type 0 where
+  -- the replies are those of the written machine
+  pub legal : IsLegal start e.history.items
+  -- and the board is the one that the history leads to
+  pub leads : e.board.state ≡ leads_to start e.history.items
+  pub actors : AreAllOf e.history.items e.actors.items
+
+-- What became of the raises of lines with these logs, at the n words of a board.
+pub record AreAbsorbed (n : ℕ) (logs : List (List Did)) (history : List Entry) (standing : List ℕ) : Type 0 where
+  pub words : length standing ≡ n
+  -- each Fresh answer was absorbed once, or stands
+  pub even : (w b : ℕ) → w < n → all_fresh logs w b ≡ absorbed w b history + bit_at (slice_index standing w) b
+  -- and where a line raised at all, some answer was Fresh
+  pub some : (w b : ℕ) → 0 < sum_by (raised w b) logs → 0 < all_fresh logs w b
+
+-- a line has swept nothing
+abbrev pub only_raises : List Did → Bool
+only_raises [] = true
+only_raises (Raise word bit fresh ∷ log) = only_raises log
+only_raises (Sweep word bits ∷ log) = false
+
+-- the number and the calls, as an actor has them and as they are handed out
+abbrev pub listed : Acting → ℕ × List Call
+listed a = (a.number, a.calls)
+
+abbrev pub listed_out : ActorCalls → ℕ × List Call
+listed_out a = (a.number, a.calls.items)

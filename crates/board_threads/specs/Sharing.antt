@@ -1,0 +1,38 @@
+-- What callers see of a shared board and of an actor.
+use Rattle.std.specs.Prelude.{ℕ, ◌≤◌, List, []}
+use Rattle.atomic_table.specs.Seated.{TableId}
+use Rattle.posted_words.specs.declared.rule.Did.{Did}
+use Rattle.posted_words.specs.Words.{Words, AreSizes as AreWordSizes}
+use Rattle.synic_board.specs.State.{State, opened, AreSizes as AreBoardSizes}
+use Rattle.board_threads.specs.History.{Call}
+
+-- the posted words, and what else the board was opened with
+pub record Sharing : Type 0 where
+  pub words : Words
+  pub pages : ℕ
+  pub first_ticket : ℕ
+
+abbrev pub sharing : Words → ℕ → ℕ → Sharing
+sharing words pages first_ticket = record { words = words; pages = pages; first_ticket = first_ticket }
+
+-- the state of the written machine at the opening
+abbrev pub start : Sharing → State
+start s = opened s.words.processors s.pages s.first_ticket
+
+-- the sizes that a shared board may be opened with: those of a board and of its posted words, which each actor sweeps
+pub record AreSizes (processors pages actors lines : ℕ) : Type 0 where
+  pub board : AreBoardSizes processors pages
+  pub words : AreWordSizes processors actors lines
+
+-- of which words an actor's sweeper is, the actor's number, its calls in order, and what its sweeper did
+pub record Acting : Type 0 where
+  pub of : TableId
+  pub number : ℕ
+  pub calls : List Call
+  pub did : List Did
+
+abbrev pub acting : TableId → ℕ → List Call → List Did → Acting
+acting of number calls did = record { of = of; number = number; calls = calls; did = did }
+
+abbrev pub new_actor : TableId → ℕ → Acting
+new_actor of number = acting of number [] []

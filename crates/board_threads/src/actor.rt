@@ -1,0 +1,161 @@
+// An actor, and its calls.
+ghost use Rattle.std.specs.Prelude.{◌≡◌, ◌≢◌, ◌≤◌, ℕ, ◌<◌, false, Err, [], ◌∷◌, ◌++◌, IfOk, OnOk, OnErr, IsErrOf, if◌then◌else◌, nat_lt, nat_le, ◌&&◌};
+ghost use Rattle.posted_words.specs.Words.{token, sweep_of};
+ghost use Rattle.synic_board.specs.declared.event.Event.TheVariants.{Absorb};
+ghost use Rattle.board_threads.specs.History.{entry};
+ghost use Rattle.board_threads.specs.Sweeps.{is_absorb, sweep_in, sweeps_of};
+ghost use Rattle.board_threads.specs.Sharing.{acting};
+
+use crate::recorded::{MOST, Recorded};
+use crate::settling::ActorCalls;
+use board_terms::Vp;
+use posted_words::{PostedWords, Sweeper};
+use std::alloc::Global;
+use std::marker::Model;
+use synic_board::{Event, Reply};
+use thiserror::Error;
+
+/// Why an actor's call did nothing.
+#[derive(Clone, Copy, PartialEq, Eq, Debug, Drop, Error)]
+pub enum CallFault {
+    /// There was no memory for one more entry.
+    #[error("out of memory")]
+    Memory = 1,
+    /// An absorb is not performed as an event: its bits are what a sweep takes.
+    #[error("an absorb is no event of an actor")]
+    AbsorbEvent = 2,
+    /// The history has 65,536 entries.
+    #[error("the history is full")]
+    Full = 3,
+}
+
+/// Who performs events on a shared board, in one thread at a time. It holds a sweeper of the board's
+/// posted words. Contracts see which words they are, its number, its calls in order, and what its
+/// sweeper did.
+#[derive(Drop)]
+pub struct Actor {
+    number: u8,
+    sweeper: Sweeper,
+    calls: Vec<(Event, Reply)>,
+}
+
+impl Model for Actor {
+    ghost use Rattle.std.specs.Prelude.{◌≡◌};
+    ghost use Rattle.board_threads.specs.Sharing.{Acting, acting};
+    ghost use Rattle.board_threads.specs.Sweeps.{sweeps_of};
+
+    ghost Value = { Acting };
+
+    ghost view = { λ a. acting a.sweeper.of a.number a.calls.items a.sweeper.did };
+
+    ghost invariant = { λ a. a.sweeper.did ≡ sweeps_of a.calls.items };
+}
+
+impl Actor {
+    pub(crate) fn new(alloc: Global, number: u8, sweeper: Sweeper) -> Actor
+        requires { sweeper.did ≡ [] }
+        ensures { result ≡ acting sweeper.of number [] [] }
+    {
+        Actor {
+            number,
+            sweeper,
+            calls: Vec::new(alloc),
+        }
+    }
+
+    /// Its number, by which the history names it.
+    pub fn number(&self) -> u8
+        ensures { result ≡ self.now.number }
+    {
+        self.number
+    }
+
+    /// Its calls in order, each with its reply. What its sweeper took are the bits of the absorbs among
+    /// them that were not refused.
+    pub fn calls(&self) -> &[(Event, Reply)]
+        ensures calls { result.now ≡ self.now.calls }
+        ensures sweeps { self.now.did ≡ sweeps_of self.now.calls }
+    {
+        self.calls.as_slice()
+    }
+
+    pub(crate) fn into_parts(self) -> (Sweeper, ActorCalls)
+        ensures sweeper { result.0 ≡ token self.of self.did }
+        ensures number { result.1.number ≡ self.number }
+        ensures calls { result.1.calls.items ≡ self.calls }
+        ensures sweeps { self.did ≡ sweeps_of self.calls }
+    {
+        let Actor {
+            number,
+            sweeper,
+            calls,
+        } = self;
+        (sweeper, ActorCalls { number, calls })
+    }
+
+    /// Performs an event on the board under the lock.
+    pub(crate) fn perform(
+        &mut self,
+        recorded: &mut Recorded,
+        event: Event,
+    ) -> Result<Reply, CallFault>
+        requires { is_absorb event ≡ false }
+        ensures ok { IfOk result (λ r. self.new ≡ acting self.old.of self.old.number (self.old.calls ++ (event, r) ∷ []) self.old.did) }
+        ensures history { IfOk result (λ r. recorded.new.history.items ≡ recorded.old.history.items ++ entry self.old.number event r ∷ []) }
+        ensures fault { OnErr result (self.new ≡ self.old) }
+        ensures unchanged { OnErr result (recorded.new.history.items ≡ recorded.old.history.items) }
+        ensures event { ¬ (IsErrOf result CallFault.AbsorbEvent) }
+    {
+        if recorded.history.len() >= MOST {
+            return Err(CallFault::Full);
+        }
+        if recorded.history.reserve(1).is_err() || self.calls.reserve(1).is_err() {
+            return Err(CallFault::Memory);
+        }
+        let reply = recorded.perform(self.number, &event);
+        self.calls.push_reserved((event, reply.copy()));
+        Ok(reply)
+    }
+
+    /// Sweeps a word, and performs the absorb of its bits on the board under the lock.
+    pub(crate) fn absorb(
+        &mut self,
+        recorded: &mut Recorded,
+        words: &PostedWords,
+        vp: u8,
+        part: u8,
+    ) -> Result<Reply, CallFault>
+        requires { self.old.of ≡ words.now.name }
+        ensures ok { IfOk result (λ r. (bits : ℕ) × (self.new ≡ acting self.old.of self.old.number (self.old.calls ++ (Absorb vp part bits, r) ∷ []) (sweep_in (Absorb vp part bits) r ++ self.old.did))) }
+        ensures fault { OnErr result (self.new ≡ self.old) }
+        ensures unchanged { OnErr result (recorded.new.history.items ≡ recorded.old.history.items) }
+        ensures event { ¬ (IsErrOf result CallFault.AbsorbEvent) }
+    {
+        // The lock tells nothing of what it holds but a legal history, so this looks that the board is
+        // the one that the words were opened for.
+        if recorded.history.len() >= MOST || recorded.board.processors() != words.processors() {
+            return Err(CallFault::Full);
+        }
+        if recorded.history.reserve(1).is_err() || self.calls.reserve(1).is_err() {
+            return Err(CallFault::Memory);
+        }
+        let bits = sweep_if_there(words, &mut self.sweeper, vp, part);
+        let event = Event::Absorb { vp, part, bits };
+        let reply = recorded.perform(self.number, &event);
+        self.calls.push_reserved((event, reply.copy()));
+        Ok(reply)
+    }
+}
+
+/// Sweeps a word, if there is one, and answers its bits. No absorb of another word is performed, so
+/// its bits would be lost.
+fn sweep_if_there(words: &PostedWords, sweeper: &mut Sweeper, vp: u8, part: u8) -> u64
+    requires { sweeper.old.of ≡ words.now.name }
+    ensures { sweeper.new ≡ token sweeper.old.of (if nat_lt vp words.now.processors && nat_le part 3 then sweep_of vp part result ∷ sweeper.old.did else sweeper.old.did) }
+{
+    let processors = words.processors();
+    match Vp::new(vp) {
+        Some(vp) if vp.number() < processors && part <= 3 => words.sweep(sweeper, vp, part),
+        _ => 0,
+    }
+}

@@ -1,0 +1,216 @@
+// The board that threads share.
+ghost use Rattle.std.specs.Prelude.{◌≡◌, ◌↔◌, ◌≤◌, ℕ, ◌*◌, ◌<◌, true, [], ◌∷◌, ◌++◌, IsTrue, IfOk, OnErr, IsErrOf, map, All, replicate};
+ghost use Rattle.std.specs.List.{range_with_len};
+ghost use Rattle.atomic_table.specs.Seated.{TableId};
+ghost use Rattle.synic_board.specs.declared.event.Event.TheVariants.{Absorb};
+ghost use Rattle.posted_words.specs.Words.{words, token, after, raise_of, did_of};
+ghost use Rattle.posted_words.specs.Answers.{is_fresh};
+ghost use Rattle.board_threads.specs.Sharing.{AreSizes, sharing, start, acting, new_actor};
+ghost use Rattle.board_threads.specs.Sweeps.{is_absorb, sweep_in};
+ghost use Rattle.board_threads.specs.Settling.{IsSettled, AreAbsorbed, only_raises, listed, listed_out};
+
+use crate::actor::{Actor, CallFault};
+use crate::recorded::{Opening, Recorded};
+use crate::settling::{Ended, SettleFault, are_all_of, split_all};
+use board_terms::{Ticket, Vector, Vp};
+use posted_words::{GatherFault, Line, PostedWords, Raised, Sweeper};
+use std::alloc::{AllocError, Global};
+use std::marker::Model;
+use std::sync::{Mutex, Wait};
+use synic_board::{Event, OpenFault, Reply};
+
+/// A board that threads share by reference. Events are performed under a lock, one at a time; vectors
+/// are raised with no lock. Contracts see the posted words and what the board was opened with.
+#[derive(Drop)]
+pub struct SharedBoard {
+    alloc: Global,
+    opening: Opening,
+    words: PostedWords,
+    recorded: Mutex<Recorded>,
+}
+
+impl Model for SharedBoard {
+    ghost use Rattle.std.specs.Prelude.{◌≡◌};
+    ghost use Rattle.board_threads.specs.Sharing.{Sharing, sharing};
+
+    ghost Value = { Sharing };
+
+    ghost view = { λ s. sharing s.words s.opening.pages s.opening.first_ticket };
+
+    ghost invariant = { λ s. s.words.processors ≡ s.opening.processors };
+}
+
+fn are_sizes(processors: u8, pages: u8, actors: u8, lines: u8) -> bool
+    ensures { IsTrue result ↔ AreSizes processors pages actors lines }
+{
+    let is_board = 1 <= processors && processors <= 8 && 1 <= pages && pages <= 64;
+    is_board && 1 <= actors && actors <= 16 && lines <= 16
+}
+
+/// An actor for each sweeper, numbered from 0.
+fn number_all(
+    alloc: Global,
+    count: u8,
+    mut sweepers: Vec<Sweeper>,
+) -> Result<Vec<Actor>, AllocError>
+    requires { (t : TableId) × (sweepers.items ≡ replicate count (token t [])) }
+    ensures { IfOk result (λ v. (t : TableId) → sweepers.items ≡ replicate count (token t []) → v.items ≡ map (new_actor t) (range_with_len 0 count)) }
+{
+    let mut actors = Vec::new(alloc);
+    for number in 0..count {
+        actors.reserve(1)?;
+        let Some(sweeper) = sweepers.pop() else {
+            unreachable!()
+        };
+        actors.push_reserved(Actor::new(alloc, number, sweeper));
+    }
+    Ok(actors)
+}
+
+impl SharedBoard {
+    /// A board with that many processors and guest pages, whose first accepted message takes
+    /// `first_ticket`, with its actors, numbered from 0, and its lines. `BadSize` unless there are 1 to 8
+    /// processors, 1 to 64 pages, 1 to 16 actors and at most 16 lines.
+    pub fn open(
+        alloc: Global,
+        processors: u8,
+        pages: u8,
+        first_ticket: Ticket,
+        actors: u8,
+        lines: u8,
+    ) -> Result<(SharedBoard, Vec<Actor>, Vec<Line>), OpenFault>
+        ensures size { IsErrOf result OpenFault.BadSize ↔ (¬ AreSizes processors pages actors lines) }
+        ensures board { IfOk result (λ r. r.0 ≡ sharing (words r.0.words.name processors actors lines) pages first_ticket) }
+        ensures actors { IfOk result (λ r. r.1.items ≡ map (new_actor r.0.words.name) (range_with_len 0 actors)) }
+        ensures lines { IfOk result (λ r. r.2.items ≡ replicate lines (token r.0.words.name [])) }
+    {
+        if !are_sizes(processors, pages, actors, lines) {
+            return Err(OpenFault::BadSize);
+        }
+        let Ok((words, sweepers, lines)) = PostedWords::open(alloc, processors, actors, lines)
+        else {
+            return Err(OpenFault::Memory);
+        };
+        let Ok(actors) = number_all(alloc, actors, sweepers) else {
+            return Err(OpenFault::Memory);
+        };
+        let opening = Opening {
+            processors,
+            pages,
+            first_ticket,
+        };
+        let Ok(recorded) = Recorded::open(alloc, opening) else {
+            return Err(OpenFault::Memory);
+        };
+        let recorded = Mutex::new(recorded);
+        let board = SharedBoard {
+            alloc,
+            opening,
+            words,
+            recorded,
+        };
+        Ok((board, actors, lines))
+    }
+
+    /// How many processors are on the board.
+    pub fn processors(&self) -> u8
+        ensures { result ≡ self.now.words.processors }
+    {
+        self.opening.processors
+    }
+
+    /// Performs an event, in turn with all other calls of `perform` and `absorb`, and enters it in the
+    /// history and in the actor's calls. A refused event is entered like any other. After a fault
+    /// nothing is changed: `AbsorbEvent` for an absorb, `Full` where the history has 65,536 entries,
+    /// `Memory` where there is no room for one more. That the actor is of this board is not looked at
+    /// here: `settle` finds it.
+    pub fn perform<R: Wait>(
+        &self,
+        rt: &R,
+        actor: &mut Actor,
+        event: Event,
+    ) -> Result<Reply, CallFault>
+        ensures ok { IfOk result (λ r. actor.new ≡ acting actor.old.of actor.old.number (actor.old.calls ++ (event, r) ∷ []) actor.old.did) }
+        ensures fault { OnErr result (actor.new ≡ actor.old) }
+        ensures absorb { IsErrOf result CallFault.AbsorbEvent ↔ is_absorb event ≡ true }
+    {
+        if matches!(event, Event::Absorb { .. }) {
+            return Err(CallFault::AbsorbEvent);
+        }
+        let mut guard = self.recorded.lock(rt);
+        let recorded = &mut *guard;
+        actor.perform(recorded, event)
+    }
+
+    /// Sweeps a word of the board's posted words, and performs the absorb of its bits, in turn with all
+    /// other calls of `perform` and `absorb`. Where the absorb is refused, as no processor `vp` or no
+    /// part above 3 is on the board, nothing is swept and its bits are 0. The sweep stands inside the
+    /// lock, so the history has the sweeps of a word in the order in which they were made. Faults as
+    /// those of `perform`.
+    pub fn absorb<R: Wait>(
+        &self,
+        rt: &R,
+        actor: &mut Actor,
+        vp: u8,
+        part: u8,
+    ) -> Result<Reply, CallFault>
+        requires own { actor.old.of ≡ self.now.words.name }
+        ensures ok { IfOk result (λ r. (bits : ℕ) × (actor.new ≡ acting actor.old.of actor.old.number (actor.old.calls ++ (Absorb vp part bits, r) ∷ []) (sweep_in (Absorb vp part bits) r ++ actor.old.did))) }
+        ensures fault { OnErr result (actor.new ≡ actor.old) }
+        ensures event { ¬ (IsErrOf result CallFault.AbsorbEvent) }
+    {
+        let mut guard = self.recorded.lock(rt);
+        let recorded = &mut *guard;
+        actor.absorb(recorded, &self.words, vp, part)
+    }
+
+    /// Raises a vector at a processor, by one atomic step with no lock: `Fresh` if it was not pending.
+    pub fn raise(&self, line: &mut Line, vp: Vp, vector: Vector) -> Raised
+        requires own { line.old.of ≡ self.now.words.name }
+        requires there { vp < self.now.words.processors }
+        ensures { line.new ≡ after line.old (raise_of vp vector (is_fresh result)) }
+    {
+        self.words.raise(line, vp, vector)
+    }
+
+    /// Ends the board. What it hands out is a run of one thread, in which each actor's calls stand, and
+    /// each raise that was answered `Fresh` was absorbed once or stands. `Mismatch` where an actor or a
+    /// line is missing, or an actor performed on another board; all is given up then.
+    pub fn settle(self, actors: Vec<Actor>, lines: Vec<Line>) -> Result<Ended, SettleFault>
+        requires actors { All (λ a. a.of ≡ self.words.name) actors.items }
+        requires lines { All (λ l. l.of ≡ self.words.name) lines.items }
+        requires raises { All (λ l. only_raises l.did ≡ true) lines.items }
+        ensures settled { IfOk result (IsSettled (start self)) }
+        ensures actors { IfOk result (λ e. map listed_out e.actors.items ≡ map listed actors.items) }
+        ensures raises { IfOk result (λ e. AreAbsorbed (4 * self.words.processors) (map did_of lines.items) e.history.items e.standing) }
+    {
+        let SharedBoard {
+            alloc,
+            opening,
+            words,
+            recorded,
+        } = self;
+        let recorded = recorded.into_inner();
+        if recorded.opening != opening {
+            return Err(SettleFault::Mismatch);
+        }
+        let Ok((sweepers, actors)) = split_all(alloc, actors) else {
+            return Err(SettleFault::Memory);
+        };
+        if !are_all_of(recorded.history.as_slice(), actors.as_slice()) {
+            return Err(SettleFault::Mismatch);
+        }
+        let standing = match words.gather(sweepers, lines) {
+            Ok(standing) => standing,
+            Err(GatherFault::Missing) => return Err(SettleFault::Mismatch),
+            Err(GatherFault::Memory) => return Err(SettleFault::Memory),
+        };
+        let Recorded { board, history, .. } = recorded;
+        Ok(Ended {
+            board,
+            history,
+            actors,
+            standing,
+        })
+    }
+}
