@@ -1,6 +1,9 @@
 pub mod Runs
 pub mod Sweeping
 pub mod Numbering
+pub mod Taking
 pub mod Matching
 pub mod Counting
 pub mod Absorbs
+pub mod Following
+pub mod Started

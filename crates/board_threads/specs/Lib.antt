@@ -2,3 +2,6 @@ pub mod History
 pub mod Sweeps
 pub mod Sharing
 pub mod Settling
+pub mod Judging
+pub mod Crew
+pub mod Work

@@ -3,12 +3,20 @@
 #![tactic(auto)]
 
 mod actor;
+mod crew;
+mod gate;
 mod recorded;
+mod script;
 mod settling;
 mod shared;
+mod threads;
+mod workers;
 
 pub use actor::{Actor, CallFault};
+pub use crew::CrewFault;
+pub use gate::{Gate, OpenGate, Worker};
 pub use posted_words::{Line, Raised, Standing, Sweeper};
+pub use script::{Scripts, Setup, Step};
 pub use settling::{ActorCalls, Ended, SettleFault};
 pub use shared::SharedBoard;
 pub use synic_board::{Entry, OpenFault};

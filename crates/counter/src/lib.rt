@@ -41,3 +41,6 @@ impl Drop for Count {
         let Self { marker: _ } = self;
     }
 }
+
+// It has no bytes, and what it says holds in any thread. So what has a count may go to another thread.
+unsafe impl Send for Count {}

@@ -1,0 +1,7 @@
+use Rattle.std.proofs.Common.{◌≡◌, ◌+◌, false, take, vec_len}
+use Rattle.std.specs.List.{list_any, sum_by}
+use Rattle.board_threads.specs.Sweeps.{is_absorb}
+use Rattle.board_threads.proofs.script.absorbs.Given as goal
+
+abbrev pub invariant-loop-event : goal.invariant-loop-event
+invariant-loop-event l = list_any is_absorb (take l.event-index l.events) ≡ false

@@ -1,0 +1,76 @@
+-- What a crew does.
+use Rattle.std.specs.Prelude.{◌≡◌, ℕ, ◌+◌, ◌*◌, ◌/◌, ◌%◌, List, [], ◌∷◌, ◌++◌, All, length, map, reverse, Vec}
+use Rattle.std.specs.Global.{Global}
+use Rattle.std.specs.List.{AllZip, range_with_len}
+use Rattle.atomic_table.specs.Seated.{TableId}
+use Rattle.synic_board.specs.declared.event.Event.{Event}
+use Rattle.synic_board.specs.declared.event.Event.TheVariants.{Absorb}
+use Rattle.synic_board.specs.declared.history.Entry.{Entry}
+use Rattle.posted_words.specs.declared.rule.Did.{Did}
+use Rattle.posted_words.specs.declared.line.Raised.{Raised}
+use Rattle.posted_words.specs.Answers.{is_fresh}
+use Rattle.posted_words.specs.Words.{Token, raise_of}
+use Rattle.board_threads.specs.History.{Call, call_of, calls_by}
+use Rattle.board_threads.specs.Sharing.{Acting}
+use Rattle.board_threads.specs.declared.script.Step.{Step}
+use Rattle.board_threads.specs.declared.script.Step.TheVariants.{Act, Sweep}
+
+-- a call is a step of a script: a sweep stands as the absorb of the bits that it took
+abbrev pub IsStep : Step → Call → Type 0
+IsStep (Act e) c = c.0 ≡ e
+IsStep (Sweep vp part) c = (bits : ℕ) × (c.0 ≡ Absorb vp part bits)
+
+-- calls are a script, step by step
+abbrev pub Follows : List Step → List Call → Type 0
+Follows = AllZip IsStep
+
+abbrev pub acts : List Event → List Step
+acts = map (λ e. Act e)
+
+-- parts 0 to 3 of each processor in order
+abbrev pub last_step : ℕ → Step
+last_step k = Sweep (k / 4) (k % 4)
+
+abbrev pub last_steps : ℕ → List Step
+last_steps processors = map last_step (range_with_len 0 (4 * processors))
+
+-- what a line did that raised these vectors and was answered so
+abbrev pub raises_of : List (ℕ × ℕ) → List Raised → List Did
+raises_of [] answers = []
+raises_of (s ∷ script) [] = []
+raises_of (s ∷ script) (a ∷ answers) = raise_of s.0 s.1 (is_fresh a) ∷ raises_of script answers
+
+-- its log, the last step first
+abbrev pub log_of : List (ℕ × ℕ) → List Raised → List Did
+log_of script answers = reverse (raises_of script answers)
+
+-- the logs of all lines
+abbrev pub logs_of : List (Vec (ℕ × ℕ) Global) → List (Vec Raised Global) → List (List Did)
+logs_of [] answers = []
+logs_of (s ∷ scripts) [] = []
+logs_of (s ∷ scripts) (a ∷ answers) = log_of s.items a.items ∷ logs_of scripts answers
+
+-- one answer for each raise
+abbrev pub HasEach : Vec (ℕ × ℕ) Global → Vec Raised Global → Type 0
+HasEach script answers = length answers.items ≡ length script.items
+
+-- the calls of the actors from n on are their scripts
+abbrev pub EachFollows : ℕ → List (Vec Step Global) → List Entry → Type 0
+EachFollows n [] history = Unit {0}
+EachFollows n (s ∷ scripts) history = Follows s.items (calls_by n history) × EachFollows (n + 1) scripts history
+
+-- entries by actor 0 that are these steps
+pub record AreMain (steps : List Step) (entries : List Entry) : Type 0 where
+  pub number : All (λ (e : Entry). e.actor ≡ 0) entries
+  pub follow : Follows steps (map call_of entries)
+
+-- the history of a crew: the setup, then all scripts in whatever order their calls came, then the last absorbs
+pub record IsCrewed (processors : ℕ) (setup : List Event) (scripts : List (Vec Step Global)) (history : List Entry) : Type 0 where
+  pub first : List Entry
+  pub between : List Entry
+  pub last : List Entry
+  pub is : history ≡ first ++ (between ++ last)
+  pub begins : AreMain (acts setup) first
+  pub ends : AreMain (last_steps processors) last
+  pub main : calls_by 0 between ≡ []
+  pub others : EachFollows 1 scripts between

@@ -1,0 +1,107 @@
+// What actor 0 and the workers do, each in its thread.
+ghost use Rattle.std.specs.Prelude.{◌≡◌, ◌<◌, ◌≤◌, ◌++◌, [], List, IfOk};
+ghost use Rattle.board_threads.specs.History.{Call};
+ghost use Rattle.board_threads.specs.Crew.{Follows, acts, last_steps};
+ghost use Rattle.board_threads.specs.Work.{IsThere, HasActed, HasRaised};
+
+use crate::actor::{Actor, CallFault};
+use crate::crew::CrewFault;
+use crate::gate::{Gate, Worker};
+use crate::script::Step;
+use crate::shared::SharedBoard;
+use board_terms::{Vector, Vp};
+use posted_words::{Line, Raised};
+use std::alloc::Global;
+use std::sync::Wait;
+use synic_board::Event;
+
+/// The setup: actor 0 performs its events.
+pub(crate) fn perform_all<R: Wait>(
+    rt: &R,
+    board: &SharedBoard,
+    mut actor: Actor,
+    events: &[Event],
+) -> Result<Actor, CallFault>
+    requires new { actor.calls ≡ [] }
+    ensures of { IfOk result (λ a. a.of ≡ actor.of) }
+    ensures number { IfOk result (λ a. a.number ≡ actor.number) }
+    ensures calls { IfOk result (λ a. Follows (acts events.now) a.calls) }
+{
+    for event in events {
+        board.perform(rt, &mut actor, event.copy())?;
+    }
+    Ok(actor)
+}
+
+/// The last absorbs: actor 0 absorbs parts 0 to 3 of each processor, in order.
+pub(crate) fn absorb_all<R: Wait>(
+    rt: &R,
+    board: &SharedBoard,
+    mut actor: Actor,
+) -> Result<Actor, CallFault>
+    requires own { actor.of ≡ board.now.words.name }
+    requires few { board.now.words.processors ≤ 8 }
+    ensures of { IfOk result (λ a. a.of ≡ actor.of) }
+    ensures number { IfOk result (λ a. a.number ≡ actor.number) }
+    ensures calls { IfOk result (λ a. (more : List Call) × (a.calls ≡ actor.calls ++ more) × Follows (last_steps board.now.words.processors) more) }
+{
+    for place in 0..4 * board.processors() {
+        board.absorb(rt, &mut actor, place / 4, place % 4)?;
+    }
+    Ok(actor)
+}
+
+/// An actor runs its script, each call between two calls of the gate.
+pub(crate) fn act<R: Wait, G: Gate>(
+    rt: &R,
+    board: &SharedBoard,
+    gate: &G,
+    mut actor: Actor,
+    script: &[Step],
+) -> Result<Actor, CrewFault>
+    requires own { actor.of ≡ board.now.words.name }
+    requires new { actor.calls ≡ [] }
+    ensures { IfOk result (HasActed board.now.words.name actor.number script.now) }
+{
+    let who = Worker::Acts(actor.number());
+    let mut call = 0;
+    for step in script {
+        gate.enter(rt, who, call);
+        match step {
+            Step::Act(event) => board.perform(rt, &mut actor, event.copy())?,
+            Step::Sweep { vp, part } => board.absorb(rt, &mut actor, *vp, *part)?,
+        };
+        gate.leave(rt, who, call);
+        call += 1;
+    }
+    Ok(actor)
+}
+
+/// A line raises its vectors, each between two calls of the gate, and keeps the answers.
+pub(crate) fn raise<R: Wait, G: Gate>(
+    rt: &R,
+    alloc: Global,
+    board: &SharedBoard,
+    gate: &G,
+    who: Worker,
+    mut line: Line,
+    script: &[(Vp, Vector)],
+) -> Result<(Line, Vec<Raised>), CrewFault>
+    requires own { line.of ≡ board.now.words.name }
+    requires new { line.did ≡ [] }
+    requires there { IsThere board.now.words.processors script.now }
+    ensures { IfOk result (λ r. HasRaised board.now.words.name script.now r.0 r.1.items) }
+{
+    let mut answers = Vec::new(alloc);
+    let mut call = 0;
+    for (vp, vector) in script {
+        if answers.reserve(1).is_err() {
+            return Err(CrewFault::Memory);
+        }
+        gate.enter(rt, who, call);
+        answers.push_reserved(board.raise(&mut line, *vp, *vector));
+        gate.leave(rt, who, call);
+        call += 1;
+    }
+    Ok((line, answers))
+}

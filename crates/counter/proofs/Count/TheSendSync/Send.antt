@@ -1,0 +1,6 @@
+-- A count may go to another thread: it has no bytes, and what it says holds anywhere.
+use denote.Param.Send.{IsSend}
+use Rattle.counter.specs.contracts.Count.{the_row}
+
+pub send : IsSend the_row
+send = record { owned = λ n vs. ((λ vss. (tt, ((λ uss. (tt, tt)), tt))), tt); leaving = λ k d w. tt }
