@@ -11,3 +11,8 @@ pub use line::{Line, Raised, Sweeper};
 pub use rule::Did;
 pub use standing::Standing;
 pub use words::{GatherFault, PostedFault, PostedWords};
+
+#[cfg(test)]
+mod refused;
+#[cfg(test)]
+mod tests;

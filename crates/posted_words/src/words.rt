@@ -3,7 +3,7 @@ ghost use Rattle.std.specs.Prelude.{◌≡◌, ◌+◌, ◌*◌, ◌-◌, ◌<�
 ghost use Rattle.std.specs.Mem.Slots.{slots_items, IsFull};
 ghost use Rattle.posted_words.specs.Posted.{view_of};
 ghost use Rattle.posted_words.specs.Settled.{Settled};
-ghost use Rattle.posted_words.specs.Words.{words, AreSizes, token, after, did_of, word_of, raise_of, sweep_of};
+ghost use Rattle.posted_words.specs.Words.{words, AreSizes, token, IsOf, after, did_of, word_of, raise_of, sweep_of};
 ghost use Rattle.posted_words.specs.Answers.{is_fresh};
 
 use crate::line::{Line, Raised, Sweeper};
@@ -80,7 +80,7 @@ fn deal(
     ensures left { IfOk result (λ _. seat.new.me ≡ (view_of (seat.old.me.0.parts - count) ([] ∷ []), [])) }
     ensures dealt { IfOk result (λ v. v.items ≡ replicate count (token seat.old.table_id [])) }
 {
-    let mut tokens = Vec::new(alloc);
+    let mut tokens = Vec::with_capacity(alloc, count)?;
     for _ in 0..count {
         let token = Line::new(places.split_seat::<Deals>(seat));
         tokens.push(token)?;
@@ -94,7 +94,7 @@ fn join_all(places: &Places, seat: &mut Seat<(), View>, mut tokens: Vec<Line>)
     requires some_word { 0 < places.now.table_id.words }
     requires some_part { 0 < seat.old.me.0.parts }
     requires no_slot { seat.old.me.1 ≡ [] }
-    requires tokens { All (λ t. t.of ≡ places.now.table_id) tokens.items }
+    requires tokens { All (IsOf places.now.table_id) tokens.items }
     ensures own { seat.new.table_id ≡ seat.old.table_id }
     ensures joined { seat.new.me ≡ (view_of (seat.old.me.0.parts + vec_len tokens) (map did_of tokens.items ++ seat.old.me.0.logs), []) }
 {
@@ -109,7 +109,7 @@ fn read(alloc: Global, closed: &Closed<(), Global>) -> Result<Vec<u64>, AllocErr
     requires { IsFull closed.now.words }
     ensures { IfOk result (λ v. v.items ≡ slots_items closed.now.words) }
 {
-    let mut words = Vec::new(alloc);
+    let mut words = Vec::with_capacity(alloc, closed.words.len())?;
     for i in 0..closed.words.len() {
         words.push(closed.word(i))?;
     }
@@ -222,8 +222,8 @@ impl PostedWords {
         mut sweepers: Vec<Sweeper>,
         lines: Vec<Line>,
     ) -> Result<Standing, GatherFault>
-        requires sweepers { All (λ t. t.of ≡ self.name) sweepers.items }
-        requires lines { All (λ t. t.of ≡ self.name) lines.items }
+        requires sweepers { All (IsOf self.name) sweepers.items }
+        requires lines { All (IsOf self.name) lines.items }
         ensures missing { IsErrOf result GatherFault.Missing ↔ (vec_len sweepers < self.sweepers) ⊎ (vec_len lines < self.lines) }
         ensures width { IfOk result (λ s. length s ≡ 4 * self.processors) }
         ensures settled { IfOk result (λ s. Settled (4 * self.processors) (map did_of (sweepers.items ++ lines.items)) s) }
