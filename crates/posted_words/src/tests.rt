@@ -115,8 +115,8 @@ fn a_vector_is_fresh_until_it_is_swept(rt: HostRuntime) -> Result<(), Fail> {
     Ok(())
 }
 
-/// Raises a vector of processor 1 and sweeps each part of it, and of processor 0: where it was fresh
-/// and no other bit was taken.
+/// Whether a raise of a vector of processor 1 is fresh, and sweeps of all words then take its bit
+/// alone.
 fn lands_alone(words: &PostedWords, line: &mut Line, sweeper: &mut Sweeper, vector: Vector) -> bool
     requires line { IsOf words.now.name line.old }
     requires sweeper { IsOf words.now.name sweeper.old }

@@ -99,8 +99,7 @@ fn join_all(places: &Places, seat: &mut Seat<(), View>, mut tokens: Vec<Line>)
     ensures joined { seat.new.me ≡ (view_of (seat.old.me.0.parts + vec_len tokens) (map did_of tokens.items ++ seat.old.me.0.logs), []) }
 {
     while let Some(token) = tokens.pop() {
-        let Line { seat: other } = token;
-        places.join_seat::<Gathers>(seat, other);
+        places.join_seat::<Gathers>(seat, token.into_seat());
     }
 }
 
@@ -235,7 +234,7 @@ impl PostedWords {
             unreachable!()
         };
         let PostedWords { alloc, table, .. } = self;
-        let Line { mut seat } = last;
+        let mut seat = last.into_seat();
         join_all(&table.shared, &mut seat, sweepers);
         join_all(&table.shared, &mut seat, lines);
         let closed = table.close_with(seat);
