@@ -1,5 +1,5 @@
-//! The vectors that lines raise outside the lock: bits in shared words, which lines set and sweepers
-//! take by single atomic steps. Contracts see of each token what it did.
+//! The vectors that lines raise outside the lock: bits in shared words, which lines set and
+//! sweepers take by single atomic steps. Contracts see of each token what it did.
 #![tactic(auto)]
 
 mod line;

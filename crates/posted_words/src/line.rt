@@ -16,8 +16,8 @@ pub enum Raised {
     Already,
 }
 
-/// The right to step at some words, which has no bytes and is held by one thread at a time. Contracts
-/// see which words it is of and what it did.
+/// The right to step at some words, which has no bytes and is held by one thread at a time.
+/// Contracts see which words it is of and what it did.
 #[derive(Drop)]
 pub struct Line {
     pub(crate) seat: Seat<(), View>,

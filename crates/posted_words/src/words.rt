@@ -33,8 +33,9 @@ pub enum GatherFault {
     Memory = 2,
 }
 
-/// Four words of 64 bits for each processor, a bit for each vector that was raised and not yet swept.
-/// Threads share it by reference, and each steps with a token of its own.
+/// Four words of 64 bits for each processor, a bit for each vector that was raised and not yet
+/// swept. Threads share it by reference, and each steps with a token of its own, which `open` gave
+/// with these words.
 #[derive(Drop)]
 pub struct PostedWords {
     alloc: Global,
@@ -118,7 +119,7 @@ fn read(alloc: Global, closed: &Closed<(), Global>) -> Result<Vec<u64>, AllocErr
 impl PostedWords {
     /// Words of that many processors, all zero, with a sweeper for each actor and a line for each
     /// device, none of which did a step. `BadSize` unless there are 1 to 8 processors, 1 to 16
-    /// sweepers and at most 16 lines.
+    /// sweepers and at most 16 lines, which is judged first; `Memory` where memory is refused.
     pub fn open(
         alloc: Global,
         processors: u8,
@@ -178,10 +179,11 @@ impl PostedWords {
         self.processors
     }
 
-    /// Raises a vector of a processor, and never waits. One atomic step, the `fetch_or` of the
-    /// vector's bit, is enough: it sets the bit and finds what it was. `Fresh` tells the device's line
-    /// that this raise and no other made the vector pending, so it has to kick an actor; `Already`
-    /// that the bit stood, and whoever sweeps next takes both raises at once.
+    /// Raises a vector of a processor that the words are for, and never waits. One atomic step, the
+    /// `fetch_or` of the vector's bit, is enough: it sets the bit and finds what it was. `Fresh`
+    /// tells the device's line that this raise and no other made the vector pending, so it has to
+    /// kick an actor; `Already` that the bit stood, and whoever sweeps next takes both raises at
+    /// once.
     pub fn raise(&self, line: &mut Line, vp: Vp, vector: Vector) -> Raised
         requires own { line.old.of ≡ self.now.name }
         requires there { vp < self.now.processors }
@@ -200,9 +202,10 @@ impl PostedWords {
         }
     }
 
-    /// Takes the bits of a part of a processor, and never waits: bit `n` of part `p` stands for vector
-    /// `64 * p + n`. One atomic step, the `swap` with zero, is enough: a raise comes before it, and its
-    /// bit is taken, or after it, and is `Fresh` again. So no raise is lost and none is taken twice.
+    /// Takes the bits of a part, 0 to 3, of a processor that the words are for, and never waits:
+    /// bit `n` of part `p` stands for vector `64 * p + n`. One atomic step, the `swap` with zero,
+    /// is enough: a raise comes before it, and its bit is taken, or after it, and is `Fresh` again.
+    /// So no raise is lost and none is taken twice.
     pub fn sweep(&self, sweeper: &mut Sweeper, vp: Vp, part: u8) -> u64
         requires own { sweeper.old.of ≡ self.now.name }
         requires there { vp < self.now.processors }
@@ -214,8 +217,9 @@ impl PostedWords {
             .swap::<Sweeps>(&mut sweeper.seat, place_of(vp, part), 0)
     }
 
-    /// The bits that stand once all tokens are back. `Missing` where there are fewer sweepers or lines
-    /// than were opened, which is judged first. On either fault all is given up.
+    /// The bits that stand once all tokens are back: each `Fresh` answer was taken by one sweep, or
+    /// its bit stands. `Missing` where there are fewer sweepers or lines than were opened, which is
+    /// judged first; `Memory` where memory is refused. On either fault all is given up.
     pub fn gather(
         self,
         mut sweepers: Vec<Sweeper>,
