@@ -1,16 +1,17 @@
 -- The rule at the end, where one seat stands for all tokens.
-use Rattle.std.proofs.Common.{◌≡◌, ℕ, ◌+◌, ◌≤◌, List, [], ◌∷◌, ◌++◌, length, All, sym, ap, ◌∙◌, subst, map, arith, length-append}
+use Rattle.std.proofs.Common.{◌≡◌, ℕ, ◌+◌, ◌<◌, ◌≤◌, List, [], ◌∷◌, ◌++◌, length, All, sym, ap, ◌∙◌, subst, map, arith, length-append}
 use Rattle.std.specs.Prelude.{slice_index, sum_by}
 use Rattle.std.specs.Int.{bit_at}
-use Rattle.std.proofs.lemmas.List.Elements.{All-append, All-weaker}
-use Rattle.std.proofs.lemmas.List.Sums.{sum_by-append}
-use Rattle.std.proofs.lemmas.List.Elements.{All-take, All-drop}
+use Rattle.std.proofs.lemmas.List.Elements.{All-append, All-head, All-tail, All-take, All-drop, All-weaker}
+use Rattle.std.proofs.lemmas.List.Sums.{sum_by-cons, sum_by-append}
 use Rattle.std.proofs.Math.Seq.{take-append_seam, drop-append_seam}
 use mathlib.Core.List.{map-append}
+use mathlib.Core.Logic.{dite}
+use native.Mathlib.Decide.{ℕ_discrete}
 use Rattle.atomic_table.specs.Table.{Final, Seen}
 use Rattle.posted_words.specs.declared.rule.Did.{Did}
 use Rattle.posted_words.specs.declared.rule.View.{View}
-use Rattle.posted_words.specs.Did.{fresh, taken}
+use Rattle.posted_words.specs.Did.{raised, fresh, taken}
 use Rattle.posted_words.specs.Settled.{all_fresh, all_taken, Bounded, Settled}
 use Rattle.posted_words.specs.Posted.{view_of, views_fresh, views_taken, IsIdle, IsBounded, Posted}
 use Rattle.posted_words.specs.Words.{Token, did_of}
@@ -68,3 +69,13 @@ gathered key n tokens id seat v words slots sweepers lines m is final first last
     let logs : v.logs ≡ map did_of lines ++ map did_of sweepers = ap (λ (u : View). u.logs) last ∙ ap (λ (u : View). map did_of lines ++ u.logs) first in
     let all : Settled n (map did_of lines ++ map did_of sweepers) words = subst (λ (z : ℕ × List (List Did)). Settled z.0 z.1 words) (λ i. ((is i).0, logs i)) (closes key id v words slots final parts) in
     subst (λ ls. Settled n ls words) (sym (map-append did_of sweepers lines)) (Settled-append_comm n (map did_of lines) (map did_of sweepers) words all)
+
+-- where a token raised a bit at all, some raise of that bit was fresh
+pub some_fresh : (F T : ℕ → ℕ → ℕ) (w b : ℕ) (logs : List (List Did)) → All (Bounded F T) logs → 0 < sum_by (raised w b) logs → 0 < F w b
+some_fresh F T w b [] all some = absurd (omega arith)
+some_fresh F T w b (ds ∷ logs) all some =
+    let sum = sum_by-cons (raised w b) ds logs in
+    let here = All-head (Bounded F T) ds logs all in
+    dite (ℕ_discrete (raised w b ds) 0)
+    (λ none. some_fresh F T w b logs (All-tail (Bounded F T) ds logs all) (omega (arith, sum, none, some)))
+    (λ did. let p = here.raises w b (omega (arith, did)) in omega (arith, p))

@@ -12,7 +12,7 @@ all_fresh logs w b = sum_by (fresh w b) logs
 abbrev pub all_taken : List (List Did) → ℕ → ℕ → ℕ
 all_taken logs w b = sum_by (taken w b) logs
 
--- The lower bounds of one token, where all tokens together were answered Fresh F and took T.
+-- The lower bounds of one token. F and T say how often all tokens together were answered Fresh at a bit, and took it.
 -- A bit that the token raised was pending then, so it was Fresh once more often than the token had taken it.
 -- A word that it swept was empty then, so each Fresh answer that it had got there was taken.
 pub record Bounded (F T : ℕ → ℕ → ℕ) (log : List Did) : Type 0 where

@@ -1,5 +1,5 @@
 -- What callers see of the words and of a token.
-use Rattle.std.specs.Prelude.{ℕ, ◌+◌, ◌*◌, ◌/◌, ◌%◌, ◌≤◌, Bool, List, [], ◌∷◌}
+use Rattle.std.specs.Prelude.{◌≡◌, ℕ, ◌+◌, ◌*◌, ◌/◌, ◌%◌, ◌≤◌, Bool, List, [], ◌∷◌}
 use Rattle.atomic_table.specs.Seated.{TableId}
 use Rattle.posted_words.specs.declared.rule.Did.{Did}
 use Rattle.posted_words.specs.declared.rule.Did.TheVariants.{Raise, Sweep}
@@ -29,6 +29,10 @@ pub record Token : Type 0 where
 
 abbrev pub token : TableId → List Did → Token
 token name did = record { of = name; did = did }
+
+-- a token of these words
+abbrev pub IsOf : TableId → Token → Type 0
+IsOf name t = t.of ≡ name
 
 -- a token after one step more
 abbrev pub after : Token → Did → Token

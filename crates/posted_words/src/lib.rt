@@ -1,5 +1,5 @@
-//! The vectors that lines raise outside the lock: bits in shared words, which lines set and sweepers
-//! take by single atomic steps. Contracts see of each token what it did.
+//! The vectors that lines raise outside the lock: bits in shared words, which lines set and
+//! sweepers take by single atomic steps. Contracts see of each token what it did.
 #![tactic(auto)]
 
 mod line;
@@ -11,3 +11,8 @@ pub use line::{Line, Raised, Sweeper};
 pub use rule::Did;
 pub use standing::Standing;
 pub use words::{GatherFault, PostedFault, PostedWords};
+
+#[cfg(test)]
+mod refused;
+#[cfg(test)]
+mod tests;

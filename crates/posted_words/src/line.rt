@@ -16,8 +16,8 @@ pub enum Raised {
     Already,
 }
 
-/// The right to step at some words, which has no bytes and is held by one thread at a time. Contracts
-/// see which words it is of and what it did.
+/// The right to step at some words, which has no bytes and is held by one thread at a time.
+/// Contracts see which words it is of and what it did.
 #[derive(Drop)]
 pub struct Line {
     pub(crate) seat: Seat<(), View>,
@@ -39,10 +39,20 @@ impl Model for Line {
 }
 
 impl Line {
+    // A token that did nothing, of a seat that stands for it alone.
     pub(crate) fn new(seat: Seat<(), View>) -> Line
         requires { seat.me ≡ (view_of 1 ([] ∷ []), []) }
         ensures { result ≡ token seat.table_id [] }
     {
         Line { seat }
+    }
+
+    // The seat of the token.
+    pub(crate) fn into_seat(self) -> Seat<(), View>
+        ensures own { result.table_id ≡ self.of }
+        ensures alone { result.me ≡ (view_of 1 (self.did ∷ []), []) }
+    {
+        let Line { seat } = self;
+        seat
     }
 }

@@ -21,7 +21,7 @@ impl Model for Standing {
 }
 
 impl Standing {
-    /// The bits of a processor's word: bit `n` of part `p` stands for vector `64 * p + n`.
+    /// The bits of a processor's part, 0 to 3: bit `n` of part `p` stands for vector `64 * p + n`.
     pub fn word(&self, vp: Vp, part: u8) -> u64
         requires there { word_of vp part < length self.now }
         requires part { part < 4 }

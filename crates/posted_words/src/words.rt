@@ -3,7 +3,7 @@ ghost use Rattle.std.specs.Prelude.{◌≡◌, ◌+◌, ◌*◌, ◌-◌, ◌<�
 ghost use Rattle.std.specs.Mem.Slots.{slots_items, IsFull};
 ghost use Rattle.posted_words.specs.Posted.{view_of};
 ghost use Rattle.posted_words.specs.Settled.{Settled};
-ghost use Rattle.posted_words.specs.Words.{words, AreSizes, token, after, did_of, word_of, raise_of, sweep_of};
+ghost use Rattle.posted_words.specs.Words.{words, AreSizes, token, IsOf, after, did_of, word_of, raise_of, sweep_of};
 ghost use Rattle.posted_words.specs.Answers.{is_fresh};
 
 use crate::line::{Line, Raised, Sweeper};
@@ -33,8 +33,9 @@ pub enum GatherFault {
     Memory = 2,
 }
 
-/// Four words of 64 bits for each processor, a bit for each vector that was raised and not yet swept.
-/// Threads share it by reference, and each steps with a token of its own.
+/// Four words of 64 bits for each processor, a bit for each vector that was raised and not yet
+/// swept. Threads share it by reference, and each steps with a token of its own, which `open` gave
+/// with these words.
 #[derive(Drop)]
 pub struct PostedWords {
     alloc: Global,
@@ -80,7 +81,7 @@ fn deal(
     ensures left { IfOk result (λ _. seat.new.me ≡ (view_of (seat.old.me.0.parts - count) ([] ∷ []), [])) }
     ensures dealt { IfOk result (λ v. v.items ≡ replicate count (token seat.old.table_id [])) }
 {
-    let mut tokens = Vec::new(alloc);
+    let mut tokens = Vec::with_capacity(alloc, count)?;
     for _ in 0..count {
         let token = Line::new(places.split_seat::<Deals>(seat));
         tokens.push(token)?;
@@ -94,13 +95,12 @@ fn join_all(places: &Places, seat: &mut Seat<(), View>, mut tokens: Vec<Line>)
     requires some_word { 0 < places.now.table_id.words }
     requires some_part { 0 < seat.old.me.0.parts }
     requires no_slot { seat.old.me.1 ≡ [] }
-    requires tokens { All (λ t. t.of ≡ places.now.table_id) tokens.items }
+    requires tokens { All (IsOf places.now.table_id) tokens.items }
     ensures own { seat.new.table_id ≡ seat.old.table_id }
     ensures joined { seat.new.me ≡ (view_of (seat.old.me.0.parts + vec_len tokens) (map did_of tokens.items ++ seat.old.me.0.logs), []) }
 {
     while let Some(token) = tokens.pop() {
-        let Line { seat: other } = token;
-        places.join_seat::<Gathers>(seat, other);
+        places.join_seat::<Gathers>(seat, token.into_seat());
     }
 }
 
@@ -109,7 +109,7 @@ fn read(alloc: Global, closed: &Closed<(), Global>) -> Result<Vec<u64>, AllocErr
     requires { IsFull closed.now.words }
     ensures { IfOk result (λ v. v.items ≡ slots_items closed.now.words) }
 {
-    let mut words = Vec::new(alloc);
+    let mut words = Vec::with_capacity(alloc, closed.words.len())?;
     for i in 0..closed.words.len() {
         words.push(closed.word(i))?;
     }
@@ -119,7 +119,7 @@ fn read(alloc: Global, closed: &Closed<(), Global>) -> Result<Vec<u64>, AllocErr
 impl PostedWords {
     /// Words of that many processors, all zero, with a sweeper for each actor and a line for each
     /// device, none of which did a step. `BadSize` unless there are 1 to 8 processors, 1 to 16
-    /// sweepers and at most 16 lines.
+    /// sweepers and at most 16 lines, which is judged first; `Memory` where memory is refused.
     pub fn open(
         alloc: Global,
         processors: u8,
@@ -179,10 +179,11 @@ impl PostedWords {
         self.processors
     }
 
-    /// Raises a vector of a processor, and never waits. One atomic step, the `fetch_or` of the
-    /// vector's bit, is enough: it sets the bit and finds what it was. `Fresh` tells the device's line
-    /// that this raise and no other made the vector pending, so it has to kick an actor; `Already`
-    /// that the bit stood, and whoever sweeps next takes both raises at once.
+    /// Raises a vector of a processor that the words are for, and never waits. One atomic step, the
+    /// `fetch_or` of the vector's bit, is enough: it sets the bit and finds what it was. `Fresh`
+    /// tells the device's line that this raise and no other made the vector pending, so it has to
+    /// kick an actor; `Already` that the bit stood, and whoever sweeps next takes both raises at
+    /// once.
     pub fn raise(&self, line: &mut Line, vp: Vp, vector: Vector) -> Raised
         requires own { line.old.of ≡ self.now.name }
         requires there { vp < self.now.processors }
@@ -201,9 +202,10 @@ impl PostedWords {
         }
     }
 
-    /// Takes the bits of a part of a processor, and never waits: bit `n` of part `p` stands for vector
-    /// `64 * p + n`. One atomic step, the `swap` with zero, is enough: a raise comes before it, and its
-    /// bit is taken, or after it, and is `Fresh` again. So no raise is lost and none is taken twice.
+    /// Takes the bits of a part, 0 to 3, of a processor that the words are for, and never waits:
+    /// bit `n` of part `p` stands for vector `64 * p + n`. One atomic step, the `swap` with zero,
+    /// is enough: a raise comes before it, and its bit is taken, or after it, and is `Fresh` again.
+    /// So no raise is lost and none is taken twice.
     pub fn sweep(&self, sweeper: &mut Sweeper, vp: Vp, part: u8) -> u64
         requires own { sweeper.old.of ≡ self.now.name }
         requires there { vp < self.now.processors }
@@ -215,15 +217,16 @@ impl PostedWords {
             .swap::<Sweeps>(&mut sweeper.seat, place_of(vp, part), 0)
     }
 
-    /// The bits that stand once all tokens are back. `Missing` where there are fewer sweepers or lines
-    /// than were opened, which is judged first. On either fault all is given up.
+    /// The bits that stand once all tokens are back: each `Fresh` answer was taken by one sweep, or
+    /// its bit stands. `Missing` where there are fewer sweepers or lines than were opened, which is
+    /// judged first; `Memory` where memory is refused. On either fault all is given up.
     pub fn gather(
         self,
         mut sweepers: Vec<Sweeper>,
         lines: Vec<Line>,
     ) -> Result<Standing, GatherFault>
-        requires sweepers { All (λ t. t.of ≡ self.name) sweepers.items }
-        requires lines { All (λ t. t.of ≡ self.name) lines.items }
+        requires sweepers { All (IsOf self.name) sweepers.items }
+        requires lines { All (IsOf self.name) lines.items }
         ensures missing { IsErrOf result GatherFault.Missing ↔ (vec_len sweepers < self.sweepers) ⊎ (vec_len lines < self.lines) }
         ensures width { IfOk result (λ s. length s ≡ 4 * self.processors) }
         ensures settled { IfOk result (λ s. Settled (4 * self.processors) (map did_of (sweepers.items ++ lines.items)) s) }
@@ -235,7 +238,7 @@ impl PostedWords {
             unreachable!()
         };
         let PostedWords { alloc, table, .. } = self;
-        let Line { mut seat } = last;
+        let mut seat = last.into_seat();
         join_all(&table.shared, &mut seat, sweepers);
         join_all(&table.shared, &mut seat, lines);
         let closed = table.close_with(seat);
