@@ -7,3 +7,5 @@ pub mod Counting
 pub mod Absorbs
 pub mod Following
 pub mod Started
+pub mod Placing
+pub mod Crewing

@@ -4,7 +4,9 @@
 
 mod actor;
 mod crew;
+mod fault;
 mod gate;
+mod places;
 mod recorded;
 mod script;
 mod settling;
@@ -13,7 +15,7 @@ mod threads;
 mod workers;
 
 pub use actor::{Actor, CallFault};
-pub use crew::CrewFault;
+pub use crew::{CrewEnd, CrewFault, run_crew};
 pub use gate::{Gate, OpenGate, Worker};
 pub use posted_words::{Line, Raised, Standing, Sweeper};
 pub use script::{Scripts, Setup, Step};

@@ -11,7 +11,7 @@ ghost use Rattle.atomic_table.specs.Seated.{TableId};
 ghost use Rattle.board_threads.specs.Work.{IsNewActor, IsNewLine, IsThere, HasActed, HasRaised};
 
 use crate::actor::Actor;
-use crate::crew::CrewFault;
+use crate::fault::WorkFault;
 use crate::gate::{Gate, Worker};
 use crate::script::{Scripts, Step};
 use crate::shared::SharedBoard;
@@ -31,7 +31,7 @@ pub(crate) struct Acts<'a> {
     script: &'a [Step],
 }
 
-impl<'a> Promise<Result<Actor, CrewFault>> for Acts<'a> {
+impl<'a> Promise<Result<Actor, WorkFault>> for Acts<'a> {
     ghost use Rattle.std.specs.Prelude.{IfOk};
     ghost use Rattle.board_threads.specs.Work.{HasActed};
 
@@ -45,7 +45,7 @@ pub(crate) struct Raises<'a> {
     script: &'a [(Vp, Vector)],
 }
 
-impl<'a> Promise<Result<(Line, Vec<Raised>), CrewFault>> for Raises<'a> {
+impl<'a> Promise<Result<(Line, Vec<Raised>), WorkFault>> for Raises<'a> {
     ghost use Rattle.std.specs.Prelude.{IfOk};
     ghost use Rattle.board_threads.specs.Work.{HasRaised};
 
@@ -53,17 +53,17 @@ impl<'a> Promise<Result<(Line, Vec<Raised>), CrewFault>> for Raises<'a> {
 }
 
 /// What all threads gave, in the order in which they were started.
-fn join_all<R: Threads, T: Drop, P: Promise<Result<T, CrewFault>>>(
+fn join_all<R: Threads, T: Drop, P: Promise<Result<T, WorkFault>>>(
     rt: &R,
     alloc: Global,
-    handles: Vec<PromisedHandle<Result<T, CrewFault>, P>>,
-) -> Result<Vec<T>, CrewFault>
+    handles: Vec<PromisedHandle<Result<T, WorkFault>, P>>,
+) -> Result<Vec<T>, WorkFault>
     ensures { IfOk result (λ v. AllZip (λ h t. P.kept_by h.promise (Ok t)) handles.items v.items) }
 {
     let mut all = Vec::new(alloc);
     for handle in handles {
         if all.reserve(1).is_err() {
-            return Err(CrewFault::Memory);
+            return Err(WorkFault::Memory);
         }
         all.push_reserved(handle.join(rt)?);
     }
@@ -71,10 +71,10 @@ fn join_all<R: Threads, T: Drop, P: Promise<Result<T, CrewFault>>>(
 }
 
 /// The thread of an actor, once it was started.
-type ActingThread<'s> = PromisedHandle<Result<Actor, CrewFault>, Acts<'s>>;
+type ActingThread<'s> = PromisedHandle<Result<Actor, WorkFault>, Acts<'s>>;
 
 /// The thread of a line, once it was started.
-type RaisingThread<'s> = PromisedHandle<Result<(Line, Vec<Raised>), CrewFault>, Raises<'s>>;
+type RaisingThread<'s> = PromisedHandle<Result<(Line, Vec<Raised>), WorkFault>, Raises<'s>>;
 
 /// Starts the thread of an actor.
 fn start_actor<'s, E, R: Threads + Wait + Sync, G: Gate + Sync>(
@@ -84,7 +84,7 @@ fn start_actor<'s, E, R: Threads + Wait + Sync, G: Gate + Sync>(
     gate: &'s G,
     actor: Actor,
     script: &'s [Step],
-) -> Result<ActingThread<'s>, CrewFault>
+) -> Result<ActingThread<'s>, WorkFault>
     requires new { IsNewActor board.now.words.name actor }
     ensures { IfOk result (λ h. (h.promise.board.now ≡ board.now) × (h.promise.number ≡ actor.number) × (h.promise.script.now ≡ script.now)) }
 {
@@ -95,14 +95,14 @@ fn start_actor<'s, E, R: Threads + Wait + Sync, G: Gate + Sync>(
     };
     let started = scope.spawn_with(
         promise,
-        move || -> Result<Actor, CrewFault>
+        move || -> Result<Actor, WorkFault>
             requires { IsSync R.row × IsSync G.row × IsNewActor board.now.words.name actor }
             ensures { IfOk result (HasActed board.entry.now.words.name actor.number script.entry.now) }
         { act(rt, board, gate, actor, script) },
     );
     match started {
         Ok(thread) => Ok(thread),
-        Err(_) => Err(CrewFault::NoThread),
+        Err(_) => Err(WorkFault::NoThread),
     }
 }
 
@@ -116,7 +116,7 @@ fn start_line<'s, E, R: Threads + Wait + Sync, G: Gate + Sync>(
     number: u8,
     line: Line,
     script: &'s [(Vp, Vector)],
-) -> Result<RaisingThread<'s>, CrewFault>
+) -> Result<RaisingThread<'s>, WorkFault>
     requires new { IsNewLine board.now.words.name line }
     requires there { IsThere board.now.words.processors script.now }
     ensures { IfOk result (λ h. (h.promise.board.now ≡ board.now) × (h.promise.script.now ≡ script.now)) }
@@ -124,14 +124,14 @@ fn start_line<'s, E, R: Threads + Wait + Sync, G: Gate + Sync>(
     let who = Worker::Raises(number);
     let started = scope.spawn_with(
         Raises { board, script },
-        move || -> Result<(Line, Vec<Raised>), CrewFault>
+        move || -> Result<(Line, Vec<Raised>), WorkFault>
             requires { IsSync R.row × IsSync G.row × IsNewLine board.now.words.name line × IsThere board.now.words.processors script.now }
             ensures { IfOk result (λ x. HasRaised board.entry.now.words.name script.entry.now x.0 x.1.items) }
         { raise(rt, alloc, board, gate, who, line, script) },
     );
     match started {
         Ok(thread) => Ok(thread),
-        Err(_) => Err(CrewFault::NoThread),
+        Err(_) => Err(WorkFault::NoThread),
     }
 }
 
@@ -144,7 +144,7 @@ fn start_actors<'s, E, R: Threads + Wait + Sync, G: Gate + Sync>(
     gate: &'s G,
     actors: Vec<Actor>,
     scripts: &'s [Vec<Step>],
-) -> Result<Vec<ActingThread<'s>>, CrewFault>
+) -> Result<Vec<ActingThread<'s>>, WorkFault>
     requires new { All (IsNewActor board.now.words.name) actors.items }
     requires each { vec_len actors ≡ length scripts.now }
     ensures numbers { IfOk result (λ v. map (λ h. h.promise.number) v.items ≡ map (λ a. a.number) actors.items) }
@@ -154,7 +154,7 @@ fn start_actors<'s, E, R: Threads + Wait + Sync, G: Gate + Sync>(
     let mut index = 0;
     for actor in actors {
         if threads.reserve(1).is_err() {
-            return Err(CrewFault::Memory);
+            return Err(WorkFault::Memory);
         }
         let script = scripts[index].as_slice();
         threads.push_reserved(start_actor(rt, scope, board, gate, actor, script)?);
@@ -172,7 +172,7 @@ fn start_lines<'s, E, R: Threads + Wait + Sync, G: Gate + Sync>(
     gate: &'s G,
     lines: Vec<Line>,
     scripts: &'s [Vec<(Vp, Vector)>],
-) -> Result<Vec<RaisingThread<'s>>, CrewFault>
+) -> Result<Vec<RaisingThread<'s>>, WorkFault>
     requires new { All (IsNewLine board.now.words.name) lines.items }
     requires each { vec_len lines ≡ length scripts.now }
     requires few { length scripts.now ≤ 16 }
@@ -183,7 +183,7 @@ fn start_lines<'s, E, R: Threads + Wait + Sync, G: Gate + Sync>(
     let mut number = 0u8;
     for line in lines {
         if threads.reserve(1).is_err() {
-            return Err(CrewFault::Memory);
+            return Err(WorkFault::Memory);
         }
         let script = scripts[usize::from(number)].as_slice();
         threads.push_reserved(start_line(
@@ -204,7 +204,7 @@ pub(crate) fn run_all<R: Threads + Wait + Sync, G: Gate + Sync>(
     scripts: &Scripts,
     actors: Vec<Actor>,
     lines: Vec<Line>,
-) -> Result<(Vec<Actor>, Vec<(Line, Vec<Raised>)>), CrewFault>
+) -> Result<(Vec<Actor>, Vec<(Line, Vec<Raised>)>), WorkFault>
     requires new_actors { All (IsNewActor board.now.words.name) actors.items }
     requires new_lines { All (IsNewLine board.now.words.name) lines.items }
     requires each_actor { vec_len actors ≡ vec_len scripts.now.actors }
@@ -220,7 +220,7 @@ pub(crate) fn run_all<R: Threads + Wait + Sync, G: Gate + Sync>(
     thread::scope(
         thread::scope_env(),
         rt,
-        move |scope| -> Result<(Vec<Actor>, Vec<(Line, Vec<Raised>)>), CrewFault>
+        move |scope| -> Result<(Vec<Actor>, Vec<(Line, Vec<Raised>)>), WorkFault>
             requires { All (IsNewActor board.now.words.name) actors.items × All (IsNewLine board.now.words.name) lines.items
                 × (vec_len actors ≡ length acts.now) × (vec_len lines ≡ length raises.now) × (length raises.now ≤ 16)
                 × All (λ (s : Vec (ℕ × ℕ) Global). IsThere board.now.words.processors s.items) raises.now }

@@ -5,7 +5,7 @@ ghost use Rattle.board_threads.specs.Crew.{Follows, acts, last_steps};
 ghost use Rattle.board_threads.specs.Work.{IsThere, HasActed, HasRaised};
 
 use crate::actor::{Actor, CallFault};
-use crate::crew::CrewFault;
+use crate::fault::WorkFault;
 use crate::gate::{Gate, Worker};
 use crate::script::Step;
 use crate::shared::SharedBoard;
@@ -58,7 +58,7 @@ pub(crate) fn act<R: Wait, G: Gate>(
     gate: &G,
     mut actor: Actor,
     script: &[Step],
-) -> Result<Actor, CrewFault>
+) -> Result<Actor, WorkFault>
     requires own { actor.of ≡ board.now.words.name }
     requires new { actor.calls ≡ [] }
     ensures { IfOk result (HasActed board.now.words.name actor.number script.now) }
@@ -86,7 +86,7 @@ pub(crate) fn raise<R: Wait, G: Gate>(
     who: Worker,
     mut line: Line,
     script: &[(Vp, Vector)],
-) -> Result<(Line, Vec<Raised>), CrewFault>
+) -> Result<(Line, Vec<Raised>), WorkFault>
     requires own { line.of ≡ board.now.words.name }
     requires new { line.did ≡ [] }
     requires there { IsThere board.now.words.processors script.now }
@@ -96,7 +96,7 @@ pub(crate) fn raise<R: Wait, G: Gate>(
     let mut call = 0;
     for (vp, vector) in script {
         if answers.reserve(1).is_err() {
-            return Err(CrewFault::Memory);
+            return Err(WorkFault::Memory);
         }
         gate.enter(rt, who, call);
         answers.push_reserved(board.raise(&mut line, *vp, *vector));

@@ -1,0 +1,29 @@
+// Where the setup and the last absorbs stand in a history.
+ghost use Rattle.std.specs.Prelude.{◌≡◌, IsTrue, All};
+ghost use Rattle.board_threads.specs.Work.{InPlace};
+
+use synic_board::Entry;
+
+/// Whether the first entries and the last ones are those of actor 0. The lock tells nothing of the
+/// order in which it was taken, so this looks.
+pub(crate) fn are_in_place(history: &[Entry], setup: usize, ends: usize) -> bool
+    ensures { IsTrue result → InPlace setup ends history.now }
+{
+    if history.len() < setup || history.len() - setup < ends {
+        return false;
+    }
+    let (first, others) = history.split_at(setup);
+    let (_, last) = others.split_at(others.len() - ends);
+    are_main(first) && are_main(last)
+}
+
+fn are_main(entries: &[Entry]) -> bool
+    ensures { IsTrue result → All (λ e. e.actor ≡ 0) entries.now }
+{
+    for entry in entries {
+        if entry.actor != 0 {
+            return false;
+        }
+    }
+    true
+}
