@@ -60,6 +60,10 @@ pub lines-append : (lines more : List (List ℕ)) → AreLines lines → AreLine
 lines-append [] more h k = k
 lines-append (l ∷ lines) more h k = (h.0, lines-append lines more h.1 k)
 
+pub lines-front : (lines more : List (List ℕ)) → AreLines (lines ++ more) → AreLines lines
+lines-front [] more h = tt
+lines-front (l ∷ lines) more h = (h.0, lines-front lines more h.1)
+
 pub lines-behind : (lines more : List (List ℕ)) → AreLines (lines ++ more) → AreLines more
 lines-behind [] more h = h
 lines-behind (l ∷ lines) more h = lines-behind lines more h.1

@@ -2,6 +2,7 @@
 #![tactic(auto)]
 
 mod check;
+mod judge;
 pub mod laws;
 mod stage;
 #[cfg(test)]

@@ -1,2 +1,2 @@
 pub mod Progress
-pub mod JudgeLemmas
+pub mod Limits

@@ -19,7 +19,7 @@ pub trait Judge {
     type Fault;
 
     // After so many good lines the judge may take one more.
-    ghost ready: { ℕ → Self → Type 0 };
+    ghost ready: { ℕ → Self → Type 0 } = { λ _ _. Unit {0} };
 
     // In a state a line is good, this is sent for it, and it leads to a state.
     ghost good: { Self → List ℕ → List ℕ → Self → Type 0 };
