@@ -5,7 +5,5 @@ mod check;
 mod judge;
 pub mod laws;
 mod stage;
-#[cfg(test)]
-mod tests;
 
 pub use check::{CheckEnd, check_trace};

@@ -1,9 +1,7 @@
-// Whole scripts, and readers and writers that give or take little, or fail.
-use crate::{ReplayEnd, ScriptFault, replay};
-use arrayvec::ArrayVec;
+// Whole scripts.
+use crate::peers::{Narrow, Refuses, Text, Trickle, append, gives, takes};
+use board_script::{ReplayEnd, ScriptFault, replay};
 use std::cell::Cell;
-use std::io;
-use std::io::{ErrorKind, Read, Write};
 
 /// Each line of a script, and what it writes.
 const WORKED: [(&[u8], &[u8]); 10] = [
@@ -18,16 +16,6 @@ const WORKED: [(&[u8], &[u8]); 10] = [
     (b"write 0 40000072 4f\n", b"= done\n"),
     (b"summary\n", b": next 0 5f\n: timer none\n"),
 ];
-
-type Text = ArrayVec<u8, 512>;
-
-fn append(text: &mut Text, bytes: &[u8]) {
-    for byte in bytes {
-        if text.try_push(*byte).is_err() {
-            return;
-        }
-    }
-}
 
 /// The worked script, and what it writes.
 fn worked() -> (Text, Text) {
@@ -57,96 +45,14 @@ fn begun(bytes: usize) -> (Text, u64, bool) {
     (written, number, left > 0)
 }
 
-/// Gives one byte a read. It fails at one read, and where the writer holds back an answer.
-#[derive(Drop)]
-struct Trickle<'a> {
-    bytes: &'a [u8],
-    reads: usize,
-    fails_at: usize,
-    held_back: &'a Cell<usize>,
-}
-
-impl Read for Trickle<'_> {
-    fn read(&mut self, buf: &mut [u8]) -> io::Result<usize> {
-        if self.reads == self.fails_at || self.held_back.get() > 0 || buf.is_empty() {
-            return Err(io::Error::from(ErrorKind::Interrupted));
-        }
-        let Some(byte) = self.bytes.get(self.reads) else {
-            return Ok(0);
-        };
-        buf[0] = *byte;
-        self.reads = self.reads.saturating_add(1);
-        Ok(1)
-    }
-}
-
-/// How a writer refuses.
-#[derive(Clone, Copy, PartialEq)]
-enum Refuses {
-    Writes,
-    Bytes,
-    Flushes,
-}
-
-/// Takes one byte a write, and holds it back until it is flushed. It refuses from some call on.
-#[derive(Drop)]
-struct Narrow<'a> {
-    text: Text,
-    held_back: &'a Cell<usize>,
-    room: usize,
-    refuses: Refuses,
-}
-
-impl Write for Narrow<'_> {
-    fn write(&mut self, buf: &[u8]) -> io::Result<usize> {
-        if self.refuses != Refuses::Flushes {
-            if self.room == 0 {
-                return if self.refuses == Refuses::Bytes {
-                    Ok(0)
-                } else {
-                    Err(io::Error::from(ErrorKind::Interrupted))
-                };
-            }
-            self.room -= 1;
-        }
-        let Some(byte) = buf.first() else {
-            return Ok(0);
-        };
-        append(&mut self.text, &[*byte]);
-        self.held_back.set(self.held_back.get().saturating_add(1));
-        Ok(1)
-    }
-
-    fn flush(&mut self) -> io::Result<()> {
-        if self.refuses == Refuses::Flushes {
-            if self.room == 0 {
-                return Err(io::Error::from(ErrorKind::StorageFull));
-            }
-            self.room -= 1;
-        }
-        self.held_back.set(0);
-        Ok(())
-    }
-}
-
 #[test]
 fn replays_each_beginning_of_a_script(rt: HostRuntime) {
-    let (script, text) = worked();
+    let (script, _) = worked();
     for bytes in 0..=script.len() {
         let (mut written, number, is_cut) = begun(bytes);
         let held_back = Cell::new(0);
-        let mut reader = Trickle {
-            bytes: &script.as_slice()[..bytes],
-            reads: 0,
-            fails_at: usize::MAX,
-            held_back: &held_back,
-        };
-        let mut writer = Narrow {
-            text: Text::new(),
-            held_back: &held_back,
-            room: usize::MAX,
-            refuses: Refuses::Writes,
-        };
+        let mut reader = gives(&script.as_slice()[..bytes], &held_back);
+        let mut writer = takes(&held_back);
         let end = replay(rt.alloc(), &mut reader, &mut writer);
         let wanted = if is_cut {
             append(&mut written, b"! ");
@@ -169,11 +75,7 @@ fn replays_each_beginning_of_a_script(rt: HostRuntime) {
             ReplayEnd::Done
         };
         assert_eq!(rt; end, wanted, "after {bytes} bytes");
-        assert_eq!(rt; writer.text.as_slice(), written.as_slice());
-        assert_eq!(rt; held_back.get(), 0);
-        if bytes == script.len() {
-            assert_eq!(rt; writer.text.as_slice(), text.as_slice());
-        }
+        assert!(rt; writer.has(written.as_slice()));
     }
 }
 
@@ -184,82 +86,59 @@ fn a_failed_read_ends_it(rt: HostRuntime) {
         let (written, _, _) = begun(fails_at);
         let held_back = Cell::new(0);
         let mut reader = Trickle {
-            bytes: script.as_slice(),
-            reads: 0,
             fails_at,
-            held_back: &held_back,
+            ..gives(script.as_slice(), &held_back)
         };
-        let mut writer = Narrow {
-            text: Text::new(),
-            held_back: &held_back,
-            room: usize::MAX,
-            refuses: Refuses::Writes,
-        };
+        let mut writer = takes(&held_back);
         assert_eq!(rt;
             replay(rt.alloc(), &mut reader, &mut writer),
             ReplayEnd::Reading
         );
-        assert_eq!(rt; writer.text.as_slice(), written.as_slice());
+        assert!(rt; writer.has(written.as_slice()));
     }
 }
 
 #[test]
-fn a_refused_write_or_flush_ends_it(rt: HostRuntime) {
+fn a_refused_write_ends_it(rt: HostRuntime) {
     let (script, text) = worked();
-    for refuses in [Refuses::Writes, Refuses::Bytes, Refuses::Flushes] {
-        // A byte a write; and a flush before each read, the one at the end too, and one more.
-        let calls = if refuses == Refuses::Flushes {
-            script.len() + 2
-        } else {
-            text.len()
-        };
-        for room in 0..calls {
+    for refuses in [Refuses::Writes, Refuses::Bytes] {
+        // A byte a write.
+        for room in 0..text.len() {
             let held_back = Cell::new(0);
-            let mut reader = Trickle {
-                bytes: script.as_slice(),
-                reads: 0,
-                fails_at: usize::MAX,
-                held_back: &held_back,
-            };
+            let mut reader = gives(script.as_slice(), &held_back);
             let mut writer = Narrow {
-                text: Text::new(),
-                held_back: &held_back,
                 room,
                 refuses,
+                ..takes(&held_back)
             };
             assert_eq!(rt;
                 replay(rt.alloc(), &mut reader, &mut writer),
                 ReplayEnd::Writing
             );
-            assert!(rt; text.starts_with(writer.text.as_slice()));
-            if refuses != Refuses::Flushes {
-                assert_eq!(rt; writer.text.len(), room);
-            }
+            assert_eq!(rt; writer.text.as_slice(), &text.as_slice()[..room]);
         }
     }
 }
 
 #[test]
-fn a_last_flush_that_fails_is_a_failed_write(rt: HostRuntime) {
-    let script = b"board 1 1 0\n";
-    let held_back = Cell::new(0);
-    let mut reader = Trickle {
-        bytes: script,
-        reads: 0,
-        fails_at: usize::MAX,
-        held_back: &held_back,
-    };
-    // A flush before each read, and none at the end.
-    let mut writer = Narrow {
-        text: Text::new(),
-        held_back: &held_back,
-        room: script.len() + 1,
-        refuses: Refuses::Flushes,
-    };
-    assert_eq!(rt;
-        replay(rt.alloc(), &mut reader, &mut writer),
-        ReplayEnd::Writing
-    );
+fn a_refused_flush_ends_it(rt: HostRuntime) {
+    let (script, _) = worked();
+    // A flush before each read, the one that finds the end too, and one behind the last answer.
+    for room in 0..script.len() + 2 {
+        let (written, _, _) = begun(room);
+        let held_back = Cell::new(0);
+        let mut reader = gives(script.as_slice(), &held_back);
+        let mut writer = Narrow {
+            room,
+            refuses: Refuses::Flushes,
+            ..takes(&held_back)
+        };
+        assert_eq!(rt;
+            replay(rt.alloc(), &mut reader, &mut writer),
+            ReplayEnd::Writing
+        );
+        assert_eq!(rt; writer.text.as_slice(), written.as_slice());
+    }
 }
 
 #[test]
@@ -325,17 +204,12 @@ fn names_the_first_fault(rt: HostRuntime) {
     for (script, text, line, fault) in scripts {
         let held_back = Cell::new(0);
         let mut reader = script;
-        let mut writer = Narrow {
-            text: Text::new(),
-            held_back: &held_back,
-            room: usize::MAX,
-            refuses: Refuses::Writes,
-        };
+        let mut writer = takes(&held_back);
         assert_eq!(rt;
             replay(rt.alloc(), &mut reader, &mut writer),
             ReplayEnd::Script { line, fault }
         );
-        assert_eq!(rt; writer.text.as_slice(), text);
+        assert!(rt; writer.has(text));
     }
 }
 
@@ -354,37 +228,33 @@ fn performs_what_it_can(rt: HostRuntime) {
     for (script, text) in scripts {
         let held_back = Cell::new(0);
         let mut reader = script;
-        let mut writer = Narrow {
-            text: Text::new(),
-            held_back: &held_back,
-            room: usize::MAX,
-            refuses: Refuses::Writes,
-        };
+        let mut writer = takes(&held_back);
         assert_eq!(rt;
             replay(rt.alloc(), &mut reader, &mut writer),
             ReplayEnd::Done
         );
-        assert_eq!(rt; writer.text.as_slice(), text);
+        assert!(rt; writer.has(text));
     }
 }
 
 #[test]
 fn refused_memory_ends_it(rt: HostRuntime) {
     let (script, text) = worked();
-    let held_back = Cell::new(0);
-    let mut reader = script.as_slice();
-    let mut writer = Narrow {
-        text: Text::new(),
-        held_back: &held_back,
-        room: usize::MAX,
-        refuses: Refuses::Writes,
-    };
-    // No memory is taken here but that of the replay, so each of its requests can be refused in turn.
-    match replay(rt.alloc(), &mut reader, &mut writer) {
-        ReplayEnd::Memory => assert!(rt; text.starts_with(writer.text.as_slice())),
-        end => {
-            assert_eq!(rt; end, ReplayEnd::Done);
-            assert_eq!(rt; writer.text.as_slice(), text.as_slice());
+    // One request for memory is refused at most, so one of two replays is whole. No memory is taken
+    // here but that of the replays, so each of their requests can be refused in turn.
+    let mut whole: u64 = 0;
+    for _ in 0..2 {
+        let held_back = Cell::new(0);
+        let mut reader = script.as_slice();
+        let mut writer = takes(&held_back);
+        match replay(rt.alloc(), &mut reader, &mut writer) {
+            ReplayEnd::Memory => assert!(rt; text.starts_with(writer.text.as_slice())),
+            end => {
+                assert_eq!(rt; end, ReplayEnd::Done);
+                assert!(rt; writer.has(text.as_slice()));
+                whole = whole.saturating_add(1);
+            }
         }
     }
+    assert!(rt; whole > 0);
 }

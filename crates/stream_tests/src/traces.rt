@@ -1,128 +1,10 @@
-// Whole traces, and readers and writers that give or take little, or fail.
-use crate::{CheckEnd, check_trace};
-use std::io;
-use std::io::{ErrorKind, Read, Write};
+// Whole traces.
+use crate::peers::{Endless, Narrow, Refuses, Trickle, gives, takes};
+use board_trace::{CheckEnd, check_trace};
+use std::cell::Cell;
 
 /// A processor takes the vector that was asserted.
 const TRACE: &[u8] = b"trace 1\nboard 1 1 0\n0 assert 0 60\n= done\n0 take 0\n= taken 60\nend 2\n";
-
-/// Gives one byte a read, and fails at one read.
-#[derive(Drop)]
-struct Trickle<'a> {
-    bytes: &'a [u8],
-    reads: usize,
-    fails_at: usize,
-}
-
-impl Read for Trickle<'_> {
-    fn read(&mut self, buf: &mut [u8]) -> io::Result<usize> {
-        if self.reads == self.fails_at || buf.is_empty() {
-            return Err(io::Error::from(ErrorKind::Interrupted));
-        }
-        let Some(byte) = self.bytes.get(self.reads) else {
-            return Ok(0);
-        };
-        buf[0] = *byte;
-        self.reads = self.reads.saturating_add(1);
-        Ok(1)
-    }
-}
-
-/// Gives some bytes, and then the same bytes again and again.
-#[derive(Drop)]
-struct Endless<'a> {
-    first: &'a [u8],
-    again: &'a [u8],
-}
-
-impl Read for Endless<'_> {
-    fn read(&mut self, buf: &mut [u8]) -> io::Result<usize> {
-        if self.first.is_empty() {
-            self.first = self.again;
-        }
-        let given = self.first.len().min(buf.len());
-        buf[..given].copy_from_slice(&self.first[..given]);
-        self.first = &self.first[given..];
-        Ok(given)
-    }
-}
-
-/// How a writer refuses.
-#[derive(Clone, Copy, PartialEq)]
-enum Refuses {
-    Writes,
-    Bytes,
-    Flushes,
-}
-
-/// Takes one byte a write as long as it is the one that is wanted, and refuses from some call on.
-#[derive(Drop)]
-struct Narrow<'a> {
-    wanted: &'a [u8],
-    taken: usize,
-    held_back: bool,
-    other: bool,
-    room: usize,
-    refuses: Refuses,
-}
-
-impl Narrow<'_> {
-    /// Whether exactly this many bytes came, each the one that was wanted.
-    fn has(&self, bytes: usize) -> bool {
-        !self.other && self.taken == bytes
-    }
-
-    /// Whether all that was wanted came, and was flushed.
-    fn is_content(&self) -> bool {
-        self.has(self.wanted.len()) && !self.held_back
-    }
-}
-
-fn writer(wanted: &[u8]) -> Narrow<'_> {
-    Narrow {
-        wanted,
-        taken: 0,
-        held_back: false,
-        other: false,
-        room: usize::MAX,
-        refuses: Refuses::Writes,
-    }
-}
-
-impl Write for Narrow<'_> {
-    fn write(&mut self, buf: &[u8]) -> io::Result<usize> {
-        if self.refuses != Refuses::Flushes {
-            if self.room == 0 {
-                return if self.refuses == Refuses::Bytes {
-                    Ok(0)
-                } else {
-                    Err(io::Error::from(ErrorKind::Interrupted))
-                };
-            }
-            self.room -= 1;
-        }
-        let Some(byte) = buf.first() else {
-            return Ok(0);
-        };
-        if self.wanted.get(self.taken) != Some(byte) {
-            self.other = true;
-        }
-        self.taken = self.taken.saturating_add(1);
-        self.held_back = true;
-        Ok(1)
-    }
-
-    fn flush(&mut self) -> io::Result<()> {
-        if self.refuses == Refuses::Flushes {
-            if self.room == 0 {
-                return Err(io::Error::from(ErrorKind::StorageFull));
-            }
-            self.room -= 1;
-        }
-        self.held_back = false;
-        Ok(())
-    }
-}
 
 /// What is written of a trace whose first wrong line is this one, of one digit.
 fn refused(line: u64) -> [u8; 10] {
@@ -136,51 +18,44 @@ fn judges_each_beginning_of_a_trace(rt: HostRuntime) {
     // The line behind the whole lines is the first that is wrong, be it begun or not.
     let mut line: u64 = 1;
     for bytes in 0..TRACE.len() {
-        let text = refused(line);
-        let mut writer = writer(&text);
-        let mut reader = Trickle {
-            bytes: &TRACE[..bytes],
-            reads: 0,
-            fails_at: usize::MAX,
-        };
+        let held_back = Cell::new(0);
+        let mut reader = gives(&TRACE[..bytes], &held_back);
+        let mut writer = takes(&held_back);
         assert_eq!(rt;
             check_trace(rt.alloc(), &mut reader, &mut writer),
             CheckEnd::Refused(line),
             "after {bytes} bytes"
         );
-        assert!(rt; writer.is_content());
+        assert!(rt; writer.has(&refused(line)));
         if TRACE[bytes] == b'\n' {
             line = line.saturating_add(1);
         }
     }
-    let mut writer = writer(b"legal 2\n");
-    let mut reader = Trickle {
-        bytes: TRACE,
-        reads: 0,
-        fails_at: usize::MAX,
-    };
+    let held_back = Cell::new(0);
+    let mut reader = gives(TRACE, &held_back);
+    let mut writer = takes(&held_back);
     assert_eq!(rt;
         check_trace(rt.alloc(), &mut reader, &mut writer),
         CheckEnd::Legal(2)
     );
-    assert!(rt; writer.is_content());
+    assert!(rt; writer.has(b"legal 2\n"));
 }
 
 #[test]
 fn a_failed_read_ends_it(rt: HostRuntime) {
     // The last read is the one that would find the end.
     for fails_at in 0..=TRACE.len() {
+        let held_back = Cell::new(0);
         let mut reader = Trickle {
-            bytes: TRACE,
-            reads: 0,
             fails_at,
+            ..gives(TRACE, &held_back)
         };
-        let mut writer = writer(b"");
+        let mut writer = takes(&held_back);
         assert_eq!(rt;
             check_trace(rt.alloc(), &mut reader, &mut writer),
             CheckEnd::Reading
         );
-        assert!(rt; writer.is_content());
+        assert!(rt; writer.has(b""));
     }
 }
 
@@ -190,17 +65,18 @@ fn a_refused_write_ends_it(rt: HostRuntime) {
     for (trace, text) in texts {
         for refuses in [Refuses::Writes, Refuses::Bytes] {
             for room in 0..text.len() {
+                let held_back = Cell::new(0);
                 let mut reader = trace;
                 let mut writer = Narrow {
                     room,
                     refuses,
-                    ..writer(text)
+                    ..takes(&held_back)
                 };
                 assert_eq!(rt;
                     check_trace(rt.alloc(), &mut reader, &mut writer),
                     CheckEnd::Writing
                 );
-                assert!(rt; writer.has(room));
+                assert_eq!(rt; writer.text.as_slice(), &text[..room]);
             }
         }
     }
@@ -211,22 +87,19 @@ fn a_refused_flush_ends_it(rt: HostRuntime) {
     // A flush before each read, the one that finds the end too, and one behind the verdict.
     let last = TRACE.len() + 1;
     for room in 0..=last {
-        let mut reader = Trickle {
-            bytes: TRACE,
-            reads: 0,
-            fails_at: usize::MAX,
-        };
-        let text = b"legal 2\n";
+        let held_back = Cell::new(0);
+        let mut reader = gives(TRACE, &held_back);
         let mut writer = Narrow {
             room,
             refuses: Refuses::Flushes,
-            ..writer(text)
+            ..takes(&held_back)
         };
         assert_eq!(rt;
             check_trace(rt.alloc(), &mut reader, &mut writer),
             CheckEnd::Writing
         );
-        assert!(rt; writer.has(if room == last { text.len() } else { 0 }));
+        let text: &[u8] = if room == last { b"legal 2\n" } else { b"" };
+        assert_eq!(rt; writer.text.as_slice(), text);
     }
 }
 
@@ -242,12 +115,13 @@ fn a_reader_that_never_ends_is_left(rt: HostRuntime) {
     for (first, again, line) in readers {
         let text = refused(line);
         let mut reader = Endless { first, again };
-        let mut writer = writer(&text);
+        let held_back = Cell::new(0);
+        let mut writer = takes(&held_back);
         assert_eq!(rt;
             check_trace(rt.alloc(), &mut reader, &mut writer),
             CheckEnd::Refused(line)
         );
-        assert!(rt; writer.is_content());
+        assert!(rt; writer.has(&text));
     }
 }
 
@@ -297,12 +171,13 @@ fn names_the_first_wrong_line(rt: HostRuntime) {
     for (trace, line) in WRONG {
         let text = refused(line);
         let mut reader = trace;
-        let mut writer = writer(&text);
+        let held_back = Cell::new(0);
+        let mut writer = takes(&held_back);
         assert_eq!(rt;
             check_trace(rt.alloc(), &mut reader, &mut writer),
             CheckEnd::Refused(line)
         );
-        assert!(rt; writer.is_content());
+        assert!(rt; writer.has(&text));
     }
 }
 
@@ -323,25 +198,33 @@ fn counts_the_entries_of_a_legal_trace(rt: HostRuntime) {
     ];
     for (trace, text, entries) in traces {
         let mut reader = trace;
-        let mut writer = writer(text);
+        let held_back = Cell::new(0);
+        let mut writer = takes(&held_back);
         assert_eq!(rt;
             check_trace(rt.alloc(), &mut reader, &mut writer),
             CheckEnd::Legal(entries)
         );
-        assert!(rt; writer.is_content());
+        assert!(rt; writer.has(text));
     }
 }
 
 #[test]
 fn refused_memory_ends_it(rt: HostRuntime) {
-    let mut reader = TRACE;
-    let mut writer = writer(b"legal 2\n");
-    // No memory is taken here but that of the check, so each of its requests can be refused in turn.
-    match check_trace(rt.alloc(), &mut reader, &mut writer) {
-        CheckEnd::Memory => assert!(rt; writer.has(0)),
-        end => {
-            assert_eq!(rt; end, CheckEnd::Legal(2));
-            assert!(rt; writer.is_content());
+    // One request for memory is refused at most, so one of two checks is whole. No memory is taken
+    // here but that of the checks, so each of their requests can be refused in turn.
+    let mut whole: u64 = 0;
+    for _ in 0..2 {
+        let held_back = Cell::new(0);
+        let mut reader = TRACE;
+        let mut writer = takes(&held_back);
+        match check_trace(rt.alloc(), &mut reader, &mut writer) {
+            CheckEnd::Memory => assert!(rt; writer.has(b"")),
+            end => {
+                assert_eq!(rt; end, CheckEnd::Legal(2));
+                assert!(rt; writer.has(b"legal 2\n"));
+                whole = whole.saturating_add(1);
+            }
         }
     }
+    assert!(rt; whole > 0);
 }
