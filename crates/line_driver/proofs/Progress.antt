@@ -2,12 +2,12 @@
 use Rattle.std.proofs.Common.{◌≡◌, ℕ, ◌+◌, ◌<◌, ◌≤◌, List, [], ◌∷◌, ◌++◌, length, length-append, take, append_assoc, append-nil, Option, refl, sym, ap, subst, ◌∙◌, arith}
 use Rattle.std.proofs.Math.Seq.{take-append_seam}
 use Rattle.std.specs.Io.KnownBytes.{Consumes, Appends, IsAtEnd}
-use Rattle.std.proofs.KnownBytes.{Consumes-nil, Consumes-trans, Appends-nil}
+use Rattle.std.proofs.KnownBytes.{Consumes-nil, Consumes-trans, Consumes-whole, Appends-nil}
 use Rattle.board_text.specs.Held.{Held, at_start}
 use Rattle.board_text.specs.Lines.{IsOneLine, lines_of, rest_of, joined}
 use Rattle.board_text.specs.Streams.{ReadsUpTo}
 use Rattle.board_text.proofs.LineLemmas.{lines_of-line, lines_of-more, rest_of-more, lines_of-rest, rest_of-rest, before_lines, before_rest, AreLines, lines-append, joined-snoc, lines_of-joined, rest_of-joined}
-use Rattle.board_text.proofs.Budgets.{less_left, on-input, end-input}
+use Rattle.line_driver.proofs.Budgets.{less_left, on-input}
 use Rattle.line_driver.specs.Judging.{Follows}
 use Rattle.line_driver.specs.Driving.{next_of, Ends, Stops, Sends, Drives, StopsNear}
 use Rattle.line_driver.specs.declared.driving.End.{End}
@@ -112,7 +112,7 @@ drives-end {good = good} {wrong = wrong} {end = end} {r0 = r0} {r1 = r1} {source
       writes = writes;
       sends = sends;
       read = here;
-      whole = end-input r0 r1 taken (Stops good wrong end old new answers) all at_end here;
+      whole = Consumes-whole r0 r1 taken (Stops good wrong end old new answers) all at_end here;
     }
 
 pub ends-wrong : {J F : Type 0} (wrong : J → List ℕ → F → Type 0) (number : ℕ) (fault : F) (now new : J) (front bad left ys : List ℕ) → front ≡ bad ++ 10 ∷ left → IsOneLine bad → length bad ≤ 640 → wrong now bad fault → Ends wrong (ends.Wrong number fault) number now new (lines_of (front ++ ys)) (rest_of (front ++ ys))

@@ -2,7 +2,7 @@ use Rattle.std.proofs.Common.{◌≡◌, ◌≢◌, ◌<◌, ◌+◌, ◌++◌, 
 use Rattle.std.proofs.KnownBytes.{Consumes-nil, Appends-kept, Appends-trans}
 use Rattle.std.proofs.lemmas.Bool.Decides.{Decides-eqb, not_from_Decides}
 use Rattle.std.proofs.lemmas.List.{take-append-drop, length-take-le}
-use Rattle.board_text.proofs.Budgets.{smaller}
+use Rattle.line_driver.proofs.Budgets.{smaller}
 use Rattle.line_driver.proofs.Progress.{standing-start, few-lines, progress-line, within, drives-on, drives-end, ends-wrong, ends-long, ends-last, ends-cut, stops-near}
 use Rattle.line_driver.proofs.driving.drive.Goals as goal
 
