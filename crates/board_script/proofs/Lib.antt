@@ -1,2 +1,2 @@
 pub mod ScriptLemmas
-pub mod StreamLemmas
+pub mod Judged

@@ -12,9 +12,10 @@ use Rattle.board_lines.proofs.SizeLemmas.{sizes-are}
 use Rattle.board_script.specs.Script.{item_in, is_skipped, item_fault, line_fault, opens, good_items, first_fault}
 use Rattle.board_script.specs.Output.{Machine, answers, output_from}
 use Rattle.board_text.specs.Fields.{fields_of}
-use Rattle.board_script.specs.Streams.{after_maybe, answer_maybe, AnswersItem, Answers}
-use Rattle.board_script.specs.declared.respond.Answer.{Answer}
-use Rattle.board_script.specs.declared.respond.Answer.TheVariants as outcomes
+use Rattle.line_driver.specs.Judging.{Takes}
+use Rattle.line_driver.specs.declared.judge.Taken.{Taken}
+use Rattle.line_driver.specs.declared.judge.Taken.TheVariants as taken
+use Rattle.board_script.specs.Streams.{after_maybe, answer_maybe, AnswersItem, IsAnswered, IsFaulty}
 use Rattle.board_script.specs.declared.stream.ScriptFault.{ScriptFault}
 use Rattle.board_script.specs.declared.stream.ScriptFault.TheVariants as faults
 
@@ -61,14 +62,14 @@ judged : (opened : Bool) (line : List ℕ) (item : Option Item) → length line 
 judged opened line item short not is = rw (le-ltb 640 (length line) short, not, is) (refl, refl)
 
 -- what is answered to the item is answered to the line
-pub answers-line : (result : Answer) (line word : List ℕ) (rest : Fields) (old new : Machine) (out : List ℕ) → length line ≤ 640 → is_skipped line ≡ false → fields_of line ≡ word ∷ rest → AnswersItem result (item_say (word ∷ rest)) old new out → Answers result line old new out
-answers-line outcomes.Good line word rest old new out short not fields h =
+pub answers-line : (result : Taken ScriptFault) (line word : List ℕ) (rest : Fields) (old new : Machine) (out : List ℕ) → length line ≤ 640 → is_skipped line ≡ false → fields_of line ≡ word ∷ rest → AnswersItem result (item_say (word ∷ rest)) old new out → Takes IsAnswered IsFaulty result old new line out
+answers-line taken.Good line word rest old new out short not fields h =
     let j = judged (is_some old) line (item_say (word ∷ rest)) short not (item-at line word rest fields) in
     rw (j.0, j.1) h
-answers-line (outcomes.Wrong fault) line word rest old new out short not fields h =
+answers-line (taken.Wrong fault) line word rest old new out short not fields h =
     let j = judged (is_some old) line (item_say (word ∷ rest)) short not (item-at line word rest fields) in
     rw j.0 h
-answers-line outcomes.Memory line word rest old new out short not fields h = tt
+answers-line taken.Memory line word rest old new out short not fields h = tt
 
 -- a first item that is no board line
 other : (t : Bool) (fs : Fields) (r : Option Event) → item_fault false (cond t (ended Summary fs) (option_map Performs r)) ≡ Some faults.First

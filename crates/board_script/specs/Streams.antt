@@ -4,13 +4,13 @@ use Rattle.std.specs.Option.{option_map}
 use Rattle.std.specs.Io.KnownBytes.{Consumes, Appends}
 use Rattle.synic_board.specs.State.{Held}
 use Rattle.board_lines.specs.Items.{Item}
+use Rattle.line_driver.specs.declared.judge.Taken.{Taken}
+use Rattle.line_driver.specs.declared.judge.Taken.TheVariants as taken
 use Rattle.board_script.specs.Script.{item_in, item_fault, line_fault}
 use Rattle.board_script.specs.Output.{Machine, after, answer, output_of, fault_of, fault_text, text}
 use Rattle.board_script.specs.declared.stream.ScriptFault.{ScriptFault}
 use Rattle.board_script.specs.declared.stream.ReplayEnd.{ReplayEnd}
 use Rattle.board_script.specs.declared.stream.ReplayEnd.TheVariants.{Done, Script, Memory, Reading, Writing}
-use Rattle.board_script.specs.declared.respond.Answer.{Answer}
-use Rattle.board_script.specs.declared.respond.Answer.TheVariants as outcomes
 
 -- These bytes were read, and what was written begins what is written for them.
 pub record Begun (of : List ℕ → List ℕ) (r0 r1 w0 w1 : Option (List ℕ)) : Type 0 where
@@ -29,13 +29,13 @@ Replays Memory r0 r1 w0 w1 = Begun output_of r0 r1 w0 w1
 Replays Reading r0 r1 w0 w1 = Begun output_of r0 r1 w0 w1
 Replays Writing r0 r1 w0 w1 = Begun text r0 r1 w0 w1
 
--- the fault's line was written, or a part of it
-abbrev pub Stops : ReplayEnd → ℕ → ScriptFault → Option (List ℕ) → Option (List ℕ) → Type 0
-Stops Done line fault w0 w1 = ⊥
-Stops (Script l f) line fault w0 w1 = (l ≡ line) × (f ≡ fault) × Appends w0 w1 (fault_text (Some (line, fault)))
-Stops Memory line fault w0 w1 = w1 ≡ w0
-Stops Reading line fault w0 w1 = ⊥
-Stops Writing line fault w0 w1 = (sent rest : List ℕ) × Appends w0 w1 sent × (fault_text (Some (line, fault)) ≡ sent ++ rest)
+-- the fault's line was written, if there is one, or a part of it
+abbrev pub Finishes : ReplayEnd → Option (ℕ × ScriptFault) → Option (List ℕ) → Option (List ℕ) → Type 0
+Finishes Done fault w0 w1 = (fault ≡ None) × Appends w0 w1 []
+Finishes (Script l f) fault w0 w1 = (fault ≡ Some (l, f)) × Appends w0 w1 (fault_text fault)
+Finishes Memory fault w0 w1 = w1 ≡ w0
+Finishes Reading fault w0 w1 = ⊥
+Finishes Writing fault w0 w1 = (sent rest : List ℕ) × Appends w0 w1 sent × (fault_text fault ≡ sent ++ rest)
 
 -- the machine that a board is
 abbrev pub machine_of : Option Held → Machine
@@ -50,13 +50,15 @@ answer_maybe machine None = []
 answer_maybe machine (Some item) = answer machine item
 
 -- an item was in its place and its answer is ready, or it has a fault
-abbrev pub AnswersItem : Answer → Option Item → Machine → Machine → List ℕ → Type 0
-AnswersItem outcomes.Good item old new out = (item_fault (is_some old) item ≡ None) × (new ≡ after_maybe old item) × (out ≡ answer_maybe old item)
-AnswersItem (outcomes.Wrong fault) item old new out = (item_fault (is_some old) item ≡ Some fault) × (out ≡ [])
-AnswersItem outcomes.Memory item old new out = Unit {0}
+abbrev pub AnswersItem : Taken ScriptFault → Option Item → Machine → Machine → List ℕ → Type 0
+AnswersItem taken.Good item old new out = (item_fault (is_some old) item ≡ None) × (new ≡ after_maybe old item) × (out ≡ answer_maybe old item)
+AnswersItem (taken.Wrong fault) item old new out = item_fault (is_some old) item ≡ Some fault
+AnswersItem taken.Memory item old new out = Unit {0}
 
--- the same of a line
-abbrev pub Answers : Answer → List ℕ → Machine → Machine → List ℕ → Type 0
-Answers outcomes.Good line old new out = (line_fault (is_some old) line ≡ None) × (new ≡ after_maybe old (item_in line)) × (out ≡ answer_maybe old (item_in line))
-Answers (outcomes.Wrong fault) line old new out = (line_fault (is_some old) line ≡ Some fault) × (out ≡ [])
-Answers outcomes.Memory line old new out = Unit {0}
+-- a line without a fault leads on, and this is answered to it
+abbrev pub IsAnswered : Machine → List ℕ → List ℕ → Machine → Type 0
+IsAnswered old line out new = (line_fault (is_some old) line ≡ None) × (new ≡ after_maybe old (item_in line)) × (out ≡ answer_maybe old (item_in line))
+
+-- a line with this fault
+abbrev pub IsFaulty : Machine → List ℕ → ScriptFault → Type 0
+IsFaulty machine line fault = line_fault (is_some machine) line ≡ Some fault

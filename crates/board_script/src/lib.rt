@@ -1,11 +1,10 @@
 //! Scripts of the board: a line in, the board's answer out.
 #![tactic(auto)]
 
+mod judge;
 pub mod laws;
 mod respond;
 mod stream;
-#[cfg(test)]
-mod tests;
 
 pub use board_trace::{CheckEnd, check_trace};
 pub use stream::{ReplayEnd, ScriptFault, replay};

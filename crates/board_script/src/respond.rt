@@ -4,22 +4,16 @@ ghost use Rattle.synic_board.specs.Step.{step};
 ghost use Rattle.board_lines.specs.Reading.{opening_item, item_say};
 ghost use Rattle.board_script.specs.Script.{is_skipped};
 ghost use Rattle.board_script.specs.Output.{told};
-ghost use Rattle.board_script.specs.Streams.{Answers, AnswersItem, machine_of};
+ghost use Rattle.board_script.specs.Streams.{IsAnswered, IsFaulty, AnswersItem, machine_of};
+ghost use Rattle.line_driver.specs.Judging.{Takes};
 
 use crate::stream::ScriptFault;
 use board_lines::{event_of, opening_of, put_notices, put_reply, put_summary};
 use board_terms::Notices;
 use board_text::Fields;
+use line_driver::Taken;
 use std::alloc::{AllocError, Global};
 use synic_board::{Board, Event, OpenFault};
-
-/// What came of a line.
-#[derive(Clone, Copy)]
-pub(crate) enum Answer {
-    Good,
-    Wrong(ScriptFault),
-    Memory,
-}
 
 /// Judges a line, does what it asks of the board, and writes the answer into `out`.
 pub(crate) fn respond(
@@ -28,17 +22,17 @@ pub(crate) fn respond(
     line: &[u8],
     notices: &mut Notices,
     out: &mut Vec<u8>,
-) -> Answer
+) -> Taken<ScriptFault>
     requires short { length line.now ≤ 640 }
     requires empty { out.old.items ≡ [] }
-    ensures { Answers result line.now (machine_of board.old) (machine_of board.new) out.new.items }
+    ensures { Takes IsAnswered IsFaulty result (machine_of board.old) (machine_of board.new) line.now out.new.items }
 {
     if skips(line) {
-        return Answer::Good;
+        return Taken::Good;
     }
     let mut fields = Fields::new(line);
     let Some(word) = fields.next() else {
-        return Answer::Wrong(ScriptFault::Form);
+        return Taken::Wrong(ScriptFault::Form);
     };
     match board {
         Some(board) => take_line(board, word, &mut fields, notices, out),
@@ -57,31 +51,40 @@ fn skips(line: &[u8]) -> bool
 }
 
 /// Takes the first item, which must be a board line.
-fn open(alloc: Global, board: &mut Option<Board>, word: &[u8], fields: &mut Fields<'_>) -> Answer
+fn open(
+    alloc: Global,
+    board: &mut Option<Board>,
+    word: &[u8],
+    fields: &mut Fields<'_>,
+) -> Taken<ScriptFault>
     requires { board.old ≡ None }
     ensures { AnswersItem result (item_say (word.now ∷ fields.old)) None (machine_of board.new) [] }
 {
     if word == b"board".as_slice() {
         return open_sized(alloc, board, fields);
     }
-    Answer::Wrong(ScriptFault::First)
+    Taken::Wrong(ScriptFault::First)
 }
 
 /// Opens a board of the sizes that the fields name.
-fn open_sized(alloc: Global, board: &mut Option<Board>, fields: &mut Fields<'_>) -> Answer
+fn open_sized(
+    alloc: Global,
+    board: &mut Option<Board>,
+    fields: &mut Fields<'_>,
+) -> Taken<ScriptFault>
     requires { board.old ≡ None }
     ensures { AnswersItem result (opening_item fields.old) None (machine_of board.new) [] }
 {
     let Some((processors, pages, ticket)) = opening_of(fields) else {
-        return Answer::Wrong(ScriptFault::First);
+        return Taken::Wrong(ScriptFault::First);
     };
     match Board::open(alloc, processors, pages, ticket) {
         Ok(opened) => {
             *board = Some(opened);
-            Answer::Good
+            Taken::Good
         }
-        Err(OpenFault::BadSize) => Answer::Wrong(ScriptFault::Size),
-        Err(OpenFault::Memory) => Answer::Memory,
+        Err(OpenFault::BadSize) => Taken::Wrong(ScriptFault::Size),
+        Err(OpenFault::Memory) => Taken::Memory,
     }
 }
 
@@ -92,25 +95,25 @@ fn take_line(
     fields: &mut Fields<'_>,
     notices: &mut Notices,
     out: &mut Vec<u8>,
-) -> Answer
+) -> Taken<ScriptFault>
     requires { out.old.items ≡ [] }
     ensures { AnswersItem result (item_say (word.now ∷ fields.old)) (Some board.old.state) (Some board.new.state) out.new.items }
 {
     if word == b"summary".as_slice() {
         if !fields.is_empty() {
-            return Answer::Wrong(ScriptFault::Form);
+            return Taken::Wrong(ScriptFault::Form);
         }
         return match put_summary(out, board.summary(), board.processors(), board.pages()) {
-            Ok(()) => Answer::Good,
-            Err(_) => Answer::Memory,
+            Ok(()) => Taken::Good,
+            Err(_) => Taken::Memory,
         };
     }
     let Some(event) = event_of(word, fields) else {
-        return Answer::Wrong(ScriptFault::Form);
+        return Taken::Wrong(ScriptFault::Form);
     };
     match perform(board, &event, notices, out) {
-        Ok(()) => Answer::Good,
-        Err(_) => Answer::Memory,
+        Ok(()) => Taken::Good,
+        Err(_) => Taken::Memory,
     }
 }
 

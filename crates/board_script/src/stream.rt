@@ -2,11 +2,12 @@
 ghost use Rattle.std.specs.Prelude.{◌≡◌, [], Some, OnOk, ◌++◌};
 ghost use Rattle.board_script.specs.Output.{fault_word, fault_text};
 ghost use Rattle.board_text.specs.Streams.{ReadsUpTo};
-ghost use Rattle.board_script.specs.Streams.{Replays, Stops};
+ghost use Rattle.board_script.specs.Streams.{Replays, Finishes};
 
-use crate::respond::{Answer, respond};
+use crate::judge::ScriptJudge;
 use board_terms::Notices;
-use board_text::{NextLine, Source, put_decimal, send};
+use board_text::put_decimal;
+use line_driver::{End, close, drive};
 use std::alloc::{AllocError, Global};
 use std::io::{Read, Write};
 
@@ -50,69 +51,50 @@ pub fn replay<R: Read, W: Write>(alloc: Global, reader: &mut R, writer: &mut W) 
     // One byte more than the limit shows that there is one.
     ensures limit { ReadsUpTo 1073741825 (R.remaining reader.old) (R.remaining reader.new) }
 {
-    let Ok(mut source) = Source::open(alloc) else {
+    let Ok(notices) = Notices::open(alloc) else {
         return ReplayEnd::Memory;
     };
-    let Ok(mut notices) = Notices::open(alloc) else {
-        return ReplayEnd::Memory;
+    let mut judge = ScriptJudge {
+        alloc,
+        board: None,
+        notices,
     };
-    let mut board = None;
     let mut out = Vec::new(alloc);
-    let mut number: u64 = 0;
-    loop {
-        let end = source.next_line(reader, writer);
-        number += 1;
-        out.clear();
-        match end {
-            NextLine::Whole => match respond(
-                alloc,
-                &mut board,
-                source.line(),
-                &mut notices,
-                &mut out,
-            ) {
-                Answer::Good => {
-                    if !send(writer, out.as_slice()) {
-                        return ReplayEnd::Writing;
-                    }
-                }
-                Answer::Wrong(fault) => return stop(writer, &mut out, number, fault),
-                Answer::Memory => return ReplayEnd::Memory,
-            },
-            NextLine::Long => return stop(writer, &mut out, number, ScriptFault::Long),
-            NextLine::Last => {
-                if !source.line().is_empty() {
-                    return stop(writer, &mut out, number, ScriptFault::Cut);
-                }
-                if board.is_none() {
-                    return stop(writer, &mut out, number, ScriptFault::First);
-                }
-                if writer.flush().is_err() {
-                    return ReplayEnd::Writing;
-                }
-                return ReplayEnd::Done;
-            }
-            NextLine::ReadFailed => return ReplayEnd::Reading,
-            NextLine::FlushFailed => return ReplayEnd::Writing,
-        }
+    match drive(alloc, reader, writer, &mut judge, &mut out) {
+        End::Last { line } => match judge.board {
+            Some(_) => finish(writer, &mut out, None),
+            None => finish(writer, &mut out, Some((line, ScriptFault::First))),
+        },
+        End::Wrong { line, fault } => finish(writer, &mut out, Some((line, fault))),
+        End::Long { line } => finish(writer, &mut out, Some((line, ScriptFault::Long))),
+        End::Cut { line } => finish(writer, &mut out, Some((line, ScriptFault::Cut))),
+        End::Memory => ReplayEnd::Memory,
+        End::Reading => ReplayEnd::Reading,
+        End::Writing => ReplayEnd::Writing,
     }
 }
 
-/// Writes the fault's line, and flushes.
-fn stop<W: Write>(writer: &mut W, out: &mut Vec<u8>, line: u64, fault: ScriptFault) -> ReplayEnd
-    requires { out.old.items ≡ [] }
-    ensures { Stops result line fault (W.contents writer.old) (W.contents writer.new) }
+/// Writes the fault's line, if there is one, and flushes.
+fn finish<W: Write>(
+    writer: &mut W,
+    out: &mut Vec<u8>,
+    fault: Option<(u64, ScriptFault)>,
+) -> ReplayEnd
+    ensures { Finishes result fault (W.contents writer.old) (W.contents writer.new) }
 {
-    if put_fault(out, line, fault).is_err() {
-        return ReplayEnd::Memory;
+    out.clear();
+    if let Some((line, fault)) = fault {
+        if put_fault(out, line, fault).is_err() {
+            return ReplayEnd::Memory;
+        }
     }
-    if !send(writer, out.as_slice()) {
+    if !close(writer, out.as_slice()) {
         return ReplayEnd::Writing;
     }
-    if writer.flush().is_err() {
-        return ReplayEnd::Writing;
+    match fault {
+        Some((line, fault)) => ReplayEnd::Script { line, fault },
+        None => ReplayEnd::Done,
     }
-    ReplayEnd::Script { line, fault }
 }
 
 /// Writes the fault's line at the end of `out`.

@@ -5,4 +5,3 @@ pub mod FieldLemmas
 pub mod LineLemmas
 pub mod SourceLemmas
 pub mod PlainWords
-pub mod Budgets

@@ -1,5 +1,5 @@
 -- A text as its lines.
-use Rattle.std.specs.Prelude.{◌≢◌, ℕ, List, [], ◌∷◌, ◌==◌, if◌then◌else◌}
+use Rattle.std.specs.Prelude.{◌≢◌, ℕ, List, [], ◌∷◌, ◌++◌, ◌==◌, if◌then◌else◌}
 
 -- b, and then the first line
 abbrev pub onto_lines : ℕ → List (List ℕ) → List (List ℕ)
@@ -24,3 +24,8 @@ rest_of (b ∷ bytes) = if b == 10 then rest_of bytes else onto_rest b (lines_of
 abbrev pub IsOneLine : List ℕ → Type 0
 IsOneLine [] = Unit {0}
 IsOneLine (b ∷ bytes) = (b ≢ 10) × IsOneLine bytes
+
+-- whole lines, each with its line feed
+abbrev pub joined : List (List ℕ) → List ℕ
+joined [] = []
+joined (line ∷ lines) = line ++ 10 ∷ joined lines

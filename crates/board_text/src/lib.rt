@@ -6,8 +6,6 @@ mod fields;
 mod numbers;
 mod sending;
 mod source;
-#[cfg(test)]
-mod tests;
 
 pub use bytes::{byte_of, bytes_of, put_byte, put_bytes};
 pub use fields::Fields;

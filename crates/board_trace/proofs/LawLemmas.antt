@@ -3,16 +3,13 @@ use Rattle.std.proofs.Common.{◌≡◌, ◌⊎◌, inl, inr, ℕ, ◌+◌, ◌<
 use Rattle.std.specs.List.{All}
 use Rattle.std.proofs.lemmas.Bool.{cases_order}
 use Rattle.std.proofs.lemmas.List.{take-append-drop, take-take}
-use Rattle.board_text.specs.Lines.{lines_of}
+use Rattle.board_text.specs.Lines.{lines_of, joined}
+use Rattle.board_text.proofs.LineLemmas.{joined-append}
 use Rattle.synic_board.specs.State.{AreSizes, opened}
 use Rattle.board_trace.specs.Trace.{Entry, IsEntry, IsTrace, Begins, IsLegal, trace}
 use Rattle.board_trace.specs.Stages.{Stage, Title, Over}
-use Rattle.board_trace.specs.Verdicts.{joined, FirstWrong}
+use Rattle.board_trace.specs.Verdicts.{FirstWrong}
 use Rattle.board_trace.proofs.StageLemmas.{Continues, Fits, back, move, reached, Starts, starts}
-
-joined-append : (xs ys : List (List ℕ)) → joined (xs ++ ys) ≡ joined xs ++ joined ys
-joined-append [] ys = refl
-joined-append (x ∷ xs) ys = ap (λ (z : List ℕ). x ++ 10 ∷ z) (joined-append xs ys) ∙ sym (append_assoc x (10 ∷ joined xs) (joined ys))
 
 begins-front : (text more : List ℕ) → Begins (text ++ more) → Begins text
 begins-front text more b = record { rest = more ++ b.rest; entries = b.entries; whole = subst (λ (x : List ℕ). IsTrace x b.entries) (append_assoc text more b.rest) b.whole }

@@ -1,4 +1,4 @@
 pub mod Written
 pub mod StageLemmas
-pub mod Progress
+pub mod Judged
 pub mod LawLemmas

@@ -1,5 +1,5 @@
 -- What a trace may go on with: which line comes next.
-use Rattle.std.specs.Prelude.{◌≡◌, ℕ, ◌+◌, List, [], ◌∷◌, if◌then◌else◌, Option, None, Some, codes}
+use Rattle.std.specs.Prelude.{◌≡◌, ℕ, ◌+◌, ◌≤◌, List, [], ◌∷◌, if◌then◌else◌, Option, None, Some, codes}
 use Rattle.std.specs.Option.{option_map, option_and_then}
 use Rattle.std.specs.Str.{bytes_eq}
 use Rattle.board_text.specs.Fields.{fields_of, words}
@@ -13,8 +13,6 @@ use Rattle.board_lines.specs.Sizes.{are_sizes}
 use Rattle.board_trace.specs.Trace.{title_fields, end_fields}
 use Rattle.board_trace.specs.declared.stage.Stage.{Stage as Held}
 use Rattle.board_trace.specs.declared.stage.Stage.TheVariants as held
-use Rattle.board_trace.specs.declared.stage.Taken.{Taken}
-use Rattle.board_trace.specs.declared.stage.Taken.TheVariants as taken
 use Rattle.board_trace.specs.declared.stage.Opened.{Opened}
 use Rattle.board_trace.specs.declared.stage.Opened.TheVariants as openings
 use Rattle.board_trace.specs.declared.stage.Ran.{Ran}
@@ -76,11 +74,17 @@ count Opening = 0
 count (Running s entries due) = entries
 count (Over entries) = entries
 
--- a line was taken, or may not stand there
-abbrev pub Takes : Taken → Stage → Stage → List ℕ → Type 0
-Takes taken.Good old new line = follow old line ≡ Some new
-Takes taken.Wrong old new line = follow old line ≡ None
-Takes taken.Memory old new line = Unit {0}
+-- a line may stand here, and leads on; nothing is written for it
+abbrev pub IsGood : Stage → List ℕ → List ℕ → Stage → Type 0
+IsGood old line answer new = (follow old line ≡ Some new) × (answer ≡ [])
+
+-- it may not
+abbrev pub IsWrong : Stage → List ℕ → Unit {0} → Type 0
+IsWrong stage line fault = follow stage line ≡ None
+
+-- so many lines led here at least
+abbrev pub IsBehind : ℕ → Stage → Type 0
+IsBehind lines stage = count stage ≤ lines
 
 -- a board line opened a board, or may not stand there
 abbrev pub Opens : Opened → List ℕ → Type 0

@@ -1,18 +1,13 @@
 -- What a check says of a text.
 use Rattle.std.specs.Prelude.{◌≡◌, ◌⊎◌, ℕ, ◌+◌, ◌≤◌, ◌<◌, List, [], ◌∷◌, ◌++◌, length, take, codes, decimal, Option, IfSome}
 use Rattle.std.specs.Io.KnownBytes.{Appends}
-use Rattle.board_text.specs.Lines.{lines_of}
+use Rattle.board_text.specs.Lines.{lines_of, joined}
 use Rattle.board_text.specs.Fields.{line_of}
 use Rattle.board_trace.specs.Trace.{IsTrace, Begins}
 use Rattle.board_trace.specs.declared.check.Verdict.{Verdict}
 use Rattle.board_trace.specs.declared.check.Verdict.TheVariants as verdicts
 use Rattle.board_trace.specs.declared.check.CheckEnd.{CheckEnd}
 use Rattle.board_trace.specs.declared.check.CheckEnd.TheVariants.{Legal, Refused, Memory, Reading, Writing}
-
--- whole lines, each with its line feed
-abbrev pub joined : List (List ℕ) → List ℕ
-joined [] = []
-joined (line ∷ lines) = line ++ 10 ∷ joined lines
 
 -- The text is no legal trace. The whole lines before line k begin one; line k is not whole, or with it they begin none.
 pub record FirstWrong (text : List ℕ) (k : ℕ) : Type 0 where

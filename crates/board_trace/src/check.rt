@@ -3,9 +3,11 @@ ghost use Rattle.std.specs.Prelude.{◌≡◌, ◌++◌, [], OnOk};
 ghost use Rattle.board_text.specs.Streams.{ReadsUpTo};
 ghost use Rattle.board_trace.specs.Verdicts.{Checks, Says, verdict_text};
 
-use crate::stage::{Stage, Taken, entries_of, take_line};
+use crate::judge::TraceJudge;
+use crate::stage::{Stage, entries_of};
 use board_terms::Notices;
-use board_text::{NextLine, Source, put_decimal, send};
+use board_text::put_decimal;
+use line_driver::{End, close, drive};
 use std::alloc::{AllocError, Global};
 use std::io::{Read, Write};
 
@@ -40,43 +42,27 @@ pub fn check_trace<R: Read, W: Write>(alloc: Global, reader: &mut R, writer: &mu
     // One byte more than the limit shows that there is one.
     ensures limit { ReadsUpTo 1073741825 (R.remaining reader.old) (R.remaining reader.new) }
 {
-    let Ok(mut source) = Source::open(alloc) else {
+    let Ok(notices) = Notices::open(alloc) else {
         return CheckEnd::Memory;
     };
-    let Ok(mut notices) = Notices::open(alloc) else {
-        return CheckEnd::Memory;
+    let mut judge = TraceJudge {
+        alloc,
+        stage: Stage::Title,
+        notices,
+        text: Vec::new(alloc),
     };
     let mut out = Vec::new(alloc);
-    let mut stage = Stage::Title;
-    let mut number: u64 = 0;
-    loop {
-        let end = source.next_line(reader, writer);
-        number += 1;
-        match end {
-            NextLine::Whole => match take_line(
-                alloc,
-                &mut stage,
-                source.line(),
-                &mut notices,
-                &mut out,
-            ) {
-                Taken::Good => {}
-                Taken::Wrong => return say(writer, &mut out, Verdict::Refused(number)),
-                Taken::Memory => return CheckEnd::Memory,
-            },
-            NextLine::Long => return say(writer, &mut out, Verdict::Refused(number)),
-            NextLine::Last => {
-                if !source.line().is_empty() {
-                    return say(writer, &mut out, Verdict::Refused(number));
-                }
-                let Some(entries) = entries_of(&stage) else {
-                    return say(writer, &mut out, Verdict::Refused(number));
-                };
-                return say(writer, &mut out, Verdict::Legal(entries));
-            }
-            NextLine::ReadFailed => return CheckEnd::Reading,
-            NextLine::FlushFailed => return CheckEnd::Writing,
+    match drive(alloc, reader, writer, &mut judge, &mut out) {
+        End::Last { line } => match entries_of(&judge.stage) {
+            Some(entries) => say(writer, &mut out, Verdict::Legal(entries)),
+            None => say(writer, &mut out, Verdict::Refused(line)),
+        },
+        End::Wrong { line, .. } | End::Long { line } | End::Cut { line } => {
+            say(writer, &mut out, Verdict::Refused(line))
         }
+        End::Memory => CheckEnd::Memory,
+        End::Reading => CheckEnd::Reading,
+        End::Writing => CheckEnd::Writing,
     }
 }
 
@@ -88,10 +74,7 @@ fn say<W: Write>(writer: &mut W, out: &mut Vec<u8>, verdict: Verdict) -> CheckEn
     if put_verdict(out, verdict).is_err() {
         return CheckEnd::Memory;
     }
-    if !send(writer, out.as_slice()) {
-        return CheckEnd::Writing;
-    }
-    if writer.flush().is_err() {
+    if !close(writer, out.as_slice()) {
         return CheckEnd::Writing;
     }
     match verdict {

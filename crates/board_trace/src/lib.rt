@@ -2,9 +2,8 @@
 #![tactic(auto)]
 
 mod check;
+mod judge;
 pub mod laws;
 mod stage;
-#[cfg(test)]
-mod tests;
 
 pub use check::{CheckEnd, check_trace};

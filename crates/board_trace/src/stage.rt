@@ -1,14 +1,16 @@
 // What a trace may go on with, and the board that it tells of.
-ghost use Rattle.std.specs.Prelude.{◌≡◌, ◌<◌, ◌-◌, ◌^◌, ◌++◌, OnOk, IfOk};
+ghost use Rattle.std.specs.Prelude.{◌≡◌, ◌<◌, ◌-◌, ◌^◌, ◌++◌, [], OnOk, IfOk};
 ghost use Rattle.std.specs.Str.{bytes_eq};
 ghost use Rattle.board_text.specs.Fields.{words};
 ghost use Rattle.board_lines.specs.Printing.{reply_fields};
 ghost use Rattle.board_trace.specs.Trace.{end_fields};
-ghost use Rattle.board_trace.specs.Stages.{entry_at, board_at, stage_of, count, Takes, Opens, Runs, IsOver};
+ghost use Rattle.line_driver.specs.Judging.{Takes};
+ghost use Rattle.board_trace.specs.Stages.{entry_at, board_at, stage_of, count, IsGood, IsWrong, Opens, Runs, IsOver};
 
 use board_lines::{event_of, opening_of, put_reply, u8_of};
 use board_terms::Notices;
 use board_text::{Fields, put_decimal};
+use line_driver::Taken;
 use std::alloc::{AllocError, Global};
 use synic_board::{Board, Event, OpenFault, Reply};
 
@@ -27,14 +29,6 @@ pub(crate) enum Stage {
     },
     /// Nothing, behind so many entries.
     Over(u64),
-}
-
-/// What came of a line.
-#[derive(Clone, Copy)]
-pub(crate) enum Taken {
-    Good,
-    Wrong,
-    Memory,
 }
 
 /// What came of a board line.
@@ -61,14 +55,14 @@ pub(crate) fn take_line(
     line: &[u8],
     notices: &mut Notices,
     out: &mut Vec<u8>,
-) -> Taken
+) -> Taken<()>
     requires few { count (stage_of stage.old) < 2 ^ 64 - 1 }
-    ensures { Takes result (stage_of stage.old) (stage_of stage.new) line.now }
+    ensures { Takes IsGood IsWrong result (stage_of stage.old) (stage_of stage.new) line.now [] }
 {
     match stage {
         Stage::Title => {
             if line != b"trace 1".as_slice() {
-                return Taken::Wrong;
+                return Taken::Wrong(());
             }
             *stage = Stage::Opening;
             Taken::Good
@@ -82,7 +76,7 @@ pub(crate) fn take_line(
                 };
                 Taken::Good
             }
-            Opened::Wrong => Taken::Wrong,
+            Opened::Wrong => Taken::Wrong(()),
             Opened::Memory => Taken::Memory,
         },
         Stage::Running {
@@ -96,10 +90,10 @@ pub(crate) fn take_line(
                 *stage = Stage::Over(all);
                 Taken::Good
             }
-            Ran::Wrong => Taken::Wrong,
+            Ran::Wrong => Taken::Wrong(()),
             Ran::Memory => Taken::Memory,
         },
-        Stage::Over(_) => Taken::Wrong,
+        Stage::Over(_) => Taken::Wrong(()),
     }
 }
 

@@ -1,5 +1,5 @@
-use Rattle.std.proofs.Common.{refl, sym, ap, ◌∙◌}
-use Rattle.board_text.proofs.SourceLemmas.{near-line, near-all, near-long}
+use Rattle.std.proofs.Common.{◌+◌, ◌-◌, drop, refl, sym, ap, ◌∙◌, arith}
+use Rattle.board_text.proofs.SourceLemmas.{near-line, near-all, near-long, take_short}
 use Rattle.board_text.proofs.source.Source.scan.Goals as goal
 
 pub returns-in-Some : goal.returns-in-Some
@@ -10,7 +10,8 @@ returns-in-Some c =
     let waiting = ap (λ h. h.waiting) c.self.view_is in
     let budget = ap (λ h. h.budget) c.self.view_is in
     let found = near-line i.bytes.items i.at i.end c.min.result c.self.invariant.2 (rw value at c.min.ensures) c.in-Some.k e.0 e.1 e.2 in
-    (sym waiting ∙ found.0, found.1, found.2, budget)
+    let few = take_short (i.end - (i.at + (c.in-Some.k + 1))) (drop (i.at + (c.in-Some.k + 1)) i.bytes.items) in
+    (sym waiting ∙ found.0, found.1, found.2, budget, omega (arith, few, c.self.invariant.3))
 
 pub returns-then-near-gt-LONGEST : goal.returns-then-near-gt-LONGEST
 returns-then-near-gt-LONGEST c =

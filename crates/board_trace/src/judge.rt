@@ -1,0 +1,36 @@
+// The judge of a trace's lines.
+ghost use Rattle.board_trace.specs.Stages.{stage_of, IsGood, IsWrong, IsBehind};
+
+use crate::stage::{Stage, take_line};
+use board_terms::Notices;
+use line_driver::{Judge, Taken};
+use std::alloc::Global;
+
+/// Judges the lines of a trace: it performs the events on a board of its own.
+#[derive(Drop)]
+pub(crate) struct TraceJudge {
+    pub(crate) alloc: Global,
+    pub(crate) stage: Stage,
+    pub(crate) notices: Notices,
+    pub(crate) text: Vec<u8>,
+}
+
+impl Judge for TraceJudge {
+    type Fault = ();
+
+    ghost ready = { λ lines judge. IsBehind lines (stage_of judge.stage) };
+
+    ghost good = { λ old line answer new. IsGood (stage_of old.stage) line answer (stage_of new.stage) };
+
+    ghost wrong = { λ judge line fault. IsWrong (stage_of judge.stage) line fault };
+
+    fn take(&mut self, line: &[u8], _out: &mut Vec<u8>) -> Taken<()> {
+        take_line(
+            self.alloc,
+            &mut self.stage,
+            line,
+            &mut self.notices,
+            &mut self.text,
+        )
+    }
+}

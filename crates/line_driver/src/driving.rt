@@ -1,0 +1,80 @@
+// The drive over the lines of a reader.
+ghost use Rattle.line_driver.specs.Driving.{Drives, most_of, StopsNear};
+ghost use Rattle.board_text.specs.Streams.{ReadsUpTo};
+
+use crate::judge::{Judge, Taken};
+use board_text::{NextLine, Source, send};
+use std::alloc::Global;
+use std::io::{Read, Write};
+
+/// How a drive ends. Lines are counted from 1.
+#[derive(Clone, Copy)]
+pub enum End<F> {
+    /// Each line of the input was good, and nothing stands behind the last line feed. The number is
+    /// that of the line that is not there.
+    Last { line: u64 },
+    /// This line is wrong.
+    Wrong { line: u64, fault: F },
+    /// This line has more than 640 bytes.
+    Long { line: u64 },
+    /// The input ends inside this line.
+    Cut { line: u64 },
+    /// There was no memory.
+    Memory,
+    /// A read failed, or the input has more than 1,073,741,824 bytes.
+    Reading,
+    /// A write or a flush failed, or a write took nothing.
+    Writing,
+}
+
+/// Has each line of the reader judged in turn, up to the first that is not good. What the judge puts
+/// in `out` for a good line is sent before the next line is asked for; at the end `out` holds some
+/// bytes. The writer is flushed before each read, and not at the end. The memory that this takes
+/// does not depend on the input's length.
+pub fn drive<R: Read, W: Write, J: Judge>(
+    alloc: Global,
+    reader: &mut R,
+    writer: &mut W,
+    judge: &mut J,
+    out: &mut Vec<u8>,
+) -> End<J::Fault>
+    requires { J.ready 0 judge.old }
+    ensures lines { Drives J.good J.wrong result judge.old judge.new
+        (R.remaining reader.old) (R.remaining reader.new) (W.contents writer.old) (W.contents writer.new) }
+
+    // One byte more than the limit shows that there is one.
+    ensures limit { ReadsUpTo (most_of result) (R.remaining reader.old) (R.remaining reader.new) }
+    ensures near { StopsNear result (R.remaining reader.old) (R.remaining reader.new) }
+{
+    let Ok(mut source) = Source::open(alloc) else {
+        return End::Memory;
+    };
+    let mut line: u64 = 0;
+    loop {
+        let found = source.next_line(reader, writer);
+        line += 1;
+        match found {
+            NextLine::Whole => {
+                out.clear();
+                match judge.take(source.line(), out) {
+                    Taken::Good => {
+                        if !send(writer, out.as_slice()) {
+                            return End::Writing;
+                        }
+                    }
+                    Taken::Wrong(fault) => return End::Wrong { line, fault },
+                    Taken::Memory => return End::Memory,
+                }
+            }
+            NextLine::Long => return End::Long { line },
+            NextLine::Last => {
+                if source.line().is_empty() {
+                    return End::Last { line };
+                }
+                return End::Cut { line };
+            }
+            NextLine::ReadFailed => return End::Reading,
+            NextLine::FlushFailed => return End::Writing,
+        }
+    }
+}

@@ -1,0 +1,154 @@
+// Readers and writers that give or take little, or fail.
+use arrayvec::ArrayVec;
+use std::cell::Cell;
+use std::io;
+use std::io::{ErrorKind, Read, Write};
+
+pub(crate) type Text = ArrayVec<u8, 512>;
+
+pub(crate) fn append(text: &mut Text, bytes: &[u8]) {
+    for byte in bytes {
+        if text.try_push(*byte).is_err() {
+            return;
+        }
+    }
+}
+
+/// Gives one byte a read. It fails at one read, and where the writer holds something back.
+#[derive(Drop)]
+pub(crate) struct Trickle<'a> {
+    pub(crate) bytes: &'a [u8],
+    pub(crate) reads: usize,
+    pub(crate) fails_at: usize,
+    pub(crate) held_back: &'a Cell<usize>,
+}
+
+/// One that gives all of these bytes.
+pub(crate) fn gives<'a>(bytes: &'a [u8], held_back: &'a Cell<usize>) -> Trickle<'a> {
+    Trickle {
+        bytes,
+        reads: 0,
+        fails_at: usize::MAX,
+        held_back,
+    }
+}
+
+impl Read for Trickle<'_> {
+    fn read(&mut self, buf: &mut [u8]) -> io::Result<usize> {
+        if self.reads == self.fails_at || self.held_back.get() > 0 || buf.is_empty() {
+            return Err(io::Error::from(ErrorKind::Interrupted));
+        }
+        let Some(byte) = self.bytes.get(self.reads) else {
+            return Ok(0);
+        };
+        buf[0] = *byte;
+        self.reads = self.reads.saturating_add(1);
+        Ok(1)
+    }
+}
+
+/// Gives some bytes, and then the same bytes again and again.
+#[derive(Drop)]
+pub(crate) struct Endless<'a> {
+    pub(crate) first: &'a [u8],
+    pub(crate) again: &'a [u8],
+}
+
+impl Read for Endless<'_> {
+    fn read(&mut self, buf: &mut [u8]) -> io::Result<usize> {
+        if self.first.is_empty() {
+            self.first = self.again;
+        }
+        let given = self.first.len().min(buf.len());
+        buf[..given].copy_from_slice(&self.first[..given]);
+        self.first = &self.first[given..];
+        Ok(given)
+    }
+}
+
+/// Gives that many bytes, a line of 512 bytes a read while they last. It leaves the others of them
+/// as they stand.
+#[derive(Drop)]
+pub(crate) struct Lines {
+    pub(crate) left: u64,
+}
+
+impl Read for Lines {
+    fn read(&mut self, buf: &mut [u8]) -> io::Result<usize> {
+        let most = self.left.min(buf.len().min(512) as u64) as usize;
+        self.left -= most as u64;
+        if most == 512 {
+            buf[511] = b'\n';
+        }
+        Ok(most)
+    }
+}
+
+/// How a writer refuses.
+#[derive(Clone, Copy, PartialEq)]
+pub(crate) enum Refuses {
+    Writes,
+    Bytes,
+    Flushes,
+}
+
+/// Takes one byte a write, and holds it back until it is flushed. It refuses from some call on.
+#[derive(Drop)]
+pub(crate) struct Narrow<'a> {
+    pub(crate) text: Text,
+    pub(crate) held_back: &'a Cell<usize>,
+    pub(crate) flushes: usize,
+    pub(crate) room: usize,
+    pub(crate) refuses: Refuses,
+}
+
+/// One that refuses nothing.
+pub(crate) fn takes(held_back: &Cell<usize>) -> Narrow<'_> {
+    Narrow {
+        text: Text::new(),
+        held_back,
+        flushes: 0,
+        room: usize::MAX,
+        refuses: Refuses::Writes,
+    }
+}
+
+impl Narrow<'_> {
+    /// Whether these bytes came, and were flushed.
+    pub(crate) fn has(&self, bytes: &[u8]) -> bool {
+        self.text.as_slice() == bytes && self.held_back.get() == 0
+    }
+}
+
+impl Write for Narrow<'_> {
+    fn write(&mut self, buf: &[u8]) -> io::Result<usize> {
+        if self.refuses != Refuses::Flushes {
+            if self.room == 0 {
+                return if self.refuses == Refuses::Bytes {
+                    Ok(0)
+                } else {
+                    Err(io::Error::from(ErrorKind::Interrupted))
+                };
+            }
+            self.room -= 1;
+        }
+        let Some(byte) = buf.first() else {
+            return Ok(0);
+        };
+        append(&mut self.text, &[*byte]);
+        self.held_back.set(self.held_back.get().saturating_add(1));
+        Ok(1)
+    }
+
+    fn flush(&mut self) -> io::Result<()> {
+        if self.refuses == Refuses::Flushes {
+            if self.room == 0 {
+                return Err(io::Error::from(ErrorKind::StorageFull));
+            }
+            self.room -= 1;
+        }
+        self.flushes = self.flushes.saturating_add(1);
+        self.held_back.set(0);
+        Ok(())
+    }
+}
