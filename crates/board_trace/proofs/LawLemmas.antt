@@ -6,7 +6,9 @@ use Rattle.std.proofs.lemmas.List.{take-append-drop, take-take}
 use Rattle.board_text.specs.Lines.{lines_of, joined}
 use Rattle.board_text.proofs.LineLemmas.{joined-append}
 use Rattle.synic_board.specs.State.{AreSizes, opened}
-use Rattle.board_trace.specs.Trace.{Entry, IsEntry, IsTrace, Begins, IsLegal, trace}
+use Rattle.synic_board.specs.History.{IsLegal}
+use Rattle.synic_board.specs.declared.history.Entry.{Entry}
+use Rattle.board_trace.specs.Trace.{IsEntry, IsTrace, Begins, trace}
 use Rattle.board_trace.specs.Stages.{Stage, Title, Over}
 use Rattle.board_trace.specs.Verdicts.{FirstWrong}
 use Rattle.board_trace.proofs.StageLemmas.{Continues, Fits, back, move, reached, Starts, starts}

@@ -1,23 +1,13 @@
--- Histories, those that are legal, and the text of one.
-use Rattle.std.specs.Prelude.{◌≡◌, ℕ, ◌<◌, ◌^◌, List, [], ◌∷◌, ◌++◌, length, map, codes, decimal}
+-- The text of a history.
+use Rattle.std.specs.Prelude.{◌≡◌, ℕ, ◌<◌, ◌^◌, List, [], ◌∷◌, ◌++◌, length, codes, decimal}
 use Rattle.std.specs.List.{All}
-use Rattle.synic_board.specs.State.{State, AreSizes, opened}
-use Rattle.synic_board.specs.Run.{run_of}
+use Rattle.synic_board.specs.State.{AreSizes, opened}
+use Rattle.synic_board.specs.History.{IsLegal}
 use Rattle.synic_board.specs.declared.event.Event.{Event}
-use Rattle.synic_board.specs.declared.event.Reply.{Reply}
+use Rattle.synic_board.specs.declared.history.Entry.{Entry}
 use Rattle.board_lines.specs.Events.{event_fields, IsEvent}
 use Rattle.board_lines.specs.Items.{Opening, item_fields}
 use Rattle.board_lines.specs.Printing.{text_of, reply_fields}
-
--- what an actor asked of the board, and what was answered
-pub record Entry : Type 0 where
-  pub actor : ℕ
-  pub event : Event
-  pub reply : Reply
-
--- A history is legal if its replies are those of the run of its events.
-abbrev pub IsLegal : State → List Entry → Type 0
-IsLegal s history = map (λ (e : Entry). e.reply) history ≡ (run_of s (map (λ (e : Entry). e.event) history)).1
 
 -- the ranges of an entry's fields
 abbrev pub IsEntry : Entry → Type 0

@@ -2,7 +2,9 @@
 ghost use Rattle.std.specs.Prelude.{◌≡◌, ◌<◌, ◌^◌, ℕ, List, length};
 ghost use Rattle.std.specs.List.{All};
 ghost use Rattle.synic_board.specs.State.{AreSizes, opened};
-ghost use Rattle.board_trace.specs.Trace.{Entry, IsEntry, IsLegal, IsTrace, trace};
+ghost use Rattle.synic_board.specs.History.{IsLegal};
+ghost use Rattle.synic_board.specs.declared.history.Entry.{Entry};
+ghost use Rattle.board_trace.specs.Trace.{IsEntry, IsTrace, trace};
 ghost use Rattle.board_trace.specs.Verdicts.{FirstWrong};
 
 /// A text has one first wrong line at most.
