@@ -14,7 +14,7 @@ use Rattle.board_threads.specs.Sharing.{Acting, new_actor}
 use Rattle.board_threads.specs.Settling.{only_raises}
 use Rattle.board_threads.specs.Sweeps.{is_absorb}
 use Rattle.board_threads.specs.Judging.{is_bad_script, is_bad_raise, is_bad_line, has_bad_step}
-use Rattle.board_threads.specs.Crew.{raises_of, log_of, logs_of, HasEach}
+use Rattle.board_threads.specs.Crew.{raises_of, log_of, logs_of, HasEach, lists}
 use Rattle.board_threads.specs.Work.{IsNewActor, IsNewLine, IsThere, HasActed, HasRaised, HasServed, HaveWorked}
 use Rattle.board_threads.specs.declared.script.Step.{Step}
 use Rattle.board_threads.specs.declared.script.Setup.{Setup}
@@ -100,13 +100,13 @@ only-lines name (s ∷ scripts) [] h k d lt = absurd (omega arith)
 only-lines name (s ∷ scripts) (r ∷ ran) h zero d lt = ap only_raises h.0.did ∙ only-log s.items r.1.items
 only-lines name (s ∷ scripts) (r ∷ ran) h (suc k) d lt = only-lines name scripts ran h.1 k d (omega arith)
 
-logs : (name : TableId) (scripts : List (Vec (ℕ × ℕ) Global)) (ran : List Ran) → AllZip (DidRaise name) scripts ran → map did_of (map (λ (x : Ran). x.0) ran) ≡ logs_of scripts (map (λ (x : Ran). x.1) ran)
+logs : (name : TableId) (scripts : List (Vec (ℕ × ℕ) Global)) (ran : List Ran) → AllZip (DidRaise name) scripts ran → map did_of (map (λ (x : Ran). x.0) ran) ≡ logs_of (lists scripts) (lists (map (λ (x : Ran). x.1) ran))
 logs name [] [] h = refl
 logs name [] (r ∷ ran) h = absurd h
 logs name (s ∷ scripts) [] h = absurd h
 logs name (s ∷ scripts) (r ∷ ran) h = λ i. h.0.did i ∷ logs name scripts ran h.1 i
 
-each : (name : TableId) (scripts : List (Vec (ℕ × ℕ) Global)) (ran : List Ran) → AllZip (DidRaise name) scripts ran → AllZip HasEach scripts (map (λ (x : Ran). x.1) ran)
+each : (name : TableId) (scripts : List (Vec (ℕ × ℕ) Global)) (ran : List Ran) → AllZip (DidRaise name) scripts ran → AllZip HasEach (lists scripts) (lists (map (λ (x : Ran). x.1) ran))
 each name [] [] h = tt
 each name [] (r ∷ ran) h = absurd h
 each name (s ∷ scripts) [] h = absurd h
@@ -119,11 +119,11 @@ module _ (name : TableId) (setup : Setup) (scripts : Scripts) (actors : List Act
   pub all-only-raise : All (λ (t : Token). only_raises t.did ≡ true) lines
   all-only-raise = subst (All (λ (t : Token). only_raises t.did ≡ true)) (sym w.lines_are) (only-lines name scripts.lines.items w.ran w.did_raise)
 
-  pub logs-are : map did_of lines ≡ logs_of scripts.lines.items raised
-  logs-are = ap (map did_of) w.lines_are ∙ logs name scripts.lines.items w.ran w.did_raise ∙ ap (logs_of scripts.lines.items) (sym w.answers_are)
+  pub logs-are : map did_of lines ≡ logs_of (lists scripts.lines.items) (lists raised)
+  logs-are = ap (map did_of) w.lines_are ∙ logs name scripts.lines.items w.ran w.did_raise ∙ ap (λ l. logs_of (lists scripts.lines.items) (lists l)) (sym w.answers_are)
 
-  pub each-answered : AllZip HasEach scripts.lines.items raised
-  each-answered = subst (AllZip HasEach scripts.lines.items) (sym w.answers_are) (each name scripts.lines.items w.ran w.did_raise)
+  pub each-answered : AllZip HasEach (lists scripts.lines.items) (lists raised)
+  each-answered = subst (λ l. AllZip HasEach (lists scripts.lines.items) (lists l)) (sym w.answers_are) (each name scripts.lines.items w.ran w.did_raise)
 
 -- actor 0, and the others
 pub cut : (name : TableId) (all : List Acting) (n m : ℕ) → all ≡ map (new_actor name) (range_with_len 0 m) → m ≡ suc n → (take 1 all ≡ new_actor name 0 ∷ []) × (drop 1 all ≡ map (new_actor name) (range_with_len 1 n))

@@ -13,7 +13,7 @@ use Rattle.synic_board.specs.declared.history.Entry.{Entry}
 use Rattle.board_threads.specs.History.{Call, call_of, calls_by}
 use Rattle.board_threads.specs.Sharing.{Acting}
 use Rattle.board_threads.specs.Settling.{listed, listed_out}
-use Rattle.board_threads.specs.Crew.{IsStep, Follows, acts, last_step, last_steps, EachFollows, AreMain, IsCrewed}
+use Rattle.board_threads.specs.Crew.{IsStep, Follows, acts, last_step, last_steps, EachFollows, AreMain, IsCrewed, lists}
 use Rattle.board_threads.specs.Work.{HasActed, HasServed, InPlace}
 use Rattle.board_threads.specs.declared.script.Step.{Step}
 use Rattle.board_threads.specs.declared.script.Step.TheVariants.{Act}
@@ -64,13 +64,13 @@ between-calls n first between last some f l =
     calls_by-append n first (between ++ last) ∙ (λ i. map call_of (none-other n first some f i) ++ calls_by-append n between last i)
     ∙ (λ i. calls_by n between ++ map call_of (none-other n last some l i)) ∙ append-nil (calls_by n between)
 
-others-between : (n : ℕ) (scripts : List (Vec Step Global)) (h first between last : List Entry) → 0 < n → h ≡ first ++ (between ++ last) → All IsMain first → All IsMain last → EachFollows n scripts h → EachFollows n scripts between
+others-between : (n : ℕ) (scripts : List (List Step)) (h first between last : List Entry) → 0 < n → h ≡ first ++ (between ++ last) → All IsMain first → All IsMain last → EachFollows n scripts h → EachFollows n scripts between
 others-between n [] h first between last some is f l each = tt
 others-between n (s ∷ scripts) h first between last some is f l each =
-    (subst (Follows s.items) (ap (calls_by n) is ∙ between-calls n first between last some f l) each.0, others-between (n + 1) scripts h first between last (omega arith) is f l each.1)
+    (subst (Follows s) (ap (calls_by n) is ∙ between-calls n first between last some f l) each.0, others-between (n + 1) scripts h first between last (omega arith) is f l each.1)
 
 -- what actor 0 did stands at the ends, and the others' scripts between
-pub crewed : (name : TableId) (n : ℕ) (setup : List Event) (scripts : List (Vec Step Global)) (h : List Entry) (main : Acting) → InPlace (length setup) (4 * n) h → HasServed name n setup main
+pub crewed : (name : TableId) (n : ℕ) (setup : List Event) (scripts : List (List Step)) (h : List Entry) (main : Acting) → InPlace (length setup) (4 * n) h → HasServed name n setup main
     → calls_by 0 h ≡ main.calls → EachFollows 1 scripts h → IsCrewed n setup scripts h
 crewed name n setup scripts h main place served own each =
     let first = place.first in
@@ -109,7 +109,7 @@ stand h (e ∷ ended) (a ∷ actors) is own (suc k) d lt =
 
 -- each script stands in the history, by the actor of its place
 pub each-stands : (name : TableId) (n : ℕ) (scripts : List (Vec Step Global)) (others : List Acting) (h : List Entry) → map (λ (a : Acting). a.number) others ≡ range_with_len n (length scripts)
-    → AllZip (λ (s : Vec Step Global) (a : Acting). HasActed name a.number s.items a) scripts others → All (StandsIn h) others → EachFollows n scripts h
+    → AllZip (λ (s : Vec Step Global) (a : Acting). HasActed name a.number s.items a) scripts others → All (StandsIn h) others → EachFollows n (lists scripts) h
 each-stands name n [] [] h numbers acted own = tt
 each-stands name n [] (a ∷ others) h numbers acted own = absurd acted
 each-stands name n (s ∷ scripts) [] h numbers acted own = absurd acted

@@ -45,19 +45,23 @@ abbrev pub log_of : List (ℕ × ℕ) → List Raised → List Did
 log_of script answers = reverse (raises_of script answers)
 
 -- the logs of all lines
-abbrev pub logs_of : List (Vec (ℕ × ℕ) Global) → List (Vec Raised Global) → List (List Did)
+abbrev pub logs_of : List (List (ℕ × ℕ)) → List (List Raised) → List (List Did)
 logs_of [] answers = []
 logs_of (s ∷ scripts) [] = []
-logs_of (s ∷ scripts) (a ∷ answers) = log_of s.items a.items ∷ logs_of scripts answers
+logs_of (s ∷ scripts) (a ∷ answers) = log_of s a ∷ logs_of scripts answers
 
 -- one answer for each raise
-abbrev pub HasEach : Vec (ℕ × ℕ) Global → Vec Raised Global → Type 0
-HasEach script answers = length answers.items ≡ length script.items
+abbrev pub HasEach : List (ℕ × ℕ) → List Raised → Type 0
+HasEach script answers = length answers ≡ length script
+
+-- the lists that vectors hold
+abbrev pub lists : {A : Type 0} → List (Vec A Global) → List (List A)
+lists {A} = map (λ (v : Vec A Global). v.items)
 
 -- the calls of the actors from n on are their scripts
-abbrev pub EachFollows : ℕ → List (Vec Step Global) → List Entry → Type 0
+abbrev pub EachFollows : ℕ → List (List Step) → List Entry → Type 0
 EachFollows n [] history = Unit {0}
-EachFollows n (s ∷ scripts) history = Follows s.items (calls_by n history) × EachFollows (n + 1) scripts history
+EachFollows n (s ∷ scripts) history = Follows s (calls_by n history) × EachFollows (n + 1) scripts history
 
 -- entries by actor 0 that are these steps
 pub record AreMain (steps : List Step) (entries : List Entry) : Type 0 where
@@ -65,7 +69,7 @@ pub record AreMain (steps : List Step) (entries : List Entry) : Type 0 where
   pub follow : Follows steps (map call_of entries)
 
 -- the history of a crew: the setup, then all scripts in whatever order their calls came, then the last absorbs
-pub record IsCrewed (processors : ℕ) (setup : List Event) (scripts : List (Vec Step Global)) (history : List Entry) : Type 0 where
+pub record IsCrewed (processors : ℕ) (setup : List Event) (scripts : List (List Step)) (history : List Entry) : Type 0 where
   pub first : List Entry
   pub between : List Entry
   pub last : List Entry

@@ -8,7 +8,7 @@ ghost use Rattle.posted_words.specs.declared.line.Raised.{Raised};
 ghost use Rattle.board_threads.specs.Sharing.{new_actor};
 ghost use Rattle.board_threads.specs.Settling.{IsSettled, AreAbsorbed};
 ghost use Rattle.board_threads.specs.Judging.{IsSized, has_bad_step};
-ghost use Rattle.board_threads.specs.Crew.{IsCrewed, HasEach, logs_of};
+ghost use Rattle.board_threads.specs.Crew.{IsCrewed, HasEach, lists, logs_of};
 ghost use Rattle.board_threads.specs.Work.{IsNewActor, IsNewLine, IsThere, HaveWorked};
 
 use crate::actor::Actor;
@@ -76,9 +76,9 @@ pub fn run_crew<R: Threads + Wait + Sync, G: Gate + Sync>(
     ensures step { IsErrOf result CrewFault.BadStep ↔ IsSized setup.now scripts.now × (has_bad_step setup.now scripts.now ≡ true) }
     ensures settled { IfOk result (λ c. IsSettled (opened setup.now.processors setup.now.pages setup.now.first_ticket) c.ended) }
     ensures numbers { IfOk result (λ c. map (λ a. a.number) c.ended.actors.items ≡ range_with_len 0 (vec_len scripts.now.actors + 1)) }
-    ensures crewed { IfOk result (λ c. IsCrewed setup.now.processors setup.now.events.items scripts.now.actors.items c.ended.history.items) }
-    ensures each { IfOk result (λ c. AllZip HasEach scripts.now.lines.items c.raised.items) }
-    ensures raises { IfOk result (λ c. AreAbsorbed (4 * setup.now.processors) (logs_of scripts.now.lines.items c.raised.items) c.ended.history.items c.ended.standing) }
+    ensures crewed { IfOk result (λ c. IsCrewed setup.now.processors setup.now.events.items (lists scripts.now.actors.items) c.ended.history.items) }
+    ensures each { IfOk result (λ c. AllZip HasEach (lists scripts.now.lines.items) (lists c.raised.items)) }
+    ensures raises { IfOk result (λ c. AreAbsorbed (4 * setup.now.processors) (logs_of (lists scripts.now.lines.items) (lists c.raised.items)) c.ended.history.items c.ended.standing) }
 {
     if !is_sized(setup, scripts) {
         return Err(CrewFault::BadSize);
@@ -106,9 +106,9 @@ fn run_judged<R: Threads + Wait + Sync, G: Gate + Sync>(
     requires step { has_bad_step setup.now scripts.now ≡ false }
     ensures settled { IfOk result (λ c. IsSettled (opened setup.now.processors setup.now.pages setup.now.first_ticket) c.ended) }
     ensures numbers { IfOk result (λ c. map (λ a. a.number) c.ended.actors.items ≡ range_with_len 0 (vec_len scripts.now.actors + 1)) }
-    ensures crewed { IfOk result (λ c. IsCrewed setup.now.processors setup.now.events.items scripts.now.actors.items c.ended.history.items) }
-    ensures each { IfOk result (λ c. AllZip HasEach scripts.now.lines.items c.raised.items) }
-    ensures raises { IfOk result (λ c. AreAbsorbed (4 * setup.now.processors) (logs_of scripts.now.lines.items c.raised.items) c.ended.history.items c.ended.standing) }
+    ensures crewed { IfOk result (λ c. IsCrewed setup.now.processors setup.now.events.items (lists scripts.now.actors.items) c.ended.history.items) }
+    ensures each { IfOk result (λ c. AllZip HasEach (lists scripts.now.lines.items) (lists c.raised.items)) }
+    ensures raises { IfOk result (λ c. AreAbsorbed (4 * setup.now.processors) (logs_of (lists scripts.now.lines.items) (lists c.raised.items)) c.ended.history.items c.ended.standing) }
 {
     let Ok((board, actors, lines)) = SharedBoard::open(
         alloc,
@@ -196,9 +196,9 @@ fn finish(
     requires few { setup.now.processors ≤ 8 }
     ensures settled { IfOk result (λ c. IsSettled (opened setup.now.processors setup.now.pages setup.now.first_ticket) c.ended) }
     ensures numbers { IfOk result (λ c. map (λ a. a.number) c.ended.actors.items ≡ range_with_len 0 (vec_len scripts.now.actors + 1)) }
-    ensures crewed { IfOk result (λ c. IsCrewed setup.now.processors setup.now.events.items scripts.now.actors.items c.ended.history.items) }
-    ensures each { IfOk result (λ c. AllZip HasEach scripts.now.lines.items c.raised.items) }
-    ensures raises { IfOk result (λ c. AreAbsorbed (4 * setup.now.processors) (logs_of scripts.now.lines.items c.raised.items) c.ended.history.items c.ended.standing) }
+    ensures crewed { IfOk result (λ c. IsCrewed setup.now.processors setup.now.events.items (lists scripts.now.actors.items) c.ended.history.items) }
+    ensures each { IfOk result (λ c. AllZip HasEach (lists scripts.now.lines.items) (lists c.raised.items)) }
+    ensures raises { IfOk result (λ c. AreAbsorbed (4 * setup.now.processors) (logs_of (lists scripts.now.lines.items) (lists c.raised.items)) c.ended.history.items c.ended.standing) }
 {
     let Worked {
         actors,

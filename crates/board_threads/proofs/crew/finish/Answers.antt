@@ -6,7 +6,7 @@ use Rattle.posted_words.specs.Words.{did_of}
 use Rattle.board_threads.specs.History.{calls_by}
 use Rattle.board_threads.specs.Sharing.{Acting, start}
 use Rattle.board_threads.specs.Settling.{IsSettled, AreAbsorbed}
-use Rattle.board_threads.specs.Crew.{EachFollows}
+use Rattle.board_threads.specs.Crew.{EachFollows, lists}
 use Rattle.board_threads.specs.Work.{InPlace, HasServed}
 use Rattle.board_threads.proofs.Placing.{crewed, stand, each-stands, numbers-are, StandsIn}
 use Rattle.board_threads.proofs.Crewing.{all-of, all-lines-of, all-only-raise, logs-are, each-answered}
@@ -43,9 +43,9 @@ returns-clause-crewed c =
     let all = stand h _ c.args.worked.actors.items c.in_ok-ended.ensures.actors c.in_ok-ended.ensures.settled.actors.own in
     let own = subst (All (StandsIn h)) w.actors_are all in
     let main = ap (λ n. calls_by n h) (sym w.served.number) ∙ All-head (StandsIn h) w.main w.others own in
-    let others : EachFollows 1 scripts h = each-stands name 1 scripts w.others h w.numbers w.acted (All-tail (StandsIn h) w.main w.others own) in
+    let others : EachFollows 1 (lists scripts) h = each-stands name 1 scripts w.others h w.numbers w.acted (All-tail (StandsIn h) w.main w.others own) in
     let place : InPlace (length setup) (4 * c.args.setup.now.processors) h = search rules in
-    crewed name c.args.setup.now.processors setup scripts h w.main place w.served main others
+    crewed name c.args.setup.now.processors setup (lists scripts) h w.main place w.served main others
 
 pub returns-clause-each : goal.returns-clause-each
 returns-clause-each c = each-answered _ _ _ _ _ _ c.requires.worked
