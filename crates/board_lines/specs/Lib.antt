@@ -3,3 +3,4 @@ pub mod Items
 pub mod Sizes
 pub mod Reading
 pub mod Printing
+pub mod Faults

@@ -2,12 +2,14 @@
 #![tactic(auto)]
 
 mod event;
+mod fault;
 pub mod laws;
 mod numbers;
 mod opening;
 mod print;
 
 pub use event::event_of;
+pub use fault::{ScriptFault, put_fault, skips};
 pub use numbers::u8_of;
 pub use opening::opening_of;
 pub use print::{put_notices, put_reply, put_summary};

@@ -12,8 +12,8 @@ use Rattle.line_driver.specs.declared.driving.End.TheVariants as ends
 use Rattle.board_script.specs.Script.{line_fault, rest_fault, first_fault}
 use Rattle.board_script.specs.Output.{Machine, output_from, output_of, fault_of, fault_text, text}
 use Rattle.board_script.specs.Streams.{Begun, Replays, Finishes, IsAnswered, IsFaulty}
-use Rattle.board_script.specs.declared.stream.ScriptFault.{ScriptFault}
-use Rattle.board_script.specs.declared.stream.ScriptFault.TheVariants as faults
+use Rattle.board_lines.specs.declared.fault.ScriptFault.{ScriptFault}
+use Rattle.board_lines.specs.declared.fault.ScriptFault.TheVariants as faults
 use Rattle.board_script.specs.declared.stream.ReplayEnd.{ReplayEnd}
 use Rattle.board_script.specs.declared.stream.ReplayEnd.TheVariants.{Done, Script, Memory, Reading, Writing}
 use Rattle.board_script.proofs.ScriptLemmas.{output_from-line, first_fault-line, output_from-bad, first_fault-bad}

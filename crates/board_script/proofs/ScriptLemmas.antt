@@ -16,8 +16,8 @@ use Rattle.line_driver.specs.Judging.{Takes}
 use Rattle.line_driver.specs.declared.judge.Taken.{Taken}
 use Rattle.line_driver.specs.declared.judge.Taken.TheVariants as taken
 use Rattle.board_script.specs.Streams.{after_maybe, answer_maybe, AnswersItem, IsAnswered, IsFaulty}
-use Rattle.board_script.specs.declared.stream.ScriptFault.{ScriptFault}
-use Rattle.board_script.specs.declared.stream.ScriptFault.TheVariants as faults
+use Rattle.board_lines.specs.declared.fault.ScriptFault.{ScriptFault}
+use Rattle.board_lines.specs.declared.fault.ScriptFault.TheVariants as faults
 
 opens_by : (long skip : Bool) (machine : Machine) (item : Option Item) → cond long (Some faults.Long) (cond skip None (item_fault (is_some machine) item)) ≡ None → is_some (after_maybe machine (cond skip None item)) ≡ (is_some machine || not skip)
 opens_by true skip machine item e = cc

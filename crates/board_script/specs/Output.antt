@@ -6,11 +6,12 @@ use Rattle.synic_board.specs.State.{State, opened}
 use Rattle.synic_board.specs.Scratch.{scratch}
 use Rattle.synic_board.specs.Effects.{Outcome}
 use Rattle.synic_board.specs.Step.{step}
+pub use Rattle.board_lines.specs.Faults.{fault_word, fault_line, fault_text}
 use Rattle.board_lines.specs.Items.{Item, Opening, Performs, Summary}
 use Rattle.board_lines.specs.Printing.{text_of, reply_fields, notice_fields, summary_lines}
 use Rattle.board_script.specs.Script.{first_fault, good_items}
-use Rattle.board_script.specs.declared.stream.ScriptFault.{ScriptFault}
-use Rattle.board_script.specs.declared.stream.ScriptFault.TheVariants as faults
+use Rattle.board_lines.specs.declared.fault.ScriptFault.{ScriptFault}
+use Rattle.board_lines.specs.declared.fault.ScriptFault.TheVariants as faults
 
 -- the machine, once it is open
 abbrev pub Machine : Type 0
@@ -37,20 +38,6 @@ answer (Some s) Summary = text_of (summary_lines (scratch s))
 abbrev pub answers : Machine → List Item → List ℕ
 answers machine [] = []
 answers machine (item ∷ items) = answer machine item ++ answers (after machine item) items
-
-abbrev pub fault_word : ScriptFault → List ℕ
-fault_word faults.Long = codes "long"
-fault_word faults.Cut = codes "cut"
-fault_word faults.First = codes "first"
-fault_word faults.Size = codes "size"
-fault_word faults.Form = codes "form"
-
-abbrev pub fault_line : ℕ × ScriptFault → List ℕ
-fault_line fault = line_of (codes "!" ∷ decimal fault.0 ∷ fault_word fault.1 ∷ [])
-
-abbrev pub fault_text : Option (ℕ × ScriptFault) → List ℕ
-fault_text None = []
-fault_text (Some fault) = fault_line fault
 
 -- what is written for whole lines, from a machine on
 abbrev pub output_from : Machine → List (List ℕ) → List ℕ

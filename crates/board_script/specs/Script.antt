@@ -1,16 +1,12 @@
 -- What is wrong with a script, and where first.
-use Rattle.std.specs.Prelude.{ℕ, ◌+◌, List, [], ◌∷◌, ◌==◌, ◌||◌, not, Bool, true, false, if◌then◌else◌, nat_lt, length, Option, None, Some, is_some}
+use Rattle.std.specs.Prelude.{ℕ, ◌+◌, List, [], ◌∷◌, ◌||◌, not, Bool, true, false, if◌then◌else◌, nat_lt, length, Option, None, Some, is_some}
 use Rattle.std.specs.List.{filter_map}
 use Rattle.board_lines.specs.Items.{Item, Opening, Performs, Summary}
 use Rattle.board_lines.specs.Reading.{item_at}
 use Rattle.board_lines.specs.Sizes.{are_sizes}
-use Rattle.board_script.specs.declared.stream.ScriptFault.{ScriptFault}
-use Rattle.board_script.specs.declared.stream.ScriptFault.TheVariants as faults
-
--- an empty line and a comment are skipped
-abbrev pub is_skipped : List ℕ → Bool
-is_skipped [] = true
-is_skipped (b ∷ bytes) = b == 35
+pub use Rattle.board_lines.specs.Faults.{is_skipped, rest_fault}
+use Rattle.board_lines.specs.declared.fault.ScriptFault.{ScriptFault}
+use Rattle.board_lines.specs.declared.fault.ScriptFault.TheVariants as faults
 
 -- what a line asks for, if it is not skipped
 abbrev pub item_in : List ℕ → Option Item
@@ -33,14 +29,6 @@ line_fault opened line =
     if nat_lt 640 (length line) then Some faults.Long
     else if is_skipped line then None
     else item_fault opened (item_at line)
-
--- what is wrong with the bytes behind the last line feed
-abbrev pub rest_fault : Bool → List ℕ → Option ScriptFault
-rest_fault opened rest =
-    if nat_lt 640 (length rest) then Some faults.Long
-    else if nat_lt 0 (length rest) then Some faults.Cut
-    else if opened then None
-    else Some faults.First
 
 -- the board is open after a good line
 abbrev pub opens : Bool → List ℕ → Bool

@@ -8,7 +8,7 @@ use Rattle.line_driver.specs.declared.judge.Taken.{Taken}
 use Rattle.line_driver.specs.declared.judge.Taken.TheVariants as taken
 use Rattle.board_script.specs.Script.{item_in, item_fault, line_fault}
 use Rattle.board_script.specs.Output.{Machine, after, answer, output_of, fault_of, fault_text, text}
-use Rattle.board_script.specs.declared.stream.ScriptFault.{ScriptFault}
+use Rattle.board_lines.specs.declared.fault.ScriptFault.{ScriptFault}
 use Rattle.board_script.specs.declared.stream.ReplayEnd.{ReplayEnd}
 use Rattle.board_script.specs.declared.stream.ReplayEnd.TheVariants.{Done, Script, Memory, Reading, Writing}
 

@@ -2,7 +2,7 @@
 ghost use Rattle.board_script.specs.Streams.{IsAnswered, IsFaulty, machine_of};
 
 use crate::respond::respond;
-use crate::stream::ScriptFault;
+use board_lines::ScriptFault;
 use board_terms::Notices;
 use line_driver::{Judge, Taken};
 use std::alloc::Global;

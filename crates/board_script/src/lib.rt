@@ -6,5 +6,6 @@ pub mod laws;
 mod respond;
 mod stream;
 
+pub use board_lines::ScriptFault;
 pub use board_trace::{CheckEnd, check_trace};
-pub use stream::{ReplayEnd, ScriptFault, replay};
+pub use stream::{ReplayEnd, replay};

@@ -2,13 +2,13 @@
 ghost use Rattle.std.specs.Prelude.{◌≡◌, ◌≤◌, [], ◌∷◌, ◌++◌, length, OnOk, None, Some};
 ghost use Rattle.synic_board.specs.Step.{step};
 ghost use Rattle.board_lines.specs.Reading.{opening_item, item_say};
-ghost use Rattle.board_script.specs.Script.{is_skipped};
 ghost use Rattle.board_script.specs.Output.{told};
 ghost use Rattle.board_script.specs.Streams.{IsAnswered, IsFaulty, AnswersItem, machine_of};
 ghost use Rattle.line_driver.specs.Judging.{Takes};
 
-use crate::stream::ScriptFault;
-use board_lines::{event_of, opening_of, put_notices, put_reply, put_summary};
+use board_lines::{
+    ScriptFault, event_of, opening_of, put_notices, put_reply, put_summary, skips,
+};
 use board_terms::Notices;
 use board_text::Fields;
 use line_driver::Taken;
@@ -37,16 +37,6 @@ pub(crate) fn respond(
     match board {
         Some(board) => take_line(board, word, &mut fields, notices, out),
         None => open(alloc, board, word, &mut fields),
-    }
-}
-
-/// Whether a line is empty or a comment.
-fn skips(line: &[u8]) -> bool
-    ensures { result ≡ is_skipped line.now }
-{
-    match line {
-        [] => true,
-        [first, ..] => *first == b'#',
     }
 }
 

@@ -1,30 +1,13 @@
 // A script from a reader, its text to a writer.
-ghost use Rattle.std.specs.Prelude.{◌≡◌, [], Some, OnOk, ◌++◌};
-ghost use Rattle.board_script.specs.Output.{fault_word, fault_text};
 ghost use Rattle.board_text.specs.Streams.{ReadsUpTo};
 ghost use Rattle.board_script.specs.Streams.{Replays, Finishes};
 
 use crate::judge::ScriptJudge;
+use board_lines::{ScriptFault, put_fault};
 use board_terms::Notices;
-use board_text::put_decimal;
 use line_driver::{End, close, drive};
-use std::alloc::{AllocError, Global};
+use std::alloc::Global;
 use std::io::{Read, Write};
-
-/// What is wrong with a line of a script. They are judged in this order.
-#[derive(Clone, Copy, PartialEq, Eq, Debug)]
-pub enum ScriptFault {
-    /// It has more than 640 bytes.
-    Long,
-    /// The input ends inside it.
-    Cut,
-    /// The first line that is not skipped is no board line.
-    First,
-    /// The board line has sizes outside the limits.
-    Size,
-    /// It means nothing here.
-    Form,
-}
 
 /// How a replay ends.
 #[derive(Clone, Copy, PartialEq, Eq, Debug)]
@@ -94,28 +77,5 @@ fn finish<W: Write>(
     match fault {
         Some((line, fault)) => ReplayEnd::Script { line, fault },
         None => ReplayEnd::Done,
-    }
-}
-
-/// Writes the fault's line at the end of `out`.
-fn put_fault(out: &mut Vec<u8>, line: u64, fault: ScriptFault) -> Result<(), AllocError>
-    ensures { OnOk result (out.new.items ≡ out.old.items ++ fault_text (Some (line, fault))) }
-{
-    out.extend_from_slice(b"! ")?;
-    put_decimal(out, line)?;
-    out.extend_from_slice(b" ")?;
-    out.extend_from_slice(word_of(fault))?;
-    out.extend_from_slice(b"\n")
-}
-
-fn word_of(fault: ScriptFault) -> &'static [u8]
-    ensures { result.now ≡ fault_word fault }
-{
-    match fault {
-        ScriptFault::Long => b"long",
-        ScriptFault::Cut => b"cut",
-        ScriptFault::First => b"first",
-        ScriptFault::Size => b"size",
-        ScriptFault::Form => b"form",
     }
 }

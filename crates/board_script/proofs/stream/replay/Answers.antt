@@ -4,7 +4,7 @@ use Rattle.line_driver.proofs.Limits.{limit-within}
 use Rattle.board_script.specs.Output.{Machine}
 use Rattle.board_script.specs.Streams.{machine_of}
 use Rattle.board_script.specs.declared.judge.ScriptJudge.{ScriptJudge}
-use Rattle.board_script.specs.declared.stream.ScriptFault.TheVariants as faults
+use Rattle.board_lines.specs.declared.fault.ScriptFault.TheVariants as faults
 use Rattle.board_script.proofs.Judged.{FaultAt, replays-finished, replays-begun, replays-writing, replays-nothing}
 use Rattle.board_script.proofs.stream.replay.Goals as goal
 
