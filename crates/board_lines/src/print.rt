@@ -1,15 +1,17 @@
 // What is written.
+mod event;
 mod notice;
 mod reply;
 mod summary;
 
 ghost use Rattle.std.specs.Prelude.{◌≡◌, ◌++◌, Option, OnOk};
-ghost use Rattle.board_text.specs.Numbers.{two_digits};
+ghost use Rattle.board_text.specs.Numbers.{two_digits, AreBytes};
 ghost use Rattle.board_lines.specs.Events.{bytes_text};
 ghost use Rattle.board_lines.specs.Printing.{vector_or_none};
 
 use board_terms::Vector;
 use board_text::{put_byte, put_bytes};
+pub use event::put_event;
 pub use notice::put_notices;
 pub use reply::put_reply;
 use std::alloc::AllocError;
@@ -24,7 +26,8 @@ fn put(out: &mut Vec<u8>, text: &[u8]) -> Result<(), AllocError>
 
 /// Writes bytes at the end of `out`, two digits each, or `-` for none.
 fn put_data(out: &mut Vec<u8>, bytes: &[u8]) -> Result<(), AllocError>
-    ensures { OnOk result (out.new.items ≡ out.old.items ++ bytes_text bytes.now) }
+    ensures written { OnOk result (out.new.items ≡ out.old.items ++ bytes_text bytes.now) }
+    ensures fits { AreBytes bytes.now }
 {
     if bytes.is_empty() {
         return put(out, b"-");
