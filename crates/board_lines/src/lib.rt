@@ -10,6 +10,6 @@ mod print;
 
 pub use event::event_of;
 pub use fault::{ScriptFault, put_fault, skips};
-pub use numbers::u8_of;
+pub use numbers::{u8_of, vector_of};
 pub use opening::opening_of;
 pub use print::{put_event, put_notices, put_reply, put_summary};

@@ -66,7 +66,7 @@ pub(crate) fn hex_u64_of(fields: &mut Fields<'_>) -> Option<u64>
 }
 
 /// A vector in two hexadecimal digits.
-pub(crate) fn vector_of(fields: &mut Fields<'_>) -> Option<Vector>
+pub fn vector_of(fields: &mut Fields<'_>) -> Option<Vector>
     ensures { TakesNumber vector_at result fields.old fields.new }
 {
     let Some(field) = fields.next() else {

@@ -1,0 +1,39 @@
+-- What a crew script has asked for, up to some line.
+use Rattle.std.specs.Prelude.{ℕ, ◌+◌, ◌*◌, List, [], ◌∷◌, ◌++◌, length}
+use Rattle.std.specs.List.{sum_by}
+use Rattle.synic_board.specs.declared.event.Event.{Event}
+use Rattle.board_threads.specs.declared.script.Step.{Step}
+
+-- where the next line stands: in the setup, in the script of an actor, or in that of a line, with its steps so far
+pub data Section : Type 0 where
+  InSetup : Section
+  InActor : List Step → Section
+  InLine : List (ℕ × ℕ) → Section
+
+pub record Crew : Type 0 where
+  -- the board
+  pub processors : ℕ
+  pub pages : ℕ
+  pub first_ticket : ℕ
+  -- the events of the setup
+  pub setup : List Event
+  -- the scripts of the actors and of the lines whose sections are over
+  pub actors : List (List Step)
+  pub lines : List (List (ℕ × ℕ))
+  pub section : Section
+
+abbrev pub new_crew : ℕ → ℕ → ℕ → Crew
+new_crew processors pages ticket = record { processors = processors; pages = pages; first_ticket = ticket; setup = []; actors = []; lines = []; section = InSetup }
+
+-- the same with the present section over
+abbrev pub over : Section → Crew → Crew
+over InSetup crew = record crew { section = InSetup }
+over (InActor steps) crew = record crew { actors = crew.actors ++ steps ∷ []; section = InSetup }
+over (InLine raises) crew = record crew { lines = crew.lines ++ raises ∷ []; section = InSetup }
+
+abbrev pub closed : Crew → Crew
+closed crew = over crew.section crew
+
+-- how many entries its history has: the setup, the steps, and the last absorbs
+abbrev pub entries : Crew → ℕ
+entries crew = length crew.setup + sum_by (λ (s : List Step). length s) (closed crew).actors + 4 * crew.processors

@@ -1,0 +1,125 @@
+-- What the lines of a crew script mean, and what is wrong with one.
+use Rattle.std.specs.Prelude.{ℕ, ◌+◌, List, [], ◌∷◌, ◌++◌, Bool, true, false, if◌then◌else◌, nat_lt, nat_le, length, Option, None, Some, Result, Ok, Err, codes}
+use Rattle.std.specs.Option.{option_and_then}
+use Rattle.std.specs.Str.{bytes_eq}
+use Rattle.board_text.specs.Fields.{fields_of}
+use Rattle.board_text.specs.Lines.{lines_of, rest_of}
+use Rattle.synic_board.specs.declared.event.Event.{Event}
+use Rattle.board_lines.specs.Reading.{Fields, take_then, ended, u8_at, vector_at, event_say, opening_say}
+use Rattle.board_lines.specs.Sizes.{are_sizes}
+use Rattle.board_lines.specs.Faults.{is_skipped, rest_fault}
+use Rattle.board_lines.specs.declared.fault.ScriptFault.{ScriptFault}
+use Rattle.board_lines.specs.declared.fault.ScriptFault.TheVariants as faults
+use Rattle.board_threads.specs.Sweeps.{is_absorb}
+use Rattle.board_threads.specs.declared.script.Step.{Step}
+use Rattle.board_threads.specs.declared.script.Step.TheVariants.{Act, Sweep}
+use Rattle.crew_script.specs.Crew.{Section, InSetup, InActor, InLine, Crew, new_crew, closed, entries}
+
+-- what a script asks for, once its board is open, or a fault
+abbrev pub Read : Type 0
+Read = Result (Option Crew) ScriptFault
+
+-- An event line of a crew is any but an absorb, whose bits are what a sweep takes.
+abbrev pub no_absorb : Event → Option Event
+no_absorb e = if is_absorb e then None else Some e
+
+abbrev pub act_say : Fields → Option Event
+act_say fields = option_and_then no_absorb (event_say fields)
+
+-- `absorb <vp> <part>` sweeps a word
+abbrev pub sweep_say : Fields → Option Step
+sweep_say = take_then u8_at (λ vp. take_then u8_at (λ part. ended (Sweep vp part)))
+
+-- `raise <vp> <vector>`, at a processor of the board
+abbrev pub on_board : ℕ → ℕ × ℕ → Option (ℕ × ℕ)
+on_board processors raise = if nat_lt raise.0 processors then Some raise else None
+
+abbrev pub raise_say : ℕ → Fields → Option (ℕ × ℕ)
+raise_say processors fields = option_and_then (on_board processors) (take_then u8_at (λ vp. take_then vector_at (λ vector. ended (vp, vector))) fields)
+
+abbrev pub step_of : Event → Option Step
+step_of e = Some (Act e)
+
+abbrev pub step_say : List ℕ → Fields → Option Step
+step_say word fields = if bytes_eq word (codes "absorb") then sweep_say fields else option_and_then step_of (act_say (word ∷ fields))
+
+abbrev pub line_say : ℕ → List ℕ → Fields → Option (ℕ × ℕ)
+line_say processors word fields = if bytes_eq word (codes "raise") then raise_say processors fields else None
+
+-- one entry more, where a history has room for it
+abbrev pub with_entry : Crew → Crew → Read
+with_entry crew more = if nat_lt (entries crew) 65536 then Ok (Some more) else Err faults.Many
+
+abbrev pub with_event : Crew → Option Event → Read
+with_event crew None = Err faults.Form
+with_event crew (Some e) = with_entry crew (record crew { setup = crew.setup ++ e ∷ [] })
+
+abbrev pub with_step : Crew → List Step → Option Step → Read
+with_step crew steps None = Err faults.Form
+with_step crew steps (Some s) = with_entry crew (record crew { section = InActor (steps ++ s ∷ []) })
+
+abbrev pub with_raise : Crew → List (ℕ × ℕ) → Option (ℕ × ℕ) → Read
+with_raise crew raises None = Err faults.Form
+with_raise crew raises (Some r) = Ok (Some (record crew { section = InLine (raises ++ r ∷ []) }))
+
+-- a line of the present section
+abbrev pub section_line : Section → Crew → List ℕ → Fields → Read
+section_line InSetup crew word fields = with_event crew (act_say (word ∷ fields))
+section_line (InActor steps) crew word fields = with_step crew steps (step_say word fields)
+section_line (InLine raises) crew word fields = with_raise crew raises (line_say crew.processors word fields)
+
+-- `actor` begins the script of the next actor, of 15 at most, and `line` that of the next line, of 16 at most
+abbrev pub with_actor : Crew → Fields → Read
+with_actor crew [] = if nat_lt (length (closed crew).actors) 15 then Ok (Some (record (closed crew) { section = InActor [] })) else Err faults.Many
+with_actor crew (field ∷ fields) = Err faults.Form
+
+abbrev pub with_line : Crew → Fields → Read
+with_line crew [] = if nat_lt (length (closed crew).lines) 16 then Ok (Some (record (closed crew) { section = InLine [] })) else Err faults.Many
+with_line crew (field ∷ fields) = Err faults.Form
+
+-- the first item opens the board, within the limits
+abbrev pub with_board : Option (ℕ × ℕ × ℕ) → Read
+with_board None = Err faults.First
+with_board (Some sizes) = if are_sizes sizes.0 sizes.1 then Ok (Some (new_crew sizes.0 sizes.1 sizes.2)) else Err faults.Size
+
+abbrev pub first_say : List ℕ → Fields → Read
+first_say word fields = if bytes_eq word (codes "board") then with_board (opening_say fields) else Err faults.First
+
+abbrev pub crew_say : Crew → List ℕ → Fields → Read
+crew_say crew word fields =
+    if bytes_eq word (codes "actor") then with_actor crew fields
+    else if bytes_eq word (codes "line") then with_line crew fields
+    else section_line crew.section crew word fields
+
+-- what the fields of a line add
+abbrev pub fields_say : Option Crew → Fields → Read
+fields_say crew [] = Err faults.Form
+fields_say None (word ∷ fields) = first_say word fields
+fields_say (Some crew) (word ∷ fields) = crew_say crew word fields
+
+-- what a whole line adds
+abbrev pub line_adds : Option Crew → List ℕ → Read
+line_adds crew line =
+    if nat_lt 640 (length line) then Err faults.Long
+    else if is_skipped line then Ok crew
+    else fields_say crew (fields_of line)
+
+-- what lines ask for, or the first fault and its line, the lines counted from k
+abbrev pub at_rest : ℕ → Option Crew → Option ScriptFault → Result (Option Crew) (ℕ × ScriptFault)
+at_rest k crew None = Ok crew
+at_rest k crew (Some fault) = Err (k, fault)
+
+abbrev pub is_open : Option Crew → Bool
+is_open None = false
+is_open (Some crew) = true
+
+abbrev pub lines_ask : ℕ → Option Crew → List (List ℕ) → List ℕ → Result (Option Crew) (ℕ × ScriptFault)
+abbrev go_on : ℕ → Read → List (List ℕ) → List ℕ → Result (Option Crew) (ℕ × ScriptFault)
+lines_ask k crew [] rest = at_rest k crew (rest_fault (is_open crew) rest)
+lines_ask k crew (line ∷ lines) rest = go_on k (line_adds crew line) lines rest
+go_on k (Err fault) lines rest = Err (k, fault)
+go_on k (Ok crew) lines rest = lines_ask (k + 1) crew lines rest
+
+-- what a whole script asks for, or its first fault
+unfoldable pub script_asks : List ℕ → Result (Option Crew) (ℕ × ScriptFault)
+script_asks input = lines_ask 1 None (lines_of input) (rest_of input)

@@ -1,0 +1,29 @@
+// The judge of a crew script's lines.
+ghost use Rattle.std.specs.Prelude.{◌≡◌, [], Ok, Err};
+ghost use Rattle.crew_script.specs.Reading.{line_adds};
+ghost use Rattle.crew_script.specs.View.{asked};
+
+use crate::script::{CrewScript, read_line};
+use board_lines::ScriptFault;
+use line_driver::{Judge, Taken};
+use std::alloc::Global;
+
+/// Reads the lines of a crew script. Nothing is sent before the whole of it was read.
+#[derive(Drop)]
+pub(crate) struct CrewJudge {
+    pub(crate) alloc: Global,
+    pub(crate) script: Option<CrewScript>,
+}
+
+impl Judge for CrewJudge {
+    type Fault = ScriptFault;
+
+    ghost good = { λ old line answer new. (answer ≡ []) × (line_adds (asked old.script) line ≡ Ok (asked new.script)) };
+
+    ghost wrong = { λ judge line fault. line_adds (asked judge.script) line ≡ Err fault };
+
+    fn take(&mut self, line: &[u8], out: &mut Vec<u8>) -> Taken<ScriptFault> {
+        let _ = out;
+        read_line(self.alloc, &mut self.script, line)
+    }
+}

@@ -1,0 +1,11 @@
+//! Scripts of crews: actors and lines on one board, each in a thread of its own, and the trace of what
+//! happened.
+#![tactic(auto)]
+
+mod crew;
+mod judge;
+mod script;
+
+pub use board_lines::ScriptFault;
+pub use board_threads::{Gate, OpenGate, Worker};
+pub use crew::CrewRun;

@@ -1,0 +1,283 @@
+// What a crew script has asked for.
+ghost use Rattle.std.specs.Prelude.{◌≡◌, ◌≤◌, ◌∷◌, List, length, nat_lt, OnOk, Some};
+ghost use Rattle.std.specs.List.{sum_by};
+ghost use Rattle.board_threads.specs.Crew.{lists};
+ghost use Rattle.board_threads.specs.declared.script.Step.{Step};
+ghost use Rattle.crew_script.specs.Crew.{closed, entries};
+ghost use Rattle.crew_script.specs.Reading.{act_say, step_say, line_say, sweep_say, crew_say, first_say, with_actor, with_line, section_line, line_adds};
+ghost use Rattle.crew_script.specs.View.{section_of, crew_of, asked, Adds, Puts};
+
+use board_lines::{ScriptFault, event_of, opening_of, skips, u8_of, vector_of};
+use board_terms::{Vector, Vp};
+use board_text::Fields;
+use board_threads::{Scripts, Setup, Step};
+use line_driver::Taken;
+use std::alloc::{AllocError, Global};
+use std::mem;
+use synic_board::Event;
+
+/// How many entries a history has at most.
+const MOST: usize = 65_536;
+
+/// Where the next line stands, with the steps of its section so far.
+#[derive(Drop)]
+pub(crate) enum Section {
+    Setup,
+    Actor(Vec<Step>),
+    Line(Vec<(Vp, Vector)>),
+}
+
+/// What a crew script has asked for: the scripts of the sections that are over, and the present one.
+#[derive(Drop)]
+pub(crate) struct CrewScript {
+    pub(crate) setup: Setup,
+    pub(crate) scripts: Scripts,
+    pub(crate) section: Section,
+    ghost few: { setup.processors ≤ 8 },
+}
+
+/// Reads a line of at most 640 bytes.
+pub(crate) fn read_line(
+    alloc: Global,
+    script: &mut Option<CrewScript>,
+    line: &[u8],
+) -> Taken<ScriptFault>
+    requires { length line.now ≤ 640 }
+    ensures { Adds result (line_adds (asked script.old) line.now) (asked script.new) }
+{
+    if skips(line) {
+        return Taken::Good;
+    }
+    let mut fields = Fields::new(line);
+    let Some(word) = fields.next() else {
+        return Taken::Wrong(ScriptFault::Form);
+    };
+    match script {
+        Some(script) => script.take_line(alloc, word, &mut fields),
+        None => open(alloc, script, word, &mut fields),
+    }
+}
+
+/// Takes the first item, which must be a board line.
+fn open(
+    alloc: Global,
+    script: &mut Option<CrewScript>,
+    word: &[u8],
+    fields: &mut Fields<'_>,
+) -> Taken<ScriptFault>
+    ensures { Adds result (first_say word.now fields.old) (asked script.new) }
+{
+    if word != b"board".as_slice() {
+        return Taken::Wrong(ScriptFault::First);
+    }
+    let Some((processors, pages, first_ticket)) = opening_of(fields) else {
+        return Taken::Wrong(ScriptFault::First);
+    };
+    if processors < 1 || processors > 8 || pages < 1 || pages > 64 {
+        return Taken::Wrong(ScriptFault::Size);
+    }
+    *script = Some(CrewScript {
+        setup: Setup {
+            processors,
+            pages,
+            first_ticket,
+            events: Vec::new(alloc),
+        },
+        scripts: Scripts {
+            actors: Vec::new(alloc),
+            lines: Vec::new(alloc),
+        },
+        section: Section::Setup,
+    });
+    Taken::Good
+}
+
+impl CrewScript {
+    /// Takes a line behind the board line.
+    fn take_line(
+        &mut self,
+        alloc: Global,
+        word: &[u8],
+        fields: &mut Fields<'_>,
+    ) -> Taken<ScriptFault>
+        ensures { Adds result (crew_say (crew_of self.old) word.now fields.old) (Some (crew_of self.new)) }
+    {
+        if word == b"actor".as_slice() {
+            return self.begin_actor(alloc, fields);
+        }
+        if word == b"line".as_slice() {
+            return self.begin_line(alloc, fields);
+        }
+        self.take_step(word, fields)
+    }
+
+    /// Takes a line of the present section.
+    fn take_step(&mut self, word: &[u8], fields: &mut Fields<'_>) -> Taken<ScriptFault>
+        ensures { Adds result (section_line (section_of self.old.section) (crew_of self.old) word.now fields.old) (Some (crew_of self.new)) }
+    {
+        let has_room = self.has_room();
+        match &mut self.section {
+            Section::Setup => match act_of(word, fields) {
+                None => Taken::Wrong(ScriptFault::Form),
+                Some(_) if !has_room => Taken::Wrong(ScriptFault::Many),
+                Some(event) => put(&mut self.setup.events, event),
+            },
+            Section::Actor(steps) => match step_of(word, fields) {
+                None => Taken::Wrong(ScriptFault::Form),
+                Some(_) if !has_room => Taken::Wrong(ScriptFault::Many),
+                Some(step) => put(steps, step),
+            },
+            Section::Line(raises) => match raise_of(self.setup.processors, word, fields) {
+                None => Taken::Wrong(ScriptFault::Form),
+                Some(raise) => put(raises, raise),
+            },
+        }
+    }
+
+    /// Begins the script of the next actor.
+    fn begin_actor(&mut self, alloc: Global, fields: &Fields<'_>) -> Taken<ScriptFault>
+        ensures { Adds result (with_actor (crew_of self.old) fields.now) (Some (crew_of self.new)) }
+    {
+        if !fields.is_empty() {
+            return Taken::Wrong(ScriptFault::Form);
+        }
+        if self.close().is_err() {
+            return Taken::Memory;
+        }
+        if self.scripts.actors.len() >= 15 {
+            return Taken::Wrong(ScriptFault::Many);
+        }
+        self.section = Section::Actor(Vec::new(alloc));
+        Taken::Good
+    }
+
+    /// Begins the script of the next line.
+    fn begin_line(&mut self, alloc: Global, fields: &Fields<'_>) -> Taken<ScriptFault>
+        ensures { Adds result (with_line (crew_of self.old) fields.now) (Some (crew_of self.new)) }
+    {
+        if !fields.is_empty() {
+            return Taken::Wrong(ScriptFault::Form);
+        }
+        if self.close().is_err() {
+            return Taken::Memory;
+        }
+        if self.scripts.lines.len() >= 16 {
+            return Taken::Wrong(ScriptFault::Many);
+        }
+        self.section = Section::Line(Vec::new(alloc));
+        Taken::Good
+    }
+
+    /// The present section is over.
+    pub(crate) fn close(&mut self) -> Result<(), AllocError>
+        ensures { OnOk result (crew_of self.new ≡ closed (crew_of self.old)) }
+    {
+        match mem::replace(&mut self.section, Section::Setup) {
+            Section::Setup => {}
+            Section::Actor(steps) => {
+                if self.scripts.actors.push(steps).is_err() {
+                    return Err(AllocError);
+                }
+            }
+            Section::Line(raises) => {
+                if self.scripts.lines.push(raises).is_err() {
+                    return Err(AllocError);
+                }
+            }
+        }
+        Ok(())
+    }
+
+    /// Whether a history has room for one entry more.
+    fn has_room(&self) -> bool
+        ensures { result ≡ nat_lt (entries (crew_of self.now)) 65536 }
+    {
+        let open = match &self.section {
+            Section::Actor(steps) => steps.len(),
+            _ => 0,
+        };
+        let last = 4 * usize::from(self.setup.processors);
+        if self.setup.events.len() >= MOST - last {
+            return false;
+        }
+        let left = MOST - last - self.setup.events.len();
+        if open >= left {
+            return false;
+        }
+        fit(self.scripts.actors.as_slice(), left - open)
+    }
+}
+
+/// Puts an item at the end.
+fn put<T: Drop>(items: &mut Vec<T>, item: T) -> Taken<ScriptFault>
+    ensures { Puts result items.old.items items.new.items item }
+{
+    if items.push(item).is_err() {
+        return Taken::Memory;
+    }
+    Taken::Good
+}
+
+/// Whether all scripts together have fewer steps than that.
+fn fit(scripts: &[Vec<Step>], room: usize) -> bool
+    ensures { result ≡ nat_lt (sum_by (λ (s : List Step). length s) (lists scripts.now)) room }
+{
+    let mut left = room;
+    for script in scripts {
+        if script.len() >= left {
+            return false;
+        }
+        left -= script.len();
+    }
+    left > 0
+}
+
+/// The event of a line, if it is no absorb.
+fn act_of(word: &[u8], fields: &mut Fields<'_>) -> Option<Event>
+    ensures { result ≡ act_say (word.now ∷ fields.old) }
+{
+    let event = event_of(word, fields)?;
+    if matches!(event, Event::Absorb { .. }) {
+        return None;
+    }
+    Some(event)
+}
+
+/// The step of a line of an actor's script.
+fn step_of(word: &[u8], fields: &mut Fields<'_>) -> Option<Step>
+    ensures { result ≡ step_say word.now fields.old }
+{
+    if word == b"absorb".as_slice() {
+        return sweep_of(fields);
+    }
+    let event = act_of(word, fields)?;
+    Some(Step::Act(event))
+}
+
+fn sweep_of(fields: &mut Fields<'_>) -> Option<Step>
+    ensures { result ≡ sweep_say fields.old }
+{
+    let vp = u8_of(fields)?;
+    let part = u8_of(fields)?;
+    if !fields.is_empty() {
+        return None;
+    }
+    Some(Step::Sweep { vp, part })
+}
+
+/// The raise of a line of a line's script.
+fn raise_of(processors: u8, word: &[u8], fields: &mut Fields<'_>) -> Option<(Vp, Vector)>
+    requires { processors ≤ 8 }
+    ensures { result ≡ line_say processors word.now fields.old }
+{
+    if word != b"raise".as_slice() {
+        return None;
+    }
+    let vp = u8_of(fields)?;
+    let vector = vector_of(fields)?;
+    if !fields.is_empty() || vp >= processors {
+        return None;
+    }
+    let vp = Vp::new(vp)?;
+    Some((vp, vector))
+}
