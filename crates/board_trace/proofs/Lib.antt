@@ -2,3 +2,4 @@ pub mod Written
 pub mod StageLemmas
 pub mod Judged
 pub mod LawLemmas
+pub mod PrintLemmas

@@ -4,6 +4,8 @@
 mod check;
 mod judge;
 pub mod laws;
+mod print;
 mod stage;
 
 pub use check::{CheckEnd, check_trace};
+pub use print::put_trace;

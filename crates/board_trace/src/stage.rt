@@ -1,5 +1,5 @@
 // What a trace may go on with, and the board that it tells of.
-ghost use Rattle.std.specs.Prelude.{◌≡◌, ◌<◌, ◌-◌, ◌^◌, ◌++◌, [], OnOk, IfOk};
+ghost use Rattle.std.specs.Prelude.{◌≡◌, ◌<◌, ◌-◌, ◌^◌, [], IfOk};
 ghost use Rattle.std.specs.Str.{bytes_eq};
 ghost use Rattle.board_text.specs.Fields.{words};
 ghost use Rattle.board_lines.specs.Printing.{reply_fields};
@@ -7,9 +7,10 @@ ghost use Rattle.board_trace.specs.Trace.{end_fields};
 ghost use Rattle.line_driver.specs.Judging.{Takes};
 ghost use Rattle.board_trace.specs.Stages.{entry_at, board_at, stage_of, count, IsGood, IsWrong, Opens, Runs, IsOver};
 
+use crate::print::put_end;
 use board_lines::{event_of, opening_of, put_reply, u8_of};
 use board_terms::Notices;
-use board_text::{Fields, put_decimal};
+use board_text::Fields;
 use line_driver::Taken;
 use std::alloc::{AllocError, Global};
 use synic_board::{Board, Event, OpenFault, Reply};
@@ -184,14 +185,6 @@ fn is_end(entries: u64, line: &[u8], out: &mut Vec<u8>) -> Result<bool, AllocErr
     out.clear();
     put_end(out, entries)?;
     Ok(line == out.as_slice())
-}
-
-/// Writes the end at the end of `out`, without a line feed.
-fn put_end(out: &mut Vec<u8>, entries: u64) -> Result<(), AllocError>
-    ensures { OnOk result (out.new.items ≡ out.old.items ++ words (end_fields entries)) }
-{
-    out.extend_from_slice(b"end ")?;
-    put_decimal(out, entries)
 }
 
 /// The event that a line names behind an actor's number.

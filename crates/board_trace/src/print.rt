@@ -1,0 +1,81 @@
+// What is written of a history.
+ghost use Rattle.std.specs.Prelude.{◌≡◌, ◌++◌, [], ◌∷◌, OnOk};
+ghost use Rattle.std.specs.List.{All};
+ghost use Rattle.board_text.specs.Fields.{words, line_of};
+ghost use Rattle.board_lines.specs.Items.{Opening, item_fields};
+ghost use Rattle.board_lines.specs.Printing.{text_of, reply_fields};
+ghost use Rattle.board_trace.specs.Trace.{IsEntry, entry_fields, end_fields, history_lines, trace};
+
+use board_lines::{put_event, put_reply};
+use board_terms::Ticket;
+use board_text::put_decimal;
+use std::alloc::AllocError;
+use synic_board::Entry;
+
+/// Writes the trace of a history at the end of `out`: that of a board of so many processors and
+/// pages, whose first message takes this ticket.
+pub fn put_trace(
+    out: &mut Vec<u8>,
+    processors: u8,
+    pages: u8,
+    first_ticket: Ticket,
+    history: &[Entry],
+) -> Result<(), AllocError>
+    ensures written { OnOk result (out.new.items ≡ out.old.items ++ trace processors pages first_ticket history.now) }
+    ensures fits { OnOk result (All IsEntry history.now) }
+{
+    out.extend_from_slice(b"trace 1\n")?;
+    put_opening(out, processors, pages, first_ticket)?;
+    put_history(out, history)?;
+    put_end(out, history.len() as u64)?;
+    out.extend_from_slice(b"\n")
+}
+
+/// Writes the board line at the end of `out`.
+fn put_opening(
+    out: &mut Vec<u8>,
+    processors: u8,
+    pages: u8,
+    first_ticket: Ticket,
+) -> Result<(), AllocError>
+    ensures { OnOk result (out.new.items ≡ out.old.items ++ line_of (item_fields (Opening processors pages first_ticket))) }
+{
+    out.extend_from_slice(b"board ")?;
+    put_decimal(out, processors)?;
+    out.extend_from_slice(b" ")?;
+    put_decimal(out, pages)?;
+    out.extend_from_slice(b" ")?;
+    put_decimal(out, first_ticket)?;
+    out.extend_from_slice(b"\n")
+}
+
+/// Writes the two lines of each entry at the end of `out`.
+fn put_history(out: &mut Vec<u8>, history: &[Entry]) -> Result<(), AllocError>
+    ensures written { OnOk result (out.new.items ≡ out.old.items ++ text_of (history_lines history.now)) }
+    ensures fits { OnOk result (All IsEntry history.now) }
+{
+    for entry in history {
+        put_entry(out, entry)?;
+    }
+    Ok(())
+}
+
+fn put_entry(out: &mut Vec<u8>, entry: &Entry) -> Result<(), AllocError>
+    ensures written { OnOk result (out.new.items ≡ out.old.items ++ text_of (history_lines (entry.now ∷ []))) }
+    ensures fits { OnOk result (IsEntry entry.now) }
+{
+    put_decimal(out, entry.actor)?;
+    out.extend_from_slice(b" ")?;
+    put_event(out, &entry.event)?;
+    out.extend_from_slice(b"\n")?;
+    put_reply(out, &entry.reply)?;
+    out.extend_from_slice(b"\n")
+}
+
+/// Writes the end behind so many entries at the end of `out`, without a line feed.
+pub(crate) fn put_end(out: &mut Vec<u8>, entries: u64) -> Result<(), AllocError>
+    ensures { OnOk result (out.new.items ≡ out.old.items ++ words (end_fields entries)) }
+{
+    out.extend_from_slice(b"end ")?;
+    put_decimal(out, entries)
+}
