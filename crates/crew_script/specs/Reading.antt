@@ -113,12 +113,13 @@ abbrev pub is_open : Option Crew → Bool
 is_open None = false
 is_open (Some crew) = true
 
+abbrev pub go_on : ℕ → Read → (Option Crew → Result (Option Crew) (ℕ × ScriptFault)) → Result (Option Crew) (ℕ × ScriptFault)
+go_on k (Err fault) next = Err (k, fault)
+go_on k (Ok crew) next = next crew
+
 abbrev pub lines_ask : ℕ → Option Crew → List (List ℕ) → List ℕ → Result (Option Crew) (ℕ × ScriptFault)
-abbrev go_on : ℕ → Read → List (List ℕ) → List ℕ → Result (Option Crew) (ℕ × ScriptFault)
 lines_ask k crew [] rest = at_rest k crew (rest_fault (is_open crew) rest)
-lines_ask k crew (line ∷ lines) rest = go_on k (line_adds crew line) lines rest
-go_on k (Err fault) lines rest = Err (k, fault)
-go_on k (Ok crew) lines rest = lines_ask (k + 1) crew lines rest
+lines_ask k crew (line ∷ lines) rest = go_on k (line_adds crew line) (λ (next : Option Crew). lines_ask (k + 1) next lines rest)
 
 -- what a whole script asks for, or its first fault
 unfoldable pub script_asks : List ℕ → Result (Option Crew) (ℕ × ScriptFault)

@@ -9,11 +9,14 @@ use Rattle.posted_words.specs.declared.line.Raised.{Raised}
 use Rattle.board_threads.specs.Crew.{IsCrewed, HasEach, logs_of}
 use Rattle.board_threads.specs.Settling.{AreAbsorbed}
 use Rattle.board_lines.specs.Faults.{fault_text}
+use Rattle.board_lines.specs.declared.fault.ScriptFault.{ScriptFault}
 use Rattle.board_trace.specs.Trace.{trace}
 use Rattle.crew_script.specs.Crew.{Crew, closed}
 use Rattle.crew_script.specs.Reading.{script_asks}
-use Rattle.crew_script.specs.declared.crew.CrewRun.{CrewRun}
-use Rattle.crew_script.specs.declared.crew.CrewRun.TheVariants.{Done, Script, Unsettled, Memory, NoThread, Reading, Writing}
+use Rattle.crew_script.specs.declared.running.Outcome.{Outcome}
+use Rattle.crew_script.specs.declared.running.Outcome.TheVariants as outcomes
+use Rattle.crew_script.specs.declared.running.CrewRun.{CrewRun}
+use Rattle.crew_script.specs.declared.running.CrewRun.TheVariants.{Done, Script, Unsettled, Memory, NoThread, Reading, Writing}
 
 -- A history of a crew, by whatever schedule: a run of one thread that has the setup, the actors' scripts and the last
 -- absorbs in their places, and in which each raise of a line that was answered Fresh was absorbed once, or stands.
@@ -43,3 +46,33 @@ Tells Writing input text = text ≡ []
 abbrev pub Crews : CrewRun → Option (List ℕ) → Option (List ℕ) → Option (List ℕ) → Type 0
 Crews Writing r0 w0 w1 = (end : CrewRun) × (sent : List ℕ) × (unsent : List ℕ) × IfSome r0 (λ input. Tells end input (sent ++ unsent)) × Appends w0 w1 sent
 Crews end r0 w0 w1 = (text : List ℕ) × IfSome r0 (λ input. Tells end input text) × Appends w0 w1 text
+
+-- the text of an end was written, or a beginning of it
+abbrev pub Says : CrewRun → (CrewRun → List ℕ → Type 0) → Option (List ℕ) → Option (List ℕ) → Type 0
+Says Writing tells w0 w1 = (end : CrewRun) × (sent : List ℕ) × (unsent : List ℕ) × tells end (sent ++ unsent) × Appends w0 w1 sent
+Says end tells w0 w1 = (text : List ℕ) × tells end text × Appends w0 w1 text
+
+-- what is written where a line has a fault
+abbrev pub Refusal : ℕ → ScriptFault → CrewRun → List ℕ → Type 0
+Refusal line fault (Script l f) text = (l ≡ line) × (f ≡ fault) × (text ≡ fault_text (Some (line, fault)))
+Refusal line fault Memory text = text ≡ []
+Refusal line fault end text = ⊥
+
+abbrev pub Refuses : CrewRun → ℕ → ScriptFault → Option (List ℕ) → Option (List ℕ) → Type 0
+Refuses end line fault w0 w1 = Says end (Refusal line fault) w0 w1
+
+-- what is written where a script asks for a crew
+abbrev pub Report : Crew → CrewRun → List ℕ → Type 0
+Report crew Done text = (history : List Entry) × IsHistory crew history × (text ≡ trace crew.processors crew.pages crew.first_ticket history)
+Report crew Unsettled text = text ≡ codes "! settle\n"
+Report crew NoThread text = text ≡ []
+Report crew Memory text = text ≡ []
+Report crew end text = ⊥
+
+abbrev pub Runs : CrewRun → Crew → Option (List ℕ) → Option (List ℕ) → Type 0
+Runs end crew w0 w1 = Says end (Report (closed crew)) w0 w1
+
+-- the crew was run, and its trace is ready
+abbrev pub Prepares : Outcome → Crew → List ℕ → Type 0
+Prepares outcomes.Done crew text = Report crew Done text
+Prepares outcome crew text = Unit {0}

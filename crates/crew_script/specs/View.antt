@@ -7,9 +7,9 @@ use Rattle.board_lines.specs.declared.fault.ScriptFault.{ScriptFault}
 use Rattle.board_threads.specs.Crew.{lists}
 use Rattle.crew_script.specs.Crew.{Section, InSetup, InActor, InLine, Crew}
 use Rattle.crew_script.specs.Reading.{Read}
-use Rattle.crew_script.specs.declared.script.Section.{Section as Held}
-use Rattle.crew_script.specs.declared.script.Section.TheVariants as held
-use Rattle.crew_script.specs.declared.script.CrewScript.{CrewScript}
+use Rattle.crew_script.specs.declared.held.Section.{Section as Held}
+use Rattle.crew_script.specs.declared.held.Section.TheVariants as held
+use Rattle.crew_script.specs.declared.held.CrewScript.{CrewScript}
 
 abbrev pub section_of : Held → Section
 section_of held.Setup = InSetup

@@ -3,7 +3,8 @@ ghost use Rattle.std.specs.Prelude.{◌≡◌, [], Ok, Err};
 ghost use Rattle.crew_script.specs.Reading.{line_adds};
 ghost use Rattle.crew_script.specs.View.{asked};
 
-use crate::script::{CrewScript, read_line};
+use crate::held::CrewScript;
+use crate::script::read_line;
 use board_lines::ScriptFault;
 use line_driver::{Judge, Taken};
 use std::alloc::Global;

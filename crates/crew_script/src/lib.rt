@@ -2,10 +2,11 @@
 //! happened.
 #![tactic(auto)]
 
-mod crew;
+mod held;
 mod judge;
+mod running;
 mod script;
 
 pub use board_lines::ScriptFault;
 pub use board_threads::{Gate, OpenGate, Worker};
-pub use crew::CrewRun;
+pub use running::{CrewRun, crew};

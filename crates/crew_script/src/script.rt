@@ -1,12 +1,11 @@
 // What a crew script has asked for.
-ghost use Rattle.std.specs.Prelude.{◌≡◌, ◌≤◌, ◌∷◌, List, length, nat_lt, OnOk, Some};
+ghost use Rattle.std.specs.Prelude.{◌≡◌, ◌≤◌, ◌<◌, ◌↔◌, ◌∷◌, length, vec_len, nat_lt, IsTrue, OnOk, Some};
 ghost use Rattle.std.specs.List.{sum_by};
-ghost use Rattle.board_threads.specs.Crew.{lists};
-ghost use Rattle.board_threads.specs.declared.script.Step.{Step};
 ghost use Rattle.crew_script.specs.Crew.{closed, entries};
 ghost use Rattle.crew_script.specs.Reading.{act_say, step_say, line_say, sweep_say, crew_say, first_say, with_actor, with_line, section_line, line_adds};
 ghost use Rattle.crew_script.specs.View.{section_of, crew_of, asked, Adds, Puts};
 
+use crate::held::{CrewScript, Section};
 use board_lines::{ScriptFault, event_of, opening_of, skips, u8_of, vector_of};
 use board_terms::{Vector, Vp};
 use board_text::Fields;
@@ -18,23 +17,6 @@ use synic_board::Event;
 
 /// How many entries a history has at most.
 const MOST: usize = 65_536;
-
-/// Where the next line stands, with the steps of its section so far.
-#[derive(Drop)]
-pub(crate) enum Section {
-    Setup,
-    Actor(Vec<Step>),
-    Line(Vec<(Vp, Vector)>),
-}
-
-/// What a crew script has asked for: the scripts of the sections that are over, and the present one.
-#[derive(Drop)]
-pub(crate) struct CrewScript {
-    pub(crate) setup: Setup,
-    pub(crate) scripts: Scripts,
-    pub(crate) section: Section,
-    ghost few: { setup.processors ≤ 8 },
-}
 
 /// Reads a line of at most 640 bytes.
 pub(crate) fn read_line(
@@ -194,7 +176,7 @@ impl CrewScript {
     {
         let open = match &self.section {
             Section::Actor(steps) => steps.len(),
-            _ => 0,
+            Section::Setup | Section::Line(_) => 0,
         };
         let last = 4 * usize::from(self.setup.processors);
         if self.setup.events.len() >= MOST - last {
@@ -220,7 +202,7 @@ fn put<T: Drop>(items: &mut Vec<T>, item: T) -> Taken<ScriptFault>
 
 /// Whether all scripts together have fewer steps than that.
 fn fit(scripts: &[Vec<Step>], room: usize) -> bool
-    ensures { result ≡ nat_lt (sum_by (λ (s : List Step). length s) (lists scripts.now)) room }
+    ensures { IsTrue result ↔ sum_by (λ s. vec_len s) scripts.now < room }
 {
     let mut left = room;
     for script in scripts {

@@ -1,0 +1,76 @@
+use Rattle.std.proofs.Common.{rules, ◌≡◌, [], ◌++◌, ℕ, List, Option, None, Some, refl, sym, ap, subst, ◌∙◌}
+use Rattle.std.specs.Io.KnownBytes.{Appends}
+use Rattle.line_driver.specs.declared.driving.End.TheVariants as ends
+use Rattle.line_driver.proofs.Limits.{limit-within}
+use Rattle.board_lines.specs.declared.fault.ScriptFault.TheVariants as faults
+use Rattle.crew_script.specs.Crew.{Crew, closed}
+use Rattle.crew_script.specs.View.{crew_of, asked}
+use Rattle.crew_script.specs.Running.{Refusal, Report, Runs}
+use Rattle.crew_script.specs.declared.held.CrewScript.{CrewScript}
+use Rattle.crew_script.specs.declared.judge.CrewJudge.{CrewJudge}
+use Rattle.crew_script.specs.declared.running.CrewRun.TheVariants.{Memory, Reading}
+use Rattle.crew_script.proofs.Reading.{nothing-sent, asked-for, no-board, wrong, long, cut}
+use Rattle.crew_script.proofs.Telling.{known, spoken, tells-refusal, tells-report, none-sent}
+use Rattle.crew_script.proofs.running.crew.Goals as goal
+
+abbrev seen : CrewJudge → Option Crew
+seen judge = asked judge.script
+
+pub returns-in-Some-clause-text : goal.returns-in-Some-clause-text
+returns-in-Some-clause-text g c =
+    let d = c.in-Last.ensures.lines in
+    let last = crew_of c.in-Some.script in
+    let here : seen c.drive.new.judge ≡ Some last = ap asked c.in-Some.is in
+    let first = subst (Appends _ _) (sym d.sends ∙ nothing-sent seen _ _ refl (ends.Last c.in-Last.line) _ _ d.read) d.writes in
+    let ran : Runs c.run.result last (g.W.Write.contents c.drive.new.writer) (g.W.Write.contents c.run.new.writer) = search rules in
+    spoken (Report (closed last)) _ _ _ _ _ (λ input p. tells-report last input (asked-for seen _ _ refl c.in-Last.line d.answers input last here p)) d.whole first c.run.result ran
+
+pub returns-in-Last-clause-text : goal.returns-in-Last-clause-text
+returns-in-Last-clause-text g c =
+    let d = c.in-Last.ensures.lines in
+    let here : seen c.drive.new.judge ≡ None = ap asked c.in-None.is in
+    let first = subst (Appends _ _) (sym d.sends ∙ nothing-sent seen _ _ refl (ends.Last c.in-Last.line) _ _ d.read) d.writes in
+    spoken (Refusal c.in-Last.line faults.First) _ _ _ _ _ (λ input p. tells-refusal c.in-Last.line faults.First input (no-board seen _ _ refl c.in-Last.line d.answers input here p)) d.whole first _ c.refuse.ensures
+
+pub returns-in-Wrong-clause-text : goal.returns-in-Wrong-clause-text
+returns-in-Wrong-clause-text g c =
+    let d = c.in-Wrong.ensures.lines in
+    let line = c.in-Wrong.line in
+    let fault = c.in-Wrong.fault in
+    let first = subst (Appends _ _) (sym d.sends ∙ nothing-sent seen _ _ refl (ends.Wrong line fault) _ _ d.read) d.writes in
+    spoken (Refusal line fault) _ _ _ _ _ (λ input p. tells-refusal line fault input (wrong seen _ _ refl line fault d.answers input p)) d.whole first _ c.refuse-in-Wrong.ensures
+
+pub returns-in-Wrong-clause-limit : goal.returns-in-Wrong-clause-limit
+returns-in-Wrong-clause-limit g c = limit-within c.drive.result _ _ c.drive.ensures.limit
+
+pub returns-in-Long-clause-text : goal.returns-in-Long-clause-text
+returns-in-Long-clause-text g c =
+    let d = c.in-Long.ensures.lines in
+    let line = c.in-Long.line in
+    let first = subst (Appends _ _) (sym d.sends ∙ nothing-sent seen _ _ refl (ends.Long line) _ _ d.read) d.writes in
+    spoken (Refusal line faults.Long) _ _ _ _ _ (λ input p. tells-refusal line faults.Long input (long seen _ _ refl line d.answers input p)) d.whole first _ c.refuse-in-Long.ensures
+
+pub returns-in-Cut-clause-text : goal.returns-in-Cut-clause-text
+returns-in-Cut-clause-text g c =
+    let d = c.in-Cut.ensures.lines in
+    let line = c.in-Cut.line in
+    let first = subst (Appends _ _) (sym d.sends ∙ nothing-sent seen _ _ refl (ends.Cut line) _ _ d.read) d.writes in
+    spoken (Refusal line faults.Cut) _ _ _ _ _ (λ input p. tells-refusal line faults.Cut input (cut seen _ _ refl line d.answers input p)) d.whole first _ c.refuse-in-Cut.ensures
+
+pub returns-in-Memory-clause-text : goal.returns-in-Memory-clause-text
+returns-in-Memory-clause-text g c =
+    let d = c.in-Memory.ensures.lines in
+    let none = sym d.sends ∙ nothing-sent seen _ _ refl ends.Memory _ _ d.read in
+    (d.sent, known _ _ (λ _. d.sent ≡ []) (λ _ _. none) d.whole, d.writes)
+
+pub returns-in-Reading-clause-text : goal.returns-in-Reading-clause-text
+returns-in-Reading-clause-text g c =
+    let d = c.in-Reading.ensures.lines in
+    let none = sym d.sends ∙ nothing-sent seen _ _ refl ends.Reading _ _ d.read in
+    (d.sent, known _ _ (λ _. d.sent ≡ []) (λ _ _. none) d.whole, d.writes)
+
+pub returns-clause-text : goal.returns-clause-text
+returns-clause-text g c =
+    let d = c.in-Writing.ensures.lines in
+    let none = none-sent d.sent d.sends.0 (sym d.sends.1 ∙ nothing-sent seen _ _ refl ends.Writing _ _ d.read) in
+    (Memory, [], [], known _ _ (λ _. [] ≡ []) (λ _ _. refl) d.whole, subst (Appends _ _) none d.writes)

@@ -1,0 +1,26 @@
+use Rattle.std.proofs.Common.{rules, ◌≡◌, ap, subst, ◌∙◌}
+use Rattle.synic_board.specs.declared.history.Entry.{Entry}
+use Rattle.board_threads.specs.Crew.{lists}
+use Rattle.board_trace.specs.Trace.{trace}
+use Rattle.crew_script.specs.Crew.{Crew, closed}
+use Rattle.crew_script.specs.View.{crew_of}
+use Rattle.crew_script.specs.Running.{IsHistory, Report}
+use Rattle.crew_script.specs.declared.running.CrewRun.TheVariants.{Done}
+use Rattle.crew_script.proofs.running.prepare.Goals as goal
+
+pub returns-in-Ok-put_trace : goal.returns-in-Ok-put_trace
+returns-in-Ok-put_trace g c =
+    let s = c.close.new.self in
+    let e = c.in-Ok.ensures in
+    let h = c.in-Ok.end.ended.history.items in
+    let over : crew_of s ≡ closed (crew_of c.args.script) = search rules in
+    let is : IsHistory (crew_of s) h = record {
+      legal = e.settled.legal;
+      crewed = e.crewed;
+      answers = lists c.in-Ok.end.raised.items;
+      standing = c.in-Ok.end.ended.standing;
+      each = e.each;
+      raises = e.raises;
+    } in
+    let text : c.put_trace.new.out.items ≡ trace s.setup.processors s.setup.pages s.setup.first_ticket h = search rules in
+    subst (λ (crew : Crew). Report crew Done c.put_trace.new.out.items) over (h, is, text)

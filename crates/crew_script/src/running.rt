@@ -1,0 +1,159 @@
+// A crew script from a reader, the trace of its crew to a writer.
+ghost use Rattle.board_text.specs.Streams.{ReadsUpTo};
+ghost use Rattle.crew_script.specs.View.{crew_of};
+ghost use Rattle.crew_script.specs.Crew.{closed};
+ghost use Rattle.crew_script.specs.Running.{Crews, Refuses, Runs, Prepares};
+ghost use Rattle.std.specs.Prelude.{◌≡◌, []};
+
+use crate::judge::CrewJudge;
+use crate::held::CrewScript;
+use board_lines::{ScriptFault, put_fault};
+use board_threads::{CrewFault, Gate, run_crew};
+use board_trace::put_trace;
+use line_driver::{End, close, drive};
+use std::alloc::Global;
+use std::io::{Read, Write};
+use std::sync::Wait;
+use std::thread::Threads;
+
+/// How a crew ends.
+#[derive(Clone, Copy, PartialEq, Eq, Debug)]
+pub enum CrewRun {
+    /// The crew was run, and the trace of its history was written.
+    Done,
+    /// A line of the script is wrong; no thread was started. Lines are counted from 1.
+    Script { line: u64, fault: ScriptFault },
+    /// What the threads left is no history of the crew.
+    Unsettled,
+    /// There was no memory.
+    Memory,
+    /// A thread could not be started.
+    NoThread,
+    /// A read failed, or the input has more than 1,073,741,824 bytes.
+    Reading,
+    /// A write or a flush failed, or a write took nothing.
+    Writing,
+}
+
+/// Reads a crew script whole, runs its crew on a board of its own, each actor and each line in a thread
+/// of its own, and writes the trace of what happened. A wrong line is said alone, and then no thread is
+/// started. The gate is called round each call of an actor or a line.
+pub fn crew<T: Threads + Wait + Sync, R: Read, W: Write, G: Gate + Sync>(
+    rt: &T,
+    alloc: Global,
+    reader: &mut R,
+    writer: &mut W,
+    gate: &G,
+) -> CrewRun
+    ensures text { Crews result (R.remaining reader.old) (W.contents writer.old) (W.contents writer.new) }
+
+    // One byte more than the limit shows that there is one.
+    ensures limit { ReadsUpTo 1073741825 (R.remaining reader.old) (R.remaining reader.new) }
+{
+    let mut judge = CrewJudge {
+        alloc,
+        script: None,
+    };
+    let mut out = Vec::new(alloc);
+    match drive(alloc, reader, writer, &mut judge, &mut out) {
+        End::Last { line } => match judge.script {
+            Some(script) => run(rt, alloc, script, writer, gate),
+            None => refuse(alloc, writer, line, ScriptFault::First),
+        },
+        End::Wrong { line, fault } => refuse(alloc, writer, line, fault),
+        End::Long { line } => refuse(alloc, writer, line, ScriptFault::Long),
+        End::Cut { line } => refuse(alloc, writer, line, ScriptFault::Cut),
+        End::Memory => CrewRun::Memory,
+        End::Reading => CrewRun::Reading,
+        End::Writing => CrewRun::Writing,
+    }
+}
+
+/// Writes a fault's line.
+fn refuse<W: Write>(alloc: Global, writer: &mut W, line: u64, fault: ScriptFault) -> CrewRun
+    ensures { Refuses result line fault (W.contents writer.old) (W.contents writer.new) }
+{
+    let mut out = Vec::new(alloc);
+    if put_fault(&mut out, line, fault).is_err() {
+        return CrewRun::Memory;
+    }
+    if !close(writer, out.as_slice()) {
+        return CrewRun::Writing;
+    }
+    CrewRun::Script { line, fault }
+}
+
+/// Runs the crew of a script, and says what became of it. The whole text is made before its first byte
+/// is written, so that nothing is written where there is no memory for it.
+fn run<T: Threads + Wait + Sync, W: Write, G: Gate + Sync>(
+    rt: &T,
+    alloc: Global,
+    script: CrewScript,
+    writer: &mut W,
+    gate: &G,
+) -> CrewRun
+    ensures { Runs result (crew_of script) (W.contents writer.old) (W.contents writer.new) }
+{
+    let mut out = Vec::new(alloc);
+    match prepare(rt, alloc, script, gate, &mut out) {
+        Outcome::Memory => CrewRun::Memory,
+        Outcome::NoThread => CrewRun::NoThread,
+        Outcome::Unsettled => {
+            if !close(writer, b"! settle\n") {
+                return CrewRun::Writing;
+            }
+            CrewRun::Unsettled
+        }
+        Outcome::Done => {
+            if !close(writer, out.as_slice()) {
+                return CrewRun::Writing;
+            }
+            CrewRun::Done
+        }
+    }
+}
+
+/// What became of a crew.
+#[derive(Clone, Copy)]
+enum Outcome {
+    Done,
+    Unsettled,
+    Memory,
+    NoThread,
+}
+
+/// Runs the crew of a script, and writes its trace at the end of `out`.
+fn prepare<T: Threads + Wait + Sync, G: Gate + Sync>(
+    rt: &T,
+    alloc: Global,
+    mut script: CrewScript,
+    gate: &G,
+    out: &mut Vec<u8>,
+) -> Outcome
+    requires { out.old.items ≡ [] }
+    ensures { Prepares result (closed (crew_of script)) out.new.items }
+{
+    if script.close().is_err() {
+        return Outcome::Memory;
+    }
+    let setup = &script.setup;
+    let end = match run_crew(rt, alloc, setup, &script.scripts, gate) {
+        Ok(end) => end,
+        Err(CrewFault::Memory) => return Outcome::Memory,
+        Err(CrewFault::NoThread) => return Outcome::NoThread,
+        // The sizes and the steps were judged line by line.
+        Err(CrewFault::Unsettled | CrewFault::BadSize | CrewFault::BadStep) => {
+            return Outcome::Unsettled;
+        }
+    };
+    match put_trace(
+        out,
+        setup.processors,
+        setup.pages,
+        setup.first_ticket,
+        end.ended.history.as_slice(),
+    ) {
+        Ok(()) => Outcome::Done,
+        Err(_) => Outcome::Memory,
+    }
+}
