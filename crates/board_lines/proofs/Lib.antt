@@ -3,3 +3,4 @@ pub mod SummaryLemmas
 pub mod ByteFields
 pub mod ReadLemmas
 pub mod SizeLemmas
+pub mod WrittenLemmas

@@ -1,7 +1,10 @@
 //! Laws of the definitions.
 ghost use Rattle.std.specs.Prelude.{◌≡◌, ◌↔◌, ℕ, List, Some, IsTrue};
+ghost use Rattle.board_text.specs.Fields.{words};
 ghost use Rattle.synic_board.specs.State.{AreSizes};
-ghost use Rattle.board_lines.specs.Items.{Item, Means};
+ghost use Rattle.synic_board.specs.declared.event.Event.{Event};
+ghost use Rattle.board_lines.specs.Events.{event_fields, IsEvent};
+ghost use Rattle.board_lines.specs.Items.{Item, Performs, item_fields, IsItem, Means};
 ghost use Rattle.board_lines.specs.Reading.{item_at};
 ghost use Rattle.board_lines.specs.Sizes.{are_sizes};
 
@@ -13,6 +16,16 @@ pub fn reading_is_meaning()
 /// What an item means has one line.
 pub fn one_line()
     ensures { (a b : List ℕ) (item : Item) → Means a item → Means b item → a ≡ b }
+{}
+
+/// Each item whose fields are in range has a line.
+pub fn some_line()
+    ensures { (item : Item) → IsItem item → Means (words (item_fields item)) item }
+{}
+
+/// The line that is written of an event is read as that event.
+pub fn a_written_event_is_read()
+    ensures { (event : Event) → IsEvent event → item_at (words (event_fields event)) ≡ Some (Performs event) }
 {}
 
 /// A line means one item at most.

@@ -16,13 +16,14 @@ use Rattle.synic_board.specs.declared.event.Reply.{Reply}
 use Rattle.board_lines.specs.Items.{Opening as Board, item_fields}
 use Rattle.board_lines.specs.Printing.{text_of, reply_fields}
 use Rattle.board_lines.proofs.ReadLemmas.{yes, mapped}
+use Rattle.board_lines.proofs.WrittenLemmas.{board-written}
 use Rattle.synic_board.specs.History.{IsLegal}
 use Rattle.synic_board.specs.declared.history.Entry.{Entry}
 use Rattle.board_trace.specs.Trace.{IsEntry, title_fields, entry_fields, end_fields, history_lines, IsTrace}
 use Rattle.board_trace.specs.Stages.{Stage, Title, Opening, Running, Over, entry_at, board_at, performed, follow, count}
 use Rattle.synic_board.specs.Replies.{IsReply}
 use Rattle.synic_board.proofs.keeping.Replies.{step-fits}
-use Rattle.board_trace.proofs.Written.{title-written, board-written, entry-written, reply-written, end-written, EntryLine, entry-reads, entry-only, end-no_entry, BoardLine, board-reads, board-only}
+use Rattle.board_trace.proofs.Written.{title-written, entry-written, reply-written, end-written, EntryLine, entry-reads, entry-only, end-no_entry, BoardLine, board-reads, board-only}
 
 -- the lines of entries, and the end
 abbrev left : List Entry → ℕ → List (List (List ℕ))

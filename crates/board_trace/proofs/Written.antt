@@ -1,37 +1,28 @@
 -- The lines of a trace, as they are written and read.
-use Rattle.std.proofs.Common.{◌≡◌, ℕ, ◌+◌, ◌*◌, ◌<◌, ◌≤◌, ◌^◌, List, [], ◌∷◌, length, Option, Some, None, refl, sym, ap, ◌∙◌, arith, cond, Bool, true, false, not, decimal, codes}
+use Rattle.std.proofs.Common.{◌≡◌, ℕ, ◌<◌, ◌≤◌, ◌^◌, List, [], ◌∷◌, length, Option, Some, None, refl, sym, ap, ◌∙◌, arith, cond, Bool, true, false, not, decimal, codes}
 use Rattle.std.specs.Option.{option_and_then}
 use Rattle.std.specs.Str.{bytes_eq}
 use Rattle.std.proofs.lemmas.Slice.Eq.{bytes_eq-Decides}
 use Rattle.std.proofs.lemmas.List.Splits.{join_with_byte-slice_split}
 use Rattle.std.proofs.lemmas.Fmt.{length-decimal-le}
 use Rattle.board_text.specs.Fields.{fields_of, words}
-use Rattle.board_text.proofs.PlainWords.{IsPlain, plain_by, digits-plain, digits-short, two_digits-plain, spelled-plain, spelled-length, IsWritten, written}
-use Rattle.board_terms.specs.declared.messages.PortShape.TheVariants.{Messages, Flags}
+use Rattle.board_text.proofs.PlainWords.{IsPlain, plain_by, digits-plain, digits-short, two_digits-plain, IsWritten, written}
 use Rattle.board_terms.specs.Numbers.{number_of}
 use Rattle.synic_board.specs.State.{AreSizes}
 use Rattle.synic_board.specs.declared.event.Event.{Event}
-use Rattle.synic_board.specs.declared.event.Event.TheVariants.{OpenPort, ClosePort, Write, Read, Post, Signal, Assert, Absorb, Store, Load, Tick, Take}
 use Rattle.synic_board.specs.declared.event.Reply.{Reply}
 use Rattle.synic_board.specs.declared.event.Reply.TheVariants as replies
-use Rattle.board_lines.specs.Events.{event_fields, bytes_text, IsEvent}
+use Rattle.board_lines.specs.Events.{event_fields, IsEvent}
 use Rattle.board_lines.specs.Items.{Opening, item_fields}
 use Rattle.board_lines.specs.Printing.{vector_or_none, reply_fields}
 use Rattle.board_lines.specs.Reading.{Fields, u8_at, event_say, opening_say}
 use Rattle.board_lines.specs.Sizes.{are_sizes}
 use Rattle.board_lines.proofs.ReadLemmas.{then-some, then-read, yes, u8-only, u8-spelled, event-says, says-event, opening-says, says-opening}
 use Rattle.board_lines.proofs.SizeLemmas.{sizes-are}
+use Rattle.board_lines.proofs.WrittenLemmas.{bytes-plain, bytes-short, event-plain, board-written}
 use Rattle.board_trace.specs.Trace.{title_fields, entry_fields, end_fields}
 use Rattle.board_trace.specs.Stages.{entry_say, entry_at, within_limits, board_say, board_at}
 use Rattle.synic_board.specs.Replies.{IsReply}
-
-bytes-plain : (bytes : List ℕ) → IsPlain (bytes_text bytes)
-bytes-plain [] = plain_by (codes "-") refl
-bytes-plain (b ∷ bytes) = spelled-plain (b ∷ bytes)
-
-bytes-short : (bytes : List ℕ) → length (bytes_text bytes) ≤ 2 * length bytes + 1
-bytes-short [] = omega arith
-bytes-short (b ∷ bytes) = omega (arith, spelled-length (b ∷ bytes))
 
 vector-plain : (vector : Option ℕ) → IsPlain (vector_or_none vector)
 vector-plain None = plain_by (codes "none") refl
@@ -45,28 +36,13 @@ actor-short : (actor : ℕ) → actor < 256 → length (decimal actor) ≤ 3
 actor-short actor small = length-decimal-le 3 actor (omega arith) (omega arith) (omega arith)
 
 pub entry-written : (actor : ℕ) (event : Event) → actor < 256 → IsEvent event → IsWritten (entry_fields actor event)
-entry-written actor (OpenPort port vp sint (Messages buffers)) small h = written _ _ (digits-plain 10 actor, (plain_by (codes "open") refl, (digits-plain 10 port, (plain_by (codes "message") refl, (digits-plain 10 vp, (digits-plain 10 sint, (digits-plain 10 buffers, tt))))))) (omega (arith, digits-short 10 actor, digits-short 10 port, digits-short 10 vp, digits-short 10 sint, digits-short 10 buffers))
-entry-written actor (OpenPort port vp sint (Flags base count)) small h = written _ _ (digits-plain 10 actor, (plain_by (codes "open") refl, (digits-plain 10 port, (plain_by (codes "event") refl, (digits-plain 10 vp, (digits-plain 10 sint, (digits-plain 10 base, (digits-plain 10 count, tt)))))))) (omega (arith, digits-short 10 actor, digits-short 10 port, digits-short 10 vp, digits-short 10 sint, digits-short 10 base, digits-short 10 count))
-entry-written actor (ClosePort port) small h = written _ _ (digits-plain 10 actor, (plain_by (codes "close") refl, (digits-plain 10 port, tt))) (omega (arith, digits-short 10 actor, digits-short 10 port))
-entry-written actor (Write vp register value) small h = written _ _ (digits-plain 10 actor, (plain_by (codes "write") refl, (digits-plain 10 vp, (digits-plain 16 register, (digits-plain 16 value, tt))))) (omega (arith, digits-short 10 actor, digits-short 10 vp, digits-short 16 register, digits-short 16 value))
-entry-written actor (Read vp register) small h = written _ _ (digits-plain 10 actor, (plain_by (codes "read") refl, (digits-plain 10 vp, (digits-plain 16 register, tt)))) (omega (arith, digits-short 10 actor, digits-short 10 vp, digits-short 16 register))
-entry-written actor (Post port kind payload) small h = written _ _ (digits-plain 10 actor, (plain_by (codes "post") refl, (digits-plain 10 port, (digits-plain 16 kind, (bytes-plain payload.items, tt))))) (omega (arith, actor-short actor small, digits-short 10 port, digits-short 16 kind, bytes-short payload.items, h.2.1))
-entry-written actor (Signal port flag) small h = written _ _ (digits-plain 10 actor, (plain_by (codes "signal") refl, (digits-plain 10 port, (digits-plain 10 flag, tt)))) (omega (arith, digits-short 10 actor, digits-short 10 port, digits-short 10 flag))
-entry-written actor (Assert vp vector) small h = written _ _ (digits-plain 10 actor, (plain_by (codes "assert") refl, (digits-plain 10 vp, (two_digits-plain vector, tt)))) (omega (arith, digits-short 10 actor, digits-short 10 vp))
-entry-written actor (Absorb vp part bits) small h = written _ _ (digits-plain 10 actor, (plain_by (codes "absorb") refl, (digits-plain 10 vp, (digits-plain 10 part, (digits-plain 16 bits, tt))))) (omega (arith, digits-short 10 actor, digits-short 10 vp, digits-short 10 part, digits-short 16 bits))
-entry-written actor (Store address bytes) small h = written _ _ (digits-plain 10 actor, (plain_by (codes "store") refl, (digits-plain 16 address, (bytes-plain bytes.items, tt)))) (omega (arith, digits-short 10 actor, digits-short 16 address, bytes-short bytes.items, h.1.1))
-entry-written actor (Load address count) small h = written _ _ (digits-plain 10 actor, (plain_by (codes "load") refl, (digits-plain 16 address, (digits-plain 10 count, tt)))) (omega (arith, digits-short 10 actor, digits-short 16 address, digits-short 10 count))
-entry-written actor (Tick moment) small h = written _ _ (digits-plain 10 actor, (plain_by (codes "tick") refl, (digits-plain 10 moment, tt))) (omega (arith, digits-short 10 actor, digits-short 10 moment))
-entry-written actor (Take vp) small h = written _ _ (digits-plain 10 actor, (plain_by (codes "take") refl, (digits-plain 10 vp, tt))) (omega (arith, digits-short 10 actor, digits-short 10 vp))
+entry-written actor event small h = let e = event-plain event h in written (decimal actor) (event_fields event) (digits-plain 10 actor, e.plain) (omega (arith, actor-short actor small, e.few))
 
 pub title-written : IsWritten title_fields
 title-written = written _ _ (plain_by (codes "trace") refl, (plain_by (codes "1") refl, tt)) (omega arith)
 
 pub end-written : (n : ℕ) → IsWritten (end_fields n)
 end-written n = written _ _ (plain_by (codes "end") refl, (digits-plain 10 n, tt)) (omega (arith, digits-short 10 n))
-
-pub board-written : (p g f : ℕ) → IsWritten (item_fields (Opening p g f))
-board-written p g f = written _ _ (plain_by (codes "board") refl, (digits-plain 10 p, (digits-plain 10 g, (digits-plain 10 f, tt)))) (omega (arith, digits-short 10 p, digits-short 10 g, digits-short 10 f))
 
 pub reply-written : (reply : Reply) → IsReply reply → IsWritten (reply_fields reply)
 reply-written replies.Done h = written _ _ (plain_by (codes "=") refl, (plain_by (codes "done") refl, tt)) (omega arith)

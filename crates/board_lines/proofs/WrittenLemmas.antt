@@ -1,0 +1,61 @@
+-- Items as they are written.
+use Rattle.std.proofs.Common.{◌≡◌, ℕ, ◌+◌, ◌*◌, ◌<◌, ◌≤◌, List, [], ◌∷◌, length, Some, refl, arith, codes}
+use Rattle.board_text.specs.Fields.{words}
+use Rattle.board_text.proofs.PlainWords.{IsPlain, ArePlain, total, plain_by, digits-plain, digits-short, two_digits-plain, spelled-plain, spelled-length, IsWritten, written}
+use Rattle.board_terms.specs.declared.messages.PortShape.TheVariants.{Messages, Flags}
+use Rattle.synic_board.specs.declared.event.Event.{Event}
+use Rattle.synic_board.specs.declared.event.Event.TheVariants.{OpenPort, ClosePort, Write, Read, Post, Signal, Assert, Absorb, Store, Load, Tick, Take}
+use Rattle.board_lines.specs.Events.{event_fields, bytes_text, IsEvent}
+use Rattle.board_lines.specs.Items.{Item, Opening, Performs, Summary, item_fields, IsItem, Means}
+use Rattle.board_lines.specs.Reading.{item_at}
+use Rattle.board_lines.proofs.ReadLemmas.{reading-means}
+
+pub bytes-plain : (bytes : List ℕ) → IsPlain (bytes_text bytes)
+bytes-plain [] = plain_by (codes "-") refl
+bytes-plain (b ∷ bytes) = spelled-plain (b ∷ bytes)
+
+pub bytes-short : (bytes : List ℕ) → length (bytes_text bytes) ≤ 2 * length bytes + 1
+bytes-short [] = omega arith
+bytes-short (b ∷ bytes) = omega (arith, spelled-length (b ∷ bytes))
+
+-- some fields of a line, with room for one more
+pub record FewPlain (fields : List (List ℕ)) : Type 0 where
+  pub plain : ArePlain fields
+  pub some : 0 < total fields
+  pub few : total fields ≤ 630
+
+few-plain : (f : List ℕ) (fields : List (List ℕ)) → ArePlain (f ∷ fields) → total (f ∷ fields) ≤ 630 → FewPlain (f ∷ fields)
+few-plain f fields plain few = record { plain = plain; some = omega arith; few = few }
+
+pub event-plain : (event : Event) → IsEvent event → FewPlain (event_fields event)
+event-plain (OpenPort port vp sint (Messages buffers)) h = few-plain _ _ (plain_by (codes "open") refl, (digits-plain 10 port, (plain_by (codes "message") refl, (digits-plain 10 vp, (digits-plain 10 sint, (digits-plain 10 buffers, tt)))))) (omega (arith, digits-short 10 port, digits-short 10 vp, digits-short 10 sint, digits-short 10 buffers))
+event-plain (OpenPort port vp sint (Flags base count)) h = few-plain _ _ (plain_by (codes "open") refl, (digits-plain 10 port, (plain_by (codes "event") refl, (digits-plain 10 vp, (digits-plain 10 sint, (digits-plain 10 base, (digits-plain 10 count, tt))))))) (omega (arith, digits-short 10 port, digits-short 10 vp, digits-short 10 sint, digits-short 10 base, digits-short 10 count))
+event-plain (ClosePort port) h = few-plain _ _ (plain_by (codes "close") refl, (digits-plain 10 port, tt)) (omega (arith, digits-short 10 port))
+event-plain (Write vp register value) h = few-plain _ _ (plain_by (codes "write") refl, (digits-plain 10 vp, (digits-plain 16 register, (digits-plain 16 value, tt)))) (omega (arith, digits-short 10 vp, digits-short 16 register, digits-short 16 value))
+event-plain (Read vp register) h = few-plain _ _ (plain_by (codes "read") refl, (digits-plain 10 vp, (digits-plain 16 register, tt))) (omega (arith, digits-short 10 vp, digits-short 16 register))
+event-plain (Post port kind payload) h = few-plain _ _ (plain_by (codes "post") refl, (digits-plain 10 port, (digits-plain 16 kind, (bytes-plain payload.items, tt)))) (omega (arith, digits-short 10 port, digits-short 16 kind, bytes-short payload.items, h.2.1))
+event-plain (Signal port flag) h = few-plain _ _ (plain_by (codes "signal") refl, (digits-plain 10 port, (digits-plain 10 flag, tt))) (omega (arith, digits-short 10 port, digits-short 10 flag))
+event-plain (Assert vp vector) h = few-plain _ _ (plain_by (codes "assert") refl, (digits-plain 10 vp, (two_digits-plain vector, tt))) (omega (arith, digits-short 10 vp))
+event-plain (Absorb vp part bits) h = few-plain _ _ (plain_by (codes "absorb") refl, (digits-plain 10 vp, (digits-plain 10 part, (digits-plain 16 bits, tt)))) (omega (arith, digits-short 10 vp, digits-short 10 part, digits-short 16 bits))
+event-plain (Store address bytes) h = few-plain _ _ (plain_by (codes "store") refl, (digits-plain 16 address, (bytes-plain bytes.items, tt))) (omega (arith, digits-short 16 address, bytes-short bytes.items, h.1.1))
+event-plain (Load address count) h = few-plain _ _ (plain_by (codes "load") refl, (digits-plain 16 address, (digits-plain 10 count, tt))) (omega (arith, digits-short 16 address, digits-short 10 count))
+event-plain (Tick moment) h = few-plain _ _ (plain_by (codes "tick") refl, (digits-plain 10 moment, tt)) (omega (arith, digits-short 10 moment))
+event-plain (Take vp) h = few-plain _ _ (plain_by (codes "take") refl, (digits-plain 10 vp, tt)) (omega (arith, digits-short 10 vp))
+
+plain-written : (fields : List (List ℕ)) → FewPlain fields → IsWritten fields
+plain-written [] h = absurd (omega (arith, h.some))
+plain-written (f ∷ fields) h = written f fields h.plain (omega (arith, h.few))
+
+pub board-written : (p g f : ℕ) → IsWritten (item_fields (Opening p g f))
+board-written p g f = written _ _ (plain_by (codes "board") refl, (digits-plain 10 p, (digits-plain 10 g, (digits-plain 10 f, tt)))) (omega (arith, digits-short 10 p, digits-short 10 g, digits-short 10 f))
+
+item-written : (item : Item) → IsItem item → IsWritten (item_fields item)
+item-written (Opening p g f) h = board-written p g f
+item-written (Performs event) h = plain-written (event_fields event) (event-plain event h)
+item-written Summary h = written _ _ (plain_by (codes "summary") refl, tt) (omega arith)
+
+pub item-means : (item : Item) → IsItem item → Means (words (item_fields item)) item
+item-means item h = record { fields = (item-written item h).read; fits = h }
+
+pub event-read : (event : Event) → IsEvent event → item_at (words (event_fields event)) ≡ Some (Performs event)
+event-read event h = (reading-means (words (event_fields event)) (Performs event)).1 (item-means (Performs event) h)
