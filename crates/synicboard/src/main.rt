@@ -1,9 +1,11 @@
-//! `synicboard`: a script of events in, the board's answers out; or a recorded trace in, and whether it is legal.
+//! `synicboard`: a script of events in, the board's answers out; a script of actors and lines in, the
+//! trace of what happened out; or a trace in, and whether it is legal.
 #![tactic(auto)]
 
 use board_script::{CheckEnd, ReplayEnd, check_trace, replay};
 use clap::error::ErrorKind;
 use clap::{Command, Error};
+use crew_script::{CrewRun, OpenGate, crew};
 use std::alloc::{AllocError, Global};
 use std::env;
 use std::io::{self, BufWriter};
@@ -22,6 +24,7 @@ const STREAM_FAULT: u8 = 5;
 /// What the command line asks for.
 enum Asked {
     Replay,
+    Crew,
     Check,
     /// Nothing more: it asked for help, which was shown, or it was wrong, which was said.
     Nothing(ExitCode),
@@ -32,6 +35,7 @@ enum Asked {
 fn main(rt: HostRuntime) -> ExitCode {
     match judge_command_line(&rt) {
         Asked::Replay => replay_input(&rt),
+        Asked::Crew => crew_input(&rt),
         Asked::Check => check_input(&rt),
         Asked::Nothing(code) => code,
         Asked::Memory => fail(&rt, "out of memory", NO_MEMORY),
@@ -43,6 +47,9 @@ fn command<'a>(alloc: Global) -> Result<Command<'a>, AllocError> {
     let replay = Command::new(alloc, "replay").about(
         "Performs the script on standard input, and writes each reply, notice and summary",
     );
+    let crew = Command::new(alloc, "crew").about(
+        "Runs the actors and lines of the script on standard input, each in a thread, and writes the trace",
+    );
     let check = Command::new(alloc, "check").about(
         "Reads a trace on standard input, and says whether it is legal, or the first line that is wrong",
     );
@@ -51,6 +58,7 @@ fn command<'a>(alloc: Global) -> Result<Command<'a>, AllocError> {
         .after_help(EXAMPLE)
         .subcommand_required(true)
         .subcommand(replay)?
+        .subcommand(crew)?
         .subcommand(check)
 }
 
@@ -71,6 +79,7 @@ fn judge_command_line(rt: &HostRuntime) -> Asked {
     };
     match command.try_get_matches_from(words.as_slice()) {
         Ok(matches) => match matches.subcommand_name() {
+            Some("crew") => Asked::Crew,
             Some("check") => Asked::Check,
             _ => Asked::Replay,
         },
@@ -115,6 +124,23 @@ fn replay_input(rt: &HostRuntime) -> ExitCode {
         ReplayEnd::Memory => fail(rt, "out of memory", NO_MEMORY),
         ReplayEnd::Reading => fail(rt, "read failed", STREAM_FAULT),
         ReplayEnd::Writing => fail(rt, "write failed", STREAM_FAULT),
+    }
+}
+
+/// Runs the crew on standard input, and writes its trace to standard output.
+fn crew_input(rt: &HostRuntime) -> ExitCode {
+    let mut reader = rt.reader();
+    let Ok(mut writer) = BufWriter::new(rt.alloc(), io::writer(rt)) else {
+        return fail(rt, "out of memory", NO_MEMORY);
+    };
+    match crew(rt, rt.alloc(), &mut reader, &mut writer, &OpenGate) {
+        CrewRun::Done => ExitCode::SUCCESS,
+        CrewRun::Script { .. } => ExitCode::from(SCRIPT_FAULT),
+        CrewRun::Unsettled => ExitCode::from(REFUSED),
+        CrewRun::Memory => fail(rt, "out of memory", NO_MEMORY),
+        CrewRun::NoThread => fail(rt, "no thread", NO_MEMORY),
+        CrewRun::Reading => fail(rt, "read failed", STREAM_FAULT),
+        CrewRun::Writing => fail(rt, "write failed", STREAM_FAULT),
     }
 }
 
