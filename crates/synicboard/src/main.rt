@@ -10,6 +10,8 @@ use std::alloc::{AllocError, Global};
 use std::env;
 use std::io::{self, BufWriter};
 use std::process::ExitCode;
+use std::sync::Wait;
+use std::thread::Threads;
 
 const SCRIPT_FAULT: u8 = 1;
 
@@ -35,7 +37,7 @@ enum Asked {
 fn main(rt: HostRuntime) -> ExitCode {
     match judge_command_line(&rt) {
         Asked::Replay => replay_input(&rt),
-        Asked::Crew => crew_input(&rt),
+        Asked::Crew => crew_input(&rt, &rt),
         Asked::Check => check_input(&rt),
         Asked::Nothing(code) => code,
         Asked::Memory => fail(&rt, "out of memory", NO_MEMORY),
@@ -128,12 +130,12 @@ fn replay_input(rt: &HostRuntime) -> ExitCode {
 }
 
 /// Runs the crew on standard input, and writes its trace to standard output.
-fn crew_input(rt: &HostRuntime) -> ExitCode {
+fn crew_input<T: Threads + Wait + Sync>(threads: &T, rt: &HostRuntime) -> ExitCode {
     let mut reader = rt.reader();
     let Ok(mut writer) = BufWriter::new(rt.alloc(), io::writer(rt)) else {
         return fail(rt, "out of memory", NO_MEMORY);
     };
-    match crew(rt, rt.alloc(), &mut reader, &mut writer, &OpenGate) {
+    match crew(threads, rt.alloc(), &mut reader, &mut writer, &OpenGate) {
         CrewRun::Done => ExitCode::SUCCESS,
         CrewRun::Script { .. } => ExitCode::from(SCRIPT_FAULT),
         CrewRun::Unsettled => ExitCode::from(REFUSED),
