@@ -1,4 +1,5 @@
-//! Scripts of the board: a line in, the board's answer out.
+//! The texts of the board: scripts are replayed, the scripts of crews are run in threads, and traces
+//! are checked.
 #![tactic(auto)]
 
 mod judge;
@@ -8,4 +9,5 @@ mod stream;
 
 pub use board_lines::ScriptFault;
 pub use board_trace::{CheckEnd, check_trace};
+pub use crew_script::{CrewRun, Gate, OpenGate, Worker, crew};
 pub use stream::{ReplayEnd, replay};

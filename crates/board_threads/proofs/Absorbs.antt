@@ -124,12 +124,24 @@ are-absorbed n sweepers actors ended lines h standing are out own only all width
     record {
       words = width;
       even = λ w b lt.
-          omega (arith, settled.even w b lt, sum_by-append (fresh w b) logs (map did_of lines), sum_by-append (taken w b) logs (map did_of lines),
-            sum-map (fresh w b) log_of ended, none (λ a. fresh w b (log_of a)) ended (λ a. fresh-none w b (reverse a.calls.items)), lines-take w b lines only,
-            sum-map (taken w b) log_of ended, same (λ a. taken w b (log_of a)) (λ a. sum_by (λ (c : Call). taken w b (swept c)) a.calls.items) ended (λ a. taken-all w b a.calls.items),
-            counted (λ e r. taken w b (sweep_in e r)) h ended all);
+          omega (
+            arith,
+            settled.even w b lt,
+            sum_by-append (fresh w b) logs (map did_of lines),
+            sum_by-append (taken w b) logs (map did_of lines),
+            sum-map (fresh w b) log_of ended,
+            none (λ a. fresh w b (log_of a)) ended (λ a. fresh-none w b (reverse a.calls.items)),
+            lines-take w b lines only,
+            sum-map (taken w b) log_of ended,
+            same (λ a. taken w b (log_of a)) (λ a. sum_by (λ (c : Call). taken w b (swept c)) a.calls.items) ended (λ a. taken-all w b a.calls.items),
+            counted (λ e r. taken w b (sweep_in e r)) h ended all,
+          );
       some = λ w b raise.
-          omega (arith,
+          omega (
+            arith,
             some-fresh _ _ w b (logs ++ map did_of lines) settled.bounded (omega (arith, raise, sum_by-append (raised w b) logs (map did_of lines))),
-            sum_by-append (fresh w b) logs (map did_of lines), sum-map (fresh w b) log_of ended, none (λ a. fresh w b (log_of a)) ended (λ a. fresh-none w b (reverse a.calls.items)));
+            sum_by-append (fresh w b) logs (map did_of lines),
+            sum-map (fresh w b) log_of ended,
+            none (λ a. fresh w b (log_of a)) ended (λ a. fresh-none w b (reverse a.calls.items)),
+          );
     }

@@ -75,5 +75,5 @@ pub raised-on : (front more : List (ℕ × ℕ)) (old new : List Raised) (log lo
 raised-on front more old new log longer s a is each was goes step = (
   omega (arith, each, ap (λ (l : List (ℕ × ℕ)). length l) is, ap (λ (l : List Raised). length l) goes, length-append front (s ∷ []), length-append old (a ∷ [])),
   step ∙ ap (λ l. raise_of s.0 s.1 (is_fresh a) ∷ l) was ∙ sym (ap reverse (raises-push front old s a each) ∙ reverse-append (raises_of front old) (raise_of s.0 s.1 (is_fresh a) ∷ []))
-  ∙ (λ i. log_of (sym is i) (sym goes i)),
+      ∙ (λ i. log_of (sym is i) (sym goes i)),
 )

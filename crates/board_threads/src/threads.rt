@@ -186,9 +186,7 @@ fn start_lines<'s, E, R: Threads + Wait + Sync, G: Gate + Sync>(
             return Err(WorkFault::Memory);
         }
         let script = scripts[usize::from(number)].as_slice();
-        threads.push_reserved(start_line(
-            rt, alloc, scope, board, gate, number, line, script,
-        )?);
+        threads.push_reserved(start_line(rt, alloc, scope, board, gate, number, line, script)?);
         number += 1;
     }
     Ok(threads)

@@ -25,8 +25,14 @@ open_of (held.Line raises) = 0
 by-section : (c : CrewScript) (section : Section) → c.section ≡ section → entries (crew_of c) ≡ vec_len c.setup.events + (sum_by (λ (s : Vec Step Global). vec_len s) c.scripts.actors.items + open_of section) + 4 * c.setup.processors
 by-section c held.Setup is = rw is (omega (arith, lengths c.scripts.actors.items, c.setup.events.ok.0))
 by-section c (held.Actor steps) is =
-    rw is (omega (arith, lengths c.scripts.actors.items, c.setup.events.ok.0, steps.ok.0,
-      sum_by-append (λ (x : List Step). length x) (lists c.scripts.actors.items) (steps.items ∷ []), sum_by-cons (λ (x : List Step). length x) steps.items []))
+    rw is (omega (
+      arith,
+      lengths c.scripts.actors.items,
+      c.setup.events.ok.0,
+      steps.ok.0,
+      sum_by-append (λ (x : List Step). length x) (lists c.scripts.actors.items) (steps.items ∷ []),
+      sum_by-cons (λ (x : List Step). length x) steps.items [],
+    ))
 by-section c (held.Line raises) is = rw is (omega (arith, lengths c.scripts.actors.items, c.setup.events.ok.0))
 
 pub entries-are : (c : CrewScript) → entries (crew_of c) ≡ vec_len c.setup.events + (sum_by (λ (s : Vec Step Global). vec_len s) c.scripts.actors.items + open_of c.section) + 4 * c.setup.processors

@@ -5,8 +5,8 @@ ghost use Rattle.crew_script.specs.Crew.{closed};
 ghost use Rattle.crew_script.specs.Running.{Crews, Refuses, Runs, Prepares};
 ghost use Rattle.std.specs.Prelude.{◌≡◌, []};
 
-use crate::judge::CrewJudge;
 use crate::held::CrewScript;
+use crate::judge::CrewJudge;
 use board_lines::{ScriptFault, put_fault};
 use board_threads::{CrewFault, Gate, run_crew};
 use board_trace::put_trace;

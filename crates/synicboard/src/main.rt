@@ -2,10 +2,9 @@
 //! trace of what happened out; or a trace in, and whether it is legal.
 #![tactic(auto)]
 
-use board_script::{CheckEnd, ReplayEnd, check_trace, replay};
+use board_script::{CheckEnd, CrewRun, OpenGate, ReplayEnd, check_trace, crew, replay};
 use clap::error::ErrorKind;
 use clap::{Command, Error};
-use crew_script::{CrewRun, OpenGate, crew};
 use std::alloc::{AllocError, Global};
 use std::env;
 use std::io::{self, BufWriter};

@@ -1,0 +1,128 @@
+"""What can be said of a crew's trace without knowing the schedule: it is legal, it begins with the
+setup and ends with the last absorbs of actor 0, each actor's entries are its script, and each vector
+that was raised is absorbed at least once and at most as often as it was raised."""
+
+import collections
+import random
+
+ACTORS, LINES = 15, 16
+
+
+class Script:
+    """A crew script with no fault, by its sections."""
+
+    def __init__(self, text):
+        lines = [line for line in text.decode().splitlines() if line and not line.startswith("#")]
+        self.board = lines[0]
+        self.processors = int(self.board.split()[1])
+        self.setup, self.actors, self.lines = [], [], []
+        section = self.setup
+        for line in lines[1:]:
+            if line == "actor":
+                section = []
+                self.actors.append(section)
+            elif line == "line":
+                section = []
+                self.lines.append(section)
+            else:
+                section.append(line)
+
+    def raised(self):
+        """How often each vector of each processor is raised."""
+        counts = collections.Counter()
+        for line in self.lines:
+            for step in line:
+                _, vp, vector = step.split()
+                counts[int(vp), int(vector, 16)] += 1
+        return counts
+
+
+class Trace:
+    """The entries of a trace: the actor, the event and the reply of each."""
+
+    def __init__(self, text):
+        lines = text.decode().splitlines()
+        self.title, self.board, self.end = lines[0], lines[1], lines[-1]
+        body = lines[2:-1]
+        self.entries = [(*event.split(" ", 1), reply) for event, reply in zip(body[::2], body[1::2])]
+
+    def of(self, actor):
+        return [(event, reply) for number, event, reply in self.entries if number == str(actor)]
+
+    def absorbed(self):
+        """How often each vector of each processor stands among the bits of an absorb that was done."""
+        counts = collections.Counter()
+        for _, event, reply in self.entries:
+            words = event.split()
+            if words[0] == "absorb" and reply == "= done":
+                bits = int(words[3], 16)
+                for bit in range(64):
+                    if bits >> bit & 1:
+                        counts[int(words[1]), 64 * int(words[2]) + bit] += 1
+        return counts
+
+
+def is_step(step, event):
+    """Whether an event is a step of a script: a sweep stands as the absorb of the bits that it took."""
+    if step.startswith("absorb "):
+        return event.startswith(step + " ")
+    return event == step
+
+
+def is_script(steps, entries):
+    return len(steps) == len(entries) and all(
+        is_step(step, event) for step, (event, _) in zip(steps, entries))
+
+
+def complaints_of(script, trace):
+    found = []
+    last = ["absorb %d %d" % (vp, part) for vp in range(script.processors) for part in range(4)]
+    if trace.title != "trace 1" or trace.board != script.board:
+        found.append("it begins %r, %r" % (trace.title, trace.board))
+    if trace.end != "end %d" % len(trace.entries):
+        found.append("it ends %r" % trace.end)
+    begun = trace.entries[:len(script.setup)]
+    ended = trace.entries[len(trace.entries) - len(last):]
+    if any(number != "0" for number, _, _ in begun + ended):
+        found.append("the setup or the last absorbs are not in their places")
+    if not is_script(script.setup + last, trace.of(0)):
+        found.append("actor 0 has other entries")
+    for number, steps in enumerate(script.actors, 1):
+        if not is_script(steps, trace.of(number)):
+            found.append("actor %d has other entries than its script" % number)
+    raised, absorbed = script.raised(), trace.absorbed()
+    for vector in raised:
+        if not 1 <= absorbed[vector] <= raised[vector]:
+            found.append("vector %r was raised %d times and absorbed %d times"
+                         % (vector, raised[vector], absorbed[vector]))
+    found += ["vector %r was absorbed and never raised" % (vector,)
+              for vector in absorbed if vector not in raised]
+    return found
+
+
+def crowd(seed, steps):
+    """A full crew on one board: every actor posts, sweeps, takes and ends, every line raises."""
+    chance = random.Random(seed)
+    text = ["board 8 4 0"]
+    for vp in range(8):
+        text += ["write %d 40000080 1" % vp, "write %d 40000083 2001" % vp, "write %d 40000092 50" % vp,
+                 "open %d message %d 2 4" % (vp, vp)]
+    for actor in range(ACTORS):
+        text.append("actor")
+        for _ in range(steps):
+            vp = chance.randrange(8)
+            text.append(chance.choice(["absorb %d %d" % (vp, chance.randrange(4)), "take %d" % vp,
+                                       "write %d 40000070 0" % vp, "write %d 40000084 0" % vp,
+                                       "post %d 1 %02x" % (vp, actor), "read %d 40000072" % vp]))
+    for _ in range(LINES):
+        text.append("line")
+        text += ["raise %d %02x" % (chance.randrange(8), chance.randrange(0x20, 0x40) * 4)
+                 for _ in range(8 * steps)]
+    return ("\n".join(text) + "\n").encode()
+
+
+def full(processors, more):
+    """As many steps as a history has room for, and so many more, in one section."""
+    room = 65536 - 4 * processors
+    lines = ["board %d 1 0" % processors, "actor"] + ["take 0"] * (room + more)
+    return ("\n".join(lines) + "\n").encode(), room + 3
