@@ -6,9 +6,7 @@ ghost use Rattle.board_script.specs.Output.{told};
 ghost use Rattle.board_script.specs.Streams.{IsAnswered, IsFaulty, AnswersItem, machine_of};
 ghost use Rattle.line_driver.specs.Judging.{Takes};
 
-use board_lines::{
-    ScriptFault, event_of, opening_of, put_notices, put_reply, put_summary, skips,
-};
+use board_lines::{ScriptFault, event_of, opening_of, put_notices, put_reply, put_summary, skips};
 use board_terms::Notices;
 use board_text::Fields;
 use line_driver::Taken;
