@@ -1,0 +1,95 @@
+// Shared boards, and taking actors and lines out of their lists and putting them back.
+ghost use Rattle.std.specs.Prelude.{◌≡◌, true, All, IfSome};
+ghost use Rattle.posted_words.specs.Words.{IsOf};
+ghost use Rattle.board_threads.specs.Settling.{only_raises};
+
+use board_threads::{Actor, Line, SharedBoard};
+use std::alloc::{AllocError, Global};
+
+/// A board with one page and first ticket 0, its actors and its lines.
+pub(crate) fn opened(
+    alloc: Global,
+    processors: u8,
+    actors: u8,
+    lines: u8,
+) -> Option<(SharedBoard, Vec<Actor>, Vec<Line>)>
+    ensures processors { IfSome result (λ r. r.0.words.processors ≡ processors) }
+    ensures actors { IfSome result (λ r. All (λ a. a.of ≡ r.0.words.name) r.1.items) }
+    ensures lines { IfSome result (λ r. All (IsOf r.0.words.name) r.2.items) }
+    ensures raises { IfSome result (λ r. All (λ l. only_raises l.did ≡ true) r.2.items) }
+{
+    match SharedBoard::open(alloc, processors, 1, 0, actors, lines) {
+        Ok(opened) => Some(opened),
+        Err(_) => None,
+    }
+}
+
+/// The last of a board's actors.
+pub(crate) fn take_actor(board: &SharedBoard, actors: &mut Vec<Actor>) -> Option<Actor>
+    requires { All (λ a. a.of ≡ board.now.words.name) actors.old.items }
+    ensures taken { IfSome result (λ a. a.of ≡ board.now.words.name) }
+    ensures others { All (λ a. a.of ≡ board.now.words.name) actors.new.items }
+{
+    actors.pop()
+}
+
+/// The actor is back among the others.
+pub(crate) fn put_actor(
+    board: &SharedBoard,
+    actors: &mut Vec<Actor>,
+    actor: Actor,
+) -> Result<(), AllocError>
+    requires others { All (λ a. a.of ≡ board.now.words.name) actors.old.items }
+    requires actor { actor.of ≡ board.now.words.name }
+    ensures { All (λ a. a.of ≡ board.now.words.name) actors.new.items }
+{
+    actors.push(actor)?;
+    Ok(())
+}
+
+/// Lets go of all actors but that many.
+pub(crate) fn keep_actors(board: &SharedBoard, actors: &mut Vec<Actor>, count: usize)
+    requires { All (λ a. a.of ≡ board.now.words.name) actors.old.items }
+    ensures { All (λ a. a.of ≡ board.now.words.name) actors.new.items }
+{
+    actors.truncate(count);
+}
+
+/// The last of a board's lines.
+pub(crate) fn take_line(board: &SharedBoard, lines: &mut Vec<Line>) -> Option<Line>
+    requires own { All (IsOf board.now.words.name) lines.old.items }
+    requires raises { All (λ l. only_raises l.did ≡ true) lines.old.items }
+    ensures own { IfSome result (IsOf board.now.words.name) }
+    ensures raises { IfSome result (λ l. only_raises l.did ≡ true) }
+    ensures others_own { All (IsOf board.now.words.name) lines.new.items }
+    ensures others_raise { All (λ l. only_raises l.did ≡ true) lines.new.items }
+{
+    lines.pop()
+}
+
+/// The line is back among the others.
+pub(crate) fn put_line(
+    board: &SharedBoard,
+    lines: &mut Vec<Line>,
+    line: Line,
+) -> Result<(), AllocError>
+    requires own { IsOf board.now.words.name line }
+    requires raises { only_raises line.did ≡ true }
+    requires others_own { All (IsOf board.now.words.name) lines.old.items }
+    requires others_raise { All (λ l. only_raises l.did ≡ true) lines.old.items }
+    ensures own { All (IsOf board.now.words.name) lines.new.items }
+    ensures raises { All (λ l. only_raises l.did ≡ true) lines.new.items }
+{
+    lines.push(line)?;
+    Ok(())
+}
+
+/// Lets go of all lines but that many.
+pub(crate) fn keep_lines(board: &SharedBoard, lines: &mut Vec<Line>, count: usize)
+    requires own { All (IsOf board.now.words.name) lines.old.items }
+    requires raises { All (λ l. only_raises l.did ≡ true) lines.old.items }
+    ensures own { All (IsOf board.now.words.name) lines.new.items }
+    ensures raises { All (λ l. only_raises l.did ≡ true) lines.new.items }
+{
+    lines.truncate(count);
+}

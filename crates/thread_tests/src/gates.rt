@@ -1,0 +1,129 @@
+// Gates that hold a worker up, or watch.
+ghost use Rattle.std.specs.Prelude.{◌<◌};
+
+use board_threads::{Gate, Worker};
+use std::sync::{Mutex, Wait};
+use std::thread::yield_now;
+
+/// How often a held worker looks before it goes on.
+const TURNS: u32 = 50_000_000;
+
+/// Holds the first call of one worker until so many calls of the others have left.
+#[derive(Drop)]
+pub(crate) struct Hold {
+    held: Worker,
+    until: u64,
+    left: Mutex<u64>,
+    given_up: Mutex<bool>,
+}
+
+impl Hold {
+    pub(crate) fn of(held: Worker, until: u64) -> Hold {
+        Hold {
+            held,
+            until,
+            left: Mutex::new(0),
+            given_up: Mutex::new(false),
+        }
+    }
+
+    /// Whether the worker went on while the others had not left.
+    pub(crate) fn has_given_up<R: Wait>(&self, rt: &R) -> bool {
+        *self.given_up.lock(rt)
+    }
+}
+
+impl Gate for Hold {
+    fn enter<R: Wait>(&self, rt: &R, who: Worker, call: u64) {
+        if who != self.held || call != 0 {
+            return;
+        }
+        for _ in 0..TURNS {
+            if *self.left.lock(rt) >= self.until {
+                return;
+            }
+            yield_now();
+        }
+        *self.given_up.lock(rt) = true;
+    }
+
+    fn leave<R: Wait>(&self, rt: &R, who: Worker, _: u64) {
+        if who != self.held {
+            let mut left = self.left.lock(rt);
+            *left = left.saturating_add(1);
+        }
+    }
+}
+
+/// What a gate has seen. Actors stand at their numbers, lines at 16 and more.
+#[derive(Clone, Copy)]
+struct Seen {
+    entered: [u64; 32],
+    left: [u64; 32],
+    out_of_turn: bool,
+}
+
+/// Looks that each worker's calls come one by one and are numbered from 0, and counts them.
+#[derive(Drop)]
+pub(crate) struct Watch {
+    seen: Mutex<Seen>,
+}
+
+impl Watch {
+    pub(crate) fn new() -> Watch {
+        Watch {
+            seen: Mutex::new(Seen {
+                entered: [0; 32],
+                left: [0; 32],
+                out_of_turn: false,
+            }),
+        }
+    }
+
+    /// How many calls of a worker have left.
+    pub(crate) fn count<R: Wait>(&self, rt: &R, who: Worker) -> u64 {
+        self.seen.lock(rt).left[place_of(who)]
+    }
+
+    /// How many calls of all workers have entered.
+    pub(crate) fn count_all<R: Wait>(&self, rt: &R) -> u64 {
+        let mut all = 0u64;
+        for count in self.seen.lock(rt).entered {
+            all = all.saturating_add(count);
+        }
+        all
+    }
+
+    /// Whether a call came out of its turn.
+    pub(crate) fn is_out_of_turn<R: Wait>(&self, rt: &R) -> bool {
+        self.seen.lock(rt).out_of_turn
+    }
+}
+
+fn place_of(who: Worker) -> usize
+    ensures { result < 32 }
+{
+    match who {
+        Worker::Acts(number) => usize::from(number % 16),
+        Worker::Raises(number) => 16 + usize::from(number % 16),
+    }
+}
+
+impl Gate for Watch {
+    fn enter<R: Wait>(&self, rt: &R, who: Worker, call: u64) {
+        let place = place_of(who);
+        let mut guard = self.seen.lock(rt);
+        let seen = &mut *guard;
+        seen.out_of_turn |= seen.entered[place] != call || seen.left[place] != call;
+        seen.entered[place] = call.saturating_add(1);
+    }
+
+    fn leave<R: Wait>(&self, rt: &R, who: Worker, call: u64) {
+        let place = place_of(who);
+        let mut guard = self.seen.lock(rt);
+        let seen = &mut *guard;
+        let next = call.saturating_add(1);
+        seen.out_of_turn |= seen.entered[place] != next || seen.left[place] != call;
+        seen.left[place] = next;
+    }
+}
