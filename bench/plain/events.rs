@@ -10,13 +10,13 @@ pub const STIMER0_CONFIG: u32 = 0x4000_00b0;
 pub const LAST_SINT: u32 = SINT0 + 15;
 pub const LAST_TIMER: u32 = STIMER0_CONFIG + 7;
 
-#[derive(Clone, Copy)]
+#[derive(Clone, Copy, PartialEq)]
 pub enum Shape {
     Messages { buffers: u8 },
     Flags { base: u16, count: u16 },
 }
 
-#[derive(Clone, Copy)]
+#[derive(Clone, Copy, PartialEq)]
 pub enum Event {
     OpenPort {
         port: u8,
@@ -59,7 +59,7 @@ pub enum Event {
     },
 }
 
-#[derive(Clone, Copy)]
+#[derive(Clone, Copy, PartialEq)]
 pub enum Refusal {
     UnknownPort = 1,
     PortOpen = 2,
@@ -77,7 +77,7 @@ pub enum Refusal {
     NoSuchProcessor = 14,
 }
 
-#[derive(Clone, Copy)]
+#[derive(Clone, Copy, PartialEq)]
 pub enum Reply {
     Done,
     Bytes([u8; 8], u8),

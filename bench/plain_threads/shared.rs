@@ -1,0 +1,125 @@
+//! The plain board behind a lock, with its history, and the words of raised vectors beside it.
+
+use crate::board::Board;
+use crate::events::{Event, Notice, Reply};
+use std::sync::Mutex;
+use std::sync::atomic::{AtomicU64, Ordering};
+
+const MOST_ENTRIES: usize = 65_536;
+
+/// What an actor asked for: an event, or the absorb of the bits of a word.
+#[derive(Clone, Copy, PartialEq)]
+pub enum Call {
+    Event(Event),
+    Absorb { vp: u8, part: u8, bits: u64 },
+}
+
+struct Entry {
+    actor: u8,
+    call: Call,
+    reply: Reply,
+}
+
+pub struct Actor {
+    number: u8,
+    calls: Vec<(Call, Reply)>,
+}
+
+impl Actor {
+    pub fn new(number: u8) -> Actor {
+        Actor {
+            number,
+            calls: Vec::new(),
+        }
+    }
+}
+
+struct Recorded {
+    board: Board,
+    history: Vec<Entry>,
+    notices: Vec<Notice>,
+}
+
+pub struct SharedBoard {
+    words: [AtomicU64; 32],
+    recorded: Mutex<Recorded>,
+}
+
+impl SharedBoard {
+    pub fn open(processors: u8, pages: u8) -> SharedBoard {
+        SharedBoard {
+            words: [const { AtomicU64::new(0) }; 32],
+            recorded: Mutex::new(Recorded {
+                board: Board::open(processors, pages),
+                history: Vec::new(),
+                notices: Vec::with_capacity(320),
+            }),
+        }
+    }
+
+    /// Whether the vector was not pending.
+    pub fn raise(&self, vp: u8, vector: u8) -> bool {
+        let word = &self.words[(4 * vp + vector / 64) as usize];
+        let bit = 1 << (vector % 64);
+        word.fetch_or(bit, Ordering::SeqCst) & bit == 0
+    }
+
+    /// `None` where the history is full.
+    pub fn perform(&self, actor: &mut Actor, event: Event) -> Option<Reply> {
+        let mut guard = self.recorded.lock().expect("no thread panics");
+        let recorded = &mut *guard;
+        if recorded.history.len() >= MOST_ENTRIES {
+            return None;
+        }
+        let reply = recorded.board.perform(&event, &mut recorded.notices);
+        recorded.enter(actor, Call::Event(event), reply);
+        Some(reply)
+    }
+
+    /// The bits of a word, which are taken in by the processor one by one. `None` where the history is
+    /// full.
+    pub fn absorb(&self, actor: &mut Actor, vp: u8, part: u8) -> Option<Reply> {
+        let mut guard = self.recorded.lock().expect("no thread panics");
+        let recorded = &mut *guard;
+        if recorded.history.len() >= MOST_ENTRIES {
+            return None;
+        }
+        let bits = self.words[(4 * vp + part) as usize].swap(0, Ordering::SeqCst);
+        let mut left = bits;
+        while left != 0 {
+            let vector = 64 * part + left.trailing_zeros() as u8;
+            let event = Event::Assert { vp, vector };
+            recorded.board.perform(&event, &mut recorded.notices);
+            left &= left - 1;
+        }
+        recorded.enter(actor, Call::Absorb { vp, part, bits }, Reply::Done);
+        Some(Reply::Done)
+    }
+
+    /// Whether the history is what these actors called, and nothing else.
+    pub fn settle(&self, actors: &[Actor]) -> bool {
+        let recorded = self.recorded.lock().expect("no thread panics");
+        let history = &recorded.history;
+        let count: usize = actors.iter().map(|actor| actor.calls.len()).sum();
+        count == history.len()
+            && actors.iter().all(|actor| {
+                history
+                    .iter()
+                    .filter(|entry| entry.actor == actor.number)
+                    .map(|entry| (entry.call, entry.reply))
+                    .eq(actor.calls.iter().copied())
+            })
+    }
+}
+
+impl Recorded {
+    /// Both lists grow by doubling.
+    fn enter(&mut self, actor: &mut Actor, call: Call, reply: Reply) {
+        self.history.push(Entry {
+            actor: actor.number,
+            call,
+            reply,
+        });
+        actor.calls.push((call, reply));
+    }
+}

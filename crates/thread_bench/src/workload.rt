@@ -1,0 +1,91 @@
+// The workloads by their names.
+ghost use Rattle.std.specs.Prelude.{◌≤◌};
+
+/// What each thread does over and over.
+#[derive(Clone, Copy, PartialEq, Eq, Debug)]
+pub(crate) enum Job {
+    /// Its line raises vectors over all processors, and its actor absorbs a word now and then.
+    Raise,
+    /// Its actor performs events without payload.
+    Perform,
+}
+
+/// How many threads there are.
+#[derive(Clone, Copy, PartialEq, Eq, Debug)]
+pub(crate) enum ThreadCount {
+    One,
+    Four,
+}
+
+/// What is measured.
+#[derive(Clone, Copy, PartialEq, Eq, Debug)]
+pub(crate) struct Workload {
+    pub(crate) job: Job,
+    pub(crate) threads: ThreadCount,
+}
+
+impl ThreadCount {
+    /// Their number.
+    pub(crate) fn number(self) -> u8
+        ensures some { 1 ≤ result }
+        ensures few { result ≤ 4 }
+    {
+        match self {
+            ThreadCount::One => 1,
+            ThreadCount::Four => 4,
+        }
+    }
+}
+
+impl Workload {
+    /// All workloads, in the order in which they are measured.
+    pub(crate) const ALL: [Workload; 4] = [
+        Workload {
+            job: Job::Raise,
+            threads: ThreadCount::One,
+        },
+        Workload {
+            job: Job::Raise,
+            threads: ThreadCount::Four,
+        },
+        Workload {
+            job: Job::Perform,
+            threads: ThreadCount::One,
+        },
+        Workload {
+            job: Job::Perform,
+            threads: ThreadCount::Four,
+        },
+    ];
+
+    /// The name, as the command line has it.
+    pub(crate) fn name(self) -> &'static str {
+        match (self.job, self.threads) {
+            (Job::Raise, ThreadCount::One) => "raise-1",
+            (Job::Raise, ThreadCount::Four) => "raise-4",
+            (Job::Perform, ThreadCount::One) => "perform-1",
+            (Job::Perform, ThreadCount::Four) => "perform-4",
+        }
+    }
+
+    /// The workload of a name.
+    pub(crate) fn named(name: &str) -> Option<Workload> {
+        Workload::ALL
+            .iter()
+            .copied()
+            .find(|workload| workload.name() == name)
+    }
+
+    /// How many calls each thread makes on one board at most: a history has room for 65,536 entries.
+    pub(crate) fn most(self) -> u32
+        ensures { 1 ≤ result }
+    {
+        match self.job {
+            Job::Raise => 8_000_000,
+            Job::Perform => MOST_EVENTS / self.threads.number() as u32,
+        }
+    }
+}
+
+/// How many events are performed on one board at most.
+const MOST_EVENTS: u32 = 60_000;
