@@ -1,8 +1,6 @@
-//! Tests of the board and the script together. There is nothing else here.
+//! Tests of a whole board: pages, ports, messages and queues. There is nothing else here.
 #![tactic(auto)]
 
-#[cfg(test)]
-mod absorbs;
 #[cfg(test)]
 mod messages;
 #[cfg(test)]
@@ -13,9 +11,3 @@ mod overlays;
 mod ports;
 #[cfg(test)]
 mod queues;
-#[cfg(test)]
-mod runs;
-#[cfg(test)]
-mod steps;
-#[cfg(test)]
-mod timers;

@@ -1,5 +1,5 @@
 // Messages at the edges: the last tickets, a slot that is emptied in parts.
-use crate::steps::{EOM, SCONTROL, SIMP, are_done, open_messages, post, store, write};
+use board_steps::{EOM, SCONTROL, SIMP, are_done, open_messages, post, store, write};
 use board_terms::{Notice, Notices, Refusal, Sint, Ticket, Vp};
 use std::test::Fail;
 use synic_board::{Board, Reply};

@@ -1,5 +1,5 @@
 // Eight processors whose sixteen overlays lie at one page.
-use crate::steps::{SIEFP, SIMP, write};
+use board_steps::{SIEFP, SIMP, write};
 use board_terms::{Notices, Owner, Vp};
 use std::test::Fail;
 use synic_board::{Board, Reply};

@@ -1,5 +1,5 @@
 // Event flags at the edges of a port, and ports that share a queue and are closed.
-use crate::steps::{SCONTROL, SIEFP, are_done, open, open_messages, post, write};
+use board_steps::{SCONTROL, SIEFP, are_done, open, open_messages, post, write};
 use board_terms::{Notice, Notices, PortShape, Refusal, Sint, Ticket, Vp};
 use std::test::Fail;
 use synic_board::{Board, Event, Reply};

@@ -1,7 +1,7 @@
 // All buffers in use: 16 for each of 16 ports, and one for each timer.
 ghost use Rattle.std.specs.Prelude.{◌<◌, ◌^◌};
 
-use crate::steps::{
+use board_steps::{
     EOM, SCONTROL, SIMP, are_done, bytes, load, open_messages, post, start_timer, store, write,
 };
 use board_terms::{Notice, Notices, Refusal, Sint, Ticket, Vp};

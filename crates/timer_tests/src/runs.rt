@@ -1,5 +1,5 @@
 // Lists of events, and runs that stop for want of memory and go on.
-use crate::steps::{EOM, SCONTROL, SIMP, SINT2, bytes, load, open_messages, post, store, write};
+use board_steps::{EOM, SCONTROL, SIMP, SINT2, bytes, load, open_messages, post, store, write};
 use board_terms::{Notice, Refusal, Sint, Vector, Vp};
 use std::test::Fail;
 use synic_board::{Board, Event, Reply, run};

@@ -1,5 +1,5 @@
 // Timers whose counts and moments are the largest.
-use crate::steps::{
+use board_steps::{
     SCONTROL, SIMP, STIMER0_CONFIG, STIMER0_COUNT, bytes, load, requested, start_timer, write,
 };
 use board_terms::{Moment, Notice, Notices, Refusal, Sint, TimerId, Vp};

@@ -1,5 +1,5 @@
 // Posted vectors that are taken in.
-use crate::steps::requested;
+use board_steps::requested;
 use board_terms::{Notice, Notices, Refusal, Vector, Vp};
 use std::test::Fail;
 use synic_board::{Board, Event, Reply};

@@ -1,0 +1,15 @@
+//! Calls that take memory, each where a request for it is refused. `rt try --test --fail-alloc 1..`
+//! refuses one request in each run, and each in turn. So a call that wanted memory is made again, and
+//! then it must answer as it does where memory is there. There is nothing else here.
+#![tactic(auto)]
+
+#[cfg(test)]
+mod boards;
+#[cfg(test)]
+mod crews;
+#[cfg(test)]
+mod shared;
+#[cfg(test)]
+mod stopped;
+#[cfg(test)]
+mod words;

@@ -1,0 +1,195 @@
+// Calls of a shared board.
+ghost use Rattle.std.specs.Prelude.{◌≡◌, ◌<◌, true, IfOk, length};
+ghost use Rattle.posted_words.specs.Words.{IsOf};
+ghost use Rattle.board_threads.specs.Settling.{only_raises};
+
+use crate::stopped::Stopped;
+use board_terms::{Vector, Vp};
+use board_threads::{Actor, CallFault, Ended, Line, OpenFault, SharedBoard};
+use std::alloc::Global;
+use std::sync::Wait;
+use std::test::Fail;
+use synic_board::{Entry, Event};
+
+#[test]
+fn a_shared_board_is_opened(rt: HostRuntime) -> Result<(), Fail> {
+    let (board, actors, lines) = match SharedBoard::open(rt.alloc(), 8, 64, 7, 16, 16) {
+        Ok(opened) => opened,
+        Err(fault) => {
+            assert_eq!(rt; fault, OpenFault::Memory);
+            println!(rt; "memory was wanting")?;
+            SharedBoard::open(rt.alloc(), 8, 64, 7, 16, 16)?
+        }
+    };
+    assert_eq!(rt; board.processors(), 8);
+    assert_eq!(rt; (actors.len(), lines.len()), (16, 16));
+    Ok(())
+}
+
+/// A board of many actors and lines that did nothing is settled.
+fn settled(alloc: Global) -> Result<Ended, Stopped> {
+    let (board, actors, lines) = SharedBoard::open(alloc, 8, 1, 7, 16, 16)?;
+    Ok(board.settle(actors, lines)?)
+}
+
+#[test]
+fn a_shared_board_is_settled(rt: HostRuntime) -> Result<(), Fail> {
+    let ended = match settled(rt.alloc()) {
+        Ok(ended) => ended,
+        Err(stopped) => {
+            assert_eq!(rt; stopped, Stopped::Memory);
+            println!(rt; "memory was wanting")?;
+            settled(rt.alloc())?
+        }
+    };
+    assert!(rt; ended.history.is_empty());
+    assert_eq!(rt; ended.actors.len(), 16);
+    assert_eq!(rt; ended.board.next_ticket(), 7);
+    Ok(())
+}
+
+/// Performs a tick, and once more where memory was wanting and `again` says so. How often it was.
+fn tick<R: Wait>(
+    rt: &R,
+    board: &SharedBoard,
+    actor: &mut Actor,
+    moment: u64,
+    again: bool,
+) -> Result<usize, CallFault>
+    ensures { actor.new.of ≡ actor.old.of }
+{
+    match board.perform(rt, actor, Event::Tick { moment }) {
+        Ok(_) => Ok(0),
+        Err(CallFault::Memory) => {
+            if again {
+                board.perform(rt, actor, Event::Tick { moment })?;
+            }
+            Ok(1)
+        }
+        Err(fault) => Err(fault),
+    }
+}
+
+/// Absorbs part 1 of processor 0, in the same way.
+fn absorb<R: Wait>(
+    rt: &R,
+    board: &SharedBoard,
+    actor: &mut Actor,
+    again: bool,
+) -> Result<usize, CallFault>
+    requires { actor.old.of ≡ board.now.words.name }
+    ensures { actor.new.of ≡ actor.old.of }
+{
+    match board.absorb(rt, actor, 0, 1) {
+        Ok(_) => Ok(0),
+        Err(CallFault::Memory) => {
+            if again {
+                board.absorb(rt, actor, 0, 1)?;
+            }
+            Ok(1)
+        }
+        Err(fault) => Err(fault),
+    }
+}
+
+/// Raises vectors 0x40 to 0x49 one by one, and after each the actor ticks and absorbs. How often
+/// memory was wanting.
+fn take_turns<R: Wait>(
+    rt: &R,
+    board: &SharedBoard,
+    actor: &mut Actor,
+    line: &mut Line,
+    again: bool,
+) -> Result<usize, CallFault>
+    requires some_processor { 0 < board.now.words.processors }
+    requires actor { actor.old.of ≡ board.now.words.name }
+    requires line { IsOf board.now.words.name line.old }
+    requires raises { only_raises line.old.did ≡ true }
+    ensures actor { actor.new.of ≡ actor.old.of }
+    ensures line { IsOf board.now.words.name line.new }
+    ensures raises { only_raises line.new.did ≡ true }
+{
+    let mut wanted = 0usize;
+    for turn in 0..10 {
+        let vector = Vector::new(0x40 + turn).unwrap();
+        board.raise(line, Vp::new(0).unwrap(), vector);
+        wanted = wanted
+            .saturating_add(tick(rt, board, actor, u64::from(turn), again)?)
+            .saturating_add(absorb(rt, board, actor, again)?);
+    }
+    Ok(wanted)
+}
+
+/// What ten turns come to, and how often memory was wanting in them.
+fn settled_turns<R: Wait>(rt: &R, alloc: Global, again: bool) -> Result<(Ended, usize), Stopped>
+    ensures { IfOk result (λ r. length r.0.standing ≡ 4) }
+{
+    let (board, mut actors, mut lines) = SharedBoard::open(alloc, 1, 1, 0, 1, 1)?;
+    let (Some(mut actor), Some(mut line)) = (actors.pop(), lines.pop()) else {
+        return Err(Stopped::Otherwise);
+    };
+    let wanted = take_turns(rt, &board, &mut actor, &mut line, again)?;
+    if actors.push(actor).is_err() || lines.push(line).is_err() {
+        return Err(Stopped::Memory);
+    }
+    Ok((board.settle(actors, lines)?, wanted))
+}
+
+/// The sum of all bits that were absorbed.
+fn absorbed_bits(history: &[Entry]) -> u64 {
+    let mut all = 0u64;
+    for entry in history {
+        if let Event::Absorb { bits, .. } = entry.event {
+            all = all.wrapping_add(bits);
+        }
+    }
+    all
+}
+
+/// Whether each pair of entries is a tick and an absorb of the one vector that was raised before.
+fn are_turns(history: &[Entry]) -> bool {
+    let mut turn = 0u8;
+    for pair in history.chunks(2) {
+        let [first, second] = pair else {
+            return false;
+        };
+        let tick = Event::Tick {
+            moment: u64::from(turn),
+        };
+        let absorb = Event::Absorb {
+            vp: 0,
+            part: 1,
+            bits: 1 << (turn % 64),
+        };
+        if first.event != tick || second.event != absorb {
+            return false;
+        }
+        turn = turn.wrapping_add(1);
+    }
+    true
+}
+
+#[test]
+fn calls_go_on_where_memory_was_wanting(rt: HostRuntime) -> Result<(), Fail> {
+    for again in [true, false] {
+        let (ended, wanted) = match settled_turns(&rt, rt.alloc(), again) {
+            Ok(settled) => settled,
+            Err(stopped) => {
+                assert_eq!(rt; stopped, Stopped::Memory);
+                println!(rt; "memory was wanting")?;
+                settled_turns(&rt, rt.alloc(), again)?
+            }
+        };
+        if wanted > 0 {
+            println!(rt; "memory was wanting")?;
+        }
+        let left_out = if again { 0 } else { wanted };
+        let history = ended.history.as_slice();
+        assert!(rt; wanted <= 1);
+        assert_eq!(rt; history.len().saturating_add(left_out), 20);
+        assert!(rt; left_out > 0 || are_turns(history));
+        let standing = ended.standing.word(Vp::new(0).unwrap(), 1);
+        assert_eq!(rt; absorbed_bits(history).wrapping_add(standing), 0x3ff);
+    }
+    Ok(())
+}
