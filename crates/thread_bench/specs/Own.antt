@@ -1,5 +1,5 @@
 -- What belongs to a board.
-use Rattle.std.specs.Prelude.{◌≡◌, Bool, true}
+use Rattle.std.specs.Prelude.{◌≡◌, true}
 use Rattle.board_threads.specs.Sharing.{Sharing, Acting}
 use Rattle.board_threads.specs.Settling.{only_raises}
 use Rattle.posted_words.specs.Words.{Token}

@@ -1,6 +1,12 @@
 // The workloads by their names.
 ghost use Rattle.std.specs.Prelude.{◌≤◌};
 
+/// How many events are performed on one board at most: a history has room for 65,536 entries.
+const MOST_EVENTS: u32 = 60_000;
+
+/// How many vectors each thread raises on one board at most: each 1024th turn enters an absorb.
+const MOST_RAISES: u32 = 8_000_000;
+
 /// What each thread does over and over.
 #[derive(Clone, Copy, PartialEq, Eq, Debug)]
 pub(crate) enum Job {
@@ -76,16 +82,13 @@ impl Workload {
             .find(|workload| workload.name() == name)
     }
 
-    /// How many calls each thread makes on one board at most: a history has room for 65,536 entries.
+    /// How many calls each thread makes on one board at most.
     pub(crate) fn most(self) -> u32
         ensures { 1 ≤ result }
     {
         match self.job {
-            Job::Raise => 8_000_000,
+            Job::Raise => MOST_RAISES,
             Job::Perform => MOST_EVENTS / self.threads.number() as u32,
         }
     }
 }
-
-/// How many events are performed on one board at most.
-const MOST_EVENTS: u32 = 60_000;
