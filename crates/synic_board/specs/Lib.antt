@@ -3,6 +3,7 @@ pub mod Scratch
 pub mod Entries
 pub mod Moves
 pub mod Effects
+pub mod Effected
 pub mod Interrupts
 pub mod Absorbing
 pub mod Delivery
