@@ -1,31 +1,19 @@
 -- Posted vectors: a bit that is clear changes nothing, and the lowest bit that is set is the next vector.
 use Rattle.std.proofs.Common.{◌≡◌, ℕ, ◌+◌, ◌*◌, ◌-◌, ◌/◌, ◌%◌, ◌^◌, ◌<◌, ◌≤◌, ◌⊎◌, inl, inr, zero, suc, List, refl, ap, sym, ◌∙◌, arith, add-zero, add-suc, append-nil}
 use Rattle.std.specs.Prelude.{◌==◌, ◌&&◌, nat_le, if◌then◌else◌}
-use Rattle.std.specs.Int.{bit_at, trailing_zeros, w64}
-use Rattle.std.proofs.Math.Nat.{div-div-eq-div-mul}
-use Rattle.std.proofs.lemmas.Nat.{pow-add}
-use Rattle.std.proofs.lemmas.Nat.Bits.{bit_at-trailing_zeros, bit_at_above, bit_at-zero}
-use Rattle.std.proofs.lemmas.Bool.{cases_lt}
+use Rattle.std.specs.Int.{bit_at}
+use Rattle.std.proofs.lemmas.Nat.Bits.{bit_at-zero}
 use Rattle.board_terms.specs.declared.notices.Notice.{Notice}
 use Rattle.synic_board.specs.State.{State}
 use Rattle.synic_board.specs.Effects.{Effect, nothing, after, appended}
 use Rattle.synic_board.specs.Interrupts.{requested}
 use Rattle.synic_board.specs.Absorbing.{absorbed_bit, absorbed_below}
-use Rattle.synic_board.proofs.Folds.{IsFold, fold_none, fold_more}
+use Rattle.synic_board.proofs.Words.{IsNext, bit_at-left}
+use Rattle.synic_board.proofs.Folds.{IsFold, fold_none, fold_more, fold_skip}
 
 absorbs : (p part bits : ℕ) → IsFold (λ s n. absorbed_below s p part bits n) (λ s i. absorbed_bit s p part bits i)
 unfolding absorbed_below
 absorbs p part bits = record { none = λ s. refl; more = λ s i. refl }
-
--- what is left of a word without its lowest bits has the bits behind them
-shifted : (n i j : ℕ) → n / 2 ^ i / 2 ^ j ≡ n / 2 ^ (i + j)
-shifted n i j = div-div-eq-div-mul n (2 ^ i) (2 ^ j) ∙ ap (λ k. n / k) (sym (pow-add 2 i j))
-
-pub halved : (n i j : ℕ) → n / 2 ^ i / 2 ^ j / 2 ≡ n / 2 ^ (i + j + 1)
-halved n i j = ap (λ k. k / 2) (shifted n i j) ∙ shifted n (i + j) 1
-
-bit_at-left : (n i j : ℕ) → bit_at (n / 2 ^ i) j ≡ bit_at n (i + j)
-bit_at-left n i j = ap (λ k. k % 2) (shifted n i j)
 
 -- bits that are clear change nothing
 clear-bit : (s : State) (p part bits i : ℕ) → bit_at bits i ≡ 0 → absorbed_bit s p part bits i ≡ nothing s
@@ -35,35 +23,12 @@ set-bit : (s : State) (p part bits i : ℕ) → bit_at bits i ≡ 1 → absorbed
 set-bit s p part bits i set = ap (λ k. if (k == 1 && nat_le 16 (64 * part + i)) then requested s p (64 * part + i) else nothing s) set
 
 skipped : (s : State) (p part bits i k : ℕ) → ((j : ℕ) → j < k → bit_at bits (i + j) ≡ 0) → absorbed_below s p part bits (i + k) ≡ absorbed_below s p part bits i
-skipped s p part bits i zero clear = ap (absorbed_below s p part bits) (add-zero i)
-skipped s p part bits i (suc k) clear =
-    let e : Effect = absorbed_below s p part bits (i + k) in
-    ap (absorbed_below s p part bits) (add-suc i k)
-    ∙ (absorbs p part bits).more s (i + k)
-    ∙ ap (after e) (clear-bit e.0 p part bits (i + k) (clear k (omega arith)))
-    ∙ ap (λ ns. (e.0, ns)) (append-nil e.1)
-    ∙ skipped s p part bits i k (λ j h. clear j (omega arith))
+skipped s p part bits i k clear = fold_skip (absorbs p part bits) s i k (λ j h. clear-bit (absorbed_below s p part bits i).0 p part bits (i + j) (clear j h))
 
 pub absorbed_none : (s : State) (p part bits : ℕ) (before : List Notice) → (s, before) ≡ appended before (absorbed_below s p part bits 0)
 absorbed_none s p part bits before = fold_none (absorbs p part bits) s before
 
--- the lowest bit of what is left is the next one
-pub record IsNext (bits behind skipped : ℕ) : Type 0 where
-  pub inside : behind + skipped < 64
-  pub set : bit_at bits (behind + skipped) ≡ 1
-  pub clear : (j : ℕ) → j < skipped → bit_at bits (behind + j) ≡ 0
-
-pub next-bit : (bits left behind : ℕ) → bits < 2 ^ 64 → left ≡ bits / 2 ^ behind → 0 < left → left < 2 ^ 64 → IsNext bits behind (trailing_zeros w64 left)
-next-bit bits left behind fits is some small =
-    let h = bit_at-trailing_zeros w64 left some small in
-    let set : bit_at bits (behind + trailing_zeros w64 left) ≡ 1 = sym (bit_at-left bits behind (trailing_zeros w64 left)) ∙ ap (λ n. bit_at n (trailing_zeros w64 left)) (sym is) ∙ h.1 in
-    record { inside = inside set (cases_lt (behind + trailing_zeros w64 left) 64); set = set; clear = λ j below. sym (bit_at-left bits behind j) ∙ ap (λ n. bit_at n j) (sym is) ∙ h.2 j below }
-  where
-    inside : {k : ℕ} → bit_at bits k ≡ 1 → (k < 64) ⊎ (64 ≤ k) → k < 64
-    inside e (inl below) = below
-    inside {k} e (inr above) = let none = bit_at_above bits 64 k fits above in absurd (omega (arith, e, none))
-
-pub absorbed_more : (s now next : State) (p part bits behind bit skip number : ℕ) (before told more : List Notice) → IsNext bits behind skip → bit ≡ behind + skip → number ≡ 64 * part + bit →
+pub absorbed_more : (s now next : State) (p part bits behind bit skip number : ℕ) (before told more : List Notice) → IsNext 64 bits behind skip → bit ≡ behind + skip → number ≡ 64 * part + bit →
     (now, told) ≡ appended before (absorbed_below s p part bits behind) → (next, more) ≡ appended told (if nat_le 16 number then requested now p number else nothing now) →
     (next, more) ≡ appended before (absorbed_below s p part bits (bit + 1))
 absorbed_more s now next p part bits behind bit skip number before told more is at named so_far step =

@@ -1,11 +1,12 @@
 -- Effects one after another: what is done for the sources below a number.
-use Rattle.std.proofs.Common.{◌≡◌, ℕ, ◌+◌, ◌<◌, ◌≤◌, List, [], ◌∷◌, ◌++◌, length, take, get_or, refl, ap, sym, ◌∙◌, append_assoc, append-nil, add-one, suc, zero, subst}
+use Rattle.std.proofs.Common.{◌≡◌, ℕ, ◌+◌, ◌-◌, ◌<◌, ◌≤◌, ◌&&◌, Bool, true, false, arith, add-zero, add-suc, List, [], ◌∷◌, ◌++◌, length, take, get_or, refl, ap, sym, ◌∙◌, append_assoc, append-nil, add-one, suc, zero, subst}
 use Rattle.std.specs.Prelude.{Option, Some, IfSome}
 use Rattle.std.proofs.lemmas.List.{take_more, take_all}
 use Rattle.board_terms.specs.declared.notices.Notice.{Notice}
 use Rattle.synic_board.specs.State.{State}
 use Rattle.synic_board.specs.Effects.{Effect, nothing, after, appended}
-use Rattle.synic_board.specs.Delivery.{tried, tried_below}
+use Rattle.message_queues.specs.Queues.{queue_of}
+use Rattle.synic_board.specs.Delivery.{delivers, tried, tried_below}
 use Rattle.synic_board.specs.Stores.{consumed, consumed_below}
 use Rattle.synic_board.specs.Timers.{attempted, attempted_all}
 
@@ -28,6 +29,18 @@ fold_more {below} {one} f s now next i v before told more so_far same step =
     let h : next ≡ (one e.0 i).0 = ap (λ (x : Effect). x.0) step ∙ ap (λ (x : Effect). x.0) c in
     (λ j. (h j, g j)) ∙ ap (appended before) (sym (f.more s i)) ∙ ap (λ k. appended before (below s k)) (sym (add-one i))
 
+-- steps that do nothing
+pub fold_skip : {below one : State → ℕ → Effect} (f : IsFold below one) (s : State) (i k : ℕ) → ((j : ℕ) → j < k → one (below s i).0 (i + j) ≡ nothing (below s i).0) → below s (i + k) ≡ below s i
+fold_skip {below} f s i zero clear = ap (below s) (add-zero i)
+fold_skip {below} {one} f s i (suc k) clear =
+    let e : Effect = below s (i + k) in
+    let so_far : e ≡ below s i = fold_skip f s i k (λ j h. clear j (omega arith)) in
+    ap (below s) (add-suc i k)
+    ∙ f.more s (i + k)
+    ∙ ap (after e) (ap (λ (x : Effect). one x.0 (i + k)) so_far ∙ clear k (omega arith) ∙ ap (λ (x : Effect). nothing x.0) (sym so_far))
+    ∙ ap (λ ns. (e.0, ns)) (append-nil e.1)
+    ∙ so_far
+
 tries : (p : ℕ) → IsFold (λ s n. tried_below s p n) (λ s i. tried s p i)
 unfolding tried_below
 tries p = record { none = λ s. refl; more = λ s i. refl }
@@ -39,9 +52,36 @@ consumes p = record { none = λ s. refl; more = λ s i. refl }
 pub tried_none : (s : State) (p : ℕ) (before : List Notice) → (s, before) ≡ appended before (tried_below s p 0)
 tried_none s p before = fold_none (tries p) s before
 
-pub tried_more : (s now next : State) (p i v : ℕ) (before told more : List Notice) → (now, told) ≡ appended before (tried_below s p i) → v ≡ i → (next, more) ≡ appended told (tried now p v) →
+tried_more : (s now next : State) (p i v : ℕ) (before told more : List Notice) → (now, told) ≡ appended before (tried_below s p i) → v ≡ i → (next, more) ≡ appended told (tried now p v) →
     (next, more) ≡ appended before (tried_below s p (i + 1))
 tried_more s now next p i v before told more so_far same step = fold_more (tries p) s now next i v before told more so_far same step
+
+-- a source for which nothing is queued
+untried : (s : State) (p i : ℕ) → length (queue_of s.queues p i) ≡ 0 → tried s p i ≡ nothing s
+unfolding tried
+untried s p i none = rw (none, both (delivers s p)) refl
+  where
+    both : (b : Bool) → (b && false) ≡ false
+    both true = refl
+    both false = refl
+
+-- nothing is queued for the sources from one number to another
+abbrev pub NoneFrom : State → ℕ → ℕ → ℕ → Type 0
+NoneFrom s p from to = (i : ℕ) → from ≤ i → i < to → length (queue_of s.queues p i) ≡ 0
+
+tried_skip : (s now : State) (p from to : ℕ) (before told : List Notice) → from ≤ to → NoneFrom now p from to → (now, told) ≡ appended before (tried_below s p from) → (now, told) ≡ appended before (tried_below s p to)
+tried_skip s now p from to before told le none so_far =
+    let at : from + (to - from) ≡ to = omega arith in
+    let same : now ≡ (tried_below s p from).0 = ap (λ (x : Effect). x.0) so_far in
+    so_far
+    ∙ ap (appended before) (sym (fold_skip (tries p) s from (to - from) (λ j h. subst (λ t. tried t p (from + j) ≡ nothing t) same (untried now p (from + j) (none (from + j) (omega arith) (omega arith))))) ∙ ap (tried_below s p) at)
+
+pub tried_next : (s now next : State) (p from i v : ℕ) (before told more : List Notice) → from ≤ i → NoneFrom now p from i → (now, told) ≡ appended before (tried_below s p from) → v ≡ i → (next, more) ≡ appended told (tried now p v) →
+    (next, more) ≡ appended before (tried_below s p (i + 1))
+tried_next s now next p from i v before told more le none so_far same step = tried_more s now next p i v before told more (tried_skip s now p from i before told le none so_far) same step
+
+pub tried_whole : (s now : State) (p from : ℕ) (before told : List Notice) → from ≤ 16 → NoneFrom now p from 16 → (now, told) ≡ appended before (tried_below s p from) → (now, told) ≡ appended before (tried_below s p 16)
+tried_whole s now p from before told le none so_far = tried_skip s now p from 16 before told le none so_far
 
 pub consumed_none : (s : State) (p : ℕ) (before : List Notice) → (s, before) ≡ appended before (consumed_below s p 0)
 consumed_none s p before = fold_none (consumes p) s before

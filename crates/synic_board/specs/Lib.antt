@@ -1,6 +1,7 @@
 pub mod State
 pub mod Scratch
 pub mod Entries
+pub mod Waiting
 pub mod Moves
 pub mod Effects
 pub mod Effected

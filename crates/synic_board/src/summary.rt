@@ -1,9 +1,11 @@
 // What is stored beside the state, so that nobody has to compute it.
-ghost use Rattle.std.specs.Prelude.{◌≡◌, ◌+◌, ◌*◌, ◌<◌, ◌≤◌, length, replicate, false, None, IfOk, slice_index_or};
+ghost use Rattle.std.specs.Prelude.{◌≡◌, ◌≢◌, ◌==◌, ℕ, ◌+◌, ◌*◌, ◌<◌, ◌≤◌, length, replicate, false, None, IfOk, slice_index_or};
 ghost use Rattle.std.specs.FinSet as set;
+ghost use Rattle.std.specs.Int.{bit_at};
 ghost use Rattle.board_terms.specs.declared.pages.Owner.TheVariants.{Guest, Nothing};
 ghost use Rattle.message_queues.specs.Queues.{place_of};
 ghost use Rattle.synic_board.specs.Scratch.{kept};
+ghost use Rattle.synic_board.specs.Waiting.{IsFirstWaiting};
 
 use board_terms::{Owner, Sint, TimerId, Vector, Vp};
 use counter::Count;
@@ -35,6 +37,9 @@ pub struct Summary {
     autos: Vec<VectorSet>,
     owners: Vec<Owner>,
     queued: Vec<u16>,
+    // for each processor a word that has bit i where something is queued for source i, so that EOM
+    // looks at no other source; `write` changes it with the count
+    waiting: [u16; 8],
     earliest: Option<(u128, TimerId)>,
     // how often a value was written, for contracts alone
     writes: Count,
@@ -48,6 +53,10 @@ impl Model for Summary {
     ghost coded = { kept_code };
 
     ghost view = { λ a. kept (record { nexts = a.nexts.items; autos = a.autos.items; owners = a.owners.items; queued = a.queued.items; earliest = a.earliest }) a.writes.number };
+
+    ghost use Rattle.synic_board.specs.Waiting.{AreWaiting};
+
+    ghost invariant = { λ a. AreWaiting a.queued.items a.waiting };
 }
 
 impl Summary {
@@ -74,6 +83,7 @@ impl Summary {
             autos,
             owners,
             queued,
+            waiting: [0; 8],
             earliest: None,
             writes: Count::zero(),
         })
@@ -90,9 +100,27 @@ impl Summary {
             Entry::Next(vp, next) => self.nexts[vp.number() as usize] = next,
             Entry::Auto(vp, auto) => self.autos[vp.number() as usize] = auto,
             Entry::Owns(page, owner) => self.owners[page as usize] = owner,
-            Entry::Queued(vp, sint, count) => self.queued[place_of(vp, sint)] = count,
+            Entry::Queued(vp, sint, count) => {
+                let at = vp.number() as usize;
+                self.queued[place_of(vp, sint)] = count;
+                self.waiting[at] = marked(self.waiting[at], sint, count > 0);
+            }
             Entry::Earliest(earliest) => self.earliest = earliest,
         }
+    }
+
+    /// The first source of a processor from a number on for which something is queued.
+    #[inline]
+    pub(crate) fn waiting_from(&self, vp: Vp, from: u8) -> Option<Sint>
+        requires { from ≤ 16 }
+        ensures { IsFirstWaiting self.now.values.queued vp from result }
+    {
+        let word = self.waiting[vp.number() as usize];
+        let left = u32::from(word) >> from;
+        if left == 0 {
+            return None;
+        }
+        Sint::new(from + left.trailing_zeros() as u8)
     }
 
     /// The next vector of a processor, `None` for one that is not on the board.
@@ -144,6 +172,15 @@ impl Summary {
             None => 0,
         }
     }
+}
+
+/// A word whose bit of a source tells whether something is queued for it; its other bits stay.
+fn marked(word: u16, sint: Sint, waits: bool) -> u16
+    ensures here { (bit_at result sint == 1) ≡ waits }
+    ensures others { (i : ℕ) → i < 16 → i ≢ sint → bit_at result i ≡ bit_at word i }
+{
+    let bit = 1 << sint.number();
+    if waits { word | bit } else { word & !bit }
 }
 
 /// Where the values of a source stand, those of processor 0 first.
