@@ -1,4 +1,5 @@
 pub mod Page
 pub mod Space
+pub mod Visible
 pub mod View
 pub mod Laws
