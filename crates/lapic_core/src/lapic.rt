@@ -1,8 +1,9 @@
 // The interrupt state of one processor.
 ghost use Rattle.std.specs.Prelude.{◌≡◌, not};
 ghost use Rattle.std.specs.FinSet as set;
-ghost use Rattle.lapic_core.specs.Vectors.{greatest};
-ghost use Rattle.lapic_core.specs.Apic.{empty_apic, priority, next, request, with_task_priority, after_take, after_end};
+ghost use Rattle.lapic_core.specs.Vectors.{Vectors, greatest};
+ghost use Rattle.lapic_core.specs.Apic.{class, empty_apic, next, request, with_task_priority, after_take, after_end};
+ghost use Rattle.lapic_core.specs.Threshold.{last_of, threshold, to_exceed, above, serving};
 
 use crate::vector_set::VectorSet;
 use board_terms::Vector;
@@ -15,17 +16,27 @@ pub struct Lapic {
     requested: VectorSet,
     in_service: VectorSet,
     task_priority: u8,
+    // The greatest number that the processor priority (PPR) holds back, the last of its class: a
+    // vector has to exceed it. It depends on `in_service` and `task_priority`, so `take`, `end` and
+    // `set_task_priority` keep it.
+    threshold: u8,
+    // The greatest requested vector above `threshold`. Each call that changes `requested` or
+    // `threshold` keeps it.
+    next: Option<Vector>,
 }
 
 impl Model for Lapic {
-    ghost use Rattle.std.specs.Prelude.{refl};
     ghost use Rattle.lapic_core.specs.Apic.{Apic, apic_code};
 
     ghost Value = { Apic };
 
     ghost coded = { apic_code };
 
-    ghost view = { λ a. record { requested = a.requested; in_service = a.in_service; task_priority = a.task_priority } };
+    ghost use Rattle.lapic_core.specs.View.{apic_of, IsKept};
+
+    ghost view = { apic_of };
+
+    ghost invariant = { IsKept };
 }
 
 impl Lapic {
@@ -37,6 +48,8 @@ impl Lapic {
             requested: VectorSet::new(),
             in_service: VectorSet::new(),
             task_priority: 0,
+            threshold: 15,
+            next: None,
         }
     }
 
@@ -48,6 +61,10 @@ impl Lapic {
     {
         let fresh = !self.requested.contains(vector);
         self.requested.insert(vector);
+        // The priority and the other requests are as they were.
+        if vector.number() > to_exceed(self.threshold, self.next) {
+            self.next = Some(vector);
+        }
         fresh
     }
 
@@ -58,28 +75,11 @@ impl Lapic {
         self.requested.contains(vector)
     }
 
-    /// The processor priority class (PPR): the greater of that of the task priority and that of the
-    /// greatest vector in service.
-    fn priority(&self) -> u8
-        ensures { result ≡ priority self.now }
-    {
-        let task = self.task_priority / 16;
-        match self.in_service.greatest() {
-            Some(vector) => task.max(vector.number() / 16),
-            None => task,
-        }
-    }
-
     /// The greatest requested vector whose class is above the processor priority.
     pub fn next(&self) -> Option<Vector>
         ensures { result ≡ next self.now }
     {
-        let vector = self.requested.greatest()?;
-        if vector.number() / 16 > self.priority() {
-            Some(vector)
-        } else {
-            None
-        }
+        self.next
     }
 
     /// Takes the next vector, if there is one: its request bit is cleared, and its in-service bit is
@@ -88,10 +88,15 @@ impl Lapic {
         ensures vector { result ≡ next self.old }
         ensures after { self.new ≡ after_take auto self.old }
     {
-        let vector = self.next()?;
+        let vector = self.next?;
         self.requested.remove(vector);
-        if !auto {
+        if auto {
+            self.next = next_above(&self.requested, self.threshold);
+        } else {
             self.in_service.insert(vector);
+            // Its class is the priority now, and it was the greatest request.
+            self.threshold = last_of_class(vector.number());
+            self.next = None;
         }
         Some(vector)
     }
@@ -103,6 +108,8 @@ impl Lapic {
     {
         let vector = self.in_service.greatest()?;
         self.in_service.remove(vector);
+        self.threshold = threshold_of(&self.in_service, self.task_priority);
+        self.next = next_above(&self.requested, self.threshold);
         Some(vector)
     }
 
@@ -111,6 +118,8 @@ impl Lapic {
         ensures { self.new ≡ with_task_priority self.old value }
     {
         self.task_priority = value;
+        self.threshold = threshold_of(&self.in_service, value);
+        self.next = next_above(&self.requested, self.threshold);
     }
 
     /// Reads the task priority register.
@@ -118,5 +127,45 @@ impl Lapic {
         ensures { result ≡ self.now.task_priority }
     {
         self.task_priority
+    }
+}
+
+/// What a vector has to exceed to be the next one: the next vector, or the threshold if there is none.
+fn to_exceed(threshold: u8, next: Option<Vector>) -> u8
+    ensures { result ≡ to_exceed threshold next }
+{
+    match next {
+        Some(vector) => vector.number(),
+        None => threshold,
+    }
+}
+
+/// The greatest number of the class of that number.
+fn last_of_class(number: u8) -> u8
+    ensures { result ≡ last_of (class number) }
+{
+    16 * (number / 16) + 15
+}
+
+/// What the processor priority holds back: the priority is the greater of the classes of the task
+/// priority and of the greatest vector in service.
+fn threshold_of(in_service: &VectorSet, task_priority: u8) -> u8
+    ensures { (requested : Vectors) → result ≡ threshold (serving in_service.now task_priority requested) }
+{
+    match in_service.greatest() {
+        Some(vector) => last_of_class(task_priority.max(vector.number())),
+        None => last_of_class(task_priority),
+    }
+}
+
+/// The greatest requested vector above a number.
+fn next_above(requested: &VectorSet, threshold: u8) -> Option<Vector>
+    ensures { result ≡ greatest (above requested.now threshold) }
+{
+    let vector = requested.greatest()?;
+    if vector.number() > threshold {
+        Some(vector)
+    } else {
+        None
     }
 }

@@ -1,4 +1,4 @@
-// A set of vectors, as a row of truth values.
+// A set of vectors, as four words of 64 bits.
 ghost use Rattle.std.specs.Prelude.{◌≡◌};
 ghost use Rattle.std.specs.FinSet as set;
 ghost use Rattle.lapic_core.specs.Vectors.{greatest};
@@ -9,22 +9,24 @@ use std::marker::Model;
 /// A set of interrupt vectors.
 #[derive(Drop)]
 pub struct VectorSet {
-    marks: [bool; 256],
+    // A vector is a member if its bit stands: bit number % 64 of word number / 64. The lowest 16
+    // bits never stand, since no vector has them.
+    words: [u64; 4],
 }
 
 impl Model for VectorSet {
-    ghost use Rattle.std.specs.Prelude.{ℕ, Bool, false, ◌≡◌, ◌<◌, slice_index_or};
     ghost use Rattle.std.specs.Coded.{coded_ℕ};
     ghost use Rattle.std.specs.FinSet as set;
-    ghost use Rattle.lapic_core.specs.Vectors.{Vectors, row_members};
+    ghost use Rattle.lapic_core.specs.Vectors.{Vectors};
+    ghost use Rattle.lapic_core.specs.Words.{word_members, NoneBelow16};
 
     ghost Value = { Vectors };
 
     ghost coded = { set.code coded_ℕ };
 
-    ghost view = { λ a. row_members a.marks };
+    ghost view = { λ a. word_members a.words };
 
-    ghost invariant = { λ a. (v : ℕ) → v < 16 → slice_index_or a.marks v false ≡ false };
+    ghost invariant = { λ a. NoneBelow16 a.words };
 }
 
 impl VectorSet {
@@ -32,47 +34,49 @@ impl VectorSet {
     pub fn new() -> VectorSet
         ensures { result ≡ set.empty }
     {
-        VectorSet {
-            marks: [false; 256],
-        }
+        VectorSet { words: [0; 4] }
     }
 
     /// An equal set.
     pub fn copy(&self) -> VectorSet
         ensures { result ≡ self.now }
     {
-        VectorSet { marks: self.marks }
+        VectorSet { words: self.words }
     }
 
     /// Adds a vector.
     pub fn insert(&mut self, vector: Vector)
         ensures { self.new ≡ set.insert self.old vector }
     {
-        self.marks[vector.number() as usize] = true;
+        let number = vector.number() as usize;
+        self.words[number / 64] |= 1 << (number % 64);
     }
 
     /// Takes a vector out.
     pub fn remove(&mut self, vector: Vector)
         ensures { self.new ≡ set.remove self.old vector }
     {
-        self.marks[vector.number() as usize] = false;
+        let number = vector.number() as usize;
+        self.words[number / 64] &= !(1 << (number % 64));
     }
 
     /// Whether a vector is a member.
     pub fn contains(&self, vector: Vector) -> bool
         ensures { result ≡ set.contains self.now vector }
     {
-        self.marks[vector.number() as usize]
+        let number = vector.number() as usize;
+        (self.words[number / 64] >> (number % 64)) & 1 == 1
     }
 
     /// The greatest member, `None` if the set is empty.
     pub fn greatest(&self) -> Option<Vector>
         ensures { result ≡ greatest self.now }
     {
-        // from the top down, so that the first member ends the search
-        for number in (16..256usize).rev() {
-            if self.marks[number] {
-                return Vector::new(number as u8);
+        // from the top down, so that the first word with a bit has the greatest member
+        for at in (0..4usize).rev() {
+            let word = self.words[at];
+            if word != 0 {
+                return Vector::new((64 * at + 63 - word.leading_zeros() as usize) as u8);
             }
         }
         None

@@ -1,0 +1,26 @@
+-- What a vector has to exceed.
+use Rattle.std.specs.Prelude.{ℕ, ◌+◌, ◌*◌, nat_lt, Option}
+use Rattle.std.specs.FinSet as set
+use Rattle.std.specs.Option.{option_map_or}
+use Rattle.lapic_core.specs.Vectors.{Vectors}
+use Rattle.lapic_core.specs.Apic.{Apic, priority}
+
+-- the greatest number of a class
+abbrev pub last_of : ℕ → ℕ
+last_of c = 16 * c + 15
+
+-- the greatest number that the processor priority holds back
+abbrev pub threshold : Apic → ℕ
+threshold a = last_of (priority a)
+
+-- what a vector has to exceed to be the next one: the next vector, or what is held back if there is none
+abbrev pub to_exceed : ℕ → Option ℕ → ℕ
+to_exceed n o = option_map_or (λ v. v) o n
+
+-- the vectors above a number
+abbrev pub above : Vectors → ℕ → Vectors
+above s n = set.retain s (λ v. nat_lt n v)
+
+-- what is in service at a task priority, and whatever is requested
+abbrev pub serving : Vectors → ℕ → Vectors → Apic
+serving in_service task_priority requested = record { requested = requested; in_service = in_service; task_priority = task_priority }

@@ -1,0 +1,13 @@
+-- What the fields stand for, and what they keep.
+use Rattle.std.specs.Prelude.{◌≡◌}
+use Rattle.lapic_core.specs.Apic.{Apic, next}
+use Rattle.lapic_core.specs.Threshold.{threshold}
+use Rattle.lapic_core.specs.declared.lapic.Lapic.TheInside.{Inside}
+
+abbrev pub apic_of : Inside → Apic
+apic_of a = record { requested = a.requested; in_service = a.in_service; task_priority = a.task_priority }
+
+-- the next vector and what the priority holds back are at hand
+pub record IsKept (a : Inside) : Type 0 where
+  pub next_is : a.next ≡ next (apic_of a)
+  pub threshold_is : a.threshold ≡ threshold (apic_of a)
