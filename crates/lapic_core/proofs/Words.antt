@@ -133,10 +133,13 @@ zero_words (suc (suc zero)) _ _ = refl
 zero_words (suc (suc (suc zero))) _ _ = refl
 zero_words (suc (suc (suc (suc k)))) _ _ = refl
 
+no_bits : (words : List ℕ) (q : ℕ) → ZeroFrom words 0 → q < 256 → holds words q ≡ false
+no_bits words q zeros h = ap (λ (w : ℕ). stands w (q % 64)) (zeros (q / 64) (omega arith) (omega arith)) ∙ ap (λ n. n == 1) (bit_at-zero (q % 64))
+
 no_members : (words : List ℕ) → ZeroFrom words 0 → (q : ℕ) → set.contains (word_members words) q ≡ false
 no_members words zeros q = contains-word_members words q ∙
     (elim (nat_lt q 256) as (λ b. nat_lt q 256 ≡ b → (b && holds words q) ≡ false) [
-      | true ↦ λ e. let h : q < 256 = grind (arith, nat_tests) in ap (λ (w : ℕ). stands w (q % 64)) (zeros (q / 64) (omega arith) (omega arith)) ∙ ap (λ n. n == 1) (bit_at-zero (q % 64))
+      | true ↦ λ e. no_bits words q zeros (grind (arith, nat_tests))
       | false ↦ λ e. refl
     ] refl)
 
@@ -144,7 +147,7 @@ pub word_members-zero : word_members (0 ∷ 0 ∷ 0 ∷ 0 ∷ []) ≡ set.empty
 word_members-zero = set.same_set nat_cmp_total nat_cmp-IsAntisymmetric _ _ (λ q. no_members (0 ∷ 0 ∷ 0 ∷ 0 ∷ []) zero_words q ∙ sym (set.contains-empty nat_cmp q))
 
 pub low_zero : NoneBelow16 (0 ∷ 0 ∷ 0 ∷ 0 ∷ [])
-low_zero q low = ap (λ (w : ℕ). stands w (q % 64)) (zero_words (q / 64) (omega arith) (omega arith)) ∙ ap (λ n. n == 1) (bit_at-zero (q % 64))
+low_zero q low = no_bits (0 ∷ 0 ∷ 0 ∷ 0 ∷ []) q zero_words (omega arith)
 
 -- all words are 0
 pub no_greatest : (words : List ℕ) (value : Vectors) → word_members words ≡ value → ZeroFrom words 0 → None ≡ greatest value

@@ -21,6 +21,6 @@ to_exceed n o = option_map_or (λ v. v) o n
 abbrev pub above : Vectors → ℕ → Vectors
 above s n = set.retain s (λ v. nat_lt n v)
 
--- what is in service at a task priority, and whatever is requested
+-- a processor that serves these vectors at a task priority, and has these requests
 abbrev pub serving : Vectors → ℕ → Vectors → Apic
 serving in_service task_priority requested = record { requested = requested; in_service = in_service; task_priority = task_priority }

@@ -7,7 +7,9 @@ use Rattle.lapic_core.specs.declared.lapic.Lapic.TheInside.{Inside}
 abbrev pub apic_of : Inside → Apic
 apic_of a = record { requested = a.requested; in_service = a.in_service; task_priority = a.task_priority }
 
--- the next vector and what the priority holds back are at hand
+-- what the two kept fields equal
 pub record IsKept (a : Inside) : Type 0 where
+  -- the next vector
   pub next_is : a.next ≡ next (apic_of a)
+  -- the greatest number that the processor priority holds back
   pub threshold_is : a.threshold ≡ threshold (apic_of a)
