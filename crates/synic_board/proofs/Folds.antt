@@ -45,7 +45,7 @@ tries : (p : ℕ) → IsFold (λ s n. tried_below s p n) (λ s i. tried s p i)
 unfolding tried_below
 tries p = record { none = λ s. refl; more = λ s i. refl }
 
-consumes : (p : ℕ) → IsFold (λ s n. consumed_below s p n) (λ s i. consumed s p i)
+pub consumes : (p : ℕ) → IsFold (λ s n. consumed_below s p n) (λ s i. consumed s p i)
 unfolding consumed_below
 consumes p = record { none = λ s. refl; more = λ s i. refl }
 
@@ -82,17 +82,6 @@ tried_next s now next p from i v before told more le none so_far same step = tri
 
 pub tried_whole : (s now : State) (p from : ℕ) (before told : List Notice) → from ≤ 16 → NoneFrom now p from 16 → (now, told) ≡ appended before (tried_below s p from) → (now, told) ≡ appended before (tried_below s p 16)
 tried_whole s now p from before told le none so_far = tried_skip s now p from 16 before told le none so_far
-
-pub consumed_none : (s : State) (p : ℕ) (before : List Notice) → (s, before) ≡ appended before (consumed_below s p 0)
-consumed_none s p before = fold_none (consumes p) s before
-
-pub consumed_more : (s now next : State) (p i v : ℕ) (before told more : List Notice) → (now, told) ≡ appended before (consumed_below s p i) → v ≡ i → (next, more) ≡ appended told (consumed now p v) →
-    (next, more) ≡ appended before (consumed_below s p (i + 1))
-consumed_more s now next p i v before told more so_far same step = fold_more (consumes p) s now next i v before told more so_far same step
-
--- what a number that was made of i is
-pub made_of : (o : Option ℕ) (x n : ℕ) → IfSome o (λ v. v ≡ n) → o ≡ Some x → x ≡ n
-made_of o x n h e = subst (λ k. IfSome k (λ v. v ≡ n)) e h
 
 -- timers one after another
 attempted_all-push : (s : State) (ts : List (ℕ × ℕ)) (t : ℕ × ℕ) → attempted_all s (ts ++ t ∷ []) ≡ after (attempted_all s ts) (attempted (attempted_all s ts).0 t)

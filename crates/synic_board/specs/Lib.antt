@@ -18,4 +18,5 @@ pub mod Places
 pub mod Run
 pub mod History
 pub mod Sound
+pub mod Touches
 pub mod View

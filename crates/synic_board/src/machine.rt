@@ -3,7 +3,7 @@ ghost use Rattle.std.specs.Prelude.{◌≡◌, ◌<◌, ◌≤◌, ◌+◌, ◌�
 ghost use Rattle.synic_board.specs.State.{AreSizes, opened, processors};
 ghost use Rattle.synic_board.specs.Scratch.{scratch, kept, TellsOf};
 ghost use Rattle.synic_board.specs.Step.{step};
-ghost use Rattle.synic_board.specs.Sound.{PayloadFits};
+ghost use Rattle.synic_board.specs.Sound.{IsSound, PayloadFits};
 
 mod absorbing;
 mod delivery;
@@ -138,6 +138,7 @@ impl Machine {
     /// Performs an event, leaves its notices in order in `notices`, and answers. It takes no memory.
     #[tactic(auto, unfolding(crate::specs::Step::step))]
     pub(crate) fn perform(&mut self, event: &Event, notices: &mut Notices) -> Reply
+        requires { IsSound self.old.state }
         ensures step { (self.new.state, result, notices.new) ≡ step self.old.state event.now }
         ensures fits { PayloadFits event.now }
         ensures rises { self.old.writes ≤ self.new.writes }

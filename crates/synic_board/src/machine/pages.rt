@@ -1,13 +1,22 @@
 // Guest loads and stores, and the messages that a store consumes.
-ghost use Rattle.std.specs.Prelude.{◌≡◌, ◌<◌, ◌≤◌, ◌+◌, [], length};
+ghost use Rattle.std.specs.Prelude.{◌≡◌, ◌<◌, ◌≤◌, ◌+◌, [], length, IfSome};
 ghost use Rattle.synic_board.specs.State.{processors};
 ghost use Rattle.synic_board.specs.Effects.{appended};
-ghost use Rattle.synic_board.specs.Stores.{stored_bytes, read_bytes, consumed, consumed_below, consumed_in, IsOn};
+ghost use Rattle.synic_board.specs.Stores.{stored_bytes, read_bytes, consumed, consumed_in, IsOn};
+ghost use Rattle.synic_board.specs.Sound.{IsSound};
+ghost use Rattle.synic_board.specs.Touches.{touched, OthersFree};
 
 use crate::event::Reply;
 use crate::machine::Machine;
 use crate::summary::place_of;
 use board_terms::{Bytes8, Notice, Notices, Owner, Sint, Vp};
+
+/// The number of bytes of a page.
+const PAGE: u64 = 4096;
+
+/// The number of bytes of a message slot, and of the type in front of it (TLFS, "SynIC Message").
+const SLOT: usize = 256;
+const TYPE: usize = 4;
 
 impl Machine {
     /// Loads bytes from the page that the guest sees at the address.
@@ -20,9 +29,11 @@ impl Machine {
         }
     }
 
-    /// Stores bytes in the page that the guest sees at the address.
+    /// Stores bytes in the page that the guest sees at the address. The board keeps that a slot is
+    /// empty only where it holds no ticket, so only the slot whose type was written may hold one still.
     pub(crate) fn store(&mut self, address: u64, bytes: &Bytes8, notices: &mut Notices) -> Reply
-        requires { notices.old ≡ [] }
+        requires none { notices.old ≡ [] }
+        requires sound { IsSound self.old.state }
         ensures step { (self.new.state, result, notices.new) ≡ stored_bytes self.old.state address bytes.now.items }
         ensures writes { self.new.writes ≡ self.old.writes }
     {
@@ -30,33 +41,29 @@ impl Machine {
             Ok(owner) => owner,
             Err(refusal) => return Reply::Refused(refusal),
         };
-        self.consume_in(owner, notices);
+        let slot = touched((address % PAGE) as usize, bytes.len());
+        self.consume_in(owner, slot, notices);
         Reply::Done
     }
 
-    /// The messages of the slots that are empty now, where the page is one of messages.
-    fn consume_in(&mut self, owner: Owner, notices: &mut Notices)
+    /// The message of the slot that was touched is consumed if the slot is empty now, where the page
+    /// is one of messages.
+    fn consume_in(&mut self, owner: Owner, slot: Option<Sint>, notices: &mut Notices)
         requires on { IsOn self.old.state owner }
-        requires room { length notices.old + 16 ≤ 320 }
+        requires others { OthersFree self.old.state owner slot }
+        requires range { IfSome slot (λ sint. sint < 16) }
+        requires room { length notices.old < 320 }
         ensures effect { (self.new.state, notices.new) ≡ appended notices.old (consumed_in self.old.state owner) }
         ensures writes { self.new.writes ≡ self.old.writes }
     {
         match owner {
-            Owner::Sim(vp) => self.consume_all(vp, notices),
+            Owner::Sim(vp) => {
+                let Some(sint) = slot else {
+                    return;
+                };
+                self.consume(vp, sint, notices);
+            }
             Owner::Guest | Owner::Sief(_) | Owner::Nothing => {}
-        }
-    }
-
-    /// The messages of the slots that are empty now are consumed.
-    fn consume_all(&mut self, vp: Vp, notices: &mut Notices)
-        requires on { vp < processors self.old.state }
-        requires room { length notices.old + 16 ≤ 320 }
-        ensures effect { (self.new.state, notices.new) ≡ appended notices.old (consumed_below self.old.state vp 16) }
-        ensures writes { self.new.writes ≡ self.old.writes }
-    {
-        for number in 0..16u8 {
-            let sint = Sint::new(number).unwrap();
-            self.consume(vp, sint, notices);
         }
     }
 
@@ -79,5 +86,21 @@ impl Machine {
         }
         self.slots[at] = None;
         notices.push(Notice::Consumed { ticket, vp, sint });
+    }
+}
+
+/// The source whose slot a store may have emptied: the last that its bytes reach, if they begin no
+/// later than the slot's type. At most 8 bytes reach the type of no other slot.
+fn touched(at: usize, count: usize) -> Option<Sint>
+    requires some { 0 < count }
+    requires inside { at + count ≤ 4096 }
+    ensures value { result ≡ touched at count }
+    ensures range { IfSome result (λ sint. sint < 16) }
+{
+    let slot = (at + count - 1) / SLOT;
+    if at < SLOT * slot + TYPE {
+        Sint::new(slot as u8)
+    } else {
+        None
     }
 }
