@@ -1,11 +1,11 @@
 -- Posted vectors: a bit that is clear changes nothing, and the lowest bit that is set is the next vector.
-use Rattle.std.proofs.Common.{◌≡◌, ℕ, ◌+◌, ◌*◌, ◌-◌, ◌/◌, ◌%◌, ◌^◌, ◌<◌, ◌≤◌, ◌⊎◌, inl, inr, zero, suc, List, refl, ap, sym, ◌∙◌, arith, add-zero, add-suc, append-nil}
+use Rattle.std.proofs.Common.{◌≡◌, ℕ, ◌+◌, ◌*◌, ◌-◌, ◌/◌, ◌^◌, ◌<◌, ◌≤◌, List, refl, ap, sym, ◌∙◌, arith}
 use Rattle.std.specs.Prelude.{◌==◌, ◌&&◌, nat_le, if◌then◌else◌}
 use Rattle.std.specs.Int.{bit_at}
 use Rattle.std.proofs.lemmas.Nat.Bits.{bit_at-zero}
 use Rattle.board_terms.specs.declared.notices.Notice.{Notice}
 use Rattle.synic_board.specs.State.{State}
-use Rattle.synic_board.specs.Effects.{Effect, nothing, after, appended}
+use Rattle.synic_board.specs.Effects.{nothing, appended}
 use Rattle.synic_board.specs.Interrupts.{requested}
 use Rattle.synic_board.specs.Absorbing.{absorbed_bit, absorbed_below}
 use Rattle.synic_board.proofs.Words.{IsNext, bit_at-left}

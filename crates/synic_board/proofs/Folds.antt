@@ -1,6 +1,5 @@
 -- Effects one after another: what is done for the sources below a number.
 use Rattle.std.proofs.Common.{◌≡◌, ℕ, ◌+◌, ◌-◌, ◌<◌, ◌≤◌, ◌&&◌, Bool, true, false, arith, add-zero, add-suc, List, [], ◌∷◌, ◌++◌, length, take, get_or, refl, ap, sym, ◌∙◌, append_assoc, append-nil, add-one, suc, zero, subst}
-use Rattle.std.specs.Prelude.{Option, Some, IfSome}
 use Rattle.std.proofs.lemmas.List.{take_more, take_all}
 use Rattle.board_terms.specs.declared.notices.Notice.{Notice}
 use Rattle.synic_board.specs.State.{State}
@@ -18,16 +17,17 @@ pub record IsFold (below : State → ℕ → Effect) (one : State → ℕ → Ef
 pub fold_none : {below one : State → ℕ → Effect} (f : IsFold below one) (s : State) (before : List Notice) → (s, before) ≡ appended before (below s 0)
 fold_none f s before = ap (λ ns. (s, ns)) (sym (append-nil before)) ∙ ap (appended before) (sym (f.none s))
 
+-- one effect, and then another
+pub chained : (now next : State) (before told more : List Notice) (e : Effect) (f : State → Effect) → (now, told) ≡ appended before e → (next, more) ≡ appended told (f now) → (next, more) ≡ appended before (after e (f e.0))
+chained now next before told more e f first second =
+    let a : now ≡ e.0 = ap (λ (x : Effect). x.0) first in
+    let b : told ≡ before ++ e.1 = ap (λ (x : Effect). x.1) first in
+    second ∙ (λ j. appended (b j) (f (a j))) ∙ ap (λ ns. ((f e.0).0, ns)) (append_assoc before e.1 (f e.0).1)
+
 pub fold_more : {below one : State → ℕ → Effect} (f : IsFold below one) (s now next : State) (i v : ℕ) (before told more : List Notice) → (now, told) ≡ appended before (below s i) → v ≡ i → (next, more) ≡ appended told (one now v) →
     (next, more) ≡ appended before (below s (i + 1))
 fold_more {below} {one} f s now next i v before told more so_far same step =
-    let e : Effect = below s i in
-    let a : now ≡ e.0 = ap (λ (x : Effect). x.0) so_far in
-    let b : told ≡ before ++ e.1 = ap (λ (x : Effect). x.1) so_far in
-    let c : one now v ≡ one e.0 i = (λ j. one (a j) (same j)) in
-    let g : more ≡ before ++ (e.1 ++ (one e.0 i).1) = ap (λ (x : Effect). x.1) step ∙ (λ j. b j ++ (c j).1) ∙ append_assoc before e.1 (one e.0 i).1 in
-    let h : next ≡ (one e.0 i).0 = ap (λ (x : Effect). x.0) step ∙ ap (λ (x : Effect). x.0) c in
-    (λ j. (h j, g j)) ∙ ap (appended before) (sym (f.more s i)) ∙ ap (λ k. appended before (below s k)) (sym (add-one i))
+    chained now next before told more (below s i) (λ t. one t i) so_far (step ∙ ap (λ n. appended told (one now n)) same) ∙ ap (appended before) (sym (f.more s i)) ∙ ap (λ k. appended before (below s k)) (sym (add-one i))
 
 -- steps that do nothing
 pub fold_skip : {below one : State → ℕ → Effect} (f : IsFold below one) (s : State) (i k : ℕ) → ((j : ℕ) → j < k → one (below s i).0 (i + j) ≡ nothing (below s i).0) → below s (i + k) ≡ below s i
@@ -98,13 +98,8 @@ attempted_none s ts before = ap (λ ns. (s, ns)) (sym (append-nil before))
 pub attempted_more : (s now next : State) (ts : List (ℕ × ℕ)) (i : ℕ) (t : ℕ × ℕ) (before told more : List Notice) → i < length ts → t ≡ get_or ts i t → (now, told) ≡ appended before (attempted_all s (take i ts)) → (next, more) ≡ appended told (attempted now t) →
     (next, more) ≡ appended before (attempted_all s (take (i + 1) ts))
 attempted_more s now next ts i t before told more within at so_far step =
-    let e : Effect = attempted_all s (take i ts) in
-    let a : now ≡ e.0 = ap (λ (x : Effect). x.0) so_far in
-    let b : told ≡ before ++ e.1 = ap (λ (x : Effect). x.1) so_far in
-    let c : attempted now t ≡ attempted e.0 t = ap (λ x. attempted x t) a in
-    let g : more ≡ before ++ (e.1 ++ (attempted e.0 t).1) = ap (λ (x : Effect). x.1) step ∙ (λ j. b j ++ (c j).1) ∙ append_assoc before e.1 (attempted e.0 t).1 in
-    let h : next ≡ (attempted e.0 t).0 = ap (λ (x : Effect). x.0) step ∙ ap (λ (x : Effect). x.0) c in
-    (λ j. (h j, g j)) ∙ ap (appended before) (sym (attempted_all-push s (take i ts) t))
+    chained now next before told more (attempted_all s (take i ts)) (λ u. attempted u t) so_far step
+    ∙ ap (appended before) (sym (attempted_all-push s (take i ts) t))
     ∙ ap (λ xs. appended before (attempted_all s xs)) (ap (λ x. take i ts ++ x ∷ []) at ∙ sym (take_more ts i t within))
 
 pub attempted_whole : (s now : State) (ts : List (ℕ × ℕ)) (i : ℕ) (before told : List Notice) → length ts ≤ i → (now, told) ≡ appended before (attempted_all s (take i ts)) → (now, told) ≡ appended before (attempted_all s ts)

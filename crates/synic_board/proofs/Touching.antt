@@ -1,6 +1,6 @@
 -- A store consumes no message but that of the slot whose type it touches.
-use Rattle.std.proofs.Common.{◌≡◌, ◌≢◌, ◌⊎◌, inl, inr, ⊎_elim, ℕ, zero, suc, ◌+◌, ◌-◌, ◌*◌, ◌/◌, ◌%◌, ◌<◌, ◌≤◌, Bool, true, false, List, [], ◌++◌, length, take, drop, get_or, set, refl, ap, sym, subst, ◌∙◌, arith, nat_lt, length-append, length-take, zero-add}
-use Rattle.std.specs.Prelude.{Option, None, Some, Ok, Err, ◌==◌, if◌then◌else◌}
+use Rattle.std.proofs.Common.{◌≡◌, ◌≢◌, ◌⊎◌, inl, inr, ⊎_elim, ℕ, suc, ◌+◌, ◌-◌, ◌*◌, ◌/◌, ◌%◌, ◌<◌, ◌≤◌, Bool, true, false, List, [], ◌++◌, length, take, drop, get_or, set, refl, ap, sym, subst, ◌∙◌, arith, nat_lt, length-append, length-take, zero-add}
+use Rattle.std.specs.Prelude.{Option, None, Some, Ok, ◌==◌}
 use Rattle.std.specs.Option.{option_map_or}
 use Rattle.std.proofs.lemmas.Bool.{cases_lt, cases_eq}
 use Rattle.std.proofs.lemmas.Bool.Decides.{nat_tests}
@@ -8,22 +8,20 @@ use Rattle.std.proofs.lemmas.List.{get_or-set_same, get_or-set_other, get_or_app
 use Rattle.std.proofs.lemmas.List.Quantifiers.{position-Some}
 use Rattle.board_terms.specs.declared.refusal.Refusal.{Refusal}
 use Rattle.board_terms.specs.declared.pages.Owner.{Owner}
-use Rattle.board_terms.specs.declared.pages.Owner.TheVariants.{Guest, Sim, Sief, Nothing}
 use Rattle.message_queues.specs.Queues.{place_of}
 use Rattle.message_queues.specs.Image.{slot_type}
 use Rattle.gpa_space.specs.Page.{overwritten}
 use Rattle.gpa_space.specs.Space.{Space, refusal_of, owner_of, visible, lies_at, overlay_owner, shown, with_shown, store_answer, after_store}
-use Rattle.synic_board.specs.State.{State, processors, overlay_registers, space_of, slot_of, with_space, with_slot_ticket}
+use Rattle.synic_board.specs.State.{State, processors, overlay_registers, space_of, slot_of, with_space}
 use Rattle.synic_board.specs.Effects.{Effect, nothing, after}
 use Rattle.synic_board.specs.Delivery.{is_slot_empty}
-use Rattle.synic_board.specs.Stores.{consumed_ticket, consumed, consumed_below, consumed_in}
+use Rattle.synic_board.specs.Stores.{consumed_ticket, consumed, consumed_below}
 use Rattle.synic_board.specs.Sound.{IsFree, IsSound}
 use Rattle.synic_board.specs.Touches.{touched, OthersFree}
-use Rattle.synic_board.proofs.Folds.{IsFold, fold_skip, consumes}
+use Rattle.synic_board.proofs.Folds.{fold_skip, consumes}
 use Rattle.synic_board.proofs.Storing.{store_is_good}
 use Rattle.synic_board.proofs.Overlays.{length-overlays}
 use Rattle.synic_board.proofs.keeping.Requests.{either}
-use Rattle.synic_board.proofs.keeping.Placements.{page_of}
 
 -- the bytes of a page that are not written stay
 overwritten-other : (page bytes : List ℕ) (at k : ℕ) → at + length bytes ≤ length page → (k < at) ⊎ (at + length bytes ≤ k) → get_or (overwritten page at bytes) k 0 ≡ get_or page k 0
@@ -96,6 +94,7 @@ others-written s k at bytes h low fits some few =
   where
     page : List ℕ
     page = overwritten (get_or s.own k []) at bytes
+
     one : (i : ℕ) → i < 16 → touched at (length bytes) ≢ Some i → 2 * (k / 2) ≡ k → IsFree (record s { own = set s.own k page }) (k / 2) i
     one i under other same z =
         let within : k < length s.own = omega (arith, h.whole.own) in
@@ -113,10 +112,13 @@ others-free s address bytes t owner h answer after' =
   where
     page : ℕ
     page = address / 4096
+
     at : ℕ
     at = address % 4096
+
     slot : Option ℕ
     slot = touched at (length bytes)
+
     seen : refusal_of (space_of s) address (length bytes) ≡ None → (o : Option ℕ) → visible (space_of s) page ≡ o → OthersFree (with_space s (with_shown (space_of s) page (overwritten (shown (space_of s) page) at bytes))) (owner_of (space_of s) page) slot
     seen none None is = rw is (either (λ o. OthersFree (record s { pages = set s.pages page (overwritten (get_or s.pages page []) at bytes) }) o slot) (nat_lt page (length s.pages)) _ _ (λ _. tt) (λ _. tt))
     seen none (Some k) is =

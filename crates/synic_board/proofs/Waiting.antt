@@ -1,6 +1,5 @@
 -- The words of the sources for which something is queued.
-use Rattle.std.proofs.Common.{◌≡◌, ◌≢◌, ℕ, ◌+◌, ◌-◌, ◌*◌, ◌/◌, ◌^◌, ◌<◌, ◌≤◌, Bool, true, false, nat_lt, List, [], Option, None, Some, IsSome, IfSome, ◌↔◌, ⊎_elim, length, get_or, set, ap, sym, ◌∙◌, subst, refl, arith}
-use Rattle.std.specs.Prelude.{◌==◌}
+use Rattle.std.proofs.Common.{◌≡◌, ℕ, ◌+◌, ◌-◌, ◌/◌, ◌^◌, ◌<◌, ◌≤◌, true, false, List, [], Option, None, Some, IsSome, IfSome, ◌↔◌, ⊎_elim, length, get_or, set, ap, sym, ◌∙◌, subst, refl, arith}
 use Rattle.std.specs.Int.{bit_at}
 use Rattle.std.proofs.lemmas.Bool.{cases_lt}
 use Rattle.std.proofs.lemmas.Bool.Decides.{nat_tests}

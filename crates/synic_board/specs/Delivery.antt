@@ -1,5 +1,5 @@
 -- Delivery attempts: a queued message goes into the slot of its source (TLFS, "Message Delivery").
-use Rattle.std.specs.Prelude.{ℕ, zero, suc, ◌==◌, ◌&&◌, ◌+◌, Bool, nat_lt, List, [], ◌∷◌, length, Some, if◌then◌else◌}
+use Rattle.std.specs.Prelude.{ℕ, zero, suc, ◌==◌, ◌&&◌, ◌+◌, Bool, false, not, nat_lt, List, [], ◌∷◌, length, Some, if◌then◌else◌}
 use Rattle.board_terms.specs.declared.messages.Message.{Message}
 use Rattle.board_terms.specs.Messages.{ticket_of}
 use Rattle.board_terms.specs.declared.notices.Notice.{Notice}
@@ -20,6 +20,10 @@ delivers s p = has (regs_of s p).control enable && has (regs_of s p).sim enable
 -- a slot is empty exactly where its type is 0
 abbrev pub is_slot_empty : State → ℕ → ℕ → Bool
 is_slot_empty s p i = slot_type (own_page (space_of s) p Sim) i == 0
+
+-- a message would go into its slot at once: nothing is queued before it
+abbrev pub is_free : State → ℕ → ℕ → Bool
+is_free s p i = delivers s p && not (nat_lt 0 (length (queue_of s.queues p i))) && is_slot_empty s p i
 
 -- the head of the queue is placed in the slot, with the rest left behind
 abbrev pub placed_state : State → ℕ → ℕ → Message → List Message → State
@@ -59,3 +63,8 @@ accepted s p i m = (record s { queues = joined s.queues p i m; next_ticket = s.n
 -- accepted, then tried
 abbrev pub delivered : State → ℕ → ℕ → Message → Effect
 delivered s p i m = after (accepted s p i m) (tried (accepted s p i m).0 p i)
+
+-- what that comes to where nothing is queued before the message and its slot is empty, before its vector is raised
+abbrev pub placed_at_once : State → ℕ → ℕ → Message → Effect
+placed_at_once s p i m =
+    (with_slot_ticket (record (with_space s (after_slot (space_of s) p i (image m false s.moment))) { next_ticket = s.next_ticket + 1 }) p i (Some (ticket_of m)), Accepted (ticket_of m) p i ∷ Placed (ticket_of m) p i ∷ [])

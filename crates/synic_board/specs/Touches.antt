@@ -1,7 +1,7 @@
 -- The slots that a store touches.
 use Rattle.std.specs.Prelude.{◌≢◌, ℕ, ◌+◌, ◌-◌, ◌*◌, ◌/◌, ◌<◌, nat_lt, Option, None, Some, if◌then◌else◌}
 use Rattle.board_terms.specs.declared.pages.Owner.{Owner}
-use Rattle.board_terms.specs.declared.pages.Owner.TheVariants.{Guest, Sim, Sief, Nothing}
+use Rattle.board_terms.specs.declared.pages.Owner.TheVariants.{Sim}
 use Rattle.synic_board.specs.State.{State}
 use Rattle.synic_board.specs.Sound.{IsFree}
 

@@ -1,5 +1,5 @@
 -- The sources for which something is queued, as words.
-use Rattle.std.specs.Prelude.{◌≡◌, ◌<◌, ◌≤◌, ℕ, ◌==◌, nat_lt, Bool, List, Option, None, Some, slice_index_or}
+use Rattle.std.specs.Prelude.{◌≡◌, ◌<◌, ◌≤◌, ℕ, ◌==◌, nat_lt, List, Option, None, Some, slice_index_or}
 use Rattle.std.specs.Int.{bit_at}
 use Rattle.message_queues.specs.Queues.{place_of}
 

@@ -63,7 +63,7 @@ impl Machine {
     }
 }
 
-/// Writes the owner of a page into the summary, where there is such a page.
+/// Writes the owner of a page into the summary, where there is such a page and it has another one.
 fn look_up(space: &Space, pages: u8, summary: &mut Summary, page: u64)
     requires pages { pages ≡ length space.now.pages }
     requires owners { length summary.old.values.owners ≡ length space.now.pages }
@@ -71,7 +71,11 @@ fn look_up(space: &Space, pages: u8, summary: &mut Summary, page: u64)
     ensures rises { summary.old.writes ≤ summary.new.writes }
     ensures few { summary.new.writes ≤ summary.old.writes + 1 }
 {
-    if page < pages as u64 {
-        summary.write(Entry::Owns(page as u8, space.owner(page)));
+    if page >= pages as u64 {
+        return;
+    }
+    let owner = space.owner(page);
+    if summary.owner(page) != owner {
+        summary.write(Entry::Owns(page as u8, owner));
     }
 }

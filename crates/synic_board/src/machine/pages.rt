@@ -16,6 +16,7 @@ const PAGE: u64 = 4096;
 
 /// The number of bytes of a message slot, and of the type in front of it (TLFS, "SynIC Message").
 const SLOT: usize = 256;
+
 const TYPE: usize = 4;
 
 impl Machine {

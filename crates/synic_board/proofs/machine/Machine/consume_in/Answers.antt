@@ -1,4 +1,4 @@
-use Rattle.std.proofs.Common.{◌≡◌, ◌<◌, IfSome, None, Some, ap, sym, subst, ◌∙◌, append-nil, arith}
+use Rattle.std.proofs.Common.{◌<◌, IfSome, None, Some, ap, sym, subst, ◌∙◌, append-nil}
 use Rattle.board_terms.specs.declared.pages.Owner.TheVariants.{Sim}
 use Rattle.synic_board.specs.Effects.{appended}
 use Rattle.synic_board.specs.Stores.{consumed_in}

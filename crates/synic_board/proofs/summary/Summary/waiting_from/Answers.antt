@@ -1,4 +1,4 @@
-use Rattle.std.proofs.Common.{div-le_self, ◌≡◌, ◌/◌, ◌^◌, ◌<◌, get_or, sym, ap, ◌∙◌, subst, arith}
+use Rattle.std.proofs.Common.{div-le_self, ◌/◌, ◌^◌, ◌<◌, get_or, sym, ap, ◌∙◌, subst, arith}
 use Rattle.std.specs.Int.{w32}
 use Rattle.synic_board.specs.Scratch.{Kept}
 use Rattle.synic_board.specs.Waiting.{AreWaiting}

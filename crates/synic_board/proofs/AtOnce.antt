@@ -1,0 +1,53 @@
+-- A message that is placed at once is one that was queued and then placed.
+use Rattle.std.proofs.Common.{◌≡◌, ℕ, ◌+◌, ◌<◌, Bool, true, false, ◌&&◌, not, nat_lt, List, [], ◌∷◌, ◌++◌, length, set, refl, ap, sym, ◌∙◌, Some, arith}
+use Rattle.std.specs.Prelude.{if◌then◌else◌}
+use Rattle.std.proofs.lemmas.Bool.Decides.{nat_tests}
+use Rattle.std.proofs.lemmas.List.{get_or-set_same, set-set, set-get_or}
+use Rattle.board_terms.specs.declared.messages.Message.{Message}
+use Rattle.board_terms.specs.Messages.{ticket_of}
+use Rattle.board_terms.specs.declared.notices.Notice.TheVariants.{Accepted, Placed}
+use Rattle.message_queues.specs.Queues.{Queues, place_of, queue_of}
+use Rattle.message_queues.specs.Image.{image}
+use Rattle.gpa_space.specs.Space.{after_slot}
+use Rattle.synic_board.specs.State.{State, space_of, with_space, with_slot_ticket}
+use Rattle.synic_board.specs.Effects.{Effect, nothing, after}
+use Rattle.synic_board.specs.Interrupts.{raised}
+use Rattle.synic_board.specs.Delivery.{delivers, is_slot_empty, is_free, placed_head, placed_at_once, marked, tried, accepted, delivered}
+
+-- an empty queue
+nothing-queued : (q : List Message) → nat_lt 0 (length q) ≡ false → q ≡ []
+nothing-queued [] h = refl
+nothing-queued (m ∷ q) h = absurd (grind (arith, nat_tests))
+
+-- what a free slot is
+record IsOpen (s : State) (p i : ℕ) : Type 0 where
+  enabled : delivers s p ≡ true
+  none : queue_of s.queues p i ≡ []
+  empty : is_slot_empty s p i ≡ true
+
+parts : (a b c : Bool) → (a && not b && c) ≡ true → (a ≡ true) × (b ≡ false) × (c ≡ true)
+parts true false true h = (refl, refl, refl)
+parts true false false h = absurd (cc)
+parts true true c h = absurd (cc)
+parts false b c h = absurd (cc)
+
+opened : (s : State) (p i : ℕ) → is_free s p i ≡ true → IsOpen s p i
+opened s p i h =
+    let all = parts (delivers s p) (nat_lt 0 (length (queue_of s.queues p i))) (is_slot_empty s p i) h in
+    record { enabled = all.0; none = nothing-queued (queue_of s.queues p i) all.1; empty = all.2 }
+
+pub at-once : (s : State) (p i : ℕ) (m : Message) → is_free s p i ≡ true → place_of p i < length s.queues → delivered s p i m ≡ after (placed_at_once s p i m) (raised (placed_at_once s p i m).0 p i)
+unfolding tried
+at-once s p i m free within =
+    let h = opened s p i free in
+    let a : State = (accepted s p i m).0 in
+    let one : queue_of a.queues p i ≡ m ∷ [] = get_or-set_same s.queues (place_of p i) (queue_of s.queues p i ++ m ∷ []) [] within ∙ ap (λ (q : List Message). q ++ m ∷ []) h.none in
+    let back : set a.queues (place_of p i) [] ≡ s.queues = set-set s.queues (place_of p i) (queue_of s.queues p i ++ m ∷ []) [] ∙ ap (set s.queues (place_of p i)) (sym h.none) ∙ set-get_or s.queues (place_of p i) [] in
+    let tries : tried a p i ≡ after (placed_head a p i (m ∷ [])) (raised (placed_head a p i (m ∷ [])).0 p i) =
+    (λ j. if h.enabled j && nat_lt 0 (length (one j)) then (if h.empty j then after (placed_head a p i (one j)) (raised (placed_head a p i (one j)).0 p i) else marked a p i) else nothing a) in
+    ap (after (accepted s p i m)) tries ∙ ap told back
+  where
+    told : Queues → Effect
+    told qs =
+        let t : State = with_slot_ticket (record (with_space s (after_slot (space_of s) p i (image m false s.moment))) { next_ticket = s.next_ticket + 1; queues = qs }) p i (Some (ticket_of m)) in
+        ((raised t p i).0, Accepted (ticket_of m) p i ∷ Placed (ticket_of m) p i ∷ (raised t p i).1)

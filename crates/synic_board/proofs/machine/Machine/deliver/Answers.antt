@@ -1,0 +1,19 @@
+use Rattle.std.proofs.Common.{ap, sym, ◌∙◌, arith}
+use Rattle.synic_board.specs.Effects.{appended}
+use Rattle.synic_board.specs.Interrupts.{raised}
+use Rattle.synic_board.specs.Delivery.{placed_at_once}
+use Rattle.synic_board.proofs.AtOnce.{at-once}
+use Rattle.synic_board.proofs.Folds.{chained}
+use Rattle.synic_board.proofs.machine.Machine.deliver.Goals as goal
+
+pub returns-then-is_free : goal.returns-then-is_free
+returns-then-is_free c =
+    let s = c.args.self.now.state in
+    let first = c.place_at_once.ensures in
+    let second = c.raise.ensures in
+    let once = at-once s c.args.vp c.args.sint c.args.message (sym c.is_free.ensures.answer ∙ c.if-is_free.true) c.is_free.ensures.queue in
+    record {
+      effect = chained _ _ _ _ _ (placed_at_once s c.args.vp c.args.sint c.args.message) (λ t. raised t c.args.vp c.args.sint) first.effect second.effect ∙ ap (appended c.args.notices.now) (sym once);
+      rises = omega (arith, first.rises, second.rises);
+      few = omega (arith, first.few, second.few);
+    }
