@@ -1,6 +1,5 @@
 -- What is written for a script: what the machine answers to its good lines, and then its first fault.
-use Rattle.std.specs.Prelude.{ℕ, List, [], ◌∷◌, ◌++◌, map, Option, None, Some, is_some, false, codes, decimal}
-use Rattle.board_text.specs.Fields.{line_of}
+use Rattle.std.specs.Prelude.{ℕ, List, [], ◌∷◌, ◌++◌, map, Option, None, Some, is_some, false}
 use Rattle.board_text.specs.Lines.{lines_of, rest_of}
 use Rattle.synic_board.specs.State.{State, opened}
 use Rattle.synic_board.specs.Scratch.{scratch}
@@ -11,7 +10,6 @@ use Rattle.board_lines.specs.Items.{Item, Opening, Performs, Summary}
 use Rattle.board_lines.specs.Printing.{text_of, reply_fields, notice_fields, summary_lines}
 use Rattle.board_script.specs.Script.{first_fault, good_items}
 use Rattle.board_lines.specs.declared.fault.ScriptFault.{ScriptFault}
-use Rattle.board_lines.specs.declared.fault.ScriptFault.TheVariants as faults
 
 -- the machine, once it is open
 abbrev pub Machine : Type 0

@@ -1,7 +1,6 @@
 -- What the lines were answered is what the history absorbed and what stands.
-use Rattle.std.proofs.Common.{◌≡◌, ℕ, zero, suc, ◌+◌, ◌<◌, ◌≤◌, Bool, true, false, List, [], ◌∷◌, ◌++◌, length, All, map, refl, sym, ap, ◌∙◌, subst, arith, reverse}
-use Rattle.std.specs.Prelude.{slice_index, if◌then◌else◌}
-use Rattle.std.specs.Int.{bit_at}
+use Rattle.std.proofs.Common.{◌≡◌, ℕ, zero, suc, ◌+◌, ◌<◌, true, false, List, [], ◌∷◌, ◌++◌, length, All, map, refl, sym, ap, ◌∙◌, subst, arith, reverse}
+use Rattle.std.specs.Prelude.{if◌then◌else◌}
 use Rattle.std.specs.List.{flat_map, sum_by}
 use mathlib.Core.List.{map-append}
 use Rattle.std.proofs.lemmas.List.Elements.{All-head, All-tail}
@@ -14,11 +13,11 @@ use Rattle.synic_board.specs.declared.history.Entry.{Entry}
 use Rattle.posted_words.specs.declared.rule.Did.{Did}
 use Rattle.posted_words.specs.declared.rule.Did.TheVariants.{Raise, Sweep}
 use Rattle.posted_words.specs.Did.{raised, fresh, taken}
-use Rattle.posted_words.specs.Settled.{all_fresh, Bounded, Settled}
+use Rattle.posted_words.specs.Settled.{Bounded, Settled}
 use Rattle.posted_words.specs.Words.{Token, token, did_of, sweep_of}
 use Rattle.board_threads.specs.History.{Call}
 use Rattle.board_threads.specs.Sharing.{Acting}
-use Rattle.board_threads.specs.Sweeps.{is_refused, sweep_in, sweeps_of, absorbed}
+use Rattle.board_threads.specs.Sweeps.{is_refused, sweep_in, sweeps_of}
 use Rattle.board_threads.specs.Settling.{AreAllOf, AreAbsorbed, only_raises, listed, listed_out}
 use Rattle.board_threads.specs.declared.settling.ActorCalls.{ActorCalls}
 use Rattle.board_threads.proofs.Counting.{counted, sum-map}

@@ -1,5 +1,5 @@
 -- The actors and the lines of a crew, from their opening to their end.
-use Rattle.std.proofs.Common.{◌≡◌, ℕ, zero, suc, ◌+◌, ◌<◌, Bool, true, false, List, [], ◌∷◌, ◌++◌, All, map, drop, take, length, length-append, replicate, Vec, Global, refl, sym, ap, ◌∙◌, subst, arith, reverse}
+use Rattle.std.proofs.Common.{◌≡◌, ℕ, zero, suc, Bool, true, false, List, [], ◌∷◌, ◌++◌, All, map, drop, take, length, length-append, replicate, Vec, Global, refl, sym, ap, ◌∙◌, subst, arith}
 use Rattle.std.specs.Prelude.{◌||◌, nat_le}
 use Rattle.std.specs.List.{AllZip, list_any, range_with_len}
 use Rattle.std.proofs.lemmas.Bool.Decides.{nat_tests}
@@ -15,7 +15,7 @@ use Rattle.board_threads.specs.Settling.{only_raises}
 use Rattle.board_threads.specs.Sweeps.{is_absorb}
 use Rattle.board_threads.specs.Judging.{is_bad_script, is_bad_raise, is_bad_line, has_bad_step}
 use Rattle.board_threads.specs.Crew.{raises_of, log_of, logs_of, HasEach, lists}
-use Rattle.board_threads.specs.Work.{IsNewActor, IsNewLine, IsThere, HasActed, HasRaised, HasServed, HaveWorked}
+use Rattle.board_threads.specs.Work.{IsNewActor, IsNewLine, IsThere, HasActed, HasRaised, HaveWorked}
 use Rattle.board_threads.specs.declared.script.Step.{Step}
 use Rattle.board_threads.specs.declared.script.Setup.{Setup}
 use Rattle.board_threads.specs.declared.script.Scripts.{Scripts}

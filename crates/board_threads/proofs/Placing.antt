@@ -1,5 +1,5 @@
 -- The places of the setup and of the last absorbs.
-use Rattle.std.proofs.Common.{◌≡◌, ℕ, zero, suc, ◌+◌, ◌<◌, Bool, true, false, List, [], ◌∷◌, ◌++◌, All, map, length, length-append, Vec, Global, refl, sym, ap, ◌∙◌, subst, arith, append-nil}
+use Rattle.std.proofs.Common.{◌≡◌, ℕ, zero, suc, ◌+◌, ◌<◌, true, false, List, [], ◌∷◌, ◌++◌, All, map, length, length-append, Vec, Global, refl, sym, ap, ◌∙◌, subst, arith, append-nil}
 use Rattle.std.specs.Prelude.{◌==◌, ◌*◌, if◌then◌else◌, filter}
 use Rattle.std.specs.List.{AllZip, range_with_len}
 use Rattle.std.proofs.lemmas.Bool.{eq-eqb}
@@ -13,7 +13,7 @@ use Rattle.synic_board.specs.declared.history.Entry.{Entry}
 use Rattle.board_threads.specs.History.{Call, call_of, calls_by}
 use Rattle.board_threads.specs.Sharing.{Acting}
 use Rattle.board_threads.specs.Settling.{listed, listed_out}
-use Rattle.board_threads.specs.Crew.{IsStep, Follows, acts, last_step, last_steps, EachFollows, AreMain, IsCrewed, lists}
+use Rattle.board_threads.specs.Crew.{Follows, acts, last_step, last_steps, EachFollows, IsCrewed, lists}
 use Rattle.board_threads.specs.Work.{HasActed, HasServed, InPlace}
 use Rattle.board_threads.specs.declared.script.Step.{Step}
 use Rattle.board_threads.specs.declared.script.Step.TheVariants.{Act}

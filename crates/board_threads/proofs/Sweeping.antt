@@ -1,11 +1,11 @@
 -- What a sweeper did are the absorbs among its actor's calls.
-use Rattle.std.proofs.Common.{◌≡◌, ℕ, Bool, true, false, List, [], ◌∷◌, ◌++◌, refl, sym, ap, ◌∙◌, reverse}
-use Rattle.std.specs.Prelude.{if◌then◌else◌, nat_lt, nat_le, ◌&&◌, not}
+use Rattle.std.proofs.Common.{◌≡◌, ℕ, Bool, true, false, List, [], ◌∷◌, ◌++◌, refl, sym, ap, ◌∙◌}
+use Rattle.std.specs.Prelude.{if◌then◌else◌, nat_lt, nat_le, ◌&&◌}
 use Rattle.std.specs.List.{flat_map}
 use Rattle.std.proofs.lemmas.List.{reverse-append}
 use Rattle.board_terms.specs.declared.refusal.Refusal.TheVariants.{BadTarget, NoSuchProcessor}
 use Rattle.synic_board.specs.State.{State, processors}
-use Rattle.synic_board.specs.Effects.{Effect, Outcome, answered, refused}
+use Rattle.synic_board.specs.Effects.{Effect, answered, refused}
 use Rattle.synic_board.specs.Absorbing.{absorbed_below}
 use Rattle.synic_board.specs.Step.{step}
 use Rattle.synic_board.specs.declared.event.Event.{Event}
@@ -51,6 +51,19 @@ unfolding step
 absorb-sweeps s n vp part bits r ds is many =
     ap (λ x. sweep_in (Absorb vp part bits) x ++ ds) is ∙ by-cases s (nat_lt vp (processors s)) (nat_le part 3) (absorbed_below s vp part bits 64) vp part bits ds
     ∙ ap (λ m. if nat_lt vp m && nat_le part 3 then sweep_of vp part bits ∷ ds else ds) many
+
+refused-by-cases : (s : State) (a b : Bool) (e : Effect) → is_refused (if a then (if b then answered Done e else refused s BadTarget) else refused s NoSuchProcessor).1 ≡ true → (a && b) ≡ false
+refused-by-cases s true true e h = absurd (cc)
+refused-by-cases s true false e h = refl
+refused-by-cases s false b e h = refl
+
+-- no word of a refused absorb is there
+pub refused-absorb : (s : State) (n vp part bits : ℕ) (r : Reply) → r ≡ (step s (Absorb vp part bits)).1 → processors s ≡ n
+    → is_refused r ≡ true → (nat_lt vp n && nat_le part 3) ≡ false
+unfolding step
+refused-absorb s n vp part bits r is many h =
+    ap (λ m. nat_lt vp m && nat_le part 3) (sym many)
+    ∙ refused-by-cases s (nat_lt vp (processors s)) (nat_le part 3) (absorbed_below s vp part bits 64) (ap is_refused (sym is) ∙ h)
 
 pub absorb-pushes : (old new : List Call) (s : State) (n vp part bits : ℕ) (r : Reply) (ds ds' : List Did) → ds ≡ sweeps_of old
     → ds' ≡ (if nat_lt vp n && nat_le part 3 then sweep_of vp part bits ∷ ds else ds)

@@ -2,16 +2,14 @@
 use Rattle.std.specs.Prelude.{◌≡◌, ℕ, ◌+◌, ◌*◌, ◌/◌, ◌%◌, List, [], ◌∷◌, ◌++◌, All, length, map, reverse, Vec}
 use Rattle.std.specs.Global.{Global}
 use Rattle.std.specs.List.{AllZip, range_with_len}
-use Rattle.atomic_table.specs.Seated.{TableId}
 use Rattle.synic_board.specs.declared.event.Event.{Event}
 use Rattle.synic_board.specs.declared.event.Event.TheVariants.{Absorb}
 use Rattle.synic_board.specs.declared.history.Entry.{Entry}
 use Rattle.posted_words.specs.declared.rule.Did.{Did}
 use Rattle.posted_words.specs.declared.line.Raised.{Raised}
 use Rattle.posted_words.specs.Answers.{is_fresh}
-use Rattle.posted_words.specs.Words.{Token, raise_of}
+use Rattle.posted_words.specs.Words.{raise_of}
 use Rattle.board_threads.specs.History.{Call, call_of, calls_by}
-use Rattle.board_threads.specs.Sharing.{Acting}
 use Rattle.board_threads.specs.declared.script.Step.{Step}
 use Rattle.board_threads.specs.declared.script.Step.TheVariants.{Act, Sweep}
 

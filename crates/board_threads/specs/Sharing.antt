@@ -1,5 +1,5 @@
 -- What callers see of a shared board and of an actor.
-use Rattle.std.specs.Prelude.{ℕ, ◌≤◌, List, []}
+use Rattle.std.specs.Prelude.{ℕ, List, []}
 use Rattle.atomic_table.specs.Seated.{TableId}
 use Rattle.posted_words.specs.declared.rule.Did.{Did}
 use Rattle.posted_words.specs.Words.{Words, AreSizes as AreWordSizes}

@@ -1,9 +1,9 @@
 // An actor, and its calls.
-ghost use Rattle.std.specs.Prelude.{◌≡◌, ◌≢◌, ◌≤◌, ℕ, ◌<◌, false, Err, [], ◌∷◌, ◌++◌, IfOk, OnOk, OnErr, IsErrOf, if◌then◌else◌, nat_lt, nat_le, ◌&&◌};
+ghost use Rattle.std.specs.Prelude.{◌≡◌, ◌≢◌, ◌≤◌, ℕ, ◌<◌, true, false, Err, [], ◌∷◌, ◌++◌, IfOk, OnOk, OnErr, IsErrOf, if◌then◌else◌, nat_lt, nat_le, ◌&&◌};
 ghost use Rattle.posted_words.specs.Words.{token, sweep_of};
 ghost use Rattle.synic_board.specs.declared.event.Event.TheVariants.{Absorb};
 ghost use Rattle.board_threads.specs.History.{entry};
-ghost use Rattle.board_threads.specs.Sweeps.{is_absorb, sweep_in, sweeps_of};
+ghost use Rattle.board_threads.specs.Sweeps.{is_absorb, is_refused, sweep_in, sweeps_of};
 ghost use Rattle.board_threads.specs.Sharing.{acting};
 
 use crate::recorded::{MOST, Recorded};
@@ -127,6 +127,7 @@ impl Actor {
     ) -> Result<Reply, CallFault>
         requires { self.old.of ≡ words.now.name }
         ensures ok { IfOk result (λ r. (bits : ℕ) × (self.new ≡ acting self.old.of self.old.number (self.old.calls ++ (Absorb vp part bits, r) ∷ []) (sweep_in (Absorb vp part bits) r ++ self.old.did))) }
+        ensures refused { IfOk result (λ r. is_refused r ≡ true → self.new.calls ≡ self.old.calls ++ (Absorb vp part 0, r) ∷ []) }
         ensures fault { OnErr result (self.new ≡ self.old) }
         ensures unchanged { OnErr result (recorded.new.history.items ≡ recorded.old.history.items) }
         ensures event { ¬ (IsErrOf result CallFault.AbsorbEvent) }
@@ -151,7 +152,8 @@ impl Actor {
 /// its bits would be lost.
 fn sweep_if_there(words: &PostedWords, sweeper: &mut Sweeper, vp: u8, part: u8) -> u64
     requires { sweeper.old.of ≡ words.now.name }
-    ensures { sweeper.new ≡ token sweeper.old.of (if nat_lt vp words.now.processors && nat_le part 3 then sweep_of vp part result ∷ sweeper.old.did else sweeper.old.did) }
+    ensures swept { sweeper.new ≡ token sweeper.old.of (if nat_lt vp words.now.processors && nat_le part 3 then sweep_of vp part result ∷ sweeper.old.did else sweeper.old.did) }
+    ensures none { (nat_lt vp words.now.processors && nat_le part 3) ≡ false → result ≡ 0 }
 {
     let processors = words.processors();
     match Vp::new(vp) {

@@ -6,7 +6,7 @@ ghost use Rattle.synic_board.specs.declared.event.Event.TheVariants.{Absorb};
 ghost use Rattle.posted_words.specs.Words.{words, token, after, raise_of, did_of};
 ghost use Rattle.posted_words.specs.Answers.{is_fresh};
 ghost use Rattle.board_threads.specs.Sharing.{AreSizes, sharing, start, acting, new_actor};
-ghost use Rattle.board_threads.specs.Sweeps.{is_absorb, sweep_in};
+ghost use Rattle.board_threads.specs.Sweeps.{is_absorb, is_refused, sweep_in};
 ghost use Rattle.board_threads.specs.Settling.{IsSettled, AreAbsorbed, only_raises, listed, listed_out};
 
 use crate::actor::{Actor, CallFault};
@@ -156,6 +156,7 @@ impl SharedBoard {
     ) -> Result<Reply, CallFault>
         requires own { actor.old.of ≡ self.now.words.name }
         ensures ok { IfOk result (λ r. (bits : ℕ) × (actor.new ≡ acting actor.old.of actor.old.number (actor.old.calls ++ (Absorb vp part bits, r) ∷ []) (sweep_in (Absorb vp part bits) r ++ actor.old.did))) }
+        ensures refused { IfOk result (λ r. is_refused r ≡ true → actor.new.calls ≡ actor.old.calls ++ (Absorb vp part 0, r) ∷ []) }
         ensures fault { OnErr result (actor.new ≡ actor.old) }
         ensures event { ¬ (IsErrOf result CallFault.AbsorbEvent) }
     {

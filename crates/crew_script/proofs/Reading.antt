@@ -1,9 +1,9 @@
 -- From the end of a drive over the lines to what the script asks for.
-use Rattle.std.proofs.Common.{◌≡◌, ℕ, ◌+◌, ◌<◌, ◌≤◌, List, [], ◌∷◌, ◌++◌, length, refl, sym, ap, ◌∙◌, arith, Bool, true, false, Option, None, Some, Ok, Err, le-ltb}
+use Rattle.std.proofs.Common.{◌≡◌, ℕ, ◌+◌, ◌<◌, ◌≤◌, List, [], ◌∷◌, ◌++◌, length, refl, sym, ap, ◌∙◌, arith, Bool, Option, None, Some, Ok, Err, le-ltb}
 use Rattle.std.proofs.lemmas.Bool.Decides.{Decides-ltb}
-use Rattle.board_text.specs.Lines.{lines_of, rest_of}
+use Rattle.board_text.specs.Lines.{rest_of}
 use Rattle.line_driver.specs.Judging.{Follows}
-use Rattle.line_driver.specs.Driving.{Stops, Ends, next_of, Sends}
+use Rattle.line_driver.specs.Driving.{Stops, Ends, next_of}
 use Rattle.line_driver.specs.declared.driving.End.{End}
 use Rattle.line_driver.specs.declared.driving.End.TheVariants as ends
 use Rattle.board_lines.specs.Faults.{rest_fault}

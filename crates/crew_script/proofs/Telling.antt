@@ -1,11 +1,11 @@
 -- From what was sent to what is written for a script.
-use Rattle.std.proofs.Common.{◌≡◌, ℕ, List, [], ◌∷◌, ◌++◌, refl, sym, ap, subst, ◌∙◌, Option, None, Some, Ok, Err, IfSome}
+use Rattle.std.proofs.Common.{◌≡◌, ℕ, List, [], ◌∷◌, ◌++◌, refl, Option, None, Some, Ok, Err, IfSome}
 use Rattle.std.specs.Io.KnownBytes.{Appends}
 use Rattle.std.proofs.KnownBytes.{Appends-trans}
 use Rattle.board_lines.specs.declared.fault.ScriptFault.{ScriptFault}
 use Rattle.crew_script.specs.Crew.{Crew, closed}
 use Rattle.crew_script.specs.Reading.{script_asks}
-use Rattle.crew_script.specs.Running.{Asks, Tells, Crews, Says, Refusal, Report}
+use Rattle.crew_script.specs.Running.{Tells, Crews, Says, Refusal, Report}
 use Rattle.crew_script.specs.declared.running.CrewRun.{CrewRun}
 use Rattle.crew_script.specs.declared.running.CrewRun.TheVariants.{Done, Script, Unsettled, Memory, NoThread, Reading, Writing}
 

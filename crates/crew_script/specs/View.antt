@@ -1,5 +1,5 @@
 -- What the fields of the code stand for.
-use Rattle.std.specs.Prelude.{◌≡◌, ℕ, List, [], ◌∷◌, ◌++◌, Option, Ok, Err}
+use Rattle.std.specs.Prelude.{◌≡◌, List, [], ◌∷◌, ◌++◌, Option, Ok, Err}
 use Rattle.std.specs.Option.{option_map}
 use Rattle.line_driver.specs.declared.judge.Taken.{Taken}
 use Rattle.line_driver.specs.declared.judge.Taken.TheVariants as taken

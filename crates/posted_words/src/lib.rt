@@ -13,6 +13,4 @@ pub use standing::Standing;
 pub use words::{GatherFault, PostedFault, PostedWords};
 
 #[cfg(test)]
-mod refused;
-#[cfg(test)]
 mod tests;

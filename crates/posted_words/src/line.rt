@@ -39,7 +39,7 @@ impl Model for Line {
 }
 
 impl Line {
-    // A token that did nothing, of a seat that stands for it alone.
+    /// A token that did nothing, of a seat that stands for it alone.
     pub(crate) fn new(seat: Seat<(), View>) -> Line
         requires { seat.me ≡ (view_of 1 ([] ∷ []), []) }
         ensures { result ≡ token seat.table_id [] }
@@ -47,7 +47,7 @@ impl Line {
         Line { seat }
     }
 
-    // The seat of the token.
+    /// The seat of the token.
     pub(crate) fn into_seat(self) -> Seat<(), View>
         ensures own { result.table_id ≡ self.of }
         ensures alone { result.me ≡ (view_of 1 (self.did ∷ []), []) }

@@ -66,7 +66,7 @@ pub(crate) fn place_of(vp: Vp, part: u8) -> usize
     4 * usize::from(vp.number()) + usize::from(part)
 }
 
-// That many tokens, each split off the seat.
+/// That many tokens, each split off the seat.
 fn deal(
     alloc: Global,
     places: &Places,
@@ -89,7 +89,7 @@ fn deal(
     Ok(tokens)
 }
 
-// The seat stands for all the tokens too.
+/// The seat stands for all the tokens too.
 fn join_all(places: &Places, seat: &mut Seat<(), View>, mut tokens: Vec<Line>)
     requires own { seat.old.table_id ≡ places.now.table_id }
     requires some_word { 0 < places.now.table_id.words }
@@ -104,7 +104,7 @@ fn join_all(places: &Places, seat: &mut Seat<(), View>, mut tokens: Vec<Line>)
     }
 }
 
-// The words of a closed table.
+/// The words of a closed table.
 fn read(alloc: Global, closed: &Closed<(), Global>) -> Result<Vec<u64>, AllocError>
     requires { IsFull closed.now.words }
     ensures { IfOk result (λ v. v.items ≡ slots_items closed.now.words) }

@@ -12,4 +12,6 @@ mod shared;
 #[cfg(test)]
 mod stopped;
 #[cfg(test)]
+mod texts;
+#[cfg(test)]
 mod words;

@@ -1,10 +1,10 @@
-use Rattle.std.proofs.Common.{rules, ◌≡◌, suc, ◌+◌, [], ◌∷◌, ◌++◌, All, length, map, vec_len, ap, sym, subst, ◌∙◌, arith}
+use Rattle.std.proofs.Common.{rules, ◌≡◌, ◌+◌, [], ◌∷◌, ◌++◌, All, length, map, vec_len, ap, sym, subst, ◌∙◌, arith}
 use Rattle.std.specs.List.{range_with_len}
 use Rattle.std.proofs.lemmas.List.FromFn.{length-map-range_with_len}
 use Rattle.board_threads.specs.Sharing.{Acting, new_actor}
 use Rattle.board_threads.specs.Crew.{Follows, last_steps}
 use Rattle.board_threads.specs.Work.{IsNewActor}
-use Rattle.board_threads.proofs.Crewing.{all-new, new-numbers, cut, single, all-there}
+use Rattle.board_threads.proofs.Crewing.{all-new, new-numbers, cut, single}
 use Rattle.board_threads.proofs.crew.work.Goals as goal
 
 pub run_all-requires-clause-new_actors : goal.run_all-requires-clause-new_actors

@@ -1,5 +1,5 @@
-use Rattle.std.proofs.Common.{◌≡◌, ◌+◌, false, take, vec_len}
-use Rattle.std.specs.List.{list_any, sum_by}
+use Rattle.std.proofs.Common.{◌≡◌, false, take}
+use Rattle.std.specs.List.{list_any}
 use Rattle.board_threads.specs.Judging.{is_bad_script}
 use Rattle.board_threads.proofs.script.any_is_bad.Given as goal
 

@@ -1,5 +1,5 @@
-use Rattle.std.proofs.Common.{◌≡◌, ◌+◌, false, take, vec_len}
-use Rattle.std.specs.List.{list_any, sum_by}
+use Rattle.std.proofs.Common.{◌≡◌, ◌+◌, take, vec_len}
+use Rattle.std.specs.List.{sum_by}
 use Rattle.board_threads.proofs.script.fit.Given as goal
 
 abbrev pub invariant-loop-script : goal.invariant-loop-script

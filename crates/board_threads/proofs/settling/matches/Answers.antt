@@ -1,4 +1,4 @@
-use Rattle.std.proofs.Common.{rules, ◌≡◌, [], ◌∷◌, ◌++◌, take, ap, sym, ◌∙◌, arith}
+use Rattle.std.proofs.Common.{rules, ◌≡◌, take, ap, sym, ◌∙◌, arith}
 use Rattle.board_threads.proofs.Taking.{taken-on}
 use Rattle.board_threads.proofs.Matching.{matched, skipped}
 use Rattle.board_threads.proofs.settling.matches.Goals.{then-entry-actor+else-next-calls+else-ne+else-ne-2, else-entry-actor}

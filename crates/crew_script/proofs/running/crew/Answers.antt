@@ -1,4 +1,4 @@
-use Rattle.std.proofs.Common.{rules, ◌≡◌, [], ◌++◌, ℕ, List, Option, None, Some, refl, sym, ap, subst, ◌∙◌}
+use Rattle.std.proofs.Common.{rules, ◌≡◌, [], Option, None, Some, refl, sym, ap, subst, ◌∙◌}
 use Rattle.std.specs.Io.KnownBytes.{Appends}
 use Rattle.line_driver.specs.declared.driving.End.TheVariants as ends
 use Rattle.line_driver.proofs.Limits.{limit-within}
@@ -6,9 +6,8 @@ use Rattle.board_lines.specs.declared.fault.ScriptFault.TheVariants as faults
 use Rattle.crew_script.specs.Crew.{Crew, closed}
 use Rattle.crew_script.specs.View.{crew_of, asked}
 use Rattle.crew_script.specs.Running.{Refusal, Report, Runs}
-use Rattle.crew_script.specs.declared.held.CrewScript.{CrewScript}
 use Rattle.crew_script.specs.declared.judge.CrewJudge.{CrewJudge}
-use Rattle.crew_script.specs.declared.running.CrewRun.TheVariants.{Memory, Reading}
+use Rattle.crew_script.specs.declared.running.CrewRun.TheVariants.{Memory}
 use Rattle.crew_script.proofs.Reading.{nothing-sent, asked-for, no-board, wrong, long, cut}
 use Rattle.crew_script.proofs.Telling.{known, spoken, tells-refusal, tells-report, none-sent}
 use Rattle.crew_script.proofs.running.crew.Goals as goal

@@ -1,5 +1,4 @@
-use Rattle.std.proofs.Common.{rules, ◌≡◌, ap, subst, ◌∙◌}
-use Rattle.synic_board.specs.declared.history.Entry.{Entry}
+use Rattle.std.proofs.Common.{rules, ◌≡◌, subst}
 use Rattle.board_threads.specs.Crew.{lists}
 use Rattle.board_trace.specs.Trace.{trace}
 use Rattle.crew_script.specs.Crew.{Crew, closed}

@@ -1,4 +1,4 @@
-use Rattle.std.proofs.Common.{rules, ◌≡◌, ◌++◌, refl, sym, ◌∙◌}
+use Rattle.std.proofs.Common.{rules, ◌≡◌, ◌++◌, refl, ◌∙◌}
 use Rattle.crew_script.specs.declared.running.CrewRun.TheVariants.{Script}
 use Rattle.crew_script.proofs.running.refuse.Goals as goal
 

@@ -1,5 +1,4 @@
-use Rattle.std.proofs.Common.{rules, ◌≡◌, ◌++◌, sym, subst, ◌∙◌}
-use Rattle.std.specs.Prelude.{codes}
+use Rattle.std.proofs.Common.{rules, ◌≡◌, ◌++◌, sym, subst}
 use Rattle.crew_script.specs.Crew.{closed}
 use Rattle.crew_script.specs.View.{crew_of}
 use Rattle.crew_script.specs.Running.{Report}

@@ -1,4 +1,4 @@
-use Rattle.std.proofs.Common.{◌≡◌, ◌+◌, ◌≤◌, take, vec_len}
+use Rattle.std.proofs.Common.{◌≡◌, ◌+◌, take, vec_len}
 use Rattle.std.specs.List.{sum_by}
 use Rattle.crew_script.proofs.script.fit.Given as goal
 

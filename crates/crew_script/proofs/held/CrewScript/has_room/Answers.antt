@@ -1,4 +1,4 @@
-use Rattle.std.proofs.Common.{◌≡◌, ◌+◌, vec_len, ap, sym, ◌∙◌, arith}
+use Rattle.std.proofs.Common.{◌≡◌, vec_len, ap, sym, ◌∙◌, arith}
 use Rattle.std.specs.List.{sum_by}
 use Rattle.crew_script.proofs.Counting.{open_of, no-steps, entries-are, tells}
 use Rattle.crew_script.proofs.held.CrewScript.has_room.Goals.{in-Actor, in-Setup, in-Setup-2}

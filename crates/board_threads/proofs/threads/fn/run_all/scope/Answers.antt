@@ -1,7 +1,4 @@
-use Rattle.std.proofs.Common.{◌≡◌, ℕ, List, map, Ok, Vec, Global, ◌∙◌}
-use Rattle.std.specs.List.{AllZip}
-use Rattle.atomic_table.specs.Seated.{TableId}
-use Rattle.board_threads.specs.declared.script.Step.{Step}
+use Rattle.std.proofs.Common.{◌∙◌}
 use Rattle.board_threads.proofs.Started.{pair, given, numbers-kept, acted, raised}
 use Rattle.board_threads.proofs.threads.fn.run_all.scope.Goals as goal
 
