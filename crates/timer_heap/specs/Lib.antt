@@ -1,4 +1,5 @@
 pub mod Heap
 pub mod Table
 pub mod Moves
+pub mod Sweep
 pub mod View

@@ -1,7 +1,7 @@
 // The timers that are due some time, the earliest at hand.
 ghost use Rattle.std.specs.Prelude.{◌≡◌, ℕ, ◌+◌, ◌*◌, ◌<◌, ◌≤◌, Option, None, Some, slice_set};
 ghost use Rattle.board_terms.specs.Dues.{number_of, timer_of, due_of, least};
-ghost use Rattle.timer_heap.specs.Heap.{no_dues, NoOther, Other, FirstOfThree};
+ghost use Rattle.timer_heap.specs.Heap.{no_dues, NoOther, Other, FirstOfThree, MarksDue};
 
 use crate::entry::Entry;
 use crate::table::Table;
@@ -112,5 +112,13 @@ impl TimerHeap {
             Some(place) => Some(self.table.entry(place as usize).due),
             None => None,
         }
+    }
+
+    /// Which timers are due at a moment or before: bit 4 * processor + index of the word is 1 exactly for
+    /// those.
+    pub fn due_by(&self, moment: u128) -> u32
+        ensures { MarksDue self.now moment result }
+    {
+        self.table.due_by(moment)
     }
 }

@@ -1,6 +1,7 @@
 // Entries in heap order, and the place of each timer among them.
 ghost use Rattle.std.specs.Prelude.{◌≡◌, ◌≢◌, ℕ, ◌+◌, ◌-◌, ◌*◌, ◌<◌, ◌≤◌, length, slice_set, Option, Some, None};
 ghost use Rattle.timer_heap.specs.Table.{size, dues, entry_at, place_of, key, parent, with_entry, first_of, IsInverse, IsOrdered};
+ghost use Rattle.timer_heap.specs.Heap.{MarksDue};
 ghost use Rattle.timer_heap.specs.Moves.{IsMoving, IsAbove, IsBelow, IsClimb, IsWithin};
 
 use crate::comparer::Comparer;
@@ -48,6 +49,28 @@ impl Table {
         ensures { result ≡ place_of self.now number }
     {
         self.places[number as usize]
+    }
+
+    /// Which timers are due at a moment or before, by number: the bits of a word. No child is due before
+    /// its parent, so nothing is looked at beyond the children of the last that is due.
+    pub(crate) fn due_by(&self, moment: u128) -> u32
+        requires inverse { IsInverse self.now }
+        requires ordered { IsOrdered (key self.now) (size self.now) }
+        ensures { MarksDue (dues self.now) moment result }
+    {
+        let size = self.len();
+        let mut due = 0;
+        let mut end = size.min(1);
+        let mut at = 0;
+        while at < end {
+            let entry = self.entry(at);
+            if entry.due <= moment {
+                due |= 1 << entry.number;
+                end = size.min(2 * at + 3);
+            }
+            at += 1;
+        }
+        due
     }
 
     /// An entry stands at a place, and is found there. What stood there must be put elsewhere.

@@ -64,6 +64,17 @@ fn an_entry_alone_is_compared_with_nothing(rt: HostRuntime) -> Result<(), Fail> 
     Ok(())
 }
 
+/// The numbers of those that are due by a moment, by looking at all.
+fn scan_due(dues: &[Option<u128>; 32], moment: u128) -> u32 {
+    let mut word = 0;
+    for number in 0..32u8 {
+        if dues[number as usize].is_some_and(|due| due <= moment) {
+            word |= 1 << number;
+        }
+    }
+    word
+}
+
 /// The least by due moment and number, by looking at all.
 fn scan(dues: &[Option<u128>; 32]) -> Result<Option<(u128, TimerId)>, Fail> {
     let mut best: Option<(u128, TimerId)> = None;
@@ -78,7 +89,7 @@ fn scan(dues: &[Option<u128>; 32]) -> Result<Option<(u128, TimerId)>, Fail> {
 }
 
 #[test]
-fn the_least_is_that_of_a_plain_scan(rt: HostRuntime) -> Result<(), Fail> {
+fn the_least_and_those_that_are_due_are_those_of_a_plain_scan(rt: HostRuntime) -> Result<(), Fail> {
     let mut heap = TimerHeap::new();
     let mut dues = [None; 32];
     let mut random: u64 = 1;
@@ -101,6 +112,8 @@ fn the_least_is_that_of_a_plain_scan(rt: HostRuntime) -> Result<(), Fail> {
         };
         assert!(rt; made <= 10, "step {step}: {made}");
         assert_eq!(rt; heap.least(), scan(&dues)?, "step {step}");
+        let moment = ((random >> 20) % 20) as u128;
+        assert_eq!(rt; heap.due_by(moment), scan_due(&dues, moment), "step {step}");
         assert_eq!(rt;
             heap.due_of(timer(number)?),
             dues[number as usize],
