@@ -5,9 +5,9 @@ use Rattle.std.proofs.lemmas.Bool.{cases_eq}
 use Rattle.std.proofs.lemmas.Bool.Decides.{nat_tests}
 use Rattle.timer_heap.specs.declared.entry.Entry.{Entry}
 use Rattle.timer_heap.specs.declared.table.Table.{Table}
-use Rattle.timer_heap.specs.Table.{size, key, parent, entry_at, is_before, with_entry, first_of, IsInverse, IsOrdered}
-use Rattle.timer_heap.specs.Moves.{IsMoving, IsNear, IsAbove, IsBelow, IsRising, IsSinking, IsWithin}
-use Rattle.timer_heap.proofs.Order.{rise_near, rise_below, sink_near, ordered, climbed, lower}
+use Rattle.timer_heap.specs.Table.{size, dues, key, parent, entry_at, is_before, with_entry, first_of, IsInverse, IsOrdered}
+use Rattle.timer_heap.specs.Moves.{IsMoving, IsNear, IsAbove, IsBelow, IsWithin}
+use Rattle.timer_heap.proofs.Order.{IsClimb, rise_near, rise_below, sink_near, ordered, climbed, lower}
 use Rattle.timer_heap.proofs.Inverse.{passing, passes, size_with, with_here, with_other, number_in, key_before, key_not_before}
 
 -- so many entries fit
@@ -27,6 +27,17 @@ moved_on t p q e m q_in apart near = record {
   inverse = (passes t p q e m.inside q_in apart m.inverse).inverse;
   near = rw (size_with t p (entry_at t q)) near;
 }
+
+-- an entry on its way up from start, now at p
+pub record IsRising (first t : Table) (e : Entry) (start p c : ℕ) : Type 0 where
+  pub moving : IsMoving t p e
+  pub up : p ≤ start
+  pub same : dues (with_entry t p e) ≡ dues (with_entry first start e)
+  pub same_size : size t ≡ size first
+  pub below : p ≢ start → IsBelow (key (with_entry t p e)) (size t) p
+  pub climb : IsClimb p c
+  pub begun : p ≡ start → c ≡ 0
+  pub counted : p ≢ start → 0 < c
 
 pub starts_rising : (t : Table) (e : Entry) (p : ℕ) → IsMoving t p e → IsRising t t e p p 0
 starts_rising t e p m =
@@ -63,6 +74,17 @@ rises first t e start p c h pos less =
       begun = λ x. absurd (omega arith);
       counted = λ n. omega arith;
     }
+
+-- an entry on its way down from start, now at p
+pub record IsSinking (first t : Table) (e : Entry) (start p began c : ℕ) : Type 0 where
+  pub moving : IsMoving t p e
+  pub down : start ≤ p
+  pub same : dues (with_entry t p e) ≡ dues (with_entry first start e)
+  pub same_size : size t ≡ size first
+  pub above : IsAbove (key (with_entry t p e)) p
+  pub few : IsWithin p c
+  pub begun : p ≡ start → c ≡ began
+  pub counted : p ≢ start → (0 < c) × (2 * start + 1 < size t)
 
 pub starts_sinking : (t : Table) (e : Entry) (p c : ℕ) → IsMoving t p e → IsAbove (key (with_entry t p e)) p → IsWithin p c → IsSinking t t e p p c c
 starts_sinking t e p c m above few = record {

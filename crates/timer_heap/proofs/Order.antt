@@ -4,7 +4,7 @@ use Rattle.std.proofs.lemmas.Bool.{cases_eq}
 use Rattle.std.proofs.lemmas.Bool.Decides.{nat_tests}
 use Rattle.timer_heap.specs.declared.entry.Entry.{Entry}
 use Rattle.timer_heap.specs.Table.{parent, is_before, rank, IsOrdered}
-use Rattle.timer_heap.specs.Moves.{IsNear, IsAbove, IsBelow, IsClimb, IsWithin}
+use Rattle.timer_heap.specs.Moves.{IsNear, IsAbove, IsBelow, IsWithin}
 
 -- two keys change places
 pub record IsSwapped (k k' : ℕ → ℕ) (a b : ℕ) : Type 0 where
@@ -106,6 +106,16 @@ root_first k n o (suc m) j a b =
           let edge : k (parent j) ≤ k j = o.edges j pos b in
           omega arith
     ]
+
+-- so many comparisons were made on the way up to p
+pub record IsClimb (p c : ℕ) : Type 0 where
+  pub five : c ≤ 5
+  pub from_5 : 5 ≤ c → p ≤ 0
+  pub from_4 : 4 ≤ c → p ≤ 1
+  pub from_3 : 3 ≤ c → p ≤ 3
+  pub from_2 : 2 ≤ c → p ≤ 7
+  pub from_1 : 1 ≤ c → p ≤ 15
+  pub from_0 : p ≤ 31
 
 pub climbed : (p c : ℕ) → 0 < p → IsClimb p c → IsClimb (parent p) (c + 1)
 climbed p c pos h = record {

@@ -1,6 +1,6 @@
 -- The entries that are due by a moment, found from the front.
-use Rattle.std.proofs.Common.{◌≡◌, ◌≢◌, ℕ, zero, suc, ◌+◌, ◌*◌, ◌<◌, ◌≤◌, ◌^◌, ◌%◌, false, nat_le, min, inl, inr, refl, sym, ap, ◌∙◌, arith}
-use Rattle.std.specs.Prelude.{Option, None, Some, bit_or, if◌then◌else◌}
+use Rattle.std.proofs.Common.{◌≡◌, ◌≢◌, ℕ, zero, suc, ◌+◌, ◌*◌, ◌<◌, ◌≤◌, ◌^◌, ◌%◌, false, nat_lt, nat_le, min, inl, inr, refl, sym, ap, ◌∙◌, arith}
+use Rattle.std.specs.Prelude.{Option, None, Some, bit_or, ◌&&◌, if◌then◌else◌}
 use Rattle.std.specs.Option.{option_map_or}
 use Rattle.std.specs.Int.{bit_at}
 use Rattle.std.proofs.Common.{w32}
@@ -10,9 +10,19 @@ use Rattle.std.proofs.lemmas.Nat.Bits.{bit_at_set_same, bit_at_set_other, bit_at
 use Rattle.timer_heap.specs.declared.table.Table.{Table}
 use Rattle.timer_heap.specs.Table.{size, dues, due_through, entry_at, place_of, key, parent, IsInverse, IsOrdered}
 use Rattle.timer_heap.specs.Heap.{MarksDue}
-use Rattle.timer_heap.specs.Sweep.{mark, IsSwept}
 use Rattle.timer_heap.proofs.Inverse.{number_in}
 use Rattle.timer_heap.proofs.Edits.{dues_at}
+
+-- 1 for a timer whose place lies before p, and that is due at the moment or before
+abbrev pub mark : Table → ℕ → ℕ → Option ℕ → ℕ
+mark t moment p o = option_map_or (λ i. if nat_lt i p && nat_le (entry_at t i).due moment then 1 else 0) o 0
+
+-- all places before p were looked at; what may be due beyond lies before the end
+pub record IsSwept (t : Table) (moment p end word : ℕ) : Type 0 where
+  pub within : end ≤ size t
+  pub marks : (n : ℕ) → n < 32 → bit_at word n ≡ mark t moment p (place_of t n)
+  pub root : 0 < size t → 0 < end
+  pub children : (i : ℕ) → 0 < i → i < size t → parent i < p → (entry_at t (parent i)).due ≤ moment → i < end
 
 -- the mark of a timer at i, by cases
 marked : (t : Table) (moment p i : ℕ) → i < p → (entry_at t i).due ≤ moment → mark t moment p (Some i) ≡ 1

@@ -1,5 +1,4 @@
 pub mod Heap
 pub mod Table
 pub mod Moves
-pub mod Sweep
 pub mod View

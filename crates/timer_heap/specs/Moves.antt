@@ -1,8 +1,8 @@
 -- An entry on its way to where it belongs.
-use Rattle.std.specs.Prelude.{◌≡◌, ◌≢◌, ℕ, ◌+◌, ◌*◌, ◌<◌, ◌≤◌}
+use Rattle.std.specs.Prelude.{◌≡◌, ◌≢◌, ℕ, ◌<◌, ◌≤◌}
 use Rattle.timer_heap.specs.declared.entry.Entry.{Entry}
 use Rattle.timer_heap.specs.declared.table.Table.{Table}
-use Rattle.timer_heap.specs.Table.{size, dues, key, parent, with_entry, IsInverse}
+use Rattle.timer_heap.specs.Table.{size, key, parent, with_entry, IsInverse}
 
 -- the heap's order, but the entry at p may be out of place
 pub record IsNear (k : ℕ → ℕ) (n p : ℕ) : Type 0 where
@@ -23,16 +23,6 @@ pub record IsMoving (t : Table) (p : ℕ) (e : Entry) : Type 0 where
   pub inverse : IsInverse (with_entry t p e)
   pub near : IsNear (key (with_entry t p e)) (size t) p
 
--- so many comparisons were made on the way up to p
-pub record IsClimb (p c : ℕ) : Type 0 where
-  pub five : c ≤ 5
-  pub from_5 : 5 ≤ c → p ≤ 0
-  pub from_4 : 4 ≤ c → p ≤ 1
-  pub from_3 : 3 ≤ c → p ≤ 3
-  pub from_2 : 2 ≤ c → p ≤ 7
-  pub from_1 : 1 ≤ c → p ≤ 15
-  pub from_0 : p ≤ 31
-
 -- so many comparisons were made on the way down to p
 pub record IsWithin (p c : ℕ) : Type 0 where
   pub ten : c ≤ 10
@@ -41,25 +31,3 @@ pub record IsWithin (p c : ℕ) : Type 0 where
   pub below_7 : p < 7 → c ≤ 4
   pub below_3 : p < 3 → c ≤ 2
   pub at_0 : p ≡ 0 → c ≡ 0
-
--- an entry on its way up from start, now at p
-pub record IsRising (first t : Table) (e : Entry) (start p c : ℕ) : Type 0 where
-  pub moving : IsMoving t p e
-  pub up : p ≤ start
-  pub same : dues (with_entry t p e) ≡ dues (with_entry first start e)
-  pub same_size : size t ≡ size first
-  pub below : p ≢ start → IsBelow (key (with_entry t p e)) (size t) p
-  pub climb : IsClimb p c
-  pub begun : p ≡ start → c ≡ 0
-  pub counted : p ≢ start → 0 < c
-
--- an entry on its way down from start, now at p
-pub record IsSinking (first t : Table) (e : Entry) (start p began c : ℕ) : Type 0 where
-  pub moving : IsMoving t p e
-  pub down : start ≤ p
-  pub same : dues (with_entry t p e) ≡ dues (with_entry first start e)
-  pub same_size : size t ≡ size first
-  pub above : IsAbove (key (with_entry t p e)) p
-  pub few : IsWithin p c
-  pub begun : p ≡ start → c ≡ began
-  pub counted : p ≢ start → (0 < c) × (2 * start + 1 < size t)

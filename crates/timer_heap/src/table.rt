@@ -2,7 +2,7 @@
 ghost use Rattle.std.specs.Prelude.{◌≡◌, ◌≢◌, ℕ, ◌+◌, ◌-◌, ◌*◌, ◌<◌, ◌≤◌, length, slice_set, Option, Some, None};
 ghost use Rattle.timer_heap.specs.Table.{size, dues, entry_at, place_of, key, parent, with_entry, first_of, IsInverse, IsOrdered};
 ghost use Rattle.timer_heap.specs.Heap.{MarksDue};
-ghost use Rattle.timer_heap.specs.Moves.{IsMoving, IsAbove, IsBelow, IsClimb, IsWithin};
+ghost use Rattle.timer_heap.specs.Moves.{IsMoving, IsAbove, IsBelow, IsWithin};
 
 use crate::comparer::Comparer;
 use crate::entry::Entry;

@@ -1,6 +1,6 @@
 use Rattle.std.proofs.Common.{◌-◌}
 use Rattle.timer_heap.specs.Table.{size}
-use Rattle.timer_heap.specs.Sweep.{IsSwept}
+use Rattle.timer_heap.proofs.Sweeps.{IsSwept}
 use Rattle.timer_heap.proofs.table.Table.due_by.Given as goal
 
 abbrev pub invariant-loop-at : goal.invariant-loop-at

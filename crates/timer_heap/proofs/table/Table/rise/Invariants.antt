@@ -1,4 +1,4 @@
-use Rattle.timer_heap.specs.Moves.{IsRising}
+use Rattle.timer_heap.proofs.Moves.{IsRising}
 use Rattle.timer_heap.proofs.table.Table.rise.Given as goal
 
 abbrev pub invariant-loop-at : goal.invariant-loop-at

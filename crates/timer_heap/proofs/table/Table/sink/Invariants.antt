@@ -1,6 +1,6 @@
 use Rattle.std.proofs.Common.{◌-◌}
 use Rattle.timer_heap.specs.Table.{size}
-use Rattle.timer_heap.specs.Moves.{IsSinking}
+use Rattle.timer_heap.proofs.Moves.{IsSinking}
 use Rattle.timer_heap.proofs.table.Table.sink.Given as goal
 
 abbrev pub invariant-loop-at : goal.invariant-loop-at
