@@ -1,0 +1,4 @@
+pub mod Heap
+pub mod Table
+pub mod Moves
+pub mod View

@@ -1,0 +1,124 @@
+// The timers that are due some time, the earliest at hand.
+ghost use Rattle.std.specs.Prelude.{◌≡◌, ℕ, ◌+◌, ◌*◌, ◌<◌, ◌≤◌, Option, None, Some, slice_set};
+ghost use Rattle.board_terms.specs.Dues.{number_of, timer_of, due_of, least};
+ghost use Rattle.timer_heap.specs.Heap.{no_dues, NoOther, Other, FirstOfThree, MarksDue};
+
+use crate::entry::Entry;
+use crate::table::Table;
+use arrayvec::ArrayVec;
+use board_terms::{TimerId, Vp};
+use std::marker::Model;
+
+/// The timers that are due some time, each with its due moment (TLFS, "Synthetic Timers").
+#[derive(Drop)]
+pub struct TimerHeap {
+    table: Table,
+}
+
+impl Model for TimerHeap {
+    ghost use Rattle.std.specs.Prelude.{ℕ};
+    ghost use Rattle.std.specs.Coded.{coded_list, coded_option, coded_ℕ};
+    ghost use Rattle.board_terms.specs.Dues.{Dues};
+
+    ghost Value = { Dues };
+
+    ghost coded = { coded_list (coded_option coded_ℕ) };
+
+    ghost use Rattle.timer_heap.specs.View.{dues_of, IsKept};
+
+    ghost view = { dues_of };
+
+    ghost invariant = { IsKept };
+}
+
+/// The number of a timer.
+fn number_of(timer: TimerId) -> u8
+    ensures value { result ≡ number_of timer }
+    ensures range { result < 32 }
+{
+    4 * timer.vp().number() + timer.index()
+}
+
+/// The timer of a number.
+fn timer_of(number: u8) -> TimerId
+    requires { number < 32 }
+    ensures { result ≡ timer_of number }
+{
+    let vp = Vp::new(number / 4).unwrap();
+    TimerId::new(vp, number % 4).unwrap()
+}
+
+impl TimerHeap {
+    /// No timer is due.
+    pub fn new() -> TimerHeap
+        ensures { result ≡ no_dues }
+    {
+        TimerHeap {
+            table: Table {
+                entries: ArrayVec::new(),
+                places: [None; 32],
+            },
+        }
+    }
+
+    /// A timer gets a due moment, and keeps no other. The answer is how many comparisons were made: ten
+    /// at most, and none exactly where no other timer is due.
+    pub fn set(&mut self, timer: TimerId, due: u128) -> u8
+        ensures set { self.new ≡ slice_set self.old (number_of timer) (Some due) }
+        ensures few { result ≤ 10 }
+        ensures alone { NoOther self.old timer → result ≡ 0 }
+        ensures beside { Other self.old timer → 0 < result }
+    {
+        let number = number_of(timer);
+        let entry = Entry { due, number };
+        match self.table.place(number) {
+            Some(place) => self.table.change(place as usize, entry),
+            None => self.table.add(entry),
+        }
+    }
+
+    /// A timer loses its due moment. The answer is how many comparisons were made: ten at most, and none
+    /// where no other timer is due, or where this one is not. The first of three or more is never
+    /// cleared without one.
+    pub fn clear(&mut self, timer: TimerId) -> u8
+        ensures set { self.new ≡ slice_set self.old (number_of timer) None }
+        ensures few { result ≤ 10 }
+        ensures alone { NoOther self.old timer → result ≡ 0 }
+        ensures absent { due_of self.old timer ≡ None → result ≡ 0 }
+        ensures first { FirstOfThree self.old timer → 0 < result }
+    {
+        match self.table.place(number_of(timer)) {
+            Some(place) => self.table.remove(place as usize),
+            None => 0,
+        }
+    }
+
+    /// The timer that is due first, and when: the least by due moment, processor and index.
+    pub fn least(&self) -> Option<(u128, TimerId)>
+        ensures { result ≡ least self.now }
+    {
+        if self.table.len() == 0 {
+            return None;
+        }
+        let entry = self.table.entry(0);
+        Some((entry.due, timer_of(entry.number)))
+    }
+
+    /// When a timer is due, if it is.
+    pub fn due_of(&self, timer: TimerId) -> Option<u128>
+        ensures { result ≡ due_of self.now timer }
+    {
+        match self.table.place(number_of(timer)) {
+            Some(place) => Some(self.table.entry(place as usize).due),
+            None => None,
+        }
+    }
+
+    /// Which timers are due at a moment or before: bit 4 * processor + index of the word is 1 exactly for
+    /// those.
+    pub fn due_by(&self, moment: u128) -> u32
+        ensures { MarksDue self.now moment result }
+    {
+        self.table.due_by(moment)
+    }
+}

@@ -1,0 +1,12 @@
+//! The timers that are due some time, the earliest at hand: a heap of 32 places that knows where each
+//! timer stands.
+#![tactic(auto)]
+
+mod comparer;
+mod entry;
+mod heap;
+mod table;
+#[cfg(test)]
+mod tests;
+
+pub use heap::TimerHeap;
