@@ -19,4 +19,5 @@ pub mod Run
 pub mod History
 pub mod Sound
 pub mod Touches
+pub mod Leaving
 pub mod View
