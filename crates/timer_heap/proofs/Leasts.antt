@@ -1,11 +1,13 @@
 -- The least of a list of due moments.
-use Rattle.std.proofs.Common.{◌≡◌, ℕ, zero, suc, ◌<◌, ◌≤◌, true, false, nat_lt, get_or, inl, inr, refl, sym, ap, ◌∙◌, arith}
+use Rattle.std.proofs.Common.{◌≡◌, ℕ, zero, suc, ◌/◌, ◌%◌, ◌<◌, ◌≤◌, true, false, nat_lt, length, get_or, inl, inr, refl, sym, ap, ◌∙◌, arith}
 use Rattle.std.specs.Prelude.{Option, None, Some, if◌then◌else◌}
 use Rattle.std.specs.Option.{option_map_or, option_map}
-use Rattle.std.proofs.lemmas.Bool.{cases_eq}
+use Rattle.std.proofs.Math.ListN.{get_or-eq_default}
+use Rattle.std.proofs.lemmas.Bool.{cases_eq, cases_lt}
 use Rattle.std.proofs.lemmas.Bool.Decides.{nat_tests}
 use Rattle.std.proofs.lemmas.Option.{none-some, same_Some}
 use Rattle.board_terms.specs.Dues.{Dues, least, least_below, earlier, timer_of, IsLeast}
+use Rattle.timer_heap.specs.Laws.{FindsLeast}
 
 -- what the scan of the numbers below n found
 pub record IsFound (m : Dues) (n : ℕ) (r : ℕ × ℕ) : Type 0 where
@@ -88,3 +90,39 @@ same_none m n (Some r) h = absurd (none-some r.0 (sym (n r.1) ∙ h.due))
 pub least_none : (m : Dues) → ((k : ℕ) → get_or m k None ≡ None) → least m ≡ None
 unfolding least
 least_none m n = ap (option_map (λ (r : ℕ × ℕ). (r.0, timer_of r.1))) (same_none m n (least_below m 32) (found m 32))
+
+-- a due moment with its timer
+abbrev with_timer : ℕ × ℕ → ℕ × (ℕ × ℕ)
+with_timer r = (r.0, timer_of r.1)
+
+-- the least, back to what it is
+beyond : (m : Dues) (k : ℕ) → length m ≡ 32 → 32 ≤ k → get_or m k None ≡ None
+beyond m k l above = get_or-eq_default m None (omega arith)
+
+from_found : (m : Dues) (d n : ℕ) → length m ≡ 32 → n < 32 → (o : Option (ℕ × ℕ)) → Found m 32 o → option_map with_timer o ≡ Some (d, timer_of n) → IsLeast m d n
+from_found m d n l low None h e = absurd (none-some (d, timer_of n) e)
+from_found m d n l low (Some r) h e =
+    let same = same_Some (r.0, timer_of r.1) (d, timer_of n) e in
+    let dues : r.0 ≡ d = ap (λ (x : ℕ × (ℕ × ℕ)). x.0) same in
+    let processors : r.1 / 4 ≡ n / 4 = ap (λ (x : ℕ × (ℕ × ℕ)). x.1.0) same in
+    let indices : r.1 % 4 ≡ n % 4 = ap (λ (x : ℕ × (ℕ × ℕ)). x.1.1) same in
+    let numbers : r.1 ≡ n = omega arith in
+    record {
+      low = low;
+      due = ap (λ k. get_or m k None) (sym numbers) ∙ h.due ∙ ap Some dues;
+      first = λ k e g. elim (cases_lt k 32) as (λ _. (d ≤ e) × (e ≡ d → n ≤ k)) [
+        | inl inside ↦ let f = h.first k e inside g in (omega (arith, f.0, dues), λ y. omega (arith, f.1 (y ∙ sym dues), numbers))
+        | inr outside ↦ absurd (none-some e (sym (beyond m k l outside) ∙ g))
+      ];
+    }
+
+none_found : (m : Dues) → length m ≡ 32 → (o : Option (ℕ × ℕ)) → Found m 32 o → option_map with_timer o ≡ None → (n : ℕ) → get_or m n None ≡ None
+none_found m l None h e n = elim (cases_lt n 32) as (λ _. get_or m n None ≡ None) [ inl inside ↦ h n inside | inr outside ↦ beyond m n l outside ]
+none_found m l (Some r) h e n = absurd (none-some (r.0, timer_of r.1) (sym e))
+
+pub finds-least : (m : Dues) → length m ≡ 32 → FindsLeast m
+unfolding least
+finds-least m l = record {
+  some = λ d n. (λ is. (is.low, least_is m d n is), λ h. from_found m d n l h.0 (least_below m 32) (found m 32) h.1);
+  none = (least_none m, λ e. none_found m l (least_below m 32) (found m 32) e);
+}

@@ -5,8 +5,10 @@
 mod comparer;
 mod entry;
 mod heap;
+mod laws;
 mod table;
 #[cfg(test)]
 mod tests;
 
 pub use heap::TimerHeap;
+pub use laws::the_first_is_the_least;
