@@ -70,7 +70,10 @@ impl TimerHeap {
         ensures beside { Other self.old timer → 0 < result }
     {
         let number = number_of(timer);
-        let entry = Entry { due, number };
+        let entry = Entry {
+            due,
+            number: number as u64,
+        };
         match self.table.place(number) {
             Some(place) => self.table.change(place as usize, entry),
             None => self.table.add(entry),
@@ -101,7 +104,7 @@ impl TimerHeap {
             return None;
         }
         let entry = self.table.entry(0);
-        Some((entry.due, timer_of(entry.number)))
+        Some((entry.due, timer_of(entry.number as u8)))
     }
 
     /// When a timer is due, if it is.
