@@ -1,8 +1,8 @@
 -- The timers of all processors.
-use Rattle.std.specs.Prelude.{ℕ, zero, suc, Bool, false, nat_lt, nat_le, List, [], map, replicate, slice_index_or, slice_set, Option, None, Some, if◌then◌else◌}
+use Rattle.std.specs.Prelude.{ℕ, zero, suc, Bool, false, nat_lt, nat_le, List, [], map, replicate, slice_index_or, slice_set, None, if◌then◌else◌}
 use Rattle.std.specs.List.{insert, position_or_len}
 use Rattle.std.specs.Option.{option_map_or}
-use Rattle.board_terms.specs.Dues.{Dues, number_of, timer_of, due_of, earlier}
+use Rattle.board_terms.specs.Dues.{Dues, number_of, timer_of, due_of}
 use Rattle.stimer_bank.specs.declared.timer.Timer.{Timer}
 use Rattle.stimer_bank.specs.declared.timer.Expiry.{Expiry}
 use Rattle.stimer_bank.specs.Timer.{after_config, after_count, after_expiry}
@@ -36,9 +36,6 @@ dues b = map (λ x. x.due) b.timers
 
 abbrev pub after_expiry_of : Bank → ℕ × ℕ → ℕ → Bank × Expiry
 after_expiry_of b t moment = let r = after_expiry (timer_in b t) moment in (with_timer b t r.0, r.1)
-
-abbrev pub least_with : Option (ℕ × ℕ) → Option ℕ → ℕ → Option (ℕ × ℕ)
-least_with best due n = option_map_or (λ d. Some (earlier best (d, n))) due best
 
 -- a timer is due later than d
 abbrev pub is_later : Dues → ℕ → ℕ × ℕ → Bool

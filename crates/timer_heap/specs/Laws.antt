@@ -1,5 +1,5 @@
 -- What is meant by the timer that is due first.
-use Rattle.std.specs.Prelude.{◌≡◌, ◌↔◌, ℕ, ◌<◌, None, Some, length, slice_index_or}
+use Rattle.std.specs.Prelude.{◌≡◌, ◌↔◌, ℕ, ◌<◌, None, Some, slice_index_or}
 use Rattle.board_terms.specs.Dues.{Dues, least, timer_of, IsLeast}
 
 -- `least` finds the least by due moment, processor and index, and none only where no timer is due
