@@ -1,18 +1,12 @@
 //! A shared board in plain Rust, as fast as its author would write it without proofs: what
 //! thread_bench does is done here too, with the same standard output, so that times can be compared.
 
-#[path = "../plain/board.rs"]
+#[path = "../plain/board/mod.rs"]
 #[allow(dead_code)]
 mod board;
-#[path = "../plain/events.rs"]
-#[allow(dead_code)]
-mod events;
-#[path = "../plain/parts.rs"]
-#[allow(dead_code)]
-mod parts;
 mod shared;
 
-use events::{EOI, Event, Reply};
+use board::events::{EOI, Event, Reply};
 use shared::{Actor, SharedBoard};
 use std::process::ExitCode;
 use std::thread;
@@ -103,7 +97,7 @@ fn perform_all(board: &SharedBoard, calls: u32, actor: &mut Actor) -> u64 {
     taken
 }
 
-fn event_at(turn: u32) -> Event {
+fn event_at(turn: u32) -> Event<'static> {
     let vp = (turn / 4 % 8) as u8;
     match turn % 4 {
         0 => Event::Assert {

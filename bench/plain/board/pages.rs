@@ -1,0 +1,166 @@
+//! The guest's pages and the overlays: the owner of each page is kept, and what the owners have lies
+//! in frames, the overlays' first. Eight bytes are read and written as one word under a mask.
+
+use super::events::{Owner, Refusal};
+
+pub const ENABLE: u64 = 1;
+pub const SLOT: usize = 256;
+
+const PAGE: usize = 4096;
+
+/// Overlays in the order in which they hide each other: the SIM and the SIEF page of processor 0, those
+/// of processor 1, and so on.
+const OVERLAYS: usize = 16;
+
+const NOWHERE: u8 = 255;
+
+#[derive(Clone)]
+#[repr(align(64))]
+pub struct Frame([u8; PAGE]);
+
+impl Frame {
+    pub fn slot(&mut self, sint: u8) -> &mut [u8; SLOT] {
+        &mut self.0.as_chunks_mut().0[sint as usize]
+    }
+
+    fn load(&self, at: usize, length: u8) -> u64 {
+        let (base, shift) = word_at(at);
+        let (word, _) = self.0[base..].split_first_chunk().expect("a whole word");
+        u64::from_le_bytes(*word) >> shift & mask(length)
+    }
+
+    fn store(&mut self, at: usize, length: u8, word: u64) {
+        let (base, shift) = word_at(at);
+        let (old, _) = self.0[base..].split_first_chunk_mut().expect("a whole word");
+        let kept = u64::from_le_bytes(*old) & !(mask(length) << shift);
+        *old = (kept | word << shift).to_le_bytes();
+    }
+}
+
+/// A whole word in which the bytes from `at` on lie, and by how many bits they are shifted in it.
+fn word_at(at: usize) -> (usize, usize) {
+    let base = at.min(PAGE - 8);
+    (base, 8 * (at - base))
+}
+
+fn mask(length: u8) -> u64 {
+    u64::MAX >> (64 - 8 * u32::from(length))
+}
+
+/// The source whose slot is the only one of which a store touches the first four bytes, if any.
+#[derive(Clone, Copy)]
+pub struct Touched {
+    pub vp: u8,
+    pub sint: u8,
+}
+
+pub struct Pages {
+    frames: Vec<Frame>,
+    /// The number of a page's visible frame: that of an overlay, or behind those its own.
+    visible: [u8; 64],
+    /// The page at which each overlay lies.
+    places: [u8; OVERLAYS],
+    count: u8,
+}
+
+impl Pages {
+    pub fn new(count: u8) -> Pages {
+        Pages {
+            frames: vec![Frame([0; PAGE]); OVERLAYS + count as usize],
+            visible: std::array::from_fn(|page| (OVERLAYS + page) as u8),
+            places: [NOWHERE; OVERLAYS],
+            count,
+        }
+    }
+
+    pub fn count(&self) -> u8 {
+        self.count
+    }
+
+    pub fn owner(&self, page: u8) -> Owner {
+        let frame = self.visible[page as usize];
+        if frame as usize >= OVERLAYS {
+            Owner::Guest
+        } else if frame.is_multiple_of(2) {
+            Owner::Sim(frame / 2)
+        } else {
+            Owner::Sief(frame / 2)
+        }
+    }
+
+    pub fn slot(&mut self, vp: u8, sint: u8) -> &mut [u8; SLOT] {
+        self.frames[2 * vp as usize].slot(sint)
+    }
+
+    pub fn flags(&mut self, vp: u8, sint: u8) -> &mut [u8; SLOT] {
+        self.frames[2 * vp as usize + 1].slot(sint)
+    }
+
+    pub fn move_sim(&mut self, vp: u8, register: u64) {
+        self.move_overlay(2 * vp, register);
+    }
+
+    pub fn move_sief(&mut self, vp: u8, register: u64) {
+        self.move_overlay(2 * vp + 1, register);
+    }
+
+    /// Only the page that the overlay left and the page that it reached can have another owner, and
+    /// the others are looked at only where it was the visible one.
+    fn move_overlay(&mut self, overlay: u8, register: u64) {
+        let page = register / PAGE as u64;
+        let is_visible = register & ENABLE != 0 && page < u64::from(self.count);
+        let after = if is_visible { page as u8 } else { NOWHERE };
+        let before = std::mem::replace(&mut self.places[overlay as usize], after);
+        if let Some(visible) = self.visible.get_mut(before as usize)
+            && *visible == overlay
+        {
+            *visible = first_at(&self.places, before);
+        }
+        if let Some(visible) = self.visible.get_mut(after as usize) {
+            *visible = overlay.min(*visible);
+        }
+    }
+
+    fn place_of(&self, address: u64, length: u8) -> Result<(usize, usize), Refusal> {
+        let (page, at) = (address / PAGE as u64, address as usize % PAGE);
+        if length == 0 || length > 8 {
+            Err(Refusal::BadLength)
+        } else if page >= u64::from(self.count) {
+            Err(Refusal::OutsideSpace)
+        } else if at + length as usize > PAGE {
+            Err(Refusal::CrossesPage)
+        } else {
+            Ok((self.visible[page as usize].into(), at))
+        }
+    }
+
+    pub fn load(&self, address: u64, length: u8) -> Result<u64, Refusal> {
+        let (frame, at) = self.place_of(address, length)?;
+        Ok(self.frames[frame].load(at, length))
+    }
+
+    pub fn store(
+        &mut self,
+        address: u64,
+        word: u64,
+        length: u8,
+    ) -> Result<Option<Touched>, Refusal> {
+        let (frame, at) = self.place_of(address, length)?;
+        self.frames[frame].store(at, length, word);
+        if frame >= OVERLAYS || frame % 2 == 1 {
+            return Ok(None);
+        }
+        let last = at + length as usize - 1;
+        let touched = Touched {
+            vp: frame as u8 / 2,
+            sint: (last / SLOT) as u8,
+        };
+        Ok((at < last / SLOT * SLOT + 4).then_some(touched))
+    }
+}
+
+/// The first overlay at a page, or the page's own frame.
+fn first_at(places: &[u8; OVERLAYS], page: u8) -> u8 {
+    let found = places.iter().position(|place| *place == page);
+    found.unwrap_or(OVERLAYS + page as usize) as u8
+}
