@@ -55,9 +55,7 @@ const fn workload(name: &'static str, job: Job, threads: u8) -> Workload {
 
 impl Workload {
     fn named(name: &str) -> Option<Workload> {
-        WORKLOADS
-            .into_iter()
-            .find(|workload| workload.name == name)
+        WORKLOADS.into_iter().find(|workload| workload.name == name)
     }
 
     /// How many calls each thread makes on one board at most.

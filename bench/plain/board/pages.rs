@@ -31,7 +31,9 @@ impl Frame {
 
     fn store(&mut self, at: usize, length: u8, word: u64) {
         let (base, shift) = word_at(at);
-        let (old, _) = self.0[base..].split_first_chunk_mut().expect("a whole word");
+        let (old, _) = self.0[base..]
+            .split_first_chunk_mut()
+            .expect("a whole word");
         let kept = u64::from_le_bytes(*old) & !(mask(length) << shift);
         *old = (kept | word << shift).to_le_bytes();
     }
@@ -159,8 +161,15 @@ impl Pages {
     }
 }
 
-/// The first overlay at a page, or the page's own frame.
+/// The first overlay at a page, or the page's own frame. The lowest byte that is zero behind the
+/// exclusive or is that of the first overlay, and there are no 17 bytes.
 fn first_at(places: &[u8; OVERLAYS], page: u8) -> u8 {
-    let found = places.iter().position(|place| *place == page);
-    found.unwrap_or(OVERLAYS + page as usize) as u8
+    const ONES: u128 = u128::MAX / 255;
+    let differing = u128::from_le_bytes(*places) ^ u128::from_le_bytes([page; OVERLAYS]);
+    let zeros = differing.wrapping_sub(ONES) & !differing & ONES << 7;
+    if zeros == 0 {
+        OVERLAYS as u8 + page
+    } else {
+        zeros.trailing_zeros() as u8 / 8
+    }
 }

@@ -11,6 +11,7 @@ const POLLING: u64 = 1 << 18;
 /// No ticket has this number.
 const NO_TICKET: u64 = u64::MAX;
 
+#[repr(align(64))]
 pub struct Processor {
     pub lapic: Lapic,
     pub control: u64,

@@ -107,7 +107,12 @@ impl Buffers {
     ) {
         let free = self.used[port as usize].trailing_ones() as u16;
         let number = 16 * u16::from(port) + free;
-        write_post(&mut self.buffers[number as usize].image, port, kind, payload);
+        write_post(
+            &mut self.buffers[number as usize].image,
+            port,
+            kind,
+            payload,
+        );
         self.append(chain, number, ticket);
     }
 

@@ -37,7 +37,11 @@ impl Timer {
 
     fn start(&mut self, moment: u64) {
         self.is_running = self.config & ENABLE != 0 && self.count != 0;
-        let from = if self.config & PERIODIC == 0 { 0 } else { moment };
+        let from = if self.config & PERIODIC == 0 {
+            0
+        } else {
+            moment
+        };
         (self.due, self.is_beyond) = from.overflowing_add(self.count);
     }
 
