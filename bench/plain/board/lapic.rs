@@ -63,6 +63,7 @@ impl Lapic {
     }
 
     /// Whether the vector was not requested yet.
+    #[inline(always)]
     pub fn request(&mut self, vector: u8) -> bool {
         let is_new = self.requested.insert(vector);
         if is_new && vector > self.barrier {
@@ -73,6 +74,7 @@ impl Lapic {
     }
 
     /// Behind a vector that is served nothing is next: those left are not above its class.
+    #[inline(always)]
     pub fn take(&mut self) -> Option<u8> {
         let vector = self.next()?;
         self.requested.remove(vector);
@@ -88,6 +90,7 @@ impl Lapic {
     }
 
     /// A next vector stays the next one, as the greatest of all that are requested.
+    #[inline(always)]
     pub fn end(&mut self) {
         let ended = self.serving;
         if ended == 0 {
@@ -101,6 +104,7 @@ impl Lapic {
     }
 
     /// None is requested in a word above that of `vector`.
+    #[inline(always)]
     fn find_next(&mut self, vector: u8) {
         let greatest = self.requested.greatest_below(vector);
         self.barrier = last_of_class(self.serving);

@@ -111,10 +111,7 @@ impl Board {
                 word,
                 length,
             } => self.store(address, word, length, notices),
-            Event::Load { address, length } => match self.pages.load(address, length) {
-                Ok(word) => Reply::Bytes { word, length },
-                Err(refusal) => Reply::Refused(refusal),
-            },
+            Event::Load { address, length } => self.load(address, length),
             Event::Tick { moment } => self.tick(moment, notices),
             Event::Take { vp } => self.take(vp),
         }
@@ -135,6 +132,7 @@ impl Board {
         }
     }
 
+    #[inline(never)]
     fn open_port(&mut self, port: u8, vp: u8, sint: u8, shape: Shape) -> Reply {
         let fits = match shape {
             Shape::Messages { buffers } => (1..=16).contains(&buffers),
@@ -155,6 +153,7 @@ impl Board {
         }
     }
 
+    #[inline(never)]
     fn write(&mut self, vp: u8, register: u32, value: u64, notices: &mut Notices) -> Reply {
         let Some(processor) = self.processors.get_mut(vp as usize) else {
             return Reply::Refused(Refusal::NoSuchProcessor);
@@ -181,20 +180,31 @@ impl Board {
         Reply::Done
     }
 
+    #[inline(never)]
     fn store(&mut self, address: u64, word: u64, length: u8, notices: &mut Notices) -> Reply {
         match self.pages.store(address, word, length) {
             Ok(None) => Reply::Done,
-            Ok(Some(touched)) => {
-                let (vp, sint) = (touched.vp, touched.sint);
-                if is_empty(self.pages.slot(vp, sint)) {
-                    self.processors[vp as usize].consume(vp, sint, notices);
-                }
-                Reply::Done
-            }
+            Ok(Some((vp, sint))) => self.consume(vp, sint, notices),
             Err(refusal) => Reply::Refused(refusal),
         }
     }
 
+    /// A store touched the first four bytes of a slot.
+    fn consume(&mut self, vp: u8, sint: u8, notices: &mut Notices) -> Reply {
+        if is_empty(self.pages.slot(vp, sint)) {
+            self.processors[vp as usize].consume(vp, sint, notices);
+        }
+        Reply::Done
+    }
+
+    fn load(&self, address: u64, length: u8) -> Reply {
+        match self.pages.load(address, length) {
+            Ok(word) => Reply::Bytes { word, length },
+            Err(refusal) => Reply::Refused(refusal),
+        }
+    }
+
+    #[inline(never)]
     fn signal(&mut self, port: u8, flag: u16, notices: &mut Notices) -> Reply {
         let Some(&Some(Port { vp, sint, shape })) = self.ports.get(port as usize) else {
             return Reply::Refused(Refusal::UnknownPort);
@@ -221,6 +231,7 @@ impl Board {
         Reply::FlagWasClear
     }
 
+    #[inline(never)]
     fn post(&mut self, port: u8, kind: u32, payload: &[u8], notices: &mut Notices) -> Reply {
         let Some(&Some(Port { vp, sint, shape })) = self.ports.get(port as usize) else {
             return Reply::Refused(Refusal::UnknownPort);
@@ -341,6 +352,7 @@ impl Board {
     }
 
     /// Below the earliest due moment nothing is looked at. Those that are due are tried once each.
+    #[inline(never)]
     fn tick(&mut self, moment: u64, notices: &mut Notices) -> Reply {
         if moment < self.moment {
             return Reply::Refused(Refusal::ClockBack);

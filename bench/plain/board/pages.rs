@@ -19,16 +19,19 @@ const NOWHERE: u8 = 255;
 pub struct Frame([u8; PAGE]);
 
 impl Frame {
+    #[inline(always)]
     pub fn slot(&mut self, sint: u8) -> &mut [u8; SLOT] {
         &mut self.0.as_chunks_mut().0[sint as usize]
     }
 
+    #[inline(always)]
     fn load(&self, at: usize, length: u8) -> u64 {
         let (base, shift) = word_at(at);
         let (word, _) = self.0[base..].split_first_chunk().expect("a whole word");
         u64::from_le_bytes(*word) >> shift & mask(length)
     }
 
+    #[inline(always)]
     fn store(&mut self, at: usize, length: u8, word: u64) {
         let (base, shift) = word_at(at);
         let (old, _) = self.0[base..]
@@ -49,19 +52,12 @@ fn mask(length: u8) -> u64 {
     u64::MAX >> (64 - 8 * u32::from(length))
 }
 
-/// The source whose slot is the only one of which a store touches the first four bytes, if any.
-#[derive(Clone, Copy)]
-pub struct Touched {
-    pub vp: u8,
-    pub sint: u8,
-}
-
 pub struct Pages {
     frames: Vec<Frame>,
     /// The number of a page's visible frame: that of an overlay, or behind those its own.
     visible: [u8; 64],
-    /// The page at which each overlay lies.
-    places: [u8; OVERLAYS],
+    /// The pages at which the SIM pages lie, and those of the SIEF pages: eight bytes a row.
+    places: [u64; 2],
     count: u8,
 }
 
@@ -70,7 +66,7 @@ impl Pages {
         Pages {
             frames: vec![Frame([0; PAGE]); OVERLAYS + count as usize],
             visible: std::array::from_fn(|page| (OVERLAYS + page) as u8),
-            places: [NOWHERE; OVERLAYS],
+            places: [u64::from_le_bytes([NOWHERE; 8]); 2],
             count,
         }
     }
@@ -90,39 +86,57 @@ impl Pages {
         }
     }
 
+    #[inline(always)]
     pub fn slot(&mut self, vp: u8, sint: u8) -> &mut [u8; SLOT] {
         self.frames[2 * vp as usize].slot(sint)
     }
 
+    #[inline(always)]
     pub fn flags(&mut self, vp: u8, sint: u8) -> &mut [u8; SLOT] {
         self.frames[2 * vp as usize + 1].slot(sint)
     }
 
+    #[inline(always)]
     pub fn move_sim(&mut self, vp: u8, register: u64) {
         self.move_overlay(2 * vp, register);
     }
 
+    #[inline(always)]
     pub fn move_sief(&mut self, vp: u8, register: u64) {
         self.move_overlay(2 * vp + 1, register);
     }
 
     /// Only the page that the overlay left and the page that it reached can have another owner, and
     /// the others are looked at only where it was the visible one.
+    #[inline(always)]
     fn move_overlay(&mut self, overlay: u8, register: u64) {
         let page = register / PAGE as u64;
         let is_visible = register & ENABLE != 0 && page < u64::from(self.count);
         let after = if is_visible { page as u8 } else { NOWHERE };
-        let before = std::mem::replace(&mut self.places[overlay as usize], after);
-        if let Some(visible) = self.visible.get_mut(before as usize)
-            && *visible == overlay
-        {
-            *visible = first_at(&self.places, before);
+        let row = &mut self.places[overlay as usize % 2];
+        let shift = overlay / 2 * 8;
+        let before = (*row >> shift) as u8;
+        *row ^= u64::from(before ^ after) << shift;
+        if self.visible.get(before as usize) == Some(&overlay) {
+            self.visible[before as usize] = self.first_at(before);
         }
         if let Some(visible) = self.visible.get_mut(after as usize) {
             *visible = overlay.min(*visible);
         }
     }
 
+    /// The first overlay at a page, or the page's own frame.
+    fn first_at(&self, page: u8) -> u8 {
+        let [sim, sief] = self.places.map(|row| first_equal(row, page));
+        let overlay = (2 * sim).min(2 * sief + 1);
+        if overlay < OVERLAYS as u8 {
+            overlay
+        } else {
+            OVERLAYS as u8 + page
+        }
+    }
+
+    #[inline(always)]
     fn place_of(&self, address: u64, length: u8) -> Result<(usize, usize), Refusal> {
         let (page, at) = (address / PAGE as u64, address as usize % PAGE);
         if length == 0 || length > 8 {
@@ -136,40 +150,34 @@ impl Pages {
         }
     }
 
+    #[inline(always)]
     pub fn load(&self, address: u64, length: u8) -> Result<u64, Refusal> {
         let (frame, at) = self.place_of(address, length)?;
         Ok(self.frames[frame].load(at, length))
     }
 
+    /// Gives the processor and the source of the one slot of which the store touches one of the first
+    /// four bytes, if there is such a slot.
+    #[inline(always)]
     pub fn store(
         &mut self,
         address: u64,
         word: u64,
         length: u8,
-    ) -> Result<Option<Touched>, Refusal> {
+    ) -> Result<Option<(u8, u8)>, Refusal> {
         let (frame, at) = self.place_of(address, length)?;
         self.frames[frame].store(at, length, word);
-        if frame >= OVERLAYS || frame % 2 == 1 {
-            return Ok(None);
-        }
-        let last = at + length as usize - 1;
-        let touched = Touched {
-            vp: frame as u8 / 2,
-            sint: (last / SLOT) as u8,
-        };
-        Ok((at < last / SLOT * SLOT + 4).then_some(touched))
+        let sint = (at + length as usize - 1) / SLOT;
+        let is_touched = frame < OVERLAYS && frame % 2 == 0 && at < sint * SLOT + 4;
+        Ok(is_touched.then_some((frame as u8 / 2, sint as u8)))
     }
 }
 
-/// The first overlay at a page, or the page's own frame. The lowest byte that is zero behind the
-/// exclusive or is that of the first overlay, and there are no 17 bytes.
-fn first_at(places: &[u8; OVERLAYS], page: u8) -> u8 {
-    const ONES: u128 = u128::MAX / 255;
-    let differing = u128::from_le_bytes(*places) ^ u128::from_le_bytes([page; OVERLAYS]);
+/// The place of the first of eight bytes that is equal, or 8. Behind the exclusive or it is 0, and the
+/// lowest byte that is 0 is the lowest of which the top bit is left.
+fn first_equal(row: u64, byte: u8) -> u8 {
+    const ONES: u64 = u64::MAX / 255;
+    let differing = row ^ ONES * u64::from(byte);
     let zeros = differing.wrapping_sub(ONES) & !differing & ONES << 7;
-    if zeros == 0 {
-        OVERLAYS as u8 + page
-    } else {
-        zeros.trailing_zeros() as u8 / 8
-    }
+    zeros.trailing_zeros() as u8 / 8
 }

@@ -41,12 +41,14 @@ impl Processor {
         }
     }
 
+    #[inline(always)]
     pub fn request(&mut self, vp: u8, vector: u8, notices: &mut Notices) {
         if self.lapic.request(vector) {
             notices.push(Notice::Requested { vp, vector });
         }
     }
 
+    #[inline(always)]
     pub fn raise(&mut self, vp: u8, sint: u8, notices: &mut Notices) {
         let vector = self.raised[sint as usize];
         if vector != 0 {
@@ -71,12 +73,14 @@ impl Processor {
     }
 
     /// A message was placed.
+    #[inline(always)]
     pub fn hold(&mut self, vp: u8, sint: u8, ticket: u64, notices: &mut Notices) {
         self.tickets[sint as usize] = ticket;
         notices.push(Notice::Placed { ticket, vp, sint });
     }
 
     /// A slot is empty behind a guest's store.
+    #[inline(always)]
     pub fn consume(&mut self, vp: u8, sint: u8, notices: &mut Notices) {
         let ticket = std::mem::replace(&mut self.tickets[sint as usize], NO_TICKET);
         if ticket != NO_TICKET {
