@@ -14,7 +14,7 @@ use events::{
 };
 use pages::{ENABLE, Pages};
 use processor::Processor;
-use queues::{Buffers, is_empty, set_pending, write_expiry, write_post};
+use queues::{Buffers, Expiration, Message, Post, is_empty, set_pending};
 use timers::{DIRECT, Expiry, Timers, source_in, vector_in};
 
 #[derive(Clone, Copy)]
@@ -22,20 +22,6 @@ struct Port {
     vp: u8,
     sint: u8,
     shape: Shape,
-}
-
-/// A message on its way to a source.
-#[derive(Clone, Copy)]
-enum Message<'a> {
-    Post {
-        port: u8,
-        kind: u32,
-        payload: &'a [u8],
-    },
-    Expiry {
-        timer: u8,
-        expiration: u64,
-    },
 }
 
 pub struct Board {
@@ -251,7 +237,7 @@ impl Board {
         if self.next_ticket == u64::MAX {
             return Reply::Refused(Refusal::TicketsSpent);
         }
-        let message = Message::Post {
+        let message = Post {
             port,
             kind,
             payload,
@@ -260,7 +246,8 @@ impl Board {
     }
 
     /// A message goes straight into its slot, where nothing is queued before it and the slot is empty.
-    fn deliver(&mut self, vp: u8, sint: u8, message: Message, notices: &mut Notices) -> u64 {
+    #[inline(always)]
+    fn deliver<M: Message>(&mut self, vp: u8, sint: u8, message: M, notices: &mut Notices) -> u64 {
         let ticket = self.next_ticket;
         self.next_ticket += 1;
         notices.push(Notice::Accepted { ticket, vp, sint });
@@ -268,42 +255,16 @@ impl Board {
         let slot = self.pages.slot(vp, sint);
         let is_queued = processor.queued >> sint & 1 == 1;
         if !is_queued && processor.control & processor.sim & ENABLE != 0 && is_empty(slot) {
-            match message {
-                Message::Post {
-                    port,
-                    kind,
-                    payload,
-                } => write_post(slot, port, kind, payload),
-                Message::Expiry { timer, expiration } => {
-                    write_expiry(slot, timer % 4, expiration, self.moment);
-                }
-            }
+            message.write(slot, self.moment);
             processor.hold(vp, sint, ticket, notices);
             processor.raise(vp, sint, notices);
         } else {
-            self.queue(vp, sint, ticket, message);
+            processor.queued |= 1 << sint;
+            let chain = &mut processor.chains[sint as usize];
+            message.queue(&mut self.buffers, chain, ticket);
             self.try_source(vp, sint, notices);
         }
         ticket
-    }
-
-    fn queue(&mut self, vp: u8, sint: u8, ticket: u64, message: Message) {
-        let processor = &mut self.processors[vp as usize];
-        let chain = &mut processor.chains[sint as usize];
-        processor.queued |= 1 << sint;
-        match message {
-            Message::Post {
-                port,
-                kind,
-                payload,
-            } => {
-                self.buffers
-                    .queue_post(chain, ticket, (port, kind, payload));
-            }
-            Message::Expiry { timer, expiration } => {
-                self.buffers.queue_expiry(chain, ticket, timer, expiration);
-            }
-        }
     }
 
     fn try_sources(&mut self, vp: u8, notices: &mut Notices) {
@@ -392,9 +353,9 @@ impl Board {
         if is_direct {
             processor.request(vp, vector_in(config), notices);
         } else {
-            let message = Message::Expiry {
+            let message = Expiration {
                 timer: number,
-                expiration: signal,
+                moment: signal,
             };
             self.deliver(vp, source_in(config), message, notices);
         }

@@ -4,8 +4,8 @@ use super::pages::SLOT;
 
 pub type Image = [u8; SLOT];
 
-const TIMER_EXPIRED: u32 = 0x8000_0010;
-const TIMER_LENGTH: u8 = 24;
+/// The type of a timer's message, and the length of its payload.
+const TIMER_HEADER: u64 = 0x8000_0010 | 24 << 32;
 const PAYLOAD: usize = 16;
 const EXPIRATION: usize = 24;
 const DELIVERY: usize = 32;
@@ -27,21 +27,64 @@ pub fn set_pending(slot: &mut Image) -> bool {
     was_clear
 }
 
-pub fn write_post(image: &mut Image, port: u8, kind: u32, payload: &[u8]) {
-    *image = [0; SLOT];
-    image[..4].copy_from_slice(&kind.to_le_bytes());
-    image[4] = payload.len() as u8;
-    image[8] = port;
-    image[PAYLOAD..][..payload.len()].copy_from_slice(payload);
+/// A message on its way to a source.
+pub trait Message {
+    /// Writes the image into an empty slot.
+    fn write(self, slot: &mut Image, moment: u64);
+
+    /// Writes the image into a buffer, and appends it to a queue.
+    fn queue(self, buffers: &mut Buffers, chain: &mut Chain, ticket: u64);
 }
 
-pub fn write_expiry(image: &mut Image, index: u8, expiration: u64, delivery: u64) {
-    *image = [0; SLOT];
-    image[..4].copy_from_slice(&TIMER_EXPIRED.to_le_bytes());
-    image[4] = TIMER_LENGTH;
-    image[PAYLOAD] = index;
-    write_moment(image, EXPIRATION, expiration);
-    write_moment(image, DELIVERY, delivery);
+pub struct Post<'a> {
+    pub port: u8,
+    pub kind: u32,
+    pub payload: &'a [u8],
+}
+
+impl Message for Post<'_> {
+    #[inline(always)]
+    fn write(self, slot: &mut Image, _moment: u64) {
+        let kind_and_length = u64::from(self.kind) | (self.payload.len() as u64) << 32;
+        write_words(slot, [kind_and_length, self.port.into()]);
+        slot[PAYLOAD..][..self.payload.len()].copy_from_slice(self.payload);
+    }
+
+    fn queue(self, buffers: &mut Buffers, chain: &mut Chain, ticket: u64) {
+        let free = buffers.used[self.port as usize].trailing_ones() as u16;
+        let number = 16 * u16::from(self.port) + free;
+        self.write(&mut buffers.buffers[number as usize].image, 0);
+        buffers.append(chain, number, ticket);
+    }
+}
+
+pub struct Expiration {
+    pub timer: u8,
+    pub moment: u64,
+}
+
+impl Message for Expiration {
+    #[inline(always)]
+    fn write(self, slot: &mut Image, moment: u64) {
+        let index = u64::from(self.timer % 4);
+        write_words(slot, [TIMER_HEADER, 0, index, self.moment, moment]);
+    }
+
+    fn queue(self, buffers: &mut Buffers, chain: &mut Chain, ticket: u64) {
+        let number = FIRST_OF_TIMERS + self.timer as usize;
+        write_moment(&mut buffers.buffers[number].image, EXPIRATION, self.moment);
+        buffers.append(chain, number as u16, ticket);
+    }
+}
+
+/// The image begins with some words, and all behind them is 0.
+#[inline(always)]
+fn write_words<const N: usize>(image: &mut Image, words: [u64; N]) {
+    let (front, back) = image.split_at_mut(8 * N);
+    for (bytes, word) in front.as_chunks_mut().0.iter_mut().zip(words) {
+        *bytes = word.to_le_bytes();
+    }
+    back.fill(0);
 }
 
 fn write_moment(image: &mut Image, at: usize, moment: u64) {
@@ -81,8 +124,8 @@ impl Buffers {
             next: 0,
         };
         let mut buffers = vec![buffer; BUFFERS];
-        for (number, buffer) in buffers[FIRST_OF_TIMERS..].iter_mut().enumerate() {
-            write_expiry(&mut buffer.image, number as u8 % 4, 0, 0);
+        for (timer, buffer) in (0..).zip(&mut buffers[FIRST_OF_TIMERS..]) {
+            Expiration { timer, moment: 0 }.write(&mut buffer.image, 0);
         }
         Buffers {
             buffers,
@@ -96,31 +139,6 @@ impl Buffers {
 
     pub fn timer_waits(&self, timer: u8) -> bool {
         self.used[16 + timer as usize / 16] >> (timer % 16) & 1 == 1
-    }
-
-    /// A message of a port that has a free buffer joins a queue.
-    pub fn queue_post(
-        &mut self,
-        chain: &mut Chain,
-        ticket: u64,
-        (port, kind, payload): (u8, u32, &[u8]),
-    ) {
-        let free = self.used[port as usize].trailing_ones() as u16;
-        let number = 16 * u16::from(port) + free;
-        write_post(
-            &mut self.buffers[number as usize].image,
-            port,
-            kind,
-            payload,
-        );
-        self.append(chain, number, ticket);
-    }
-
-    /// A message of a timer that has none waiting joins a queue.
-    pub fn queue_expiry(&mut self, chain: &mut Chain, ticket: u64, timer: u8, expiration: u64) {
-        let number = FIRST_OF_TIMERS + timer as usize;
-        write_moment(&mut self.buffers[number].image, EXPIRATION, expiration);
-        self.append(chain, number as u16, ticket);
     }
 
     fn append(&mut self, chain: &mut Chain, number: u16, ticket: u64) {
