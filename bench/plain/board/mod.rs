@@ -155,11 +155,11 @@ impl Board {
                 processor.sim = value;
                 self.pages.move_sim(vp, value);
             }
-            EOM => self.try_sources(vp, notices),
+            EOM => return self.try_sources(vp, notices),
             SINT0..=LAST_SINT => return processor.write_source((register - SINT0) as u8, value),
             STIMER0_CONFIG..=LAST_TIMER => {
                 let place = (register - STIMER0_CONFIG) as u8;
-                self.write_timer(4 * vp + place / 2, place % 2 == 1, value, notices);
+                return self.write_timer(4 * vp + place / 2, place % 2 == 1, value, notices);
             }
             _ => return Reply::GeneralProtection,
         }
@@ -267,12 +267,13 @@ impl Board {
         ticket
     }
 
-    fn try_sources(&mut self, vp: u8, notices: &mut Notices) {
+    fn try_sources(&mut self, vp: u8, notices: &mut Notices) -> Reply {
         let mut left = self.processors[vp as usize].queued;
         while left != 0 {
             self.try_source(vp, left.trailing_zeros() as u8, notices);
             left &= left - 1;
         }
+        Reply::Done
     }
 
     /// A source that has something queued is tried.
@@ -300,7 +301,14 @@ impl Board {
         processor.raise(vp, sint, notices);
     }
 
-    fn write_timer(&mut self, number: u8, is_count: bool, value: u64, notices: &mut Notices) {
+    #[inline(never)]
+    fn write_timer(
+        &mut self,
+        number: u8,
+        is_count: bool,
+        value: u64,
+        notices: &mut Notices,
+    ) -> Reply {
         if is_count {
             self.timers.write_count(number, value, self.moment);
         } else {
@@ -310,6 +318,7 @@ impl Board {
             self.attempt(number, notices);
         }
         self.timers.update(number);
+        Reply::Done
     }
 
     /// Below the earliest due moment nothing is looked at. Those that are due are tried once each.

@@ -56,6 +56,7 @@ impl Processor {
         }
     }
 
+    #[inline(never)]
     pub fn write_source(&mut self, sint: u8, value: u64) -> Reply {
         if value as u8 <= 15 && value & MASKED == 0 {
             return Reply::GeneralProtection;
