@@ -2,6 +2,7 @@
 //! does is done here too, with the same replies, notices and summary, so that times can be compared.
 //! It has the events of the workloads and no others.
 
+#[allow(dead_code)]
 mod board;
 mod tally;
 mod workloads;

@@ -50,7 +50,7 @@ impl Scene {
     }
 
     pub fn open(&self, notices: &mut Notices) -> Board {
-        let mut board = Board::open(self.processors, self.pages);
+        let mut board = Board::open(self.processors, self.pages, 0);
         for event in &self.setup {
             board.perform(event, notices);
         }

@@ -50,7 +50,7 @@ impl SharedBoard {
         SharedBoard {
             words: [const { AtomicU64::new(0) }; 32],
             recorded: Mutex::new(Recorded {
-                board: Board::open(processors, pages),
+                board: Board::open(processors, pages, 0),
                 history: Vec::new(),
                 notices: Notices::new(),
             }),

@@ -16,7 +16,7 @@ impl VectorSet {
         self.0[vector as usize / 64] &= !(1 << (vector % 64));
     }
 
-    fn contains(&self, vector: u8) -> bool {
+    pub fn contains(&self, vector: u8) -> bool {
         self.0[vector as usize / 64] >> (vector % 64) & 1 == 1
     }
 

@@ -35,7 +35,7 @@ pub struct Board {
 }
 
 impl Board {
-    pub fn open(processors: u8, pages: u8) -> Board {
+    pub fn open(processors: u8, pages: u8, next_ticket: u64) -> Board {
         Board {
             processors: (0..processors).map(|_| Processor::new()).collect(),
             pages: Pages::new(pages),
@@ -43,7 +43,7 @@ impl Board {
             buffers: Buffers::new(),
             timers: Timers::new(),
             moment: 0,
-            next_ticket: 0,
+            next_ticket,
         }
     }
 
@@ -57,6 +57,10 @@ impl Board {
 
     pub fn next(&self, vp: u8) -> Option<u8> {
         self.processors[vp as usize].lapic.next()
+    }
+
+    pub fn is_auto(&self, vp: u8, vector: u8) -> bool {
+        self.processors[vp as usize].lapic.auto.contains(vector)
     }
 
     pub fn queued(&self, vp: u8, sint: u8) -> u16 {
