@@ -44,62 +44,43 @@ fn put_vector(text: &mut Text, vector: Option<u8>) {
 
 pub fn put_notice(text: &mut Text, notice: &Notice) {
     match *notice {
-        Notice::Accepted { ticket, vp, sint } => {
-            text.put(b". accepted ");
-            put_ticket(text, ticket, vp, sint);
-        }
-        Notice::Placed { ticket, vp, sint } => {
-            text.put(b". placed ");
-            put_ticket(text, ticket, vp, sint);
-        }
+        Notice::Accepted { ticket, vp, sint } => put_ticket(text, b". accepted ", ticket, vp, sint),
+        Notice::Placed { ticket, vp, sint } => put_ticket(text, b". placed ", ticket, vp, sint),
+        Notice::Consumed { ticket, vp, sint } => put_ticket(text, b". consumed ", ticket, vp, sint),
+        Notice::Expired { vp, index, due } => put_numbers(text, b". expired ", vp, index, due),
+        Notice::Skipped { vp, index, count } => put_numbers(text, b". skipped ", vp, index, count),
+        Notice::FlagSet { vp, sint, flag } => put_numbers(text, b". flag ", vp, sint, flag.into()),
         Notice::Pending { vp, sint } => {
             text.put(b". pending ");
-            put_pair(text, vp, sint);
+            text.put_pair(vp, sint);
+            text.put(b"\n");
         }
         Notice::Requested { vp, vector } => {
             text.put(b". requested ");
             text.put_small(vp);
             text.put(b" ");
             text.put_byte(vector);
-        }
-        Notice::FlagSet { vp, sint, flag } => {
-            text.put(b". flag ");
-            put_pair(text, vp, sint);
-            put_last(text, flag.into());
-        }
-        Notice::Consumed { ticket, vp, sint } => {
-            text.put(b". consumed ");
-            put_ticket(text, ticket, vp, sint);
-        }
-        Notice::Expired { vp, index, due } => {
-            text.put(b". expired ");
-            put_pair(text, vp, index);
-            put_last(text, due);
-        }
-        Notice::Skipped { vp, index, count } => {
-            text.put(b". skipped ");
-            put_pair(text, vp, index);
-            put_last(text, count);
+            text.put(b"\n");
         }
     }
+}
+
+#[inline(always)]
+fn put_ticket<const N: usize>(text: &mut Text, word: &[u8; N], ticket: u64, vp: u8, sint: u8) {
+    text.put(word);
+    text.put_decimal(ticket);
+    text.put(b" ");
+    text.put_pair(vp, sint);
     text.put(b"\n");
 }
 
-fn put_ticket(text: &mut Text, ticket: u64, vp: u8, sint: u8) {
-    text.put_decimal(ticket);
+#[inline(always)]
+fn put_numbers<const N: usize>(text: &mut Text, word: &[u8; N], former: u8, latter: u8, last: u64) {
+    text.put(word);
+    text.put_pair(former, latter);
     text.put(b" ");
-    put_pair(text, vp, sint);
-}
-
-fn put_pair(text: &mut Text, former: u8, latter: u8) {
-    text.put_small(former);
-    text.put(b" ");
-    text.put_small(latter);
-}
-
-fn put_last(text: &mut Text, number: u64) {
-    text.put(b" ");
-    text.put_decimal(number);
+    text.put_decimal(last);
+    text.put(b"\n");
 }
 
 pub fn put_summary(text: &mut Text, board: &Board) {
@@ -118,7 +99,7 @@ pub fn put_summary(text: &mut Text, board: &Board) {
         Some((due, number)) => {
             text.put_long(due);
             text.put(b" ");
-            put_pair(text, number / 4, number % 4);
+            text.put_pair(number / 4, number % 4);
         }
         None => text.put(b"none"),
     }
@@ -162,8 +143,9 @@ fn put_queues(text: &mut Text, vp: u8, board: &Board) {
         let length = board.queued(vp, sint);
         if length != 0 {
             text.put(b": queue ");
-            put_pair(text, vp, sint);
-            put_last(text, length.into());
+            text.put_pair(vp, sint);
+            text.put(b" ");
+            text.put_decimal(length.into());
             text.put(b"\n");
         }
     }

@@ -20,6 +20,17 @@ const PAIRS: [u8; 200] = {
     pairs
 };
 
+/// The least number with one digit more than the place says.
+const LEAST: [u64; 20] = {
+    let mut least = [0; 20];
+    let mut place = 1;
+    while place < 20 {
+        least[place] = 10_u64.pow(place as u32);
+        place += 1;
+    }
+    least
+};
+
 const DIGITS: &[u8; 16] = b"0123456789abcdef";
 
 pub struct Text {
@@ -81,7 +92,7 @@ impl Text {
 
     /// Two digits at a time, the last first.
     pub fn put_decimal(&mut self, number: u64) {
-        let length = number.checked_ilog10().unwrap_or(0) as usize + 1;
+        let length = count_digits(number);
         let digits = &mut self.block[self.length..][..length];
         self.length += length;
         let (mut left, mut at) = (number, length);
@@ -96,9 +107,29 @@ impl Text {
         }
     }
 
+    /// Two numbers with a space between them.
+    #[inline(always)]
+    pub fn put_pair(&mut self, former: u8, latter: u8) {
+        if former < 10 && latter < 10 {
+            self.put(&[b'0' + former, b' ', b'0' + latter]);
+        } else {
+            self.put_decimal(former.into());
+            self.put(b" ");
+            self.put_decimal(latter.into());
+        }
+    }
+
     /// Two hexadecimal digits.
     #[inline(always)]
     pub fn put_byte(&mut self, byte: u8) {
         self.put(&[DIGITS[byte as usize / 16], DIGITS[byte as usize % 16]]);
     }
+}
+
+/// Each bit is worth 0.301 digits: so many, or one more.
+#[inline(always)]
+fn count_digits(number: u64) -> usize {
+    let bits = 64 - (number | 1).leading_zeros();
+    let digits = (bits * 1233 >> 12) as usize;
+    digits + usize::from(number >= LEAST[digits])
 }
