@@ -54,25 +54,23 @@ fn mask(length: u8) -> u64 {
 
 pub struct Pages {
     frames: Vec<Frame>,
-    /// The number of a page's visible frame: that of an overlay, or behind those its own.
-    visible: [u8; 64],
+    /// The number of each page's visible frame: that of an overlay, or behind those its own.
+    visible: Vec<u8>,
     /// The pages at which the SIM pages lie, and those of the SIEF pages: eight bytes a row.
     places: [u64; 2],
-    count: u8,
 }
 
 impl Pages {
     pub fn new(count: u8) -> Pages {
         Pages {
             frames: vec![Frame([0; PAGE]); OVERLAYS + count as usize],
-            visible: std::array::from_fn(|page| (OVERLAYS + page) as u8),
+            visible: (OVERLAYS as u8..).take(count.into()).collect(),
             places: [u64::from_le_bytes([NOWHERE; 8]); 2],
-            count,
         }
     }
 
     pub fn count(&self) -> u8 {
-        self.count
+        self.visible.len() as u8
     }
 
     pub fn owner(&self, page: u8) -> Owner {
@@ -111,7 +109,7 @@ impl Pages {
     #[inline(always)]
     fn move_overlay(&mut self, overlay: u8, register: u64) {
         let page = register / PAGE as u64;
-        let is_visible = register & ENABLE != 0 && page < u64::from(self.count);
+        let is_visible = register & ENABLE != 0 && page < self.visible.len() as u64;
         let after = if is_visible { page as u8 } else { NOWHERE };
         let row = &mut self.places[overlay as usize % 2];
         let shift = overlay / 2 * 8;
@@ -140,14 +138,14 @@ impl Pages {
     fn place_of(&self, address: u64, length: u8) -> Result<(usize, usize), Refusal> {
         let (page, at) = (address / PAGE as u64, address as usize % PAGE);
         if length == 0 || length > 8 {
-            Err(Refusal::BadLength)
-        } else if page >= u64::from(self.count) {
-            Err(Refusal::OutsideSpace)
-        } else if at + length as usize > PAGE {
-            Err(Refusal::CrossesPage)
-        } else {
-            Ok((self.visible[page as usize].into(), at))
+            return Err(Refusal::BadLength);
         }
+        let frame = self.visible.get(page as usize);
+        let frame = *frame.ok_or(Refusal::OutsideSpace)?;
+        if at + length as usize > PAGE {
+            return Err(Refusal::CrossesPage);
+        }
+        Ok((frame.into(), at))
     }
 
     #[inline(always)]
