@@ -75,6 +75,7 @@ impl Board {
         self.timers.earliest()
     }
 
+    #[inline(always)]
     pub fn perform(&mut self, event: &Event, notices: &mut Notices) -> Reply {
         notices.clear();
         match *event {

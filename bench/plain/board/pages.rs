@@ -175,7 +175,7 @@ impl Pages {
 /// lowest byte that is 0 is the lowest of which the top bit is left.
 fn first_equal(row: u64, byte: u8) -> u8 {
     const ONES: u64 = u64::MAX / 255;
-    let differing = row ^ ONES * u64::from(byte);
+    let differing = row ^ (ONES * u64::from(byte));
     let zeros = differing.wrapping_sub(ONES) & !differing & ONES << 7;
     zeros.trailing_zeros() as u8 / 8
 }

@@ -91,7 +91,7 @@ fn find_line_feed(bytes: &[u8]) -> Option<usize> {
     const ONES: u64 = u64::MAX / 255;
     let (words, tail) = bytes.as_chunks();
     for (number, word) in words.iter().enumerate() {
-        let differing = u64::from_le_bytes(*word) ^ ONES * u64::from(b'\n');
+        let differing = u64::from_le_bytes(*word) ^ (ONES * u64::from(b'\n'));
         let zeros = differing.wrapping_sub(ONES) & !differing & ONES << 7;
         if zeros != 0 {
             return Some(8 * number + zeros.trailing_zeros() as usize / 8);

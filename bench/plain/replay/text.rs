@@ -130,6 +130,6 @@ impl Text {
 #[inline(always)]
 fn count_digits(number: u64) -> usize {
     let bits = 64 - (number | 1).leading_zeros();
-    let digits = (bits * 1233 >> 12) as usize;
+    let digits = ((bits * 1233) >> 12) as usize;
     digits + usize::from(number >= LEAST[digits])
 }
