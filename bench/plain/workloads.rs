@@ -1,7 +1,9 @@
 //! The workloads, as board_bench has them.
 
 use crate::board::Board;
-use crate::events::{EOI, EOM, Event, Notice, SCONTROL, SIEFP, SIMP, SINT0, STIMER0_CONFIG, Shape};
+use crate::board::events::{
+    EOI, EOM, Event, Notices, SCONTROL, SIEFP, SIMP, SINT0, STIMER0_CONFIG, Shape,
+};
 
 pub const NAMES: [&str; 6] = [
     "interrupts",
@@ -29,8 +31,8 @@ const MESSAGE_STEP: u64 = 125;
 pub struct Scene {
     processors: u8,
     pages: u8,
-    setup: Vec<Event>,
-    pub round: Vec<Event>,
+    setup: Vec<Event<'static>>,
+    pub round: Vec<Event<'static>>,
     pub span: u64,
 }
 
@@ -47,8 +49,8 @@ impl Scene {
         }
     }
 
-    pub fn open(&self, notices: &mut Vec<Notice>) -> Board {
-        let mut board = Board::open(self.processors, self.pages);
+    pub fn open(&self, notices: &mut Notices) -> Board {
+        let mut board = Board::open(self.processors, self.pages, 0);
         for event in &self.setup {
             board.perform(event, notices);
         }
@@ -56,7 +58,7 @@ impl Scene {
     }
 }
 
-fn write(vp: u8, register: u32, value: u64) -> Event {
+fn write(vp: u8, register: u32, value: u64) -> Event<'static> {
     Event::Write {
         vp,
         register,
@@ -64,10 +66,10 @@ fn write(vp: u8, register: u32, value: u64) -> Event {
     }
 }
 
-fn store(address: u64, bytes: [u8; 8], length: u8) -> Event {
+fn store(address: u64, bytes: [u8; 8], length: u8) -> Event<'static> {
     Event::Store {
         address,
-        bytes,
+        word: u64::from_le_bytes(bytes),
         length,
     }
 }
@@ -84,7 +86,7 @@ fn period(vp: u8, index: u8) -> u64 {
     1000 + 10 * u64::from(vp) + u64::from(index)
 }
 
-fn timer(vp: u8, index: u8, config: u64) -> [Event; 2] {
+fn timer(vp: u8, index: u8, config: u64) -> [Event<'static>; 2] {
     let register = STIMER0_CONFIG + 2 * u32::from(index);
     [
         write(vp, register + 1, period(vp, index)),
@@ -175,7 +177,7 @@ fn flags() -> Scene {
             },
         },
     ];
-    let mut round: Vec<Event> = (0..FLAGS)
+    let mut round: Vec<Event<'static>> = (0..FLAGS)
         .map(|flag| Event::Signal { port: 0, flag })
         .collect();
     round.push(store(slot_address(OVERLAY_PAGE, SOURCE), [0; 8], 8));

@@ -1,18 +1,12 @@
 //! A shared board in plain Rust, as fast as its author would write it without proofs: what
 //! thread_bench does is done here too, with the same standard output, so that times can be compared.
 
-#[path = "../plain/board.rs"]
+#[path = "../plain/board/mod.rs"]
 #[allow(dead_code)]
 mod board;
-#[path = "../plain/events.rs"]
-#[allow(dead_code)]
-mod events;
-#[path = "../plain/parts.rs"]
-#[allow(dead_code)]
-mod parts;
 mod shared;
 
-use events::{EOI, Event, Reply};
+use board::events::{EOI, Event, Reply};
 use shared::{Actor, SharedBoard};
 use std::process::ExitCode;
 use std::thread;
@@ -61,9 +55,7 @@ const fn workload(name: &'static str, job: Job, threads: u8) -> Workload {
 
 impl Workload {
     fn named(name: &str) -> Option<Workload> {
-        WORKLOADS
-            .into_iter()
-            .find(|workload| workload.name == name)
+        WORKLOADS.into_iter().find(|workload| workload.name == name)
     }
 
     /// How many calls each thread makes on one board at most.
@@ -103,7 +95,7 @@ fn perform_all(board: &SharedBoard, calls: u32, actor: &mut Actor) -> u64 {
     taken
 }
 
-fn event_at(turn: u32) -> Event {
+fn event_at(turn: u32) -> Event<'static> {
     let vp = (turn / 4 % 8) as u8;
     match turn % 4 {
         0 => Event::Assert {

@@ -1,7 +1,7 @@
 //! The plain board behind a lock, with its history, and the words of raised vectors beside it.
 
 use crate::board::Board;
-use crate::events::{Event, Notice, Reply};
+use crate::board::events::{Event, Notices, Reply};
 use std::sync::Mutex;
 use std::sync::atomic::{AtomicU64, Ordering};
 
@@ -10,7 +10,7 @@ const MOST_ENTRIES: usize = 65_536;
 /// What an actor asked for: an event, or the absorb of the bits of a word.
 #[derive(Clone, Copy, PartialEq)]
 pub enum Call {
-    Event(Event),
+    Event(Event<'static>),
     Absorb { vp: u8, part: u8, bits: u64 },
 }
 
@@ -37,7 +37,7 @@ impl Actor {
 struct Recorded {
     board: Board,
     history: Vec<Entry>,
-    notices: Vec<Notice>,
+    notices: Notices,
 }
 
 pub struct SharedBoard {
@@ -50,9 +50,9 @@ impl SharedBoard {
         SharedBoard {
             words: [const { AtomicU64::new(0) }; 32],
             recorded: Mutex::new(Recorded {
-                board: Board::open(processors, pages),
+                board: Board::open(processors, pages, 0),
                 history: Vec::new(),
-                notices: Vec::with_capacity(320),
+                notices: Notices::new(),
             }),
         }
     }
@@ -65,7 +65,7 @@ impl SharedBoard {
     }
 
     /// `None` where the history is full.
-    pub fn perform(&self, actor: &mut Actor, event: Event) -> Option<Reply> {
+    pub fn perform(&self, actor: &mut Actor, event: Event<'static>) -> Option<Reply> {
         let mut guard = self.recorded.lock().expect("no thread panics");
         let recorded = &mut *guard;
         if recorded.history.len() >= MOST_ENTRIES {

@@ -10,14 +10,18 @@ pub const STIMER0_CONFIG: u32 = 0x4000_00b0;
 pub const LAST_SINT: u32 = SINT0 + 15;
 pub const LAST_TIMER: u32 = STIMER0_CONFIG + 7;
 
+/// More than one event can give.
+const MOST_NOTICES: usize = 320;
+
 #[derive(Clone, Copy, PartialEq)]
 pub enum Shape {
     Messages { buffers: u8 },
     Flags { base: u16, count: u16 },
 }
 
+/// An event lends its payload. The bytes of a store are one word, zero behind its length.
 #[derive(Clone, Copy, PartialEq)]
-pub enum Event {
+pub enum Event<'a> {
     OpenPort {
         port: u8,
         vp: u8,
@@ -32,7 +36,7 @@ pub enum Event {
     Post {
         port: u8,
         kind: u32,
-        payload: &'static [u8],
+        payload: &'a [u8],
     },
     Signal {
         port: u8,
@@ -44,7 +48,7 @@ pub enum Event {
     },
     Store {
         address: u64,
-        bytes: [u8; 8],
+        word: u64,
         length: u8,
     },
     Load {
@@ -80,7 +84,11 @@ pub enum Refusal {
 #[derive(Clone, Copy, PartialEq)]
 pub enum Reply {
     Done,
-    Bytes([u8; 8], u8),
+    /// One word, zero behind its length.
+    Bytes {
+        word: u64,
+        length: u8,
+    },
     Taken(Option<u8>),
     Accepted(u64),
     FlagWasClear,
@@ -99,6 +107,34 @@ pub enum Notice {
     Consumed { ticket: u64, vp: u8, sint: u8 },
     Expired { vp: u8, index: u8, due: u64 },
     Skipped { vp: u8, index: u8, count: u64 },
+}
+
+/// Room for the notices of one event, taken once.
+pub struct Notices {
+    room: [Notice; MOST_NOTICES],
+    length: usize,
+}
+
+impl Notices {
+    pub fn new() -> Notices {
+        Notices {
+            room: [Notice::Pending { vp: 0, sint: 0 }; MOST_NOTICES],
+            length: 0,
+        }
+    }
+
+    pub fn clear(&mut self) {
+        self.length = 0;
+    }
+
+    pub fn push(&mut self, notice: Notice) {
+        self.room[self.length] = notice;
+        self.length += 1;
+    }
+
+    pub fn as_slice(&self) -> &[Notice] {
+        &self.room[..self.length]
+    }
 }
 
 #[derive(Clone, Copy)]

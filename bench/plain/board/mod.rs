@@ -1,0 +1,377 @@
+//! The plain board. Closed ports, reads of registers, task priorities, lazy timers and those that
+//! enable themselves are in no workload, and not here.
+
+pub mod events;
+mod lapic;
+mod pages;
+mod processor;
+mod queues;
+mod timers;
+
+use events::{
+    EOI, EOM, Event, LAST_SINT, LAST_TIMER, Notice, Notices, Owner, Refusal, Reply, SCONTROL,
+    SIEFP, SIMP, SINT0, STIMER0_CONFIG, Shape,
+};
+use pages::{ENABLE, Pages};
+use processor::Processor;
+use queues::{Buffers, Expiration, Message, Post, is_empty, set_pending};
+use timers::{DIRECT, Expiry, Timers, source_in, vector_in};
+
+#[derive(Clone, Copy)]
+struct Port {
+    vp: u8,
+    sint: u8,
+    shape: Shape,
+}
+
+pub struct Board {
+    processors: Vec<Processor>,
+    pages: Pages,
+    ports: [Option<Port>; 16],
+    buffers: Buffers,
+    timers: Timers,
+    moment: u64,
+    next_ticket: u64,
+}
+
+impl Board {
+    pub fn open(processors: u8, pages: u8, next_ticket: u64) -> Board {
+        Board {
+            processors: (0..processors).map(|_| Processor::new()).collect(),
+            pages: Pages::new(pages),
+            ports: [None; 16],
+            buffers: Buffers::new(),
+            timers: Timers::new(),
+            moment: 0,
+            next_ticket,
+        }
+    }
+
+    pub fn processors(&self) -> u8 {
+        self.processors.len() as u8
+    }
+
+    pub fn pages(&self) -> u8 {
+        self.pages.count()
+    }
+
+    pub fn next(&self, vp: u8) -> Option<u8> {
+        self.processors[vp as usize].lapic.next()
+    }
+
+    pub fn is_auto(&self, vp: u8, vector: u8) -> bool {
+        self.processors[vp as usize].lapic.auto.contains(vector)
+    }
+
+    pub fn queued(&self, vp: u8, sint: u8) -> u16 {
+        self.processors[vp as usize].chains[sint as usize].length
+    }
+
+    pub fn owner(&self, page: u8) -> Owner {
+        self.pages.owner(page)
+    }
+
+    pub fn earliest(&self) -> Option<(u128, u8)> {
+        self.timers.earliest()
+    }
+
+    #[inline(always)]
+    pub fn perform(&mut self, event: &Event, notices: &mut Notices) -> Reply {
+        notices.clear();
+        match *event {
+            Event::OpenPort {
+                port,
+                vp,
+                sint,
+                shape,
+            } => self.open_port(port, vp, sint, shape),
+            Event::Write {
+                vp,
+                register,
+                value,
+            } => self.write(vp, register, value, notices),
+            Event::Post {
+                port,
+                kind,
+                payload,
+            } => self.post(port, kind, payload, notices),
+            Event::Signal { port, flag } => self.signal(port, flag, notices),
+            Event::Assert { vp, vector } => self.request(vp, vector, notices),
+            Event::Store {
+                address,
+                word,
+                length,
+            } => self.store(address, word, length, notices),
+            Event::Load { address, length } => self.load(address, length),
+            Event::Tick { moment } => self.tick(moment, notices),
+            Event::Take { vp } => self.take(vp),
+        }
+    }
+
+    fn request(&mut self, vp: u8, vector: u8, notices: &mut Notices) -> Reply {
+        let Some(processor) = self.processors.get_mut(vp as usize) else {
+            return Reply::Refused(Refusal::NoSuchProcessor);
+        };
+        processor.request(vp, vector, notices);
+        Reply::Done
+    }
+
+    fn take(&mut self, vp: u8) -> Reply {
+        match self.processors.get_mut(vp as usize) {
+            Some(processor) => Reply::Taken(processor.lapic.take()),
+            None => Reply::Refused(Refusal::NoSuchProcessor),
+        }
+    }
+
+    #[inline(never)]
+    fn open_port(&mut self, port: u8, vp: u8, sint: u8, shape: Shape) -> Reply {
+        let fits = match shape {
+            Shape::Messages { buffers } => (1..=16).contains(&buffers),
+            Shape::Flags { base, count } => {
+                count >= 1 && u32::from(base) + u32::from(count) <= 2048
+            }
+        };
+        match self.ports.get_mut(port as usize) {
+            None => Reply::Refused(Refusal::UnknownPort),
+            Some(Some(_)) => Reply::Refused(Refusal::PortOpen),
+            Some(_) if vp as usize >= self.processors.len() || sint > 15 || !fits => {
+                Reply::Refused(Refusal::BadTarget)
+            }
+            Some(free) => {
+                *free = Some(Port { vp, sint, shape });
+                Reply::Done
+            }
+        }
+    }
+
+    #[inline(never)]
+    fn write(&mut self, vp: u8, register: u32, value: u64, notices: &mut Notices) -> Reply {
+        let Some(processor) = self.processors.get_mut(vp as usize) else {
+            return Reply::Refused(Refusal::NoSuchProcessor);
+        };
+        match register {
+            EOI => processor.lapic.end(),
+            SCONTROL => processor.control = value,
+            SIEFP => {
+                processor.sief = value;
+                self.pages.move_sief(vp, value);
+            }
+            SIMP => {
+                processor.sim = value;
+                self.pages.move_sim(vp, value);
+            }
+            EOM => return self.try_sources(vp, notices),
+            SINT0..=LAST_SINT => return processor.write_source((register - SINT0) as u8, value),
+            STIMER0_CONFIG..=LAST_TIMER => {
+                let place = (register - STIMER0_CONFIG) as u8;
+                return self.write_timer(4 * vp + place / 2, place % 2 == 1, value, notices);
+            }
+            _ => return Reply::GeneralProtection,
+        }
+        Reply::Done
+    }
+
+    #[inline(never)]
+    fn store(&mut self, address: u64, word: u64, length: u8, notices: &mut Notices) -> Reply {
+        match self.pages.store(address, word, length) {
+            Ok(None) => Reply::Done,
+            Ok(Some((vp, sint))) => self.consume(vp, sint, notices),
+            Err(refusal) => Reply::Refused(refusal),
+        }
+    }
+
+    /// A store touched the first four bytes of a slot.
+    fn consume(&mut self, vp: u8, sint: u8, notices: &mut Notices) -> Reply {
+        if is_empty(self.pages.slot(vp, sint)) {
+            self.processors[vp as usize].consume(vp, sint, notices);
+        }
+        Reply::Done
+    }
+
+    fn load(&self, address: u64, length: u8) -> Reply {
+        match self.pages.load(address, length) {
+            Ok(word) => Reply::Bytes { word, length },
+            Err(refusal) => Reply::Refused(refusal),
+        }
+    }
+
+    #[inline(never)]
+    fn signal(&mut self, port: u8, flag: u16, notices: &mut Notices) -> Reply {
+        let Some(&Some(Port { vp, sint, shape })) = self.ports.get(port as usize) else {
+            return Reply::Refused(Refusal::UnknownPort);
+        };
+        let Shape::Flags { base, count } = shape else {
+            return Reply::Refused(Refusal::WrongKind);
+        };
+        if flag >= count {
+            return Reply::Refused(Refusal::BadFlag);
+        }
+        let processor = &mut self.processors[vp as usize];
+        if processor.control & processor.sief & ENABLE == 0 {
+            return Reply::Refused(Refusal::SynicOff);
+        }
+        let flag = base + flag;
+        let byte = &mut self.pages.flags(vp, sint)[flag as usize / 8];
+        let bit = 1 << (flag % 8);
+        if *byte & bit != 0 {
+            return Reply::FlagWasSet;
+        }
+        *byte |= bit;
+        notices.push(Notice::FlagSet { vp, sint, flag });
+        processor.raise(vp, sint, notices);
+        Reply::FlagWasClear
+    }
+
+    #[inline(never)]
+    fn post(&mut self, port: u8, kind: u32, payload: &[u8], notices: &mut Notices) -> Reply {
+        let Some(&Some(Port { vp, sint, shape })) = self.ports.get(port as usize) else {
+            return Reply::Refused(Refusal::UnknownPort);
+        };
+        let Shape::Messages { buffers } = shape else {
+            return Reply::Refused(Refusal::WrongKind);
+        };
+        if kind == 0 || kind >= 1 << 31 {
+            return Reply::Refused(Refusal::BadType);
+        }
+        if self.processors[vp as usize].control & ENABLE == 0 {
+            return Reply::Refused(Refusal::SynicOff);
+        }
+        if self.buffers.used_by_port(port) >= buffers {
+            return Reply::Refused(Refusal::NoBuffers);
+        }
+        if self.next_ticket == u64::MAX {
+            return Reply::Refused(Refusal::TicketsSpent);
+        }
+        let message = Post {
+            port,
+            kind,
+            payload,
+        };
+        Reply::Accepted(self.deliver(vp, sint, message, notices))
+    }
+
+    /// A message goes straight into its slot, where nothing is queued before it and the slot is empty.
+    #[inline(always)]
+    fn deliver<M: Message>(&mut self, vp: u8, sint: u8, message: M, notices: &mut Notices) -> u64 {
+        let ticket = self.next_ticket;
+        self.next_ticket += 1;
+        notices.push(Notice::Accepted { ticket, vp, sint });
+        let processor = &mut self.processors[vp as usize];
+        let slot = self.pages.slot(vp, sint);
+        let is_queued = processor.queued >> sint & 1 == 1;
+        if !is_queued && processor.control & processor.sim & ENABLE != 0 && is_empty(slot) {
+            message.write(slot, self.moment);
+            processor.hold(vp, sint, ticket, notices);
+            processor.raise(vp, sint, notices);
+        } else {
+            processor.queued |= 1 << sint;
+            let chain = &mut processor.chains[sint as usize];
+            message.queue(&mut self.buffers, chain, ticket);
+            self.try_source(vp, sint, notices);
+        }
+        ticket
+    }
+
+    fn try_sources(&mut self, vp: u8, notices: &mut Notices) -> Reply {
+        let mut left = self.processors[vp as usize].queued;
+        while left != 0 {
+            self.try_source(vp, left.trailing_zeros() as u8, notices);
+            left &= left - 1;
+        }
+        Reply::Done
+    }
+
+    /// A source that has something queued is tried.
+    fn try_source(&mut self, vp: u8, sint: u8, notices: &mut Notices) {
+        let processor = &mut self.processors[vp as usize];
+        if processor.control & processor.sim & ENABLE == 0 {
+            return;
+        }
+        let slot = self.pages.slot(vp, sint);
+        if !is_empty(slot) {
+            if set_pending(slot) {
+                notices.push(Notice::Pending { vp, sint });
+            }
+            return;
+        }
+        let chain = &mut processor.chains[sint as usize];
+        let ticket = self.buffers.place(chain, slot, self.moment);
+        let is_pending = chain.length != 0;
+        processor.hold(vp, sint, ticket, notices);
+        if is_pending {
+            notices.push(Notice::Pending { vp, sint });
+        } else {
+            processor.queued &= !(1 << sint);
+        }
+        processor.raise(vp, sint, notices);
+    }
+
+    #[inline(never)]
+    fn write_timer(
+        &mut self,
+        number: u8,
+        is_count: bool,
+        value: u64,
+        notices: &mut Notices,
+    ) -> Reply {
+        if is_count {
+            self.timers.write_count(number, value, self.moment);
+        } else {
+            self.timers.write_config(number, value, self.moment);
+        }
+        if self.timers.is_due(number, self.moment) {
+            self.attempt(number, notices);
+        }
+        self.timers.update(number);
+        Reply::Done
+    }
+
+    /// Below the earliest due moment nothing is looked at. Those that are due are tried once each.
+    #[inline(never)]
+    fn tick(&mut self, moment: u64, notices: &mut Notices) -> Reply {
+        if moment < self.moment {
+            return Reply::Refused(Refusal::ClockBack);
+        }
+        if moment == self.moment {
+            return Reply::Done;
+        }
+        self.moment = moment;
+        while let Some(number) = self.timers.first_due(moment) {
+            self.attempt(number, notices);
+            self.timers.settle(number, moment);
+        }
+        self.timers.bring_back();
+        Reply::Done
+    }
+
+    /// A timer that is due expires, unless its last message still waits.
+    fn attempt(&mut self, number: u8, notices: &mut Notices) {
+        let (vp, index) = (number / 4, number % 4);
+        let config = self.timers.config(number);
+        let is_direct = config & DIRECT != 0;
+        let processor = &mut self.processors[vp as usize];
+        if !is_direct
+            && (processor.control & ENABLE == 0
+                || self.buffers.timer_waits(number)
+                || self.next_ticket == u64::MAX)
+        {
+            return;
+        }
+        let Expiry { signal, skipped } = self.timers.expire(number, self.moment);
+        let due = signal;
+        notices.push(Notice::Expired { vp, index, due });
+        if skipped > 0 {
+            let count = skipped;
+            notices.push(Notice::Skipped { vp, index, count });
+        }
+        if is_direct {
+            processor.request(vp, vector_in(config), notices);
+        } else {
+            let message = Expiration {
+                timer: number,
+                moment: signal,
+            };
+            self.deliver(vp, source_in(config), message, notices);
+        }
+    }
+}

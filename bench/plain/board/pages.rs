@@ -1,0 +1,181 @@
+//! The guest's pages and the overlays: the owner of each page is kept, and what the owners have lies
+//! in frames, the overlays' first. Eight bytes are read and written as one word under a mask.
+
+use super::events::{Owner, Refusal};
+
+pub const ENABLE: u64 = 1;
+pub const SLOT: usize = 256;
+
+const PAGE: usize = 4096;
+
+/// Overlays in the order in which they hide each other: the SIM and the SIEF page of processor 0, those
+/// of processor 1, and so on.
+const OVERLAYS: usize = 16;
+
+const NOWHERE: u8 = 255;
+
+#[derive(Clone)]
+#[repr(align(64))]
+pub struct Frame([u8; PAGE]);
+
+impl Frame {
+    #[inline(always)]
+    pub fn slot(&mut self, sint: u8) -> &mut [u8; SLOT] {
+        &mut self.0.as_chunks_mut().0[sint as usize]
+    }
+
+    #[inline(always)]
+    fn load(&self, at: usize, length: u8) -> u64 {
+        let (base, shift) = word_at(at);
+        let (word, _) = self.0[base..].split_first_chunk().expect("a whole word");
+        u64::from_le_bytes(*word) >> shift & mask(length)
+    }
+
+    #[inline(always)]
+    fn store(&mut self, at: usize, length: u8, word: u64) {
+        let (base, shift) = word_at(at);
+        let (old, _) = self.0[base..]
+            .split_first_chunk_mut()
+            .expect("a whole word");
+        let kept = u64::from_le_bytes(*old) & !(mask(length) << shift);
+        *old = (kept | word << shift).to_le_bytes();
+    }
+}
+
+/// A whole word in which the bytes from `at` on lie, and by how many bits they are shifted in it.
+fn word_at(at: usize) -> (usize, usize) {
+    let base = at.min(PAGE - 8);
+    (base, 8 * (at - base))
+}
+
+fn mask(length: u8) -> u64 {
+    u64::MAX >> (64 - 8 * u32::from(length))
+}
+
+pub struct Pages {
+    frames: Vec<Frame>,
+    /// The number of each page's visible frame: that of an overlay, or behind those its own.
+    visible: Vec<u8>,
+    /// The pages at which the SIM pages lie, and those of the SIEF pages: eight bytes a row.
+    places: [u64; 2],
+}
+
+impl Pages {
+    pub fn new(count: u8) -> Pages {
+        Pages {
+            frames: vec![Frame([0; PAGE]); OVERLAYS + count as usize],
+            visible: (OVERLAYS as u8..).take(count.into()).collect(),
+            places: [u64::from_le_bytes([NOWHERE; 8]); 2],
+        }
+    }
+
+    pub fn count(&self) -> u8 {
+        self.visible.len() as u8
+    }
+
+    pub fn owner(&self, page: u8) -> Owner {
+        let frame = self.visible[page as usize];
+        if frame as usize >= OVERLAYS {
+            Owner::Guest
+        } else if frame.is_multiple_of(2) {
+            Owner::Sim(frame / 2)
+        } else {
+            Owner::Sief(frame / 2)
+        }
+    }
+
+    #[inline(always)]
+    pub fn slot(&mut self, vp: u8, sint: u8) -> &mut [u8; SLOT] {
+        self.frames[2 * vp as usize].slot(sint)
+    }
+
+    #[inline(always)]
+    pub fn flags(&mut self, vp: u8, sint: u8) -> &mut [u8; SLOT] {
+        self.frames[2 * vp as usize + 1].slot(sint)
+    }
+
+    #[inline(always)]
+    pub fn move_sim(&mut self, vp: u8, register: u64) {
+        self.move_overlay(2 * vp, register);
+    }
+
+    #[inline(always)]
+    pub fn move_sief(&mut self, vp: u8, register: u64) {
+        self.move_overlay(2 * vp + 1, register);
+    }
+
+    /// Only the page that the overlay left and the page that it reached can have another owner, and
+    /// the others are looked at only where it was the visible one.
+    #[inline(always)]
+    fn move_overlay(&mut self, overlay: u8, register: u64) {
+        let page = register / PAGE as u64;
+        let is_visible = register & ENABLE != 0 && page < self.visible.len() as u64;
+        let after = if is_visible { page as u8 } else { NOWHERE };
+        let row = &mut self.places[overlay as usize % 2];
+        let shift = overlay / 2 * 8;
+        let before = (*row >> shift) as u8;
+        *row ^= u64::from(before ^ after) << shift;
+        if self.visible.get(before as usize) == Some(&overlay) {
+            self.visible[before as usize] = self.first_at(before);
+        }
+        if let Some(visible) = self.visible.get_mut(after as usize) {
+            *visible = overlay.min(*visible);
+        }
+    }
+
+    /// The first overlay at a page, or the page's own frame.
+    fn first_at(&self, page: u8) -> u8 {
+        let [sim, sief] = self.places.map(|row| first_equal(row, page));
+        let overlay = (2 * sim).min(2 * sief + 1);
+        if overlay < OVERLAYS as u8 {
+            overlay
+        } else {
+            OVERLAYS as u8 + page
+        }
+    }
+
+    #[inline(always)]
+    fn place_of(&self, address: u64, length: u8) -> Result<(usize, usize), Refusal> {
+        let (page, at) = (address / PAGE as u64, address as usize % PAGE);
+        if length == 0 || length > 8 {
+            return Err(Refusal::BadLength);
+        }
+        let frame = self.visible.get(page as usize);
+        let frame = *frame.ok_or(Refusal::OutsideSpace)?;
+        if at + length as usize > PAGE {
+            return Err(Refusal::CrossesPage);
+        }
+        Ok((frame.into(), at))
+    }
+
+    #[inline(always)]
+    pub fn load(&self, address: u64, length: u8) -> Result<u64, Refusal> {
+        let (frame, at) = self.place_of(address, length)?;
+        Ok(self.frames[frame].load(at, length))
+    }
+
+    /// Gives the processor and the source of the one slot of which the store touches one of the first
+    /// four bytes, if there is such a slot.
+    #[inline(always)]
+    pub fn store(
+        &mut self,
+        address: u64,
+        word: u64,
+        length: u8,
+    ) -> Result<Option<(u8, u8)>, Refusal> {
+        let (frame, at) = self.place_of(address, length)?;
+        self.frames[frame].store(at, length, word);
+        let sint = (at + length as usize - 1) / SLOT;
+        let is_touched = frame < OVERLAYS && frame % 2 == 0 && at < sint * SLOT + 4;
+        Ok(is_touched.then_some((frame as u8 / 2, sint as u8)))
+    }
+}
+
+/// The place of the first of eight bytes that is equal, or 8. Behind the exclusive or it is 0, and the
+/// lowest byte that is 0 is the lowest of which the top bit is left.
+fn first_equal(row: u64, byte: u8) -> u8 {
+    const ONES: u64 = u64::MAX / 255;
+    let differing = row ^ (ONES * u64::from(byte));
+    let zeros = differing.wrapping_sub(ONES) & !differing & ONES << 7;
+    zeros.trailing_zeros() as u8 / 8
+}

@@ -1,0 +1,170 @@
+//! Messages: their images, the buffers in which they wait, and the chains of buffers that are queues.
+
+use super::pages::SLOT;
+
+pub type Image = [u8; SLOT];
+
+/// The type of a timer's message, and the length of its payload.
+const TIMER_HEADER: u64 = 0x8000_0010 | 24 << 32;
+const PAYLOAD: usize = 16;
+const EXPIRATION: usize = 24;
+const DELIVERY: usize = 32;
+const MESSAGE_FLAGS: usize = 5;
+const PENDING: u8 = 1;
+
+/// Sixteen buffers for each of 16 ports, and behind them one for each of 32 timers.
+const BUFFERS: usize = FIRST_OF_TIMERS + 32;
+const FIRST_OF_TIMERS: usize = 256;
+
+pub fn is_empty(slot: &Image) -> bool {
+    slot[..4] == [0; 4]
+}
+
+/// Whether MessagePending was clear.
+pub fn set_pending(slot: &mut Image) -> bool {
+    let was_clear = slot[MESSAGE_FLAGS] & PENDING == 0;
+    slot[MESSAGE_FLAGS] |= PENDING;
+    was_clear
+}
+
+/// A message on its way to a source.
+pub trait Message {
+    /// Writes the image into an empty slot.
+    fn write(self, slot: &mut Image, moment: u64);
+
+    /// Writes the image into a buffer, and appends it to a queue.
+    fn queue(self, buffers: &mut Buffers, chain: &mut Chain, ticket: u64);
+}
+
+pub struct Post<'a> {
+    pub port: u8,
+    pub kind: u32,
+    pub payload: &'a [u8],
+}
+
+impl Message for Post<'_> {
+    #[inline(always)]
+    fn write(self, slot: &mut Image, _moment: u64) {
+        let kind_and_length = u64::from(self.kind) | (self.payload.len() as u64) << 32;
+        write_words(slot, [kind_and_length, self.port.into()]);
+        slot[PAYLOAD..][..self.payload.len()].copy_from_slice(self.payload);
+    }
+
+    fn queue(self, buffers: &mut Buffers, chain: &mut Chain, ticket: u64) {
+        let free = buffers.used[self.port as usize].trailing_ones() as u16;
+        let number = 16 * u16::from(self.port) + free;
+        self.write(&mut buffers.buffers[number as usize].image, 0);
+        buffers.append(chain, number, ticket);
+    }
+}
+
+pub struct Expiration {
+    pub timer: u8,
+    pub moment: u64,
+}
+
+impl Message for Expiration {
+    #[inline(always)]
+    fn write(self, slot: &mut Image, moment: u64) {
+        let index = u64::from(self.timer % 4);
+        write_words(slot, [TIMER_HEADER, 0, index, self.moment, moment]);
+    }
+
+    fn queue(self, buffers: &mut Buffers, chain: &mut Chain, ticket: u64) {
+        let number = FIRST_OF_TIMERS + self.timer as usize;
+        write_moment(&mut buffers.buffers[number].image, EXPIRATION, self.moment);
+        buffers.append(chain, number as u16, ticket);
+    }
+}
+
+/// The image begins with some words, and all behind them is 0.
+#[inline(always)]
+fn write_words<const N: usize>(image: &mut Image, words: [u64; N]) {
+    let (front, back) = image.split_at_mut(8 * N);
+    for (bytes, word) in front.as_chunks_mut().0.iter_mut().zip(words) {
+        *bytes = word.to_le_bytes();
+    }
+    back.fill(0);
+}
+
+fn write_moment(image: &mut Image, at: usize, moment: u64) {
+    image[at..at + 8].copy_from_slice(&moment.to_le_bytes());
+}
+
+/// A queue, by the numbers of its buffers.
+#[derive(Clone, Copy, Default)]
+pub struct Chain {
+    head: u16,
+    tail: u16,
+    pub length: u16,
+}
+
+/// A message that waits, all but the delivery time and MessagePending.
+#[derive(Clone)]
+#[repr(align(64))]
+struct Buffer {
+    image: Image,
+    ticket: u64,
+    /// The buffer behind it in its queue.
+    next: u16,
+}
+
+pub struct Buffers {
+    buffers: Vec<Buffer>,
+    /// Which of 16 buffers are in use: those of each port, and of the timers by sixteens.
+    used: [u16; BUFFERS / 16],
+}
+
+impl Buffers {
+    /// A timer's buffer has all that is the same in each message of that timer.
+    pub fn new() -> Buffers {
+        let buffer = Buffer {
+            image: [0; SLOT],
+            ticket: 0,
+            next: 0,
+        };
+        let mut buffers = vec![buffer; BUFFERS];
+        for (timer, buffer) in (0..).zip(&mut buffers[FIRST_OF_TIMERS..]) {
+            Expiration { timer, moment: 0 }.write(&mut buffer.image, 0);
+        }
+        Buffers {
+            buffers,
+            used: [0; BUFFERS / 16],
+        }
+    }
+
+    pub fn used_by_port(&self, port: u8) -> u8 {
+        self.used[port as usize].count_ones() as u8
+    }
+
+    pub fn timer_waits(&self, timer: u8) -> bool {
+        self.used[16 + timer as usize / 16] >> (timer % 16) & 1 == 1
+    }
+
+    fn append(&mut self, chain: &mut Chain, number: u16, ticket: u64) {
+        self.used[number as usize / 16] |= 1 << (number % 16);
+        self.buffers[number as usize].ticket = ticket;
+        if chain.length == 0 {
+            chain.head = number;
+        } else {
+            self.buffers[chain.tail as usize].next = number;
+        }
+        chain.tail = number;
+        chain.length += 1;
+    }
+
+    /// The head of a queue that is not empty goes into an empty slot. Gives its ticket.
+    pub fn place(&mut self, chain: &mut Chain, slot: &mut Image, moment: u64) -> u64 {
+        let number = chain.head as usize;
+        let buffer = &self.buffers[number];
+        chain.head = buffer.next;
+        chain.length -= 1;
+        *slot = buffer.image;
+        slot[MESSAGE_FLAGS] = (chain.length != 0).into();
+        if number >= FIRST_OF_TIMERS {
+            write_moment(slot, DELIVERY, moment);
+        }
+        self.used[number / 16] &= !(1 << (number % 16));
+        buffer.ticket
+    }
+}
