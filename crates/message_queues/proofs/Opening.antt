@@ -1,7 +1,7 @@
 -- The fields of new queues.
-use Rattle.std.proofs.Common.{nat_eq, ◌≡◌, ℕ, zero, suc, ◌≤◌, List, [], ◌∷◌, length, replicate, Option, Some, None, refl, sym, ap, ◌∙◌, arith}
+use Rattle.std.proofs.Common.{nat_eq, ◌≡◌, ℕ, zero, suc, ◌≤◌, List, [], ◌∷◌, length, replicate, Some, None, refl, sym, ap, ◌∙◌, arith}
 use Rattle.std.specs.List.{All, slice_get}
-use Rattle.std.specs.Prelude.{slice_index_or, count_by, is_some}
+use Rattle.std.specs.Prelude.{count_by, is_some}
 use Rattle.std.proofs.lemmas.List.{get_or-replicate, length-replicate}
 use Rattle.std.proofs.lemmas.List.Sums.{sum_by-cons}
 use Rattle.slab.specs.Slab.{Slab, get}
@@ -10,8 +10,9 @@ use Rattle.message_queues.specs.declared.chains.Buffer.{Buffer}
 use Rattle.message_queues.specs.declared.chains.Chain.{Chain}
 use Rattle.message_queues.specs.Queues.{Queues}
 use Rattle.message_queues.specs.Owners.{owner_of, HasOwner, used_by}
-use Rattle.message_queues.specs.Chains.{queues_at, IsChain}
+use Rattle.message_queues.specs.Chains.{queues_at, IsChain, Kept}
 use Rattle.message_queues.specs.View.{total_of}
+use Rattle.message_queues.proofs.ChainLemmas.{both-ways}
 use Rattle.message_queues.proofs.Steps.{Step}
 
 abbrev pub empty_chain : Chain
@@ -42,7 +43,8 @@ opened-queues new (suc n) = ap (λ (x : Queues). [] ∷ x) (opened-queues new n)
 
 pub opened : (new : Slab Buffer) (n : ℕ) → new.slots ≡ [] → 288 ≤ new.capacity → Step new (replicate n empty_chain) (replicate 48 0) (replicate n [])
 opened new n empty room = record {
-  linked = record { owner = λ k. 0; rank = λ k. 0; each = λ queue chain at. rw (← is-empty n queue chain at) (one queue) };
+  linked = linked;
+  both_ways = both-ways (get new) (replicate n empty_chain) linked;
   held = ap (count_by is_some) empty ∙ sym (no_keys n);
   room = room;
   owned = rw (opened-queues new n) (none_owned n);
@@ -56,3 +58,6 @@ opened new n empty room = record {
   where
     one : (queue : ℕ) → IsChain (get new) (λ k. 0) (λ k. 0) queue empty_chain
     one queue = record { keys = []; top = 0; links = (refl, refl, omega arith); len = refl }
+
+    linked : Kept (get new) (replicate n empty_chain)
+    linked = record { owner = λ k. 0; rank = λ k. 0; each = λ queue chain at. rw (← is-empty n queue chain at) (one queue) }

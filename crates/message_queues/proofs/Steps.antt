@@ -1,5 +1,5 @@
 -- What an append, a place and a withdrawal leave of the fields.
-use Rattle.std.proofs.Common.{◌≡◌, ◌≢◌, ◌⊎◌, inl, inr, ℕ, ◌+◌, ◌-◌, ◌<◌, ◌≤◌, List, [], ◌∷◌, ◌++◌, length, zero, suc, drop, map, Some, None, refl, sym, ap, subst, ◌∙◌, cond, nat_eq, Bool, true, false, not, arith, get_or, length-append}
+use Rattle.std.proofs.Common.{◌≡◌, ◌≢◌, ◌⊎◌, inl, inr, ℕ, ◌+◌, ◌-◌, ◌<◌, ◌≤◌, List, [], ◌∷◌, ◌++◌, length, zero, suc, drop, map, Some, None, refl, sym, ap, subst, ◌∙◌, cond, nat_eq, Bool, true, false, not, arith, get_or}
 use Rattle.std.specs.List.{All, filter, slice_get}
 use Rattle.std.specs.Prelude.{◌==◌, slice_index_or, slice_set, count_by}
 use Rattle.std.proofs.lemmas.Bool.{cases_lt}
@@ -15,17 +15,18 @@ use Rattle.message_queues.specs.declared.chains.Chain.{Chain}
 use Rattle.message_queues.specs.declared.queues.Queues.TheInside.{Inside}
 use Rattle.message_queues.specs.Queues.{Queues, HasBuffer, is_from_port, port_used, withdrawn_of, left_of}
 use Rattle.message_queues.specs.Owners.{owner_of, HasOwner, used_by, share, IsCounted}
-use Rattle.message_queues.specs.Chains.{Buffers, queue_at, queues_at, IsChain, Kept}
+use Rattle.message_queues.specs.Chains.{Buffers, queue_at, queues_at, ReadsBothWays, Kept}
 use Rattle.message_queues.specs.Moves.{Pushed, Unlinked, Withdrawn}
 use Rattle.message_queues.specs.View.{queues_of, total_of, IsKept}
 use Rattle.message_queues.proofs.Counts.{owner-below, has_room, all-within, buffer-left, share-le, each-owned, counted-append, counted-place, counted-set, head-used, at_place, at_place-other, count_of, count_of-cons, sum_by-same, is_from_port-owner, port_used-past, count-le-used}
-use Rattle.message_queues.proofs.ChainLemmas.{those, push-moved, unlink-moved, first-split, no-first, row-chain, chain_at, queue-is, length-chain, total-queues, total-set, len-le-total}
+use Rattle.message_queues.proofs.ChainLemmas.{those, push-moved, unlink-moved, first-split, no-first, row-chain, chain_at, queue-is, length-chain, total-queues, total-set, len-le-total, both-ways}
 use Rattle.message_queues.proofs.Walks.{withdrawn-moved}
 
 -- the fields keep what they have to, and stand for these queues
 pub record Step (buffers : Slab Buffer) (chains : List Chain) (in_use : List ℕ) (view : Queues) : Type 0 where
   pub linked : Kept (get buffers) chains
   pub held : slab_len buffers ≡ total_of chains
+  pub both_ways : (queue : ℕ) (chain : Chain) → slice_get chains queue ≡ Some chain → ReadsBothWays (get buffers) chain
   pub room : 288 ≤ buffers.capacity
   pub owned : All (λ (queue : List Message). All HasOwner queue) (queues_at (get buffers) chains)
   pub counts : IsCounted (queues_at (get buffers) chains) in_use
@@ -99,6 +100,7 @@ append-step a qs q c d key message o new k shown within read own has is pushed l
     let left : used_by (owner_of message) (queues_of a) < share (owner_of message) = rw is at room.left in
     record {
       linked = m.kept;
+      both_ways = both-ways (get new) (slice_set a.chains.items q d) m.kept;
       held = omega (arith, total-set a.chains.items q c d h.at, k.held, len, pushed.len);
       room = omega (arith, k.room, capacity);
       owned = rw view (owned-set a q (slice_index_or (queues_of a) q [] ++ message ∷ []) k (All-append HasOwner (slice_index_or (queues_of a) q []) (message ∷ []) (owned-at a q k h.within) (one-owned message own)));
@@ -155,10 +157,10 @@ place-step a qs q c d key b message o new k shown within read first is gone len 
     let row : slice_index_or (queues_of a) q [] ≡ message ∷ rest = h.row ∙ m.1 in
     let left : drop 1 (slice_index_or (queues_of a) q []) ≡ rest = ap (λ (x : List Message). drop 1 x) row in
     let view = m.0.view ∙ ap (λ (x : List Message). slice_set (queues_of a) q x) (sym left) in
-    let own : HasOwner message = rw row at (owned-at a q k h.within) 0 message (omega (arith, ap length row)) in
-    (
+    let own : HasOwner message = rw row at (owned-at a q k h.within) 0 message (omega (arith, ap length row)) in (
       record {
         linked = m.0.kept;
+        both_ways = both-ways (get new) (slice_set a.chains.items q d) m.0.kept;
         held = omega (arith, total-set a.chains.items q c d h.at, k.held, len, gone.len);
         room = omega (arith, k.room, capacity);
         owned = rw view (owned-set a q (drop 1 (slice_index_or (queues_of a) q [])) k (All-drop HasOwner 1 (slice_index_or (queues_of a) q []) (owned-at a q k h.within)));
@@ -237,6 +239,7 @@ withdrawn-step a qs q c d port n tickets new k shown within read below w len cap
     let same = ap (count_of port) h.row in
     record {
       linked = m.kept;
+      both_ways = both-ways (get new) (slice_set a.chains.items q d) m.kept;
       held = omega (arith, total-set a.chains.items q c d h.at, k.held, len, w.len);
       room = omega (arith, k.room, capacity);
       owned = rw view (owned-set a q (left_of port row) k (All-filter (λ x. not (is_from_port port x)) HasOwner row (owned-at a q k h.within)));

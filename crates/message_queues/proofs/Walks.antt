@@ -1,7 +1,7 @@
 -- The walk that takes a port's messages out.
-use Rattle.std.proofs.Common.{◌≡◌, ◌≢◌, ◌⊎◌, inl, inr, ℕ, zero, suc, ◌+◌, ◌-◌, ◌<◌, ◌≤◌, List, [], ◌∷◌, ◌++◌, length, map, Option, Some, None, refl, sym, ap, subst, ◌∙◌, cond, arith, Bool, true, false, not, length-append, append_assoc, append-nil}
+use Rattle.std.proofs.Common.{◌≡◌, ◌≢◌, ℕ, suc, ◌+◌, ◌<◌, ◌≤◌, List, [], ◌∷◌, ◌++◌, length, map, Option, Some, None, refl, sym, ap, ◌∙◌, arith, true, false, not, length-append, append_assoc, append-nil}
 use Rattle.std.specs.Prelude.{filter}
-use Rattle.std.specs.List.{filter_map, slice_get}
+use Rattle.std.specs.List.{slice_get}
 use Rattle.std.proofs.lemmas.List.{map-append}
 use Rattle.std.proofs.lemmas.List.Elements.{filter_map-append, filter-append}
 use Rattle.board_terms.specs.Messages.{ticket_of}
@@ -154,7 +154,7 @@ walk-keep m0 m o r q c0 c port next i tickets key b w is there from =
 
 -- the message leaves
 pub walk-take : (m0 m n : Buffers) (o r : ℕ → ℕ) (q : ℕ) (c0 c d : Chain) (port : ℕ) (next : Option ℕ) (i : ℕ) (tickets : List ℕ) (key : ℕ) (b b' : Buffer) (message : Message) → Walk m0 m o r q c0 c port next i tickets → next ≡ Some key → m key ≡ Some b → is_from_port port b.message ≡ true →
-  Unlinked m n c d key b' message → Walk m0 n o r q c0 d port b.behind (i + 1) (tickets ++ ticket_of message ∷ [])
+    Unlinked m n c d key b' message → Walk m0 n o r q c0 d port b.behind (i + 1) (tickets ++ ticket_of message ∷ [])
 walk-take m0 m n o r q c0 c d port next i tickets key b b' message w is there from move =
     let a = at_key_now m0 m o r q c0 c port next i tickets key w is in
     let t = unlink-taken m n o r q c d key b' message w.now w.front a.rest a.split move in

@@ -1,5 +1,6 @@
 -- Queues as chains of buffers: each buffer has the keys of its neighbours, each queue those of its ends.
-use Rattle.std.specs.Prelude.{◌≡◌, ℕ, zero, suc, ◌≤◌, List, [], ◌∷◌, length, map, slice_get, Option, Some, None}
+use Rattle.std.specs.Prelude.{◌≡◌, ℕ, zero, suc, ◌≤◌, List, [], ◌∷◌, length, map, reverse, slice_get, Option, Some, None}
+use Rattle.std.specs.Option.{option_and_then}
 use Rattle.board_terms.specs.declared.messages.Message.{Message}
 use Rattle.message_queues.specs.Queues.{Queues}
 use Rattle.message_queues.specs.declared.chains.Buffer.{Buffer}
@@ -28,6 +29,16 @@ queue_at buffers chain = messages chain.len buffers chain.first
 
 abbrev pub queues_at : Buffers → List Chain → Queues
 queues_at buffers chains = map (queue_at buffers) chains
+
+-- the keys of so many buffers, from one on, by what is next to each
+abbrev pub keys_from : (Buffer → Option ℕ) → Buffers → ℕ → Option ℕ → List ℕ
+keys_from next buffers zero from = []
+keys_from next buffers (suc n) None = []
+keys_from next buffers (suc n) (Some key) = key ∷ keys_from next buffers n (option_and_then next (buffers key))
+
+-- from its end a chain has the same keys as from its front, in reverse
+abbrev pub ReadsBothWays : Buffers → Chain → Type 0
+ReadsBothWays buffers chain = keys_from (λ b. b.before) buffers chain.len chain.last ≡ reverse (keys_from (λ b. b.behind) buffers chain.len chain.first)
 
 -- These keys follow one another from `from` on, and `before` is before the first of them; behind the last of them, which is `last`, comes `to`.
 -- What is before each is the key that it stands behind, so that from the end the keys are the same.

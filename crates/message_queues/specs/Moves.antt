@@ -19,10 +19,10 @@ pub record Sets (old new : Buffers) (at : Option ℕ) (change : Buffer → Buffe
   pub here : (k : ℕ) → at ≡ Some k → new k ≡ option_map change (old k)
   pub others : (k : ℕ) → at ≢ Some k → new k ≡ old k
 
--- the first key of a chain that ended at this last one, where another one joined it
-abbrev pub first_or : Option ℕ → Option ℕ → ℕ → Option ℕ
-first_or None first key = Some key
-first_or (Some last) first key = first
+-- where the one is none it is the next, else the last
+abbrev pub if_none : Option ℕ → Option ℕ → Option ℕ → Option ℕ
+if_none None it else_it = it
+if_none (Some k) it else_it = else_it
 
 -- The message lies at a key that was free, and no buffer but the last of the chain changed.
 pub record Pushed (old new : Buffers) (c d : Chain) (message : Message) (key : ℕ) : Type 0 where
@@ -30,14 +30,9 @@ pub record Pushed (old new : Buffers) (c d : Chain) (message : Message) (key : �
   pub here : c.last ≢ Some key → new key ≡ Some (record { message = message; before = c.last; behind = None })
   pub end : (k : ℕ) → c.last ≡ Some k → k ≢ key → new k ≡ option_map (with_behind (Some key)) (old k)
   pub others : (k : ℕ) → c.last ≢ Some k → k ≢ key → new k ≡ old k
-  pub first : d.first ≡ first_or c.last c.first key
+  pub first : d.first ≡ if_none c.last (Some key) c.first
   pub last : d.last ≡ Some key
   pub len : d.len ≡ c.len + 1
-
--- the second, unless there is none: then the third
-abbrev pub if_none : Option ℕ → Option ℕ → Option ℕ → Option ℕ
-if_none None it else_it = it
-if_none (Some k) it else_it = else_it
 
 -- The buffer b at the key is gone, and its neighbours are joined.
 pub record Unlinked (old new : Buffers) (c d : Chain) (key : ℕ) (b : Buffer) (message : Message) : Type 0 where

@@ -1,8 +1,6 @@
-use Rattle.std.proofs.Common.{◌≡◌, ◌<◌, ◌≤◌, ◌+◌, ◌++◌, ◌∷◌, [], List, ℕ, Some, None, Option, sym, ap, ◌∙◌, arith, refl, true, false, length, length-append}
-use Rattle.slab.specs.Slab.{get, slab_len}
+use Rattle.std.proofs.Common.{◌≡◌, ◌++◌, ◌∷◌, [], ℕ, sym, ap, ◌∙◌, arith, refl, length-append}
+use Rattle.slab.specs.Slab.{get}
 use Rattle.board_terms.specs.Messages.{ticket_of}
-use Rattle.message_queues.specs.Chains.{IsChain}
-use Rattle.message_queues.specs.Queues.{is_from_port}
 use Rattle.message_queues.proofs.Walks.{walk-start, walk-more, walk-done, walk-keep, walk-take, walk-leaves, at_key_now}
 use Rattle.message_queues.proofs.chains.withdraw.Goals as goal
 use Rattle.message_queues.proofs.chains.withdraw.Goals.{then-is_from_port, else-is_from_port}
@@ -36,7 +34,7 @@ push-requires c =
 pub loop-preserved : goal.loop-preserved
 loop-preserved c =
     elim c.if-is_from_port.branch [
-      then-is_from_port w ↦
+      | then-is_from_port w ↦
           let ticket : w.push.new.self.items ≡ c.loop.tickets.items ++ ticket_of w.unlink.result ∷ [] = w.push.ensures.items ∙ ap (λ (n : ℕ). c.loop.tickets.items ++ n ∷ []) w.ticket.ensures in
           rw (w.buffers-is, w.chain-is, w.tickets-is, ticket) (
             w.unlink.ensures.capacity ∙ c.loop.invariant.0,

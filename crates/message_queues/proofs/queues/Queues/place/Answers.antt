@@ -1,4 +1,4 @@
-use Rattle.std.proofs.Common.{◌≡◌, ◌<◌, [], ℕ, List, Some, None, Option, ap, ◌∙◌, sym, refl, length, arith, drop, get_or}
+use Rattle.std.proofs.Common.{◌≡◌, ◌<◌, [], ℕ, List, ap, ◌∙◌, sym, refl, length, arith, drop}
 use Rattle.std.specs.Prelude.{slice_index_or, slice_set}
 use Rattle.std.specs.List.{slice_get}
 use Rattle.std.proofs.lemmas.List.{set-get_or}
@@ -7,7 +7,6 @@ use Rattle.board_terms.specs.declared.messages.Message.{Message}
 use Rattle.board_terms.specs.declared.messages.Message.TheVariants.{FromPort, FromTimer}
 use Rattle.message_queues.specs.declared.chains.Chain.{Chain}
 use Rattle.message_queues.specs.Owners.{owner_of, HasOwner, IsPortOwned}
-use Rattle.message_queues.specs.Queues.{Queues}
 use Rattle.message_queues.specs.Chains.{queues_at}
 use Rattle.message_queues.proofs.Steps.{head-at, head-message, place-step, place-none}
 use Rattle.message_queues.proofs.queues.Queues.place.Goals as goal
@@ -62,7 +61,7 @@ pub invariant_of-self-2 : goal.invariant_of-self-2
 invariant_of-self-2 c =
     let within : c.place_of.result < length c.args.self.now = omega (arith, c.place_of.ensures, c.requires) in
     let s = place-step c.self.inside c.args.self.now c.place_of.result c.index_mut-chain.result.now c.unlink-message.new.chain c.in-Some.key c.unlink-message.ensures.unlinked.0 c.unlink-message.result c.owner_of.result c.unlink-message.new.buffers c.self.invariant c.self.view_is within c.index_mut-chain.ensures.value c.in-Some.is c.owner_of.ensures.value c.unlink-message.ensures.unlinked.1 c.unlink-message.ensures.len c.unlink-message.ensures.capacity in
-    record { linked = s.0.linked; held = s.0.held; room = s.0.room; owned = s.0.owned; counts = s.0.counts }
+    record { linked = s.0.linked; held = s.0.held; both_ways = s.0.both_ways; room = s.0.room; owned = s.0.owned; counts = s.0.counts }
 
 pub returns-clause-head : goal.returns-clause-head
 returns-clause-head c =

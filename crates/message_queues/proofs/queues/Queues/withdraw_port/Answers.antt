@@ -1,6 +1,5 @@
-use Rattle.std.proofs.Common.{◌≡◌, ◌<◌, ◌+◌, ◌*◌, [], ℕ, List, sym, ap, ◌∙◌, length, arith}
+use Rattle.std.proofs.Common.{◌≡◌, ◌<◌, ◌+◌, ◌*◌, [], ℕ, sym, ap, ◌∙◌, length, arith}
 use Rattle.std.specs.Prelude.{slice_index_or, slice_set}
-use Rattle.board_terms.specs.declared.messages.Message.{Message}
 use Rattle.message_queues.specs.Queues.{port_used, left_of, withdrawn_of}
 use Rattle.message_queues.proofs.Steps.{here, unused, port-below, found, withdrawn-step}
 use Rattle.message_queues.proofs.queues.Queues.withdraw_port.Goals as goal
@@ -57,7 +56,7 @@ invariant_of-self c =
     let k = c.self.invariant.linked in
     let w = c.withdraw-tickets.ensures.withdrawn k.owner k.rank c.place_of.result (k.each c.place_of.result c.index_mut-chain.result.now h.at) in
     let s = withdrawn-step c.self.inside c.args.self.now c.place_of.result c.index_mut-chain.result.now c.withdraw-tickets.new.chain c.args.port c.len.result c.withdraw-tickets.result.items c.withdraw-tickets.new.buffers c.self.invariant c.self.view_is within c.index_mut-chain.ensures.value below w c.withdraw-tickets.ensures.len c.withdraw-tickets.ensures.capacity c.len.ensures.value in
-    record { linked = s.linked; held = s.held; room = s.room; owned = s.owned; counts = s.counts }
+    record { linked = s.linked; held = s.held; both_ways = s.both_ways; room = s.room; owned = s.owned; counts = s.counts }
 
 pub returns-clause-tickets : goal.returns-clause-tickets
 returns-clause-tickets c =
