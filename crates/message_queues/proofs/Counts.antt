@@ -1,5 +1,6 @@
 -- How many buffers each owner has in use, and that an owner that has one left finds room for its message.
 use Rattle.std.proofs.Common.{◌≡◌, ◌≢◌, ◌⊎◌, inl, inr, ℕ, zero, suc, ◌+◌, ◌-◌, ◌<◌, ◌≤◌, List, [], ◌∷◌, ◌++◌, length, refl, sym, ap, ◌∙◌, arith, cond, nat_eq, Bool, true, false, ne_eqb, eq-eqb, ◌&&◌}
+use Rattle.std.specs.List.{All}
 use Rattle.std.specs.Prelude.{◌==◌, slice_index_or, slice_set, sum_by, count_by}
 use Rattle.std.proofs.lemmas.Bool.Decides.{eqb_tells, nat_tests}
 use Rattle.std.proofs.lemmas.List.{length-set, get_or-set_same, get_or-set_other}
@@ -80,6 +81,14 @@ abbrev pub EachOwned : Queues → Type 0
 EachOwned [] = Unit {0}
 EachOwned (q ∷ qs) = AllOwned q × EachOwned qs
 
+all-owned : (ms : List Message) → All HasOwner ms → AllOwned ms
+all-owned [] h = tt
+all-owned (m ∷ ms) h = (h 0 m (omega arith), all-owned ms (λ k d below. h (suc k) d (omega arith)))
+
+pub each-owned : (qs : Queues) → All (λ (q : List Message). All HasOwner q) qs → EachOwned qs
+each-owned [] h = tt
+each-owned (q ∷ qs) h = (all-owned q (h 0 [] (omega arith)), each-owned qs (λ k d below. h (suc k) d (omega arith)))
+
 pub owner-below : (m : Message) → HasOwner m → owner_of m < 48
 owner-below (FromPort ticket port kind payload) h = omega arith
 owner-below (FromTimer ticket timer expiration) h = omega arith
@@ -115,6 +124,10 @@ has_room qs in_use o owned counts below left =
     let total = all-counts 48 qs owner-below owned in
     let less = sum_below-lt 48 o (λ x. used_by x qs) share counts.within below left in
     omega (arith, total, less, shares)
+
+-- no owner has more than its share, so there are no more messages than buffers
+pub all-within : (qs : Queues) (in_use : List ℕ) → EachOwned qs → IsCounted qs in_use → sum_by (length {A = Message}) qs ≤ 288
+all-within qs in_use owned counts = omega (arith, all-counts 48 qs owner-below owned, sum_below-le 48 (λ x. used_by x qs) share counts.within, shares)
 
 pub sum_by-same : {X : Type 0} (f g : X → ℕ) (xs : List X) → ((x : X) → f x ≡ g x) → sum_by f xs ≡ sum_by g xs
 sum_by-same f g [] h = refl

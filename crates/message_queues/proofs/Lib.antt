@@ -1,7 +1,7 @@
 mod Counts
-mod RingLemmas
+mod ChainLemmas
+mod Walks
 mod Steps
 mod Opening
 mod ImageLemmas
 pub mod WrittenSlots
-mod Withdrawals

@@ -1,128 +1,267 @@
--- What an append and a place leave of the fields.
-use Rattle.std.proofs.Common.{◌≡◌, ◌≢◌, ◌⊎◌, inl, inr, ℕ, ◌+◌, ◌-◌, ◌<◌, ◌≤◌, List, [], ◌∷◌, ◌++◌, length, drop, Some, None, refl, sym, ap, subst, ◌∙◌, nat_eq, true, false, arith, length-append, get_or}
-use Rattle.std.specs.List.{filter_map, slice_get}
-use Rattle.std.specs.Prelude.{slice_index_or, slice_set}
+-- What an append, a place and a withdrawal leave of the fields.
+use Rattle.std.proofs.Common.{◌≡◌, ◌≢◌, ◌⊎◌, inl, inr, ℕ, ◌+◌, ◌-◌, ◌<◌, ◌≤◌, List, [], ◌∷◌, ◌++◌, length, zero, suc, drop, map, Some, None, refl, sym, ap, subst, ◌∙◌, cond, nat_eq, Bool, true, false, not, arith, get_or}
+use Rattle.std.specs.List.{All, filter, slice_get}
+use Rattle.std.specs.Prelude.{◌==◌, slice_index_or, slice_set, count_by}
+use Rattle.std.proofs.lemmas.Bool.{cases_lt}
 use Rattle.std.proofs.lemmas.Bool.Decides.{eqb_tells}
-use Rattle.circular_buffer.specs.Buffer.{buffer, keep_last}
-use Rattle.slab.specs.Slab.{Slab, get, slab_len, Updates}
+use Rattle.std.proofs.lemmas.List.{length-map, set-get_or}
+use Rattle.std.proofs.lemmas.List.Elements.{All-append, All-drop, All-filter, All-get_or, All-set}
+use Rattle.std.proofs.lemmas.List.Sums.{sum_by-cons, get_or-le-sum_by, length-filter}
+use Rattle.slab.specs.Slab.{Slab, get, slab_len}
+use Rattle.board_terms.specs.Messages.{ticket_of}
 use Rattle.board_terms.specs.declared.messages.Message.{Message}
+use Rattle.message_queues.specs.declared.chains.Buffer.{Buffer}
+use Rattle.message_queues.specs.declared.chains.Chain.{Chain}
 use Rattle.message_queues.specs.declared.queues.Queues.TheInside.{Inside}
-use Rattle.message_queues.specs.Queues.{Queues, HasBuffer}
+use Rattle.message_queues.specs.Queues.{Queues, HasBuffer, is_from_port, port_used, withdrawn_of, left_of}
 use Rattle.message_queues.specs.Owners.{owner_of, HasOwner, used_by, share, IsCounted}
-use Rattle.message_queues.specs.Rings.{queues_at, Kept}
-use Rattle.message_queues.specs.View.{queues_of, IsKept}
-use Rattle.message_queues.proofs.Counts.{owner-below, has_room, buffer-left, share-le, counted-append, counted-place, head-used}
-use Rattle.message_queues.proofs.RingLemmas.{Ring, total_of, append-moved, place-moved, ring_at, queue-is, total-queues, total-set, length-le-total, keeps_all, each-owned}
+use Rattle.message_queues.specs.Chains.{Buffers, queue_at, queues_at, ReadsBothWays, Kept}
+use Rattle.message_queues.specs.Moves.{Pushed, Unlinked, Withdrawn}
+use Rattle.message_queues.specs.View.{queues_of, total_of, IsKept}
+use Rattle.message_queues.proofs.Counts.{owner-below, has_room, all-within, buffer-left, share-le, each-owned, counted-append, counted-place, counted-set, head-used, at_place, at_place-other, count_of, count_of-cons, sum_by-same, is_from_port-owner, port_used-past, count-le-used}
+use Rattle.message_queues.proofs.ChainLemmas.{those, push-moved, unlink-moved, first-split, no-first, row-chain, chain_at, queue-is, length-chain, total-queues, total-set, len-le-total, both-ways}
+use Rattle.message_queues.proofs.Walks.{withdrawn-moved}
 
 -- the fields keep what they have to, and stand for these queues
-pub record Step (buffers : Slab Message) (rings : List Ring) (in_use : List ℕ) (view : Queues) : Type 0 where
-  pub kept : Kept (get buffers) rings
-  pub held : slab_len buffers ≡ total_of rings
+pub record Step (buffers : Slab Buffer) (chains : List Chain) (in_use : List ℕ) (view : Queues) : Type 0 where
+  pub linked : Kept (get buffers) chains
+  pub held : slab_len buffers ≡ total_of chains
+  pub both_ways : (queue : ℕ) (chain : Chain) → slice_get chains queue ≡ Some chain → ReadsBothWays (get buffers) chain
   pub room : 288 ≤ buffers.capacity
-  pub owned : (key : ℕ) (message : Message) → get buffers key ≡ Some message → HasOwner message
-  pub counts : IsCounted (queues_at (get buffers) rings) in_use
-  pub view_is : queues_at (get buffers) rings ≡ view
+  pub owned : All (λ (queue : List Message). All HasOwner queue) (queues_at (get buffers) chains)
+  pub counts : IsCounted (queues_at (get buffers) chains) in_use
+  pub view_is : queues_at (get buffers) chains ≡ view
 
--- What an append finds: its owner has a buffer left, and there is room in the slab and in each ring.
+-- What an append finds: its owner has a buffer left, and there is room in the slab and in each chain.
 pub record Room (a : Inside) (owner : ℕ) : Type 0 where
   pub left : used_by owner (queues_of a) < share owner
   pub fits : slice_index_or a.in_use owner 0 < 16
-  pub total : total_of a.rings.items < 288
+  pub total : total_of a.chains.items < 288
 
 pub room-for : (a : Inside) (qs : Queues) (message : Message) (o : ℕ) → IsKept a → queues_of a ≡ qs → HasOwner message → HasBuffer qs message → o ≡ owner_of message → Room a o
 room-for a qs message o k shown own has is =
-    let owned = each-owned (get a.buffers) a.rings.items k.kept k.owned in
+    let owned = each-owned (queues_of a) k.owned in
     let below = owner-below message own in
     let has' : HasBuffer (queues_of a) message = subst (λ (x : Queues). HasBuffer x message) (sym shown) has in
     let left = buffer-left (queues_of a) message owned own has' in
     let few = has_room (queues_of a) a.in_use (owner_of message) owned k.counts below left in
-    let total = total-queues (get a.buffers) a.rings.items k.kept in
+    let total = total-queues (get a.buffers) a.chains.items k.linked in
     rw is (record {
       left = left;
       fits = omega (arith, left, share-le (owner_of message), k.counts.counted (owner_of message) below);
       total = omega (arith, few, total);
     })
 
-pub append-step : (a : Inside) (qs : Queues) (q : ℕ) (c d : Ring) (key : ℕ) (message : Message) (o : ℕ) (new : Slab Message) → IsKept a → queues_of a ≡ qs → q < length qs → c ≡ get_or a.rings.items q c → HasOwner message → HasBuffer qs message → o ≡ owner_of message →
-    get a.buffers key ≡ None → Updates a.buffers new key (Some message) → slab_len new ≡ slab_len a.buffers + 1 → new.capacity ≡ a.buffers.capacity → d ≡ buffer (keep_last c.capacity (c.items ++ key ∷ [])) c.capacity →
-    Step new (slice_set a.rings.items q d) (slice_set a.in_use o (slice_index_or a.in_use o 0 + 1)) (slice_set qs q (slice_index_or qs q [] ++ message ∷ []))
-append-step a qs q c d key message o new k shown within read own has is free updates len capacity pushed =
-    let at = ring_at (get a.buffers) a.rings.items qs q c shown within read in
+-- What any call finds: the chain of the queue, and the queue that it stands for.
+pub record Here (a : Inside) (qs : Queues) (q : ℕ) (c : Chain) : Type 0 where
+  pub at : slice_get a.chains.items q ≡ Some c
+  pub row : slice_index_or (queues_of a) q [] ≡ queue_at (get a.buffers) c
+  pub shown_row : slice_index_or qs q [] ≡ queue_at (get a.buffers) c
+  pub within : q < length (queues_of a)
+  pub len : length (queue_at (get a.buffers) c) ≡ c.len
+  pub few : c.len ≤ 288
+
+pub here : (a : Inside) (qs : Queues) (q : ℕ) (c : Chain) → IsKept a → queues_of a ≡ qs → q < length qs → c ≡ get_or a.chains.items q c → Here a qs q c
+here a qs q c k shown within read =
+    let at = chain_at (get a.buffers) a.chains.items qs q c shown within read in
+    let row = queue-is (get a.buffers) a.chains.items q c at in
+    let total = total-queues (get a.buffers) a.chains.items k.linked in
+    let all = all-within (queues_of a) a.in_use (each-owned (queues_of a) k.owned) k.counts in
+    record {
+      at = at;
+      row = row;
+      shown_row = ap (λ (x : Queues). slice_index_or x q []) (sym shown) ∙ row;
+      within = omega (arith, within, ap length shown);
+      len = length-chain (get a.buffers) k.linked.owner k.linked.rank q c (k.linked.each q c at);
+      few = omega (arith, total, all, len-le-total a.chains.items q c at);
+    }
+
+owned-at : (a : Inside) (q : ℕ) → IsKept a → q < length (queues_of a) → All HasOwner (slice_index_or (queues_of a) q [])
+owned-at a q k within = All-get_or (λ (queue : List Message). All HasOwner queue) (queues_of a) q [] within k.owned
+
+owned-set : (a : Inside) (q : ℕ) (r : List Message) → IsKept a → All HasOwner r → All (λ (queue : List Message). All HasOwner queue) (slice_set (queues_of a) q r)
+owned-set a q r k own = All-set (λ (queue : List Message). All HasOwner queue) (queues_of a) q r own k.owned
+
+one-owned : (m : Message) → HasOwner m → All HasOwner (m ∷ [])
+one-owned m own = by
+  where
+    by : All HasOwner (m ∷ [])
+    by zero d below = own
+    by (suc k) d below = absurd (omega arith)
+
+pub append-step : (a : Inside) (qs : Queues) (q : ℕ) (c d : Chain) (key : ℕ) (message : Message) (o : ℕ) (new : Slab Buffer) → IsKept a → queues_of a ≡ qs → q < length qs → c ≡ get_or a.chains.items q c → HasOwner message → HasBuffer qs message → o ≡ owner_of message →
+    Pushed (get a.buffers) (get new) c d message key → slab_len new ≡ slab_len a.buffers + 1 → new.capacity ≡ a.buffers.capacity →
+    Step new (slice_set a.chains.items q d) (slice_set a.in_use o (slice_index_or a.in_use o 0 + 1)) (slice_set qs q (slice_index_or qs q [] ++ message ∷ []))
+append-step a qs q c d key message o new k shown within read own has is pushed len capacity =
+    let h = here a qs q c k shown within read in
     let room = room-for a qs message o k shown own has is in
-    let place : length c.items < c.capacity = omega (arith, room.total, length-le-total a.rings.items q c at, (k.kept.each q c at).capacity) in
-    let items = ap (λ (b : Ring). b.items) pushed ∙ keeps_all c key place in
-    let m = append-moved (get a.buffers) (get new) a.rings.items q c d key message k.kept at free updates.changed updates.others items (ap (λ (b : Ring). b.capacity) pushed) in
-    let row = queue-is (get a.buffers) a.rings.items q c at in
-    let view = m.view ∙ ap (λ (x : List Message). slice_set (queues_of a) q (x ++ message ∷ [])) (sym row) in
-    let within' : q < length (queues_of a) = omega (arith, within, ap length shown) in
+    let m = push-moved (get a.buffers) (get new) a.chains.items q c d message key k.linked h.at pushed in
+    let view = m.view ∙ ap (λ (x : List Message). slice_set (queues_of a) q (x ++ message ∷ [])) (sym h.row) in
     let left : used_by (owner_of message) (queues_of a) < share (owner_of message) = rw is at room.left in
     record {
-      kept = m.kept;
-      held = omega (arith, total-set a.rings.items q c d at, k.held, len, ap length items, length-append c.items (key ∷ []));
+      linked = m.kept;
+      both_ways = both-ways (get new) (slice_set a.chains.items q d) m.kept;
+      held = omega (arith, total-set a.chains.items q c d h.at, k.held, len, pushed.len);
       room = omega (arith, k.room, capacity);
-      owned = λ j b there. owned j b there (eqb_tells j key);
-      counts = rw (view, is) (counted-append (queues_of a) a.in_use q message k.counts within' (owner-below message own) left);
+      owned = rw view (owned-set a q (slice_index_or (queues_of a) q [] ++ message ∷ []) k (All-append HasOwner (slice_index_or (queues_of a) q []) (message ∷ []) (owned-at a q k h.within) (one-owned message own)));
+      counts = rw (view, is) (counted-append (queues_of a) a.in_use q message k.counts h.within (owner-below message own) left);
       view_is = view ∙ ap (λ (x : Queues). slice_set x q (slice_index_or x q [] ++ message ∷ [])) shown;
     }
-  where
-    owned : (j : ℕ) (b : Message) → get new j ≡ Some b → ((nat_eq j key ≡ true) × (j ≡ key)) ⊎ ((nat_eq j key ≡ false) × (j ≢ key)) → HasOwner b
-    owned j b there (inl t) = let two : Some message ≡ Some b = sym updates.changed ∙ ap (get new) (sym t.1) ∙ there in let same : message ≡ b = cc in subst HasOwner same own
-    owned j b there (inr t) = k.owned j b (sym (updates.others j t.1) ∙ there)
 
--- What a place finds where the ring had a first key: the head of the queue is there.
-pub record Head (a : Inside) (qs : Queues) (q key : ℕ) : Type 0 where
-  pub message : Message
+-- What a place finds where the chain has a first key: the head of the queue is there.
+pub record Head (a : Inside) (qs : Queues) (q : ℕ) (c : Chain) (key : ℕ) : Type 0 where
+  pub b : Buffer
   pub rest : List Message
-  pub there : get a.buffers key ≡ Some message
-  pub row : slice_index_or qs q [] ≡ message ∷ rest
-  pub own : HasOwner message
-  pub used : 1 ≤ slice_index_or a.in_use (owner_of message) 0
+  pub there : get a.buffers key ≡ Some b
+  pub some : 1 ≤ c.len
+  pub row : slice_index_or qs q [] ≡ b.message ∷ rest
+  pub own : HasOwner b.message
+  pub used : 1 ≤ slice_index_or a.in_use (owner_of b.message) 0
 
-head-split : (ks : List ℕ) (key : ℕ) → slice_get ks 0 ≡ Some key → ks ≡ key ∷ drop 1 ks
-head-split [] key h = cc
-head-split (k ∷ ks) key h = let same : k ≡ key = cc in ap (λ (x : ℕ). x ∷ ks) same
-
-pub head-at : (a : Inside) (qs : Queues) (q : ℕ) (c : Ring) (key : ℕ) → IsKept a → queues_of a ≡ qs → q < length qs → c ≡ get_or a.rings.items q c → slice_get c.items 0 ≡ Some key → Head a qs q key
+pub head-at : (a : Inside) (qs : Queues) (q : ℕ) (c : Chain) (key : ℕ) → IsKept a → queues_of a ≡ qs → q < length qs → c ≡ get_or a.chains.items q c → c.first ≡ Some key → Head a qs q c key
 head-at a qs q c key k shown within read first =
-    let at = ring_at (get a.buffers) a.rings.items qs q c shown within read in
-    let h = place-moved (get a.buffers) (get a.buffers) a.rings.items q c (buffer (drop 1 c.items) c.capacity) key (drop 1 c.items) k.kept at (head-split c.items key first) refl refl in
-    let row = queue-is (get a.buffers) a.rings.items q c at ∙ h.row in
-    let own = k.owned key h.message h.there in
-    let within' : q < length (queues_of a) = omega (arith, within, ap length shown) in
+    let h = here a qs q c k shown within read in
+    let chain = k.linked.each q c h.at in
+    let split = first-split (get a.buffers) k.linked.owner k.linked.rank q c key chain first in
+    let links = rw split.1 at chain.links in
+    let rest = those (get a.buffers) split.0 in
+    let there : get a.buffers key ≡ Some links.0 = links.4 in
+    let one : those (get a.buffers) (key ∷ split.0) ≡ links.0.message ∷ rest = rw there refl in
+    let row = h.row ∙ row-chain (get a.buffers) k.linked.owner k.linked.rank q c chain ∙ ap (those (get a.buffers)) split.1 ∙ one in
+    let own : HasOwner links.0.message = rw row at (owned-at a q k h.within) 0 links.0.message (omega (arith, ap length row)) in
     record {
-      message = h.message;
-      rest = filter_map (get a.buffers) (drop 1 c.items);
-      there = h.there;
+      b = links.0;
+      rest = rest;
+      there = there;
+      some = omega (arith, chain.len, ap length split.1);
       row = ap (λ (x : Queues). slice_index_or x q []) (sym shown) ∙ row;
       own = own;
-      used = head-used (queues_of a) a.in_use q h.message (filter_map (get a.buffers) (drop 1 c.items)) k.counts within' (owner-below h.message own) row;
+      used = head-used (queues_of a) a.in_use q links.0.message rest k.counts h.within (owner-below links.0.message own) row;
     }
 
-pub place-step : (a : Inside) (qs : Queues) (q : ℕ) (c d : Ring) (key : ℕ) (message : Message) (o : ℕ) (new : Slab Message) → IsKept a → queues_of a ≡ qs → q < length qs → c ≡ get_or a.rings.items q c → slice_get c.items 0 ≡ Some key →
-    get a.buffers key ≡ Some message → o ≡ owner_of message → Updates a.buffers new key None → slab_len new + 1 ≡ slab_len a.buffers → new.capacity ≡ a.buffers.capacity → d ≡ buffer (drop 1 c.items) c.capacity →
-    Step new (slice_set a.rings.items q d) (slice_set a.in_use o (slice_index_or a.in_use o 0 - 1)) (slice_set qs q (drop 1 (slice_index_or qs q [])))
-place-step a qs q c d key message o new k shown within read first found is updates len capacity popped =
-    let at = ring_at (get a.buffers) a.rings.items qs q c shown within read in
-    let split = head-split c.items key first in
-    let items = ap (λ (b : Ring). b.items) popped in
-    let h = place-moved (get a.buffers) (get new) a.rings.items q c d key (drop 1 c.items) k.kept at split items (ap (λ (b : Ring). b.capacity) popped) in
-    let m = h.step updates.others in
-    let two : Some h.message ≡ Some message = sym h.there ∙ found in
-    let same : h.message ≡ message = cc in
-    let rest = filter_map (get a.buffers) (drop 1 c.items) in
-    let row : slice_index_or (queues_of a) q [] ≡ message ∷ rest = queue-is (get a.buffers) a.rings.items q c at ∙ h.row ∙ ap (λ (x : Message). x ∷ rest) same in
-    let within' : q < length (queues_of a) = omega (arith, within, ap length shown) in
-    let own = k.owned key message found in
+pub head-message : (a : Inside) (qs : Queues) (q : ℕ) (c d : Chain) (key : ℕ) (new : Buffers) (b : Buffer) (message : Message) (h : Head a qs q c key) → Unlinked (get a.buffers) new c d key b message → h.b.message ≡ message
+head-message a qs q c d key new b message h gone =
+    let two : Some h.b ≡ Some b = sym h.there ∙ gone.was in
+    let same : h.b ≡ b = cc in
+    ap (λ (x : Buffer). x.message) same ∙ sym gone.message_is
+
+pub place-step : (a : Inside) (qs : Queues) (q : ℕ) (c d : Chain) (key : ℕ) (b : Buffer) (message : Message) (o : ℕ) (new : Slab Buffer) → IsKept a → queues_of a ≡ qs → q < length qs → c ≡ get_or a.chains.items q c → c.first ≡ Some key → o ≡ owner_of message →
+    Unlinked (get a.buffers) (get new) c d key b message → slab_len new + 1 ≡ slab_len a.buffers → new.capacity ≡ a.buffers.capacity →
+    Step new (slice_set a.chains.items q d) (slice_set a.in_use o (slice_index_or a.in_use o 0 - 1)) (slice_set qs q (drop 1 (slice_index_or qs q []))) × (slice_get (slice_index_or qs q []) 0 ≡ Some message)
+place-step a qs q c d key b message o new k shown within read first is gone len capacity =
+    let h = here a qs q c k shown within read in
+    let chain = k.linked.each q c h.at in
+    let split = first-split (get a.buffers) k.linked.owner k.linked.rank q c key chain first in
+    let m = unlink-moved (get a.buffers) (get new) a.chains.items q c d key b message k.linked h.at [] split.0 split.1 gone in
+    let rest = those (get a.buffers) split.0 in
+    let row : slice_index_or (queues_of a) q [] ≡ message ∷ rest = h.row ∙ m.1 in
     let left : drop 1 (slice_index_or (queues_of a) q []) ≡ rest = ap (λ (x : List Message). drop 1 x) row in
-    record {
-      kept = m.kept;
-      held = omega (arith, total-set a.rings.items q c d at, k.held, len, ap length items, ap length split);
-      room = omega (arith, k.room, capacity);
-      owned = λ j b there. k.owned j b (before j b there (eqb_tells j key));
-      counts = rw (m.view, is) (counted-place (queues_of a) a.in_use q message rest k.counts within' (owner-below message own) row);
-      view_is = m.view ∙ ap (λ (x : List Message). slice_set (queues_of a) q x) (sym left) ∙ ap (λ (x : Queues). slice_set x q (drop 1 (slice_index_or x q []))) shown;
-    }
+    let view = m.0.view ∙ ap (λ (x : List Message). slice_set (queues_of a) q x) (sym left) in
+    let own : HasOwner message = rw row at (owned-at a q k h.within) 0 message (omega (arith, ap length row)) in (
+      record {
+        linked = m.0.kept;
+        both_ways = both-ways (get new) (slice_set a.chains.items q d) m.0.kept;
+        held = omega (arith, total-set a.chains.items q c d h.at, k.held, len, gone.len);
+        room = omega (arith, k.room, capacity);
+        owned = rw view (owned-set a q (drop 1 (slice_index_or (queues_of a) q [])) k (All-drop HasOwner 1 (slice_index_or (queues_of a) q []) (owned-at a q k h.within)));
+        counts = rw (m.0.view, is) (counted-place (queues_of a) a.in_use q message rest k.counts h.within (owner-below message own) row);
+        view_is = view ∙ ap (λ (x : Queues). slice_set x q (drop 1 (slice_index_or x q []))) shown;
+      },
+      ap (λ (x : List Message). slice_get x 0) (ap (λ (x : Queues). slice_index_or x q []) (sym shown) ∙ row),
+    )
+
+-- a queue whose chain has no first key is empty
+pub place-none : (a : Inside) (qs : Queues) (q : ℕ) (c : Chain) → IsKept a → queues_of a ≡ qs → q < length qs → c ≡ get_or a.chains.items q c → c.first ≡ None → slice_index_or qs q [] ≡ []
+place-none a qs q c k shown within read none =
+    let h = here a qs q c k shown within read in
+    let chain = k.linked.each q c h.at in
+    h.shown_row ∙ row-chain (get a.buffers) k.linked.owner k.linked.rank q c chain ∙ ap (those (get a.buffers)) (no-first (get a.buffers) k.linked.owner k.linked.rank q c chain none)
+
+-- the port's messages of a queue are its buffers there
+withdrawn-count : (port : ℕ) (q : List Message) → port < 16 → length (withdrawn_of port q) ≡ count_of port q
+withdrawn-count port q below = length-map (filter (is_from_port port) q) ticket_of ∙ length-filter (is_from_port port) q ∙ sum_by-same (λ m. cond (is_from_port port m) 1 0) (λ m. cond (owner_of m == port) 1 0) q (λ m. ap (λ (b : Bool). cond b 1 0) (is_from_port-owner port m below))
+
+left-count : (port o : ℕ) (q : List Message) → port < 16 → o ≢ port → count_of o (left_of port q) ≡ count_of o q
+left-count port o [] below ne = refl
+left-count port o (m ∷ ms) below ne = go (left-count port o ms below ne) (is_from_port port m) refl (eqb_tells (owner_of m) port)
   where
-    before : (j : ℕ) (b : Message) → get new j ≡ Some b → ((nat_eq j key ≡ true) × (j ≡ key)) ⊎ ((nat_eq j key ≡ false) × (j ≢ key)) → get a.buffers j ≡ Some b
-    before j b there (inl t) = let bad : None ≡ Some b = sym updates.changed ∙ ap (get new) (sym t.1) ∙ there in cc
-    before j b there (inr t) = sym (updates.others j t.1) ∙ there
+    go : count_of o (left_of port ms) ≡ count_of o ms → (b : Bool) → is_from_port port m ≡ b → ((nat_eq (owner_of m) port ≡ true) × (owner_of m ≡ port)) ⊎ ((nat_eq (owner_of m) port ≡ false) × (owner_of m ≢ port)) → count_of o (cond (not b) (m ∷ left_of port ms) (left_of port ms)) ≡ count_of o (m ∷ ms)
+    go more true e (inl t) = let other = at_place-other (owner_of m) o (λ is. ne (sym is ∙ t.1)) in omega (arith, more, other, count_of-cons o m ms)
+    go more true e (inr t) = let bad : true ≡ false = sym e ∙ is_from_port-owner port m below ∙ t.0 in cc
+    go more false e t = omega (arith, more, count_of-cons o m (left_of port ms), count_of-cons o m ms)
+
+left-none : (port : ℕ) (q : List Message) → port < 16 → count_of port (left_of port q) ≡ 0
+left-none port [] below = refl
+left-none port (m ∷ ms) below = go (left-none port ms below) (is_from_port port m) refl
+  where
+    go : count_of port (left_of port ms) ≡ 0 → (b : Bool) → is_from_port port m ≡ b → count_of port (cond (not b) (m ∷ left_of port ms) (left_of port ms)) ≡ 0
+    go more true e = more
+    go more false e =
+        let other : at_place (owner_of m) port ≡ 0 = ap (λ (b : Bool). cond b 1 0) (sym (is_from_port-owner port m below) ∙ e) in
+        omega (arith, more, other, count_of-cons port m (left_of port ms))
+
+-- a port that has a message is below 16
+pub port-below : (a : Inside) (qs : Queues) (port : ℕ) → IsKept a → queues_of a ≡ qs → port_used qs port ≢ 0 → port < 16
+port-below a qs port k shown some = go (cases_lt port 16)
+  where
+    go : (port < 16) ⊎ (16 ≤ port) → port < 16
+    go (inl below) = below
+    go (inr above) = absurd (some (ap (λ (x : Queues). port_used x port) (sym shown) ∙ port_used-past (queues_of a) port above (each-owned (queues_of a) k.owned)))
+
+-- What a withdrawal finds: the port's messages in the queue are among its buffers in use.
+pub record Found (a : Inside) (c : Chain) (port : ℕ) : Type 0 where
+  pub few : length (withdrawn_of port (queue_at (get a.buffers) c)) ≤ slice_index_or a.in_use port 0
+  pub in_use : slice_index_or a.in_use port 0 ≤ 16
+
+pub found : (a : Inside) (qs : Queues) (q : ℕ) (c : Chain) (port : ℕ) → IsKept a → queues_of a ≡ qs → q < length qs → c ≡ get_or a.chains.items q c → port < 16 → Found a c port
+found a qs q c port k shown within read below =
+    let h = here a qs q c k shown within read in
+    let least = count-le-used (queues_of a) q port h.within in
+    let same = ap (count_of port) h.row in
+    let count = k.counts.counted port (omega arith) in
+    record {
+      few = omega (arith, withdrawn-count port (queue_at (get a.buffers) c) below, same, least, count);
+      in_use = omega (arith, count, k.counts.within port (omega arith), share-le port);
+    }
+
+pub withdrawn-step : (a : Inside) (qs : Queues) (q : ℕ) (c d : Chain) (port n : ℕ) (tickets : List ℕ) (new : Slab Buffer) (k : IsKept a) → queues_of a ≡ qs → q < length qs → c ≡ get_or a.chains.items q c → port < 16 →
+    Withdrawn (get a.buffers) (get new) k.linked.owner k.linked.rank q c d port tickets → slab_len new + length tickets ≡ slab_len a.buffers → new.capacity ≡ a.buffers.capacity → n ≡ length tickets →
+    Step new (slice_set a.chains.items q d) (slice_set a.in_use port (slice_index_or a.in_use port 0 - n)) (slice_set qs q (left_of port (slice_index_or qs q [])))
+withdrawn-step a qs q c d port n tickets new k shown within read below w len capacity is =
+    let h = here a qs q c k shown within read in
+    let m = withdrawn-moved (get a.buffers) (get new) a.chains.items q c d port tickets k.linked h.at w in
+    let row = slice_index_or (queues_of a) q [] in
+    let view = m.view ∙ ap (λ (x : List Message). slice_set (queues_of a) q (left_of port x)) (sym h.row) in
+    let f = found a qs q c port k shown within read below in
+    let taken = ap length w.tickets_are in
+    let count = k.counts.counted port (omega arith) in
+    let gone = withdrawn-count port (queue_at (get a.buffers) c) below in
+    let same = ap (count_of port) h.row in
+    record {
+      linked = m.kept;
+      both_ways = both-ways (get new) (slice_set a.chains.items q d) m.kept;
+      held = omega (arith, total-set a.chains.items q c d h.at, k.held, len, w.len);
+      room = omega (arith, k.room, capacity);
+      owned = rw view (owned-set a q (left_of port row) k (All-filter (λ x. not (is_from_port port x)) HasOwner row (owned-at a q k h.within)));
+      counts = rw view (counted-set (queues_of a) a.in_use q (left_of port row) port (slice_index_or a.in_use port 0 - n) k.counts h.within (omega arith)
+          (λ x ne. left-count port x row below ne)
+          (omega (arith, left-none port row below, f.few, is, taken, count, gone, same))
+          (omega (arith, count, k.counts.within port (omega arith))));
+      view_is = view ∙ ap (λ (x : Queues). slice_set x q (left_of port (slice_index_or x q []))) shown;
+    }
+
+-- a port with no message leaves a queue as it is
+none-there : (port : ℕ) (q : List Message) → count_by (is_from_port port) q ≡ 0 → (filter (is_from_port port) q ≡ []) × (left_of port q ≡ q)
+none-there port [] none = (refl, refl)
+none-there port (m ∷ ms) none = go (λ fewer. none-there port ms fewer) (is_from_port port m) refl
+  where
+    go : (count_by (is_from_port port) ms ≡ 0 → (filter (is_from_port port) ms ≡ []) × (left_of port ms ≡ ms)) → (b : Bool) → is_from_port port m ≡ b → (cond b (m ∷ filter (is_from_port port) ms) (filter (is_from_port port) ms) ≡ []) × (cond (not b) (m ∷ left_of port ms) (left_of port ms) ≡ m ∷ ms)
+    go rest true e = let one : count_by (is_from_port port) (m ∷ ms) ≡ 1 + count_by (is_from_port port) ms = sum_by-cons (λ x. cond (is_from_port port x) 1 0) m ms ∙ ap (λ (b : Bool). cond b 1 0 + count_by (is_from_port port) ms) e in absurd (omega (arith, none, one))
+    go rest false e =
+        let more = rest (omega (arith, none, sum_by-cons (λ x. cond (is_from_port port x) 1 0) m ms)) in
+        (more.0, ap (λ (y : List Message). m ∷ y) more.1)
+
+pub unused : (qs : Queues) (q port : ℕ) → q < length qs → port_used qs port ≡ 0 → (withdrawn_of port (slice_index_or qs q []) ≡ []) × (slice_set qs q (left_of port (slice_index_or qs q [])) ≡ qs)
+unused qs q port within none =
+    let here = none-there port (slice_index_or qs q []) (omega (arith, none, get_or-le-sum_by (count_by (is_from_port port)) qs q [] within)) in
+    (ap (map ticket_of) here.0, ap (λ (y : List Message). slice_set qs q y) here.1 ∙ set-get_or qs q [])

@@ -1,5 +1,6 @@
 pub mod Queues
 pub mod Image
 pub mod Owners
-pub mod Rings
+pub mod Chains
+pub mod Moves
 pub mod View

@@ -1,9 +1,9 @@
 //! The message queues of a partition (TLFS, "Messages"), and the image of a message in its slot.
 #![tactic(auto)]
 
+mod chains;
 mod owners;
 mod queues;
-mod rings;
 mod slots;
 #[cfg(test)]
 mod tests;

@@ -2,11 +2,10 @@
 ghost use Rattle.std.specs.Prelude.{◌≡◌, ◌<◌, ◌≤◌, length, IfOk, slice_get};
 ghost use Rattle.message_queues.specs.Queues.{no_messages, place_of, queue_of, appended, after_place, after_withdrawal, withdrawn_of, port_used, is_timer_free, HasBuffer};
 
+use crate::chains::{Buffer, Chain, push, unlink, withdraw};
 use crate::owners::{OWNERS, PORTS, owner_of, owner_of_timer};
-use crate::rings::withdraw;
 use arrayvec::ArrayVec;
 use board_terms::{Message, Sint, Ticket, TimerId, Vp};
-use circular_buffer::HeapCircularBuffer;
 use slab::Slab;
 use std::alloc::{AllocError, Global};
 use std::marker::Model;
@@ -17,8 +16,14 @@ const BUFFERS: usize = 288;
 /// The message queues of a board: one for each source of each processor.
 #[derive(Drop)]
 pub struct Queues {
-    buffers: Slab<Message>,
-    rings: Vec<HeapCircularBuffer<usize>>,
+    /// The messages of all queues, each with the keys of its neighbours: each key stands in one
+    /// chain, once. `append`, `place` and `withdraw_port` keep it so.
+    buffers: Slab<Buffer>,
+    /// The ends and the length of each queue, those of processor 0 first. `append`, `place` and
+    /// `withdraw_port` keep them so.
+    chains: Vec<Chain>,
+    /// How many messages of each owner are in the queues. `append` raises it, `place` and
+    /// `withdraw_port` lower it.
     in_use: [u8; OWNERS],
 }
 
@@ -53,13 +58,17 @@ impl Queues {
     {
         let queues = 16 * processors as usize;
         let buffers = Slab::with_capacity(alloc, BUFFERS)?;
-        let mut rings = Vec::with_capacity(alloc, queues)?;
+        let mut chains = Vec::with_capacity(alloc, queues)?;
         for _ in 0..queues {
-            rings.push_reserved(HeapCircularBuffer::with_capacity(alloc, BUFFERS)?);
+            chains.push_reserved(Chain {
+                first: None,
+                last: None,
+                len: 0,
+            });
         }
         Ok(Queues {
             buffers,
-            rings,
+            chains,
             in_use: [0; OWNERS],
         })
     }
@@ -73,8 +82,8 @@ impl Queues {
         ensures as_many { length self.new ≡ length self.old }
     {
         self.in_use[owner_of(&message)] += 1;
-        let key = self.buffers.insert_reserved(message);
-        let _ = self.rings[place_of(vp, sint)].push_back(key);
+        let chain = &mut self.chains[place_of(vp, sint)];
+        let _ = push(&mut self.buffers, chain, message);
     }
 
     /// Takes the head out of a queue, if there is one.
@@ -85,10 +94,11 @@ impl Queues {
         ensures rest { self.new ≡ after_place self.old vp sint }
         ensures as_many { length self.new ≡ length self.old }
     {
-        let Some(key) = self.rings[place_of(vp, sint)].pop_front() else {
+        let chain = &mut self.chains[place_of(vp, sint)];
+        let Some(key) = chain.first else {
             return None;
         };
-        let message = self.buffers.remove(key);
+        let message = unlink(&mut self.buffers, chain, key);
         self.in_use[owner_of(&message)] -= 1;
         Some(message)
     }
@@ -104,8 +114,8 @@ impl Queues {
         if self.port_used(port) == 0 {
             return ArrayVec::new();
         }
-        let ring = &mut self.rings[place_of(vp, sint)];
-        let tickets = withdraw(&mut self.buffers, ring, port);
+        let chain = &mut self.chains[place_of(vp, sint)];
+        let tickets = withdraw(&mut self.buffers, chain, port);
         self.in_use[port as usize] -= tickets.len() as u8;
         tickets
     }
@@ -117,7 +127,7 @@ impl Queues {
         ensures value { result ≡ length (queue_of self.now vp sint) }
         ensures few { result ≤ 288 }
     {
-        self.rings[place_of(vp, sint)].len() as u16
+        self.chains[place_of(vp, sint)].len
     }
 
     /// How many buffers of a port are in use: its messages over all queues, at most 16. None of a

@@ -1,6 +1,6 @@
 use Rattle.std.proofs.Common.{◌<◌, [], ◌∷◌, ◌++◌, ℕ, ap, ◌∙◌, length, arith}
 use Rattle.std.specs.Prelude.{slice_index_or, slice_set}
-use Rattle.message_queues.proofs.Steps.{room-for, append-step}
+use Rattle.message_queues.proofs.Steps.{room-for, here, append-step}
 use Rattle.message_queues.proofs.queues.Queues.append.Goals as goal
 
 pub overflow_add-self : goal.overflow_add-self
@@ -8,19 +8,25 @@ overflow_add-self c =
     let room = room-for c.self.inside c.args.self.now c.args.message c.owner_of.result c.self.invariant c.self.view_is c.owner_of.ensures.owned c.requires.buffer c.owner_of.ensures.value in
     omega (arith, room.fits)
 
-pub insert_reserved-key-requires : goal.insert_reserved-key-requires
-insert_reserved-key-requires c =
+pub push-requires-clause-room : goal.push-requires-clause-room
+push-requires-clause-room c =
     let room = room-for c.self.inside c.args.self.now c.args.message c.owner_of.result c.self.invariant c.self.view_is c.owner_of.ensures.owned c.requires.buffer c.owner_of.ensures.value in
     omega (arith, room.total, c.self.invariant.held, c.self.invariant.room)
+
+pub push-requires-clause-few : goal.push-requires-clause-few
+push-requires-clause-few c =
+    let within : c.place_of.result < length c.args.self.now = omega (arith, c.place_of.ensures, c.requires.on_the_board) in
+    let h = here c.self.inside c.args.self.now c.place_of.result c.index_mut-chain.result.now c.self.invariant c.self.view_is within c.index_mut-chain.ensures.value in
+    omega (arith, h.few)
 
 pub invariant_of-self : goal.invariant_of-self
 invariant_of-self c =
     let within : c.place_of.result < length c.args.self.now = omega (arith, c.place_of.ensures, c.requires.on_the_board) in
-    let s = append-step c.self.inside c.args.self.now c.place_of.result c.index_mut.result.now c.push_back.new.self c.insert_reserved-key.result c.args.message c.owner_of.result c.insert_reserved-key.new.self c.self.invariant c.self.view_is within c.index_mut.ensures.value c.owner_of.ensures.owned c.requires.buffer c.owner_of.ensures.value c.insert_reserved-key.ensures.was_vacant c.insert_reserved-key.ensures.updates c.insert_reserved-key.ensures.len c.insert_reserved-key.ensures.capacity c.push_back.ensures.items in
-    record { kept = s.kept; held = s.held; room = s.room; owned = s.owned; counts = s.counts }
+    let s = append-step c.self.inside c.args.self.now c.place_of.result c.index_mut-chain.result.now c.push.new.chain c.push.result c.args.message c.owner_of.result c.push.new.buffers c.self.invariant c.self.view_is within c.index_mut-chain.ensures.value c.owner_of.ensures.owned c.requires.buffer c.owner_of.ensures.value c.push.ensures.pushed c.push.ensures.len c.push.ensures.capacity in
+    record { linked = s.linked; held = s.held; both_ways = s.both_ways; room = s.room; owned = s.owned; counts = s.counts }
 
 pub returns-clause-queued : goal.returns-clause-queued
 returns-clause-queued c =
     let within : c.place_of.result < length c.args.self.now = omega (arith, c.place_of.ensures, c.requires.on_the_board) in
-    let s = append-step c.self.inside c.args.self.now c.place_of.result c.index_mut.result.now c.push_back.new.self c.insert_reserved-key.result c.args.message c.owner_of.result c.insert_reserved-key.new.self c.self.invariant c.self.view_is within c.index_mut.ensures.value c.owner_of.ensures.owned c.requires.buffer c.owner_of.ensures.value c.insert_reserved-key.ensures.was_vacant c.insert_reserved-key.ensures.updates c.insert_reserved-key.ensures.len c.insert_reserved-key.ensures.capacity c.push_back.ensures.items in
+    let s = append-step c.self.inside c.args.self.now c.place_of.result c.index_mut-chain.result.now c.push.new.chain c.push.result c.args.message c.owner_of.result c.push.new.buffers c.self.invariant c.self.view_is within c.index_mut-chain.ensures.value c.owner_of.ensures.owned c.requires.buffer c.owner_of.ensures.value c.push.ensures.pushed c.push.ensures.len c.push.ensures.capacity in
     s.view_is ∙ ap (λ (k : ℕ). slice_set c.args.self.now k (slice_index_or c.args.self.now k [] ++ c.args.message ∷ [])) c.place_of.ensures

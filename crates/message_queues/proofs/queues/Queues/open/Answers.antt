@@ -1,5 +1,5 @@
 use Rattle.std.proofs.Common.{◌≡◌, ◌*◌, [], ℕ, ◌∙◌, ap, replicate, arith}
-use Rattle.message_queues.specs.Rings.{queues_at}
+use Rattle.message_queues.specs.Chains.{queues_at}
 use Rattle.slab.specs.Slab.{get}
 use Rattle.message_queues.proofs.Opening.{opened, opened-queues}
 use Rattle.message_queues.proofs.queues.Queues.open.Goals as goal
@@ -9,7 +9,7 @@ invariant_of-result c =
     let done : c.loop.counter ≡ 16 * c.args.processors = omega arith in
     let s = opened c.in_ok-buffers.buffers c.loop.counter c.in_ok-buffers.ensures.empty c.in_ok-buffers.ensures.capacity in
     let s' = rw (← c.loop.invariant.0) at s in
-    record { kept = s'.kept; held = s'.held; room = s'.room; owned = s'.owned; counts = s'.counts }
+    record { linked = s'.linked; held = s'.held; both_ways = s'.both_ways; room = s'.room; owned = s'.owned; counts = s'.counts }
 
 pub returns : goal.returns
 returns c =

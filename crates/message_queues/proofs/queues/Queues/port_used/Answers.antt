@@ -1,14 +1,12 @@
 use Rattle.std.proofs.Common.{◌<◌, ap, ◌∙◌, sym, arith}
-use Rattle.slab.specs.Slab.{get}
 use Rattle.message_queues.specs.Queues.{Queues, port_used}
 use Rattle.message_queues.specs.View.{queues_of}
-use Rattle.message_queues.proofs.Counts.{port_used-owner, port_used-past, share-le}
-use Rattle.message_queues.proofs.RingLemmas.{each-owned}
+use Rattle.message_queues.proofs.Counts.{each-owned, port_used-owner, port_used-past, share-le}
 use Rattle.message_queues.proofs.queues.Queues.port_used.Goals as goal
 
 pub returns-then-port-ge-PORTS-clause-value : goal.returns-then-port-ge-PORTS-clause-value
 returns-then-port-ge-PORTS-clause-value c =
-    let owned = each-owned (get c.self.inside.buffers) c.self.inside.rings.items c.self.invariant.kept c.self.invariant.owned in
+    let owned = each-owned (queues_of c.self.inside) c.self.invariant.owned in
     sym (port_used-past (queues_of c.self.inside) c.args.port c.if-port-ge-PORTS.true owned) ∙ ap (λ (x : Queues). port_used x c.args.port) c.self.view_is
 
 pub returns-clause-value : goal.returns-clause-value

@@ -1,7 +1,7 @@
 use Rattle.std.proofs.Common.{◌≡◌, ◌<◌, ◌+◌, ◌*◌, [], ℕ, sym, ap, ◌∙◌, length, arith}
 use Rattle.std.specs.Prelude.{slice_index_or, slice_set}
-use Rattle.message_queues.specs.Queues.{port_used, left_of}
-use Rattle.message_queues.proofs.Withdrawals.{unused, port-below, found, withdrawn-step}
+use Rattle.message_queues.specs.Queues.{port_used, left_of, withdrawn_of}
+use Rattle.message_queues.proofs.Steps.{here, unused, port-below, found, withdrawn-step}
 use Rattle.message_queues.proofs.queues.Queues.withdraw_port.Goals as goal
 
 pub returns-then-port_used-eq0-clause-tickets : goal.returns-then-port_used-eq0-clause-tickets
@@ -14,18 +14,18 @@ returns-then-port_used-eq0-clause-rest c =
     let none : port_used c.args.self.now c.args.port ≡ 0 = sym c.port_used.ensures.value ∙ c.if-port_used-eq0.true in
     sym (unused c.args.self.now (16 * c.args.vp + c.args.sint) c.args.port c.requires none).1
 
-pub withdraw-tickets-requires-clause-held : goal.withdraw-tickets-requires-clause-held
-withdraw-tickets-requires-clause-held c =
+pub withdraw-tickets-requires-clause-linked : goal.withdraw-tickets-requires-clause-linked
+withdraw-tickets-requires-clause-linked c =
     let within : c.place_of.result < length c.args.self.now = omega (arith, c.place_of.ensures, c.requires) in
-    let below = port-below c.self.inside c.args.self.now c.args.port c.self.invariant c.self.view_is (λ none. c.if-port_used-eq0.false (c.port_used.ensures.value ∙ none)) in
-    let f = found c.self.inside c.args.self.now c.place_of.result c.index_mut-ring.result.now c.args.port c.self.invariant c.self.view_is within c.index_mut-ring.ensures.value below in
-    f.held
+    let h = here c.self.inside c.args.self.now c.place_of.result c.index_mut-chain.result.now c.self.invariant c.self.view_is within c.index_mut-chain.ensures.value in
+    let k = c.self.invariant.linked in
+    (k.owner, k.rank, c.place_of.result, k.each c.place_of.result c.index_mut-chain.result.now h.at)
 
 pub withdraw-tickets-requires-clause-few : goal.withdraw-tickets-requires-clause-few
 withdraw-tickets-requires-clause-few c =
     let within : c.place_of.result < length c.args.self.now = omega (arith, c.place_of.ensures, c.requires) in
     let below = port-below c.self.inside c.args.self.now c.args.port c.self.invariant c.self.view_is (λ none. c.if-port_used-eq0.false (c.port_used.ensures.value ∙ none)) in
-    let f = found c.self.inside c.args.self.now c.place_of.result c.index_mut-ring.result.now c.args.port c.self.invariant c.self.view_is within c.index_mut-ring.ensures.value below in
+    let f = found c.self.inside c.args.self.now c.place_of.result c.index_mut-chain.result.now c.args.port c.self.invariant c.self.view_is within c.index_mut-chain.ensures.value below in
     omega (arith, f.few, f.in_use)
 
 pub bounds-self-inside-port : goal.bounds-self-inside-port
@@ -37,8 +37,11 @@ pub overflow_sub-self : goal.overflow_sub-self
 overflow_sub-self c =
     let within : c.place_of.result < length c.args.self.now = omega (arith, c.place_of.ensures, c.requires) in
     let below = port-below c.self.inside c.args.self.now c.args.port c.self.invariant c.self.view_is (λ none. c.if-port_used-eq0.false (c.port_used.ensures.value ∙ none)) in
-    let f = found c.self.inside c.args.self.now c.place_of.result c.index_mut-ring.result.now c.args.port c.self.invariant c.self.view_is within c.index_mut-ring.ensures.value below in
-    omega (arith, f.few, c.len.ensures.value, ap length c.withdraw-tickets.ensures.withdrawn.tickets_are)
+    let h = here c.self.inside c.args.self.now c.place_of.result c.index_mut-chain.result.now c.self.invariant c.self.view_is within c.index_mut-chain.ensures.value in
+    let k = c.self.invariant.linked in
+    let w = c.withdraw-tickets.ensures.withdrawn k.owner k.rank c.place_of.result (k.each c.place_of.result c.index_mut-chain.result.now h.at) in
+    let f = found c.self.inside c.args.self.now c.place_of.result c.index_mut-chain.result.now c.args.port c.self.invariant c.self.view_is within c.index_mut-chain.ensures.value below in
+    omega (arith, f.few, c.len.ensures.value, ap length w.tickets_are)
 
 pub bounds-self-inside-port-2 : goal.bounds-self-inside-port-2
 bounds-self-inside-port-2 c =
@@ -49,14 +52,26 @@ pub invariant_of-self : goal.invariant_of-self
 invariant_of-self c =
     let within : c.place_of.result < length c.args.self.now = omega (arith, c.place_of.ensures, c.requires) in
     let below = port-below c.self.inside c.args.self.now c.args.port c.self.invariant c.self.view_is (λ none. c.if-port_used-eq0.false (c.port_used.ensures.value ∙ none)) in
-    let w = c.withdraw-tickets.ensures in
-    let s = withdrawn-step c.self.inside c.args.self.now c.place_of.result c.index_mut-ring.result.now c.withdraw-tickets.new.ring c.args.port c.len.result c.withdraw-tickets.result.items c.withdraw-tickets.new.buffers c.self.invariant c.self.view_is within c.index_mut-ring.ensures.value below w.withdrawn w.len w.capacity w.ring_capacity c.len.ensures.value in
-    record { kept = s.kept; held = s.held; room = s.room; owned = s.owned; counts = s.counts }
+    let h = here c.self.inside c.args.self.now c.place_of.result c.index_mut-chain.result.now c.self.invariant c.self.view_is within c.index_mut-chain.ensures.value in
+    let k = c.self.invariant.linked in
+    let w = c.withdraw-tickets.ensures.withdrawn k.owner k.rank c.place_of.result (k.each c.place_of.result c.index_mut-chain.result.now h.at) in
+    let s = withdrawn-step c.self.inside c.args.self.now c.place_of.result c.index_mut-chain.result.now c.withdraw-tickets.new.chain c.args.port c.len.result c.withdraw-tickets.result.items c.withdraw-tickets.new.buffers c.self.invariant c.self.view_is within c.index_mut-chain.ensures.value below w c.withdraw-tickets.ensures.len c.withdraw-tickets.ensures.capacity c.len.ensures.value in
+    record { linked = s.linked; held = s.held; both_ways = s.both_ways; room = s.room; owned = s.owned; counts = s.counts }
+
+pub returns-clause-tickets : goal.returns-clause-tickets
+returns-clause-tickets c =
+    let within : c.place_of.result < length c.args.self.now = omega (arith, c.place_of.ensures, c.requires) in
+    let h = here c.self.inside c.args.self.now c.place_of.result c.index_mut-chain.result.now c.self.invariant c.self.view_is within c.index_mut-chain.ensures.value in
+    let k = c.self.invariant.linked in
+    let w = c.withdraw-tickets.ensures.withdrawn k.owner k.rank c.place_of.result (k.each c.place_of.result c.index_mut-chain.result.now h.at) in
+    w.tickets_are ∙ ap (withdrawn_of c.args.port) (sym h.shown_row) ∙ ap (λ (k : ℕ). withdrawn_of c.args.port (slice_index_or c.args.self.now k [])) c.place_of.ensures
 
 pub returns-clause-rest : goal.returns-clause-rest
 returns-clause-rest c =
     let within : c.place_of.result < length c.args.self.now = omega (arith, c.place_of.ensures, c.requires) in
     let below = port-below c.self.inside c.args.self.now c.args.port c.self.invariant c.self.view_is (λ none. c.if-port_used-eq0.false (c.port_used.ensures.value ∙ none)) in
-    let w = c.withdraw-tickets.ensures in
-    let s = withdrawn-step c.self.inside c.args.self.now c.place_of.result c.index_mut-ring.result.now c.withdraw-tickets.new.ring c.args.port c.len.result c.withdraw-tickets.result.items c.withdraw-tickets.new.buffers c.self.invariant c.self.view_is within c.index_mut-ring.ensures.value below w.withdrawn w.len w.capacity w.ring_capacity c.len.ensures.value in
+    let h = here c.self.inside c.args.self.now c.place_of.result c.index_mut-chain.result.now c.self.invariant c.self.view_is within c.index_mut-chain.ensures.value in
+    let k = c.self.invariant.linked in
+    let w = c.withdraw-tickets.ensures.withdrawn k.owner k.rank c.place_of.result (k.each c.place_of.result c.index_mut-chain.result.now h.at) in
+    let s = withdrawn-step c.self.inside c.args.self.now c.place_of.result c.index_mut-chain.result.now c.withdraw-tickets.new.chain c.args.port c.len.result c.withdraw-tickets.result.items c.withdraw-tickets.new.buffers c.self.invariant c.self.view_is within c.index_mut-chain.ensures.value below w c.withdraw-tickets.ensures.len c.withdraw-tickets.ensures.capacity c.len.ensures.value in
     s.view_is ∙ ap (λ (k : ℕ). slice_set c.args.self.now k (left_of c.args.port (slice_index_or c.args.self.now k []))) c.place_of.ensures
