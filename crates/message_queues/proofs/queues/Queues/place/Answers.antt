@@ -1,4 +1,4 @@
-use Rattle.std.proofs.Common.{◌≡◌, ◌<◌, [], ℕ, List, ap, ◌∙◌, sym, refl, length, arith, drop}
+use Rattle.std.proofs.Common.{◌≤◌, ◌≡◌, ◌<◌, [], ℕ, List, ap, ◌∙◌, sym, refl, length, arith, drop}
 use Rattle.std.specs.Prelude.{slice_index_or, slice_set}
 use Rattle.std.specs.List.{slice_get}
 use Rattle.std.proofs.lemmas.List.{set-get_or}
@@ -55,7 +55,8 @@ overflow_sub-self c =
     let h = head-at c.self.inside c.args.self.now c.place_of.result c.index_mut-chain.result.now c.in-Some.key c.self.invariant c.self.view_is within c.index_mut-chain.ensures.value c.in-Some.is in
     let same = head-message c.self.inside c.args.self.now c.place_of.result c.index_mut-chain.result.now c.unlink-message.new.chain c.in-Some.key (get c.unlink-message.new.buffers) c.unlink-message.ensures.unlinked.0 c.unlink-message.result h c.unlink-message.ensures.unlinked.1 in
     let owner : owner_of h.b.message ≡ c.owner_of.result = ap owner_of same ∙ sym c.owner_of.ensures.value in
-    rw owner at h.used
+    let used : 1 ≤ slice_index_or c.self.inside.in_use c.owner_of.result 0 = rw owner at h.used in
+    omega (arith, used)
 
 pub invariant_of-self-2 : goal.invariant_of-self-2
 invariant_of-self-2 c =
