@@ -1,7 +1,8 @@
 // Events of all kinds: none of them takes memory.
 use crate::stopped::Stopped;
 use board_steps::{
-    EOM, SCONTROL, SIEFP, SIMP, SINT2, bytes, load, open, open_messages, post, start_timer, store, write,
+    EOM, SCONTROL, SIEFP, SIMP, SINT2, bytes, load, open, open_messages, post, start_timer, store,
+    write,
 };
 use board_terms::{Notices, PortShape, Vector};
 use std::alloc::Global;
@@ -65,10 +66,7 @@ fn events_take_no_memory(rt: HostRuntime) -> Result<(), Fail> {
             },
             Reply::Done,
         ),
-        (
-            Event::Take { vp: 0 },
-            Reply::Taken(Vector::new(0x68)),
-        ),
+        (Event::Take { vp: 0 }, Reply::Taken(Vector::new(0x68))),
         (
             Event::Read {
                 vp: 0,

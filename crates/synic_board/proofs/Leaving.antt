@@ -9,13 +9,13 @@ use Rattle.board_terms.specs.declared.refusal.Refusal.{Refusal}
 use Rattle.board_terms.specs.declared.pages.Owner.{Owner}
 use Rattle.board_terms.specs.declared.pages.Owner.TheVariants.{Guest, Sim, Sief, Nothing}
 use Rattle.gpa_space.specs.Page.{overwritten}
-use Rattle.gpa_space.specs.Space.{Space, visible, overlay_owner, owner_of, shown, with_shown, refusal_of, after_store}
+use Rattle.gpa_space.specs.Space.{visible, overlay_owner, owner_of, shown, with_shown, refusal_of}
 use Rattle.synic_board.specs.declared.event.Event.TheVariants.{Store}
 use Rattle.synic_board.specs.State.{State, space_of, with_space, slot_of}
-use Rattle.synic_board.specs.Effects.{Effect, nothing}
+use Rattle.synic_board.specs.Effects.{Effect}
 use Rattle.synic_board.specs.Delivery.{is_slot_empty}
-use Rattle.synic_board.specs.Stores.{consumed_ticket, consumed, consumed_below, consumed_in, with_bytes, stored_bytes}
-use Rattle.synic_board.specs.Scratch.{owners_of, scratch}
+use Rattle.synic_board.specs.Stores.{consumed_ticket, consumed, consumed_below, consumed_in, stored_bytes}
+use Rattle.synic_board.specs.Scratch.{scratch}
 use Rattle.synic_board.specs.Step.{step}
 use Rattle.synic_board.specs.Leaving.{LeavesSummary, LeavesHidden}
 use Rattle.synic_board.proofs.keeping.Requests.{either}

@@ -1,4 +1,4 @@
-use Rattle.std.proofs.Common.{rules, ◌≡◌, ◌<◌, ◌/◌, length, get_or, set, sym, ap, ◌∙◌, subst}
+use Rattle.std.proofs.Common.{rules, ◌<◌, ◌/◌, length, get_or, set, sym, ap, ◌∙◌, subst}
 use Rattle.std.proofs.lemmas.List.{get_or_default}
 use Rattle.gpa_space.specs.Visible.{AreVisible, looked_again}
 use Rattle.gpa_space.proofs.Visible.{keeps, as-many}
