@@ -5,13 +5,14 @@ use crate::board::events::{
     EOI, EOM, Event, Notices, SCONTROL, SIEFP, SIMP, SINT0, STIMER0_CONFIG, Shape,
 };
 
-pub const NAMES: [&str; 6] = [
+pub const NAMES: [&str; 7] = [
     "interrupts",
     "messages",
     "pages",
     "flags",
     "timers",
     "timer-messages",
+    "mixed",
 ];
 
 const PROCESSORS: u8 = 8;
@@ -22,6 +23,8 @@ const FEW_PAGES: u8 = 4;
 const OVERLAY_PAGE: u8 = 1;
 const FLAGS: u16 = 64;
 const SOURCE: u8 = 2;
+const POST_SOURCE: u8 = 3;
+const FLAG_SOURCE: u8 = 4;
 const DENSE_TICKS: u64 = 64;
 const DENSE_STEP: u64 = 50;
 const MESSAGE_STEP: u64 = 125;
@@ -45,6 +48,7 @@ impl Scene {
             "flags" => Some(flags()),
             "timers" => Some(timers()),
             "timer-messages" => Some(timer_messages()),
+            "mixed" => Some(mixed()),
             _ => None,
         }
     }
@@ -231,6 +235,66 @@ fn timer_messages() -> Scene {
     Scene {
         processors: PROCESSORS,
         pages: PROCESSORS,
+        setup,
+        round,
+        span,
+    }
+}
+
+fn open_port(port: u8, vp: u8, sint: u8, shape: Shape) -> Event<'static> {
+    Event::OpenPort {
+        port,
+        vp,
+        sint,
+        shape,
+    }
+}
+
+fn mixed() -> Scene {
+    let mut setup = Vec::new();
+    let mut round = Vec::new();
+    for vp in 0..PROCESSORS {
+        let port = PROCESSORS + vp;
+        let page = PROCESSORS + vp;
+        setup.push(write(vp, SCONTROL, 1));
+        setup.push(write(vp, SIMP, overlay_at(vp)));
+        setup.push(write(vp, SIEFP, overlay_at(page)));
+        for source in [SOURCE, POST_SOURCE, FLAG_SOURCE] {
+            let register = SINT0 + u32::from(source);
+            setup.push(write(vp, register, u64::from(0x50 + source)));
+        }
+        setup.push(open_port(vp, vp, POST_SOURCE, Shape::Messages { buffers: 2 }));
+        let count = FLAGS;
+        setup.push(open_port(port, vp, FLAG_SOURCE, Shape::Flags { base: 0, count }));
+        setup.extend(timer(vp, 0, 0x1003 | 0x40 << 4));
+        setup.extend(timer(vp, 1, 3 | u64::from(SOURCE) << 16));
+        let moment = MESSAGE_STEP * (u64::from(vp) + 1);
+        let post = Event::Post {
+            port: vp,
+            kind: 1,
+            payload: &[0x0a],
+        };
+        let assert = Event::Assert { vp, vector: 0x60 };
+        let signal = Event::Signal { port, flag: 0 };
+        for cause in [Event::Tick { moment }, assert, post, signal] {
+            round.extend([cause, Event::Take { vp }, write(vp, EOI, 0)]);
+        }
+        for source in [SOURCE, POST_SOURCE] {
+            round.push(store(slot_address(vp, source), [0; 8], 4));
+            round.push(write(vp, EOM, 0));
+        }
+        let address = u64::from(page) * 4096;
+        round.extend([
+            store(slot_address(page, FLAG_SOURCE), [0; 8], 8),
+            write(vp, SIEFP, overlay_at(PROCESSORS + page)),
+            Event::Load { address, length: 8 },
+            write(vp, SIEFP, overlay_at(page)),
+        ]);
+    }
+    let span = MESSAGE_STEP * u64::from(PROCESSORS);
+    Scene {
+        processors: PROCESSORS,
+        pages: 3 * PROCESSORS,
         setup,
         round,
         span,

@@ -59,10 +59,10 @@ pub(crate) fn write_timer_count(vp: u8, index: u8, count: u64) -> Event {
     write(vp, STIMER0_COUNT + 2 * index as u32, count)
 }
 
-pub(crate) fn open_port(port: u8, sint: u8, shape: PortShape) -> Event {
+pub(crate) fn open_port(port: u8, vp: u8, sint: u8, shape: PortShape) -> Event {
     Event::OpenPort {
         port,
-        vp: 0,
+        vp,
         sint,
         shape,
     }

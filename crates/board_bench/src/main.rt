@@ -24,7 +24,7 @@ Usage: board_bench [WORKLOAD] [EVENTS]
 Standard output: each workload, the events, their notices, the sum of the replies, and a digest of
 the first 2000 events. Standard error: each workload, the events, and nanoseconds an event.
 
-Workloads: interrupts, messages, pages, flags, timers, timer-messages (all, if none is named)
+Workloads: interrupts, messages, pages, flags, timers, timer-messages, mixed (all, if none is named)
 Events: 10000, if no number is given";
 
 /// What the command line asks for.

@@ -33,6 +33,11 @@ const FLAGS: u16 = 64;
 /// The source of event flags and of timers.
 const SOURCE: u8 = 2;
 
+/// The sources of posts and of event flags where timers have one of their own.
+const POST_SOURCE: u8 = 3;
+
+const FLAG_SOURCE: u8 = 4;
+
 const SOURCE_VECTOR: u8 = 0x50;
 
 /// The vector of the first source or timer, below those of the others.
@@ -91,6 +96,7 @@ impl Scene {
             Workload::Flags => flags(alloc),
             Workload::Timers => timers(alloc),
             Workload::TimerMessages => timer_messages(alloc),
+            Workload::Mixed => mixed(alloc),
         }
     }
 
@@ -128,7 +134,7 @@ fn messages(alloc: Global) -> Result<Scene, AllocError> {
     setup.push(write(0, SIMP, overlay_at(OVERLAY_PAGE)))?;
     for port in 0..PORTS {
         setup.push(write_source(0, port, FIRST_VECTOR + port))?;
-        setup.push(open_port(port, port, shape))?;
+        setup.push(open_port(port, 0, port, shape))?;
         round.push(post(port))?;
         round.push(empty_slot(OVERLAY_PAGE, port))?;
         round.push(write(0, EOM, 0))?;
@@ -172,7 +178,7 @@ fn flags(alloc: Global) -> Result<Scene, AllocError> {
     setup.push(write(0, SCONTROL, ENABLE))?;
     setup.push(write(0, SIEFP, overlay_at(OVERLAY_PAGE)))?;
     setup.push(write_source(0, SOURCE, SOURCE_VECTOR))?;
-    setup.push(open_port(0, SOURCE, shape))?;
+    setup.push(open_port(0, 0, SOURCE, shape))?;
     for flag in 0..FLAGS {
         round.push(Event::Signal { port: 0, flag })?;
     }
@@ -235,6 +241,79 @@ fn timer_messages(alloc: Global) -> Result<Scene, AllocError> {
         round,
         span: MESSAGE_STEP * PROCESSORS as u64,
     })
+}
+
+/// Each processor has a page of messages, one of event flags that moves to and fro, a message port, an
+/// event port, a timer in direct mode and one that posts.
+fn mixed(alloc: Global) -> Result<Scene, AllocError> {
+    let mut setup = Vec::new(alloc);
+    let mut round = Vec::new(alloc);
+    for vp in 0..PROCESSORS {
+        set_up_mixed(vp, &mut setup)?;
+        interrupt_mixed(vp, &mut round)?;
+        store_mixed(vp, &mut round)?;
+    }
+    Ok(Scene {
+        processors: PROCESSORS,
+        pages: 3 * PROCESSORS,
+        setup,
+        round,
+        span: MESSAGE_STEP * PROCESSORS as u64,
+    })
+}
+
+fn set_up_mixed(vp: u8, setup: &mut Vec<Event>) -> Result<(), AllocError> {
+    let messages = PortShape::Messages { buffers: BUFFERS };
+    let flags = PortShape::Flags {
+        base: 0,
+        count: FLAGS,
+    };
+    setup.push(write(vp, SCONTROL, ENABLE))?;
+    setup.push(write(vp, SIMP, overlay_at(vp)))?;
+    setup.push(write(vp, SIEFP, overlay_at(PROCESSORS + vp)))?;
+    for source in [SOURCE, POST_SOURCE, FLAG_SOURCE] {
+        setup.push(write_source(vp, source, SOURCE_VECTOR + source))?;
+    }
+    setup.push(open_port(vp, vp, POST_SOURCE, messages))?;
+    setup.push(open_port(PROCESSORS + vp, vp, FLAG_SOURCE, flags))?;
+    let direct = PERIODIC + DIRECT + VECTOR_PLACE * FIRST_VECTOR as u64;
+    let posted = PERIODIC + SOURCE_PLACE * SOURCE as u64;
+    setup.push(write_timer_count(vp, 0, period(vp, 0)))?;
+    setup.push(write_timer_config(vp, 0, direct))?;
+    setup.push(write_timer_count(vp, 1, period(vp, 1)))?;
+    setup.push(write_timer_config(vp, 1, posted))?;
+    Ok(())
+}
+
+/// The clock goes on, a device interrupts, a message is posted, and a flag is signalled; behind each
+/// a vector is taken and ended.
+fn interrupt_mixed(vp: u8, round: &mut Vec<Event>) -> Result<(), AllocError> {
+    let moment = MESSAGE_STEP * (vp as u64 + 1);
+    let port = PROCESSORS + vp;
+    let signal = Event::Signal { port, flag: 0 };
+    for cause in [Event::Tick { moment }, assert_vector(vp), post(vp), signal] {
+        round.push(cause)?;
+        round.push(Event::Take { vp })?;
+        round.push(write(vp, EOI, 0))?;
+    }
+    Ok(())
+}
+
+/// The messages are consumed, the flag is cleared, and the page of event flags moves away and back.
+fn store_mixed(vp: u8, round: &mut Vec<Event>) -> Result<(), AllocError> {
+    let page = PROCESSORS + vp;
+    for source in [SOURCE, POST_SOURCE] {
+        round.push(empty_slot(vp, source))?;
+        round.push(write(vp, EOM, 0))?;
+    }
+    round.push(clear_flags(page, FLAG_SOURCE))?;
+    round.push(write(vp, SIEFP, overlay_at(PROCESSORS + page)))?;
+    round.push(Event::Load {
+        address: page as u64 * PAGE,
+        length: LOADED,
+    })?;
+    round.push(write(vp, SIEFP, overlay_at(page)))?;
+    Ok(())
 }
 
 /// The value of SIMP or SIEFP with which an overlay lies at a page.

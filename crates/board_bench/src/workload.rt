@@ -15,17 +15,20 @@ pub(crate) enum Workload {
     Timers,
     /// 32 periodic timers whose messages are consumed.
     TimerMessages,
+    /// Some of each in turn, on eight processors.
+    Mixed,
 }
 
 impl Workload {
     /// All workloads, in the order in which they are measured.
-    pub(crate) const ALL: [Workload; 6] = [
+    pub(crate) const ALL: [Workload; 7] = [
         Workload::Interrupts,
         Workload::Messages,
         Workload::Pages,
         Workload::Flags,
         Workload::Timers,
         Workload::TimerMessages,
+        Workload::Mixed,
     ];
 
     /// The name, as the command line has it.
@@ -37,6 +40,7 @@ impl Workload {
             Workload::Flags => "flags",
             Workload::Timers => "timers",
             Workload::TimerMessages => "timer-messages",
+            Workload::Mixed => "mixed",
         }
     }
 

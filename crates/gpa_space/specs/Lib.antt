@@ -1,5 +1,5 @@
 pub mod Page
 pub mod Space
-pub mod Visible
+pub mod Lying
 pub mod View
 pub mod Laws

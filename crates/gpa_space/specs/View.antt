@@ -1,7 +1,7 @@
 -- What the fields stand for, and what they keep.
 use Rattle.std.specs.Prelude.{◌≡◌, ◌≤◌, length}
 use Rattle.gpa_space.specs.Space.{Space}
-use Rattle.gpa_space.specs.Visible.{AreVisible}
+use Rattle.gpa_space.specs.Lying.{AreLying}
 use Rattle.gpa_space.specs.declared.space.Space.TheInside.{Inside}
 
 abbrev pub space_of : Inside → Space
@@ -12,6 +12,6 @@ pub record IsKept (s : Inside) : Type 0 where
   pub few : length s.registers.items ≤ 16
   -- each overlay has its own page
   pub own : length s.own.items ≡ length s.registers.items
-  -- what is visible is kept for each guest page
-  pub each : length s.overlays.items ≡ length s.pages.items
-  pub visible : AreVisible s.registers.items s.overlays.items
+  -- there is a word for each guest page
+  pub each : length s.lying.words.items ≡ length s.pages.items
+  pub lying : AreLying s.registers.items s.lying.words.items

@@ -3,6 +3,7 @@
 #![tactic(auto)]
 
 mod laws;
+mod lying;
 mod page;
 mod space;
 #[cfg(test)]

@@ -1,10 +1,10 @@
 // Guest pages, and the overlay pages above them.
-ghost use Rattle.std.specs.Prelude.{◌≡◌, ◌<◌, ◌≤◌, ◌*◌, ◌/◌, length, not, IfOk, replicate, position};
+ghost use Rattle.std.specs.Prelude.{◌≡◌, ◌==◌, ◌<◌, ◌≤◌, ◌*◌, ◌/◌, length, not, IfOk, replicate, bit_and};
 ghost use Rattle.board_terms.specs.declared.pages.Kind.TheVariants as kind;
 ghost use Rattle.gpa_space.specs.Page.{zero_page};
-ghost use Rattle.gpa_space.specs.Visible.{looked_again};
-ghost use Rattle.gpa_space.specs.Space.{opened, processors_of, overlay_of, with_register, lies_at, visible, overlay_owner, owner_of, refusal_of, loaded, store_answer, after_store, own_page, after_slot, is_pending, after_pending, is_flag_set, after_flag};
+ghost use Rattle.gpa_space.specs.Space.{opened, processors_of, overlay_of, with_register, visible, overlay_owner, owner_of, refusal_of, loaded, store_answer, after_store, own_page, after_slot, is_pending, after_pending, is_flag_set, after_flag};
 
+use crate::lying::Lying;
 use crate::page::{MESSAGE_FLAGS, Page, SIZE, SLOT_SIZE};
 use board_terms::{Bytes8, Kind, Owner, Refusal, Sint, Vp};
 use std::alloc::{AllocError, Global};
@@ -22,9 +22,9 @@ pub struct Space {
     // The registers of the overlays and their own pages, in the order of visibility.
     registers: Vec<u64>,
     own: Vec<Page>,
-    // For each guest page the number of the overlay that is visible there, which is the first whose
-    // register says that it lies there. `set_overlay` alone writes registers, and keeps it so.
-    overlays: Vec<Option<usize>>,
+    // The overlays at each guest page, as their registers say it. `set_overlay` alone writes
+    // registers, and keeps it so.
+    lying: Lying,
 }
 
 impl Model for Space {
@@ -54,13 +54,13 @@ impl Space {
         let overlays = 2 * processors as usize;
         let registers = vec![in alloc; 0; overlays]?;
         let own = zero_pages(alloc, overlays)?;
-        let visible = vec![in alloc; None; pages as usize]?;
+        let lying = Lying::open(alloc, pages)?;
         let pages = zero_pages(alloc, pages as usize)?;
         Ok(Space {
             pages,
             registers,
             own,
-            overlays: visible,
+            lying,
         })
     }
 
@@ -73,19 +73,10 @@ impl Space {
         let overlay = overlay_of(vp, kind);
         let before = self.registers[overlay];
         self.registers[overlay] = register;
-        // At each other page the same overlays lie as before.
-        look_again(
-            &self.registers,
-            &mut self.overlays,
-            overlay,
-            page_of(before),
-        );
-        look_again(
-            &self.registers,
-            &mut self.overlays,
-            overlay,
-            page_of(register),
-        );
+        // At any other page it lies no more than before.
+        self.lying.mark(page_of(before), overlay, false);
+        self.lying
+            .mark(page_of(register), overlay, is_enabled(register));
     }
 
     /// The number of the overlay that is visible at a guest page.
@@ -93,7 +84,7 @@ impl Space {
         requires { page < length self.now.pages }
         ensures { result ≡ visible self.now page }
     {
-        self.overlays[page as usize]
+        self.lying.first(page as usize)
     }
 
     /// Whose page a guest sees at a page number.
@@ -221,39 +212,11 @@ fn page_of(register: u64) -> u64
     register / SIZE as u64
 }
 
-/// Looks again which overlay is visible at a page, where a register was written: the overlay may
-/// have come to the page, and hide another, or have left it.
-fn look_again(registers: &Vec<u64>, overlays: &mut Vec<Option<usize>>, overlay: usize, page: u64)
-    requires { overlay < length registers.now.items }
-    ensures { overlays.new.items ≡ looked_again registers.now.items overlays.old.items overlay page }
+/// Whether the register of an overlay enables it.
+fn is_enabled(register: u64) -> bool
+    ensures { result ≡ (bit_and register 1 == 1) }
 {
-    if page >= overlays.len() as u64 {
-        return;
-    }
-    let at = page as usize;
-    if lies_at(registers[overlay], page) {
-        if overlays[at].is_none_or(|first| overlay < first) {
-            overlays[at] = Some(overlay);
-        }
-    } else if overlays[at] == Some(overlay) {
-        overlays[at] = first_at(registers, page);
-    }
-}
-
-/// The first overlay in the order of visibility that lies at a page number.
-fn first_at(registers: &Vec<u64>, page: u64) -> Option<usize>
-    ensures { result ≡ position (lies_at page) registers.now.items }
-{
-    registers
-        .iter()
-        .position(|register| lies_at(*register, page))
-}
-
-/// Whether an overlay with this register is enabled and lies at a page number.
-fn lies_at(register: u64, page: u64) -> bool
-    ensures { result ≡ lies_at page register }
-{
-    register & ENABLE == ENABLE && register / SIZE as u64 == page
+    register & ENABLE == ENABLE
 }
 
 /// The number of an overlay in the order of visibility.

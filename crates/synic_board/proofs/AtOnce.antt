@@ -12,7 +12,7 @@ use Rattle.gpa_space.specs.Space.{after_slot}
 use Rattle.synic_board.specs.State.{State, space_of, with_space, with_slot_ticket}
 use Rattle.synic_board.specs.Effects.{Effect, nothing, after}
 use Rattle.synic_board.specs.Interrupts.{raised}
-use Rattle.synic_board.specs.Delivery.{delivers, is_slot_empty, is_free, placed_head, placed_at_once, marked, tried, accepted, delivered}
+use Rattle.synic_board.specs.Delivery.{delivers, is_slot_empty, delivers_at_once, placed_head, placed_at_once, marked, tried, accepted, delivered}
 
 -- an empty queue
 nothing-queued : (q : List Message) → nat_lt 0 (length q) ≡ false → q ≡ []
@@ -20,7 +20,7 @@ nothing-queued [] h = refl
 nothing-queued (m ∷ q) h = absurd (grind (arith, nat_tests))
 
 -- what a free slot is
-record IsOpen (s : State) (p i : ℕ) : Type 0 where
+record DeliversAtOnce (s : State) (p i : ℕ) : Type 0 where
   enabled : delivers s p ≡ true
   none : queue_of s.queues p i ≡ []
   empty : is_slot_empty s p i ≡ true
@@ -31,15 +31,15 @@ parts true false false h = absurd (cc)
 parts true true c h = absurd (cc)
 parts false b c h = absurd (cc)
 
-opened : (s : State) (p i : ℕ) → is_free s p i ≡ true → IsOpen s p i
-opened s p i h =
+delivering : (s : State) (p i : ℕ) → delivers_at_once s p i ≡ true → DeliversAtOnce s p i
+delivering s p i h =
     let all = parts (delivers s p) (nat_lt 0 (length (queue_of s.queues p i))) (is_slot_empty s p i) h in
     record { enabled = all.0; none = nothing-queued (queue_of s.queues p i) all.1; empty = all.2 }
 
-pub at-once : (s : State) (p i : ℕ) (m : Message) → is_free s p i ≡ true → place_of p i < length s.queues → delivered s p i m ≡ after (placed_at_once s p i m) (raised (placed_at_once s p i m).0 p i)
+pub at-once : (s : State) (p i : ℕ) (m : Message) → delivers_at_once s p i ≡ true → place_of p i < length s.queues → delivered s p i m ≡ after (placed_at_once s p i m) (raised (placed_at_once s p i m).0 p i)
 unfolding tried
 at-once s p i m free within =
-    let h = opened s p i free in
+    let h = delivering s p i free in
     let a : State = (accepted s p i m).0 in
     let one : queue_of a.queues p i ≡ m ∷ [] = get_or-set_same s.queues (place_of p i) (queue_of s.queues p i ++ m ∷ []) [] within ∙ ap (λ (q : List Message). q ++ m ∷ []) h.none in
     let back : set a.queues (place_of p i) [] ≡ s.queues = set-set s.queues (place_of p i) (queue_of s.queues p i ++ m ∷ []) [] ∙ ap (set s.queues (place_of p i)) (sym h.none) ∙ set-get_or s.queues (place_of p i) [] in

@@ -22,8 +22,8 @@ abbrev pub is_slot_empty : State → ℕ → ℕ → Bool
 is_slot_empty s p i = slot_type (own_page (space_of s) p Sim) i == 0
 
 -- a message would go into its slot at once: nothing is queued before it
-abbrev pub is_free : State → ℕ → ℕ → Bool
-is_free s p i = delivers s p && not (nat_lt 0 (length (queue_of s.queues p i))) && is_slot_empty s p i
+abbrev pub delivers_at_once : State → ℕ → ℕ → Bool
+delivers_at_once s p i = delivers s p && not (nat_lt 0 (length (queue_of s.queues p i))) && is_slot_empty s p i
 
 -- the head of the queue is placed in the slot, with the rest left behind
 abbrev pub placed_state : State → ℕ → ℕ → Message → List Message → State

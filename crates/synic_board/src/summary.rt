@@ -103,7 +103,7 @@ impl Summary {
             Entry::Queued(vp, sint, count) => {
                 let at = vp.number() as usize;
                 self.queued[place_of(vp, sint)] = count;
-                self.waiting[at] = marked(self.waiting[at], sint, count > 0);
+                self.waiting[at] = with_source(self.waiting[at], sint, count > 0);
             }
             Entry::Earliest(earliest) => self.earliest = earliest,
         }
@@ -175,7 +175,7 @@ impl Summary {
 }
 
 /// A word whose bit of a source tells whether something is queued for it; its other bits stay.
-fn marked(word: u16, sint: Sint, waits: bool) -> u16
+fn with_source(word: u16, sint: Sint, waits: bool) -> u16
     ensures here { (bit_at result sint == 1) ≡ waits }
     ensures others { (i : ℕ) → i < 16 → i ≢ sint → bit_at result i ≡ bit_at word i }
 {

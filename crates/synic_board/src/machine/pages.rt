@@ -12,12 +12,12 @@ use crate::summary::place_of;
 use board_terms::{Bytes8, Notice, Notices, Owner, Sint, Vp};
 
 /// The number of bytes of a page.
-const PAGE: u64 = 4096;
+const PAGE_SIZE: u64 = 4096;
 
 /// The number of bytes of a message slot, and of the type in front of it (TLFS, "SynIC Message").
-const SLOT: usize = 256;
+const SLOT_SIZE: usize = 256;
 
-const TYPE: usize = 4;
+const TYPE_SIZE: usize = 4;
 
 impl Machine {
     /// Loads bytes from the page that the guest sees at the address.
@@ -42,7 +42,7 @@ impl Machine {
             Ok(owner) => owner,
             Err(refusal) => return Reply::Refused(refusal),
         };
-        let slot = touched((address % PAGE) as usize, bytes.len());
+        let slot = touched((address % PAGE_SIZE) as usize, bytes.len());
         self.consume_in(owner, slot, notices);
         Reply::Done
     }
@@ -98,8 +98,8 @@ fn touched(at: usize, count: usize) -> Option<Sint>
     ensures value { result ≡ touched at count }
     ensures range { IfSome result (λ sint. sint < 16) }
 {
-    let slot = (at + count - 1) / SLOT;
-    if at < SLOT * slot + TYPE {
+    let slot = (at + count - 1) / SLOT_SIZE;
+    if at < SLOT_SIZE * slot + TYPE_SIZE {
         Sint::new(slot as u8)
     } else {
         None

@@ -2,7 +2,7 @@ use Rattle.std.proofs.Common.{◌*◌, ◌%◌, ◌^◌, ◌-◌, ap, sym, ◌�
 use Rattle.std.specs.Prelude.{◌==◌}
 use Rattle.std.specs.Int.{bit_at, w16}
 use Rattle.std.proofs.lemmas.Nat.Bits.{bit_at_set_same, bit_at_set_other, bit_at_clear_same, bit_at_clear_other}
-use Rattle.synic_board.proofs.summary.marked.Goals as goal
+use Rattle.synic_board.proofs.summary.with_source.Goals as goal
 
 pub returns-then-waits-clause-here : goal.returns-then-waits-clause-here
 returns-then-waits-clause-here c =

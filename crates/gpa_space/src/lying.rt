@@ -1,0 +1,56 @@
+// Which overlays lie at each guest page.
+ghost use Rattle.std.specs.Prelude.{◌≡◌, ◌≢◌, ◌==◌, ℕ, ◌<◌, length, replicate, IfOk, slice_index_or};
+ghost use Rattle.std.specs.Int.{bit_at};
+ghost use Rattle.gpa_space.specs.Lying.{IsLowest, Marks};
+
+use std::alloc::{AllocError, Global};
+
+/// For each guest page a word: bit i is 1 where overlay i lies at the page.
+#[derive(Drop)]
+pub(crate) struct Lying {
+    words: Vec<u16>,
+}
+
+impl Lying {
+    /// No overlay lies at any page.
+    pub(crate) fn open(alloc: Global, pages: u8) -> Result<Lying, AllocError>
+        ensures { IfOk result (λ lying. lying.words.items ≡ replicate pages 0) }
+    {
+        let words = vec![in alloc; 0; pages as usize]?;
+        Ok(Lying { words })
+    }
+
+    /// The first overlay in the order of visibility that lies at a page.
+    #[inline]
+    pub(crate) fn first(&self, page: usize) -> Option<usize>
+        requires { page < length self.now.words.items }
+        ensures { IsLowest (slice_index_or self.now.words.items page 0) result }
+    {
+        let word = self.words[page];
+        if word == 0 {
+            return None;
+        }
+        Some(word.trailing_zeros() as usize)
+    }
+
+    /// An overlay comes to a page, or leaves it, if the page is one of the space.
+    pub(crate) fn mark(&mut self, page: u64, overlay: usize, lies: bool)
+        requires { overlay < 16 }
+        ensures { Marks self.old.words.items self.new.words.items page overlay lies }
+    {
+        if page < self.words.len() as u64 {
+            let at = page as usize;
+            self.words[at] = with_overlay(self.words[at], overlay, lies);
+        }
+    }
+}
+
+/// A word with a bit that tells whether an overlay lies there; its other bits stay.
+fn with_overlay(word: u16, overlay: usize, lies: bool) -> u16
+    requires { overlay < 16 }
+    ensures here { (bit_at result overlay == 1) ≡ lies }
+    ensures others { (i : ℕ) → i < 16 → i ≢ overlay → bit_at result i ≡ bit_at word i }
+{
+    let bit = 1 << overlay;
+    if lies { word | bit } else { word & !bit }
+}
