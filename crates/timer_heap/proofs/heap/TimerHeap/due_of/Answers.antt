@@ -7,7 +7,7 @@ use Rattle.timer_heap.proofs.heap.TimerHeap.due_of.Goals as goal
 
 pub entry-requires : goal.entry-requires
 entry-requires c =
-    let at : place_of c.self.inside.table c.number_of.result ≡ Some c.in-Some.place = cc in
+    let at : place_of c.self.inside.table c.number.result ≡ Some c.in-Some.place = cc in
     let inside = (c.self.invariant.inverse.there _ _ at).0 in
     omega arith
 

@@ -16,5 +16,5 @@ returns c =
     let t = c.self.inside.table in
     let some : 0 < size t = omega arith in
     let one = c.entry-entry.ensures in
-    let two = c.timer_of.ensures in
+    let two : c.unwrap.result ≡ timer_of c.entry-entry.result.number = rw c.unwrap.ensures at c.from_number.ensures.value in
     (λ i. Some ((one i).due, two i)) ∙ (λ i. Some ((entry_at t 0).due, timer_of (one i).number)) ∙ sym (ap least (sym c.self.view_is) ∙ heap_least t c.self.invariant.inverse some c.self.invariant.ordered)
