@@ -3,7 +3,6 @@ ghost use Rattle.std.specs.Prelude.{◌≡◌, ℕ, ◌+◌, ◌*◌, ◌<◌, �
 ghost use Rattle.board_terms.specs.Dues.{number_of, due_of, least};
 ghost use Rattle.timer_heap.specs.Heap.{no_dues, NoOther, Other, FirstOfThree, MarksDue};
 
-use crate::entry::Entry;
 use crate::table::Table;
 use arrayvec::ArrayVec;
 use board_terms::TimerId;
@@ -38,8 +37,9 @@ impl TimerHeap {
     {
         TimerHeap {
             table: Table {
-                entries: ArrayVec::new(),
+                order: ArrayVec::new(),
                 places: [None; 32],
+                moments: [0; 32],
             },
         }
     }
@@ -53,13 +53,9 @@ impl TimerHeap {
         ensures beside { Other self.old timer → 0 < result }
     {
         let number = timer.number();
-        let entry = Entry {
-            due,
-            number: number as u64,
-        };
         match self.table.place(number) {
-            Some(place) => self.table.change(place as usize, entry),
-            None => self.table.add(entry),
+            Some(place) => self.table.change(place as usize, number, due),
+            None => self.table.add(number, due),
         }
     }
 
@@ -86,16 +82,18 @@ impl TimerHeap {
         if self.table.len() == 0 {
             return None;
         }
-        let entry = self.table.entry(0);
-        Some((entry.due, TimerId::from_number(entry.number as u8).unwrap()))
+        let number = self.table.number(0);
+        let timer = TimerId::from_number(number).unwrap();
+        Some((self.table.moment(number), timer))
     }
 
     /// When a timer is due, if it is.
     pub fn due_of(&self, timer: TimerId) -> Option<u128>
         ensures { result ≡ due_of self.now timer }
     {
-        match self.table.place(timer.number()) {
-            Some(place) => Some(self.table.entry(place as usize).due),
+        let number = timer.number();
+        match self.table.place(number) {
+            Some(_) => Some(self.table.moment(number)),
             None => None,
         }
     }
