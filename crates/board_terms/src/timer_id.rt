@@ -1,5 +1,6 @@
 // A synthetic timer.
 ghost use Rattle.std.specs.Prelude.{◌≡◌, ◌<◌, ◌↔◌, IsSome, IfSome};
+ghost use Rattle.board_terms.specs.Dues.{number_of, timer_of};
 
 use crate::vp::Vp;
 use std::marker::Model;
@@ -36,6 +37,17 @@ impl TimerId {
         }
     }
 
+    /// The timer of that number, 4 * processor + index; `None` above 31.
+    pub fn from_number(number: u8) -> Option<TimerId>
+        ensures valid { IsSome result ↔ (number < 32) }
+        ensures value { IfSome result (λ t. t ≡ timer_of number) }
+    {
+        match Vp::new(number / 4) {
+            Some(vp) => TimerId::new(vp, number % 4),
+            None => None,
+        }
+    }
+
     /// Its processor.
     pub fn vp(self) -> Vp
         ensures { result ≡ self.0 }
@@ -49,5 +61,13 @@ impl TimerId {
         ensures range { result < 4 }
     {
         self.index
+    }
+
+    /// Its number among all timers, 0 to 31: 4 * processor + index.
+    pub fn number(self) -> u8
+        ensures value { result ≡ number_of self }
+        ensures range { result < 32 }
+    {
+        4 * self.vp.number() + self.index
     }
 }

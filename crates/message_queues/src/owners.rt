@@ -32,5 +32,5 @@ pub(crate) fn owner_of_timer(timer: TimerId) -> usize
     ensures index { timer.1 < 4 }
     ensures range { result < 48 }
 {
-    16 + (4 * timer.vp().number() as usize + timer.index() as usize)
+    PORTS + timer.number() as usize
 }

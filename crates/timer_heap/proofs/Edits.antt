@@ -1,4 +1,4 @@
--- The table when an entry comes, changes or goes.
+-- The table when a timer comes, changes or goes.
 use Rattle.std.proofs.Common.{◌≡◌, ◌≢◌, ℕ, zero, suc, ◌+◌, ◌-◌, ◌<◌, ◌≤◌, List, inl, inr, [], ◌∷◌, ◌++◌, length, set, get_or, map, take, refl, sym, ap, ◌∙◌, arith}
 use Rattle.std.specs.Prelude.{Option, None, Some}
 use Rattle.std.proofs.lemmas.Bool.{cases_eq, cases_lt}
@@ -6,9 +6,9 @@ use Rattle.std.proofs.lemmas.Option.{none-some, same_Some}
 use Rattle.std.proofs.lemmas.List.{get_or-set_same, get_or-set_other, get_or_past, get_or-map, same_lists, length-set, length-map, get_or_default, get_or_append_left, get_or_push, get_or-take, length-take-le, length_push, set-get_or, set-set, set_comm, set_at, take-set}
 use Rattle.timer_heap.specs.declared.entry.Entry.{Entry}
 use Rattle.timer_heap.specs.declared.table.Table.{Table}
-use Rattle.timer_heap.specs.Table.{size, dues, due_through, entry_at, place_of, key, rank, parent, no_entry, with_entry, IsInverse, IsOrdered}
+use Rattle.timer_heap.specs.Table.{size, dues, due_through, number_at, moment_of, entry_of, entry_at, place_of, key, rank, parent, with_number, IsInverse, IsOrdered}
 use Rattle.timer_heap.specs.Moves.{IsNear, IsMoving}
-use Rattle.timer_heap.proofs.Inverse.{in_table, with_here, with_other, size_with, IsExchanged, exchanged_entries, exchange_inverse, exchange_dues}
+use Rattle.timer_heap.proofs.Inverse.{in_table, size_with, IsExchanged, exchanged_numbers, exchange_inverse, exchange_dues}
 
 -- when a timer is due
 pub dues_at : (t : Table) (n : ℕ) → get_or (dues t) n None ≡ due_through t (place_of t n)
@@ -39,63 +39,79 @@ dues_set t t' n x inside long here others =
       | inr e ↦ others k e ∙ sym (get_or-set_other (dues t) n k x None e ∙ dues_at t k)
     ] ∙ get_or_default (set (dues t) n x) k None d h')
 
--- an entry joins the end
-module _ (t pushed : Table) (e : Entry) (inverse : IsInverse t) (low : e.number < 32) (absent : place_of t e.number ≡ None) (room : size t < 32) (more : pushed.entries.items ≡ t.entries.items ++ e ∷ []) (same : pushed.places ≡ t.places) where
+same_entry : (t t' : Table) (i : ℕ) → number_at t' i ≡ number_at t i → moment_of t' (number_at t i) ≡ moment_of t (number_at t i) → entry_at t' i ≡ entry_at t i
+same_entry t t' i a b = ap (entry_of t') a ∙ (λ j. record { due = b j; number = number_at t i })
+
+-- a timer joins the end
+module _ (t pushed : Table) (e due : ℕ) (inverse : IsInverse t) (low : e < 32) (absent : place_of t e ≡ None) (room : size t < 32)
+    (more : pushed.order.items ≡ t.order.items ++ e ∷ []) (same : pushed.places ≡ t.places) (clock : pushed.moments ≡ set t.moments e due) where
   abbrev t' : Table
-  t' = with_entry pushed (size t) e
+  t' = with_number pushed (size t) e
 
-  entries : t'.entries.items ≡ t.entries.items ++ e ∷ []
-  entries = ap (λ xs. set xs (size t) e) more ∙ set_at t.entries.items e [] e (size t) refl
+  numbers : t'.order.items ≡ t.order.items ++ e ∷ []
+  numbers = ap (λ xs. set xs (size t) e) more ∙ set_at t.order.items e [] e (size t) refl
 
-  written : t'.places ≡ set t.places e.number (Some (size t))
-  written = ap (λ xs. set xs e.number (Some (size t))) same
+  written : t'.places ≡ set t.places e (Some (size t))
+  written = ap (λ xs. set xs e (Some (size t))) same
 
   add_size : size t' ≡ size t + 1
-  add_size = ap length entries ∙ length_push t.entries.items e
+  add_size = ap length numbers ∙ length_push t.order.items e
 
-  add_last : entry_at t' (size t) ≡ e
-  add_last = ap (λ xs. get_or xs (size t) no_entry) entries ∙ get_or_push t.entries.items e no_entry (size t) refl
+  add_last : number_at t' (size t) ≡ e
+  add_last = ap (λ xs. get_or xs (size t) 0) numbers ∙ get_or_push t.order.items e 0 (size t) refl
+
+  add_number : (i : ℕ) → i < size t → number_at t' i ≡ number_at t i
+  add_number i h = ap (λ xs. get_or xs i 0) numbers ∙ get_or_append_left t.order.items (e ∷ []) 0 i h
+
+  add_apart : (i : ℕ) → i < size t → number_at t i ≢ e
+  add_apart i h x = none-some i (sym absent ∙ ap (place_of t) (sym x) ∙ inverse.back i h)
+
+  add_here : moment_of t' e ≡ due
+  add_here = ap (λ xs. get_or xs e 0) clock ∙ get_or-set_same t.moments e due 0 (omega (arith, inverse.moments))
+
+  add_moment : (m : ℕ) → m ≢ e → moment_of t' m ≡ moment_of t m
+  add_moment m n = ap (λ xs. get_or xs m 0) clock ∙ get_or-set_other t.moments e m due 0 n
 
   add_others : (i : ℕ) → i < size t → entry_at t' i ≡ entry_at t i
-  add_others i h = ap (λ xs. get_or xs i no_entry) entries ∙ get_or_append_left t.entries.items (e ∷ []) no_entry i h
+  add_others i h = same_entry t t' i (add_number i h) (add_moment (number_at t i) (add_apart i h))
 
-  add_inside : e.number < length t.places
+  add_inside : e < length t.places
   add_inside = omega (arith, inverse.numbers)
 
-  add_place : place_of t' e.number ≡ Some (size t)
-  add_place = ap (λ xs. get_or xs e.number None) written ∙ get_or-set_same t.places e.number (Some (size t)) None add_inside
+  add_place : place_of t' e ≡ Some (size t)
+  add_place = ap (λ xs. get_or xs e None) written ∙ get_or-set_same t.places e (Some (size t)) None add_inside
 
-  add_places : (m : ℕ) → m ≢ e.number → place_of t' m ≡ place_of t m
-  add_places m n = ap (λ xs. get_or xs m None) written ∙ get_or-set_other t.places e.number m (Some (size t)) None n
+  add_places : (m : ℕ) → m ≢ e → place_of t' m ≡ place_of t m
+  add_places m n = ap (λ xs. get_or xs m None) written ∙ get_or-set_other t.places e m (Some (size t)) None n
 
   add_long : length t'.places ≡ length t.places
-  add_long = ap length written ∙ length-set t.places e.number (Some (size t))
+  add_long = ap length written ∙ length-set t.places e (Some (size t))
 
   add_inverse : IsInverse t'
   add_inverse = record {
     numbers = add_long ∙ inverse.numbers;
+    moments = ap length clock ∙ length-set t.moments e due ∙ inverse.moments;
     room = omega (arith, add_size);
     back = λ i h.
-        elim (cases_eq i (size t)) as (λ _. place_of t' (entry_at t' i).number ≡ Some i) [
+        elim (cases_eq i (size t)) as (λ _. place_of t' (number_at t' i) ≡ Some i) [
           | inl f ↦ rw (f, add_last) add_place
           | inr f ↦
               let l : i < size t = omega (arith, add_size) in
-              let old = inverse.back i l in
-              rw (add_others i l) (add_places _ (λ g. none-some i (sym absent ∙ ap (place_of t) (sym g) ∙ old)) ∙ old)
+              rw (add_number i l) (add_places _ (add_apart i l) ∙ inverse.back i l)
         ];
     there = λ m i h.
-        elim (cases_eq m e.number) as (λ _. (i < size t') × ((entry_at t' i).number ≡ m)) [
+        elim (cases_eq m e) as (λ _. (i < size t') × (number_at t' i ≡ m)) [
           | inl f ↦
               let g : size t ≡ i = same_Some (size t) i (sym add_place ∙ ap (place_of t') (sym f) ∙ h) in
               (omega (arith, add_size), rw (← g, add_last) (sym f))
           | inr f ↦
               let old = inverse.there m i (sym (add_places m f) ∙ h) in
-              (omega (arith, add_size, old.0), rw (add_others i old.0) old.1)
+              (omega (arith, add_size, old.0), rw (add_number i old.0) old.1)
         ];
   }
 
-  pub add_dues : dues t' ≡ set (dues t) e.number (Some e.due)
-  add_dues = dues_set t t' e.number (Some e.due) add_inside add_long (rw (add_place, add_last) refl)
+  pub add_dues : dues t' ≡ set (dues t) e (Some due)
+  add_dues = dues_set t t' e (Some due) add_inside add_long (rw (add_place, add_last, add_here) refl)
       (λ m n. rw (add_places m n) (due_kept t t' m (place_of t m) (λ i h. add_others i (inverse.there m i h).0)))
 
   add_near : IsOrdered (key t) (size t) → IsNear (key t') (size t') (size t)
@@ -116,122 +132,141 @@ module _ (t pushed : Table) (e : Entry) (inverse : IsInverse t) (low : e.number 
     near = rw (sym (size_with pushed (size t) e)) (add_near o);
   }
 
--- an entry gets another due moment
-module _ (t : Table) (p : ℕ) (e : Entry) (inverse : IsInverse t) (at : place_of t e.number ≡ Some p) where
+-- a timer gets another due moment
+module _ (t : Table) (p e due : ℕ) (inverse : IsInverse t) (low : e < 32) (at : place_of t e ≡ Some p) where
+  abbrev timed : Table
+  timed = record { order = t.order; places = t.places; moments = set t.moments e due }
+
   abbrev changed : Table
-  changed = with_entry t p e
+  changed = with_number timed p e
 
   change_in : p < size t
-  change_in = (inverse.there e.number p at).0
+  change_in = (inverse.there e p at).0
 
-  change_at : entry_at changed p ≡ e
-  change_at = with_here t p e change_in
+  change_order : changed.order.items ≡ t.order.items
+  change_order = ap (set t.order.items p) (sym (inverse.there e p at).1) ∙ set-get_or t.order.items p 0
 
   change_places : changed.places ≡ t.places
-  change_places = ap (set t.places e.number) (sym at) ∙ set-get_or t.places e.number None
+  change_places = ap (set t.places e) (sym at) ∙ set-get_or t.places e None
 
   change_place : (m : ℕ) → place_of changed m ≡ place_of t m
   change_place m = ap (λ xs. get_or xs m None) change_places
 
-  change_numbers : (i : ℕ) → (entry_at changed i).number ≡ (entry_at t i).number
-  change_numbers i =
-      elim (cases_eq i p) as (λ _. (entry_at changed i).number ≡ (entry_at t i).number) [
-        | inl x ↦ rw (x, change_at) (sym (inverse.there e.number p at).1)
-        | inr x ↦ ap (λ (y : Entry). y.number) (with_other t p e i x)
-      ]
+  change_number : (i : ℕ) → number_at changed i ≡ number_at t i
+  change_number i = ap (λ xs. get_or xs i 0) change_order
+
+  change_here : moment_of changed e ≡ due
+  change_here = get_or-set_same t.moments e due 0 (omega (arith, inverse.moments))
+
+  change_at : number_at changed p ≡ e
+  change_at = change_number p ∙ (inverse.there e p at).1
+
+  change_others : (i : ℕ) → i < size t → i ≢ p → entry_at changed i ≡ entry_at t i
+  change_others i h n =
+      same_entry t changed i (change_number i) (get_or-set_other t.moments e (number_at t i) due 0 (λ x. n (same_Some i p (sym (inverse.back i h) ∙ ap (place_of t) x ∙ at))))
+
+  change_size : size changed ≡ size t
+  change_size = ap length change_order
 
   change_inverse : IsInverse changed
   change_inverse = record {
     numbers = ap length change_places ∙ inverse.numbers;
-    room = omega (arith, size_with t p e, inverse.room);
-    back = λ i h. rw (change_numbers i) (change_place _ ∙ inverse.back i (omega (arith, size_with t p e)));
-    there = λ m i h. let old = inverse.there m i (sym (change_place m) ∙ h) in (omega (arith, size_with t p e, old.0), change_numbers i ∙ old.1);
+    moments = length-set t.moments e due ∙ inverse.moments;
+    room = omega (arith, change_size, inverse.room);
+    back = λ i h. rw (change_number i) (change_place _ ∙ inverse.back i (omega (arith, change_size)));
+    there = λ m i h. let old = inverse.there m i (sym (change_place m) ∙ h) in (omega (arith, change_size, old.0), change_number i ∙ old.1);
   }
 
-  pub change_dues : dues changed ≡ set (dues t) e.number (Some e.due)
-  change_dues = dues_set t changed e.number (Some e.due) (in_table t _ p at) (ap length change_places) (rw (change_place e.number, at, change_at) refl)
-      (λ m n. rw (change_place m) (due_kept t changed m (place_of t m) (λ i h. with_other t p e i (λ x. n (sym (inverse.there m i h).1 ∙ ap (λ j. (entry_at t j).number) x ∙ (inverse.there e.number p at).1)))))
+  pub change_dues : dues changed ≡ set (dues t) e (Some due)
+  change_dues = dues_set t changed e (Some due) (in_table t _ p at) (ap length change_places) (rw (change_place e, at, change_at, change_here) refl)
+      (λ m n. rw (change_place m) (due_kept t changed m (place_of t m) (λ i h.
+      change_others i (inverse.there m i h).0 (λ x. n (sym (inverse.there m i h).1 ∙ ap (number_at t) x ∙ (inverse.there e p at).1)))))
 
   change_near : IsOrdered (key t) (size t) → IsNear (key changed) (size t) p
   change_near o = record {
     edges = λ j a b c d.
-        let here : key changed j ≡ key t j = ap rank (with_other t p e j c) in
-        let there : key changed (parent j) ≡ key t (parent j) = ap rank (with_other t p e (parent j) d) in
+        let here : key changed j ≡ key t j = ap rank (change_others j b c) in
+        let there : key changed (parent j) ≡ key t (parent j) = ap rank (change_others (parent j) (omega arith) d) in
         rw (here, there) (o.edges j a b);
     gap = λ j a b c d.
         let jp : j ≢ p = λ x. absurd (omega arith) in
         let pp : parent p ≢ p = λ x. absurd (omega arith) in
-        let here : key changed j ≡ key t j = ap rank (with_other t p e j jp) in
-        let there : key changed (parent p) ≡ key t (parent p) = ap rank (with_other t p e (parent p) pp) in
+        let here : key changed j ≡ key t j = ap rank (change_others j c jp) in
+        let there : key changed (parent p) ≡ key t (parent p) = ap rank (change_others (parent p) (omega (arith, change_in)) pp) in
         let up : key t (parent p) ≤ key t p = o.edges p a change_in in
         let down : key t p ≤ key t j = rw d at (o.edges j b c) in
         rw (here, there) (omega (arith, up, down));
   }
 
-  pub change_moving : IsOrdered (key t) (size t) → IsMoving t p e
+  pub change_moving : IsOrdered (key t) (size t) → IsMoving timed p e
   change_moving o = record { inside = change_in; inverse = change_inverse; near = change_near o }
 
--- the last entry is gone, and no other
+-- the last timer is gone, and no other
 pub record IsShorter (old new : Table) : Type 0 where
   pub same_size : size new + 1 ≡ size old
   pub others : (i : ℕ) → i < size new → entry_at new i ≡ entry_at old i
 
--- the last entry goes
-module _ (t t' : Table) (some : 0 < size t) (inverse : IsInverse t) (entries : t'.entries.items ≡ take (size t - 1) t.entries.items) (written : t'.places ≡ set t.places (entry_at t (size t - 1)).number None) where
+-- the last timer goes
+module _ (t t' : Table) (some : 0 < size t) (inverse : IsInverse t) (kept : t'.order.items ≡ take (size t - 1) t.order.items) (written : t'.places ≡ set t.places (number_at t (size t - 1)) None) (clock : t'.moments ≡ t.moments) where
   drop_size : size t' ≡ size t - 1
-  drop_size = ap length entries ∙ length-take-le (size t - 1) t.entries.items (omega arith)
+  drop_size = ap length kept ∙ length-take-le (size t - 1) t.order.items (omega arith)
+
+  drop_number : (i : ℕ) → i < size t - 1 → number_at t' i ≡ number_at t i
+  drop_number i h = ap (λ xs. get_or xs i 0) kept ∙ get_or-take (size t - 1) t.order.items i 0 h
 
   drop_others : (i : ℕ) → i < size t - 1 → entry_at t' i ≡ entry_at t i
-  drop_others i h = ap (λ xs. get_or xs i no_entry) entries ∙ get_or-take (size t - 1) t.entries.items i no_entry h
+  drop_others i h = same_entry t t' i (drop_number i h) (ap (λ xs. get_or xs (number_at t i) 0) clock)
 
-  last_place : place_of t (entry_at t (size t - 1)).number ≡ Some (size t - 1)
+  last_place : place_of t (number_at t (size t - 1)) ≡ Some (size t - 1)
   last_place = inverse.back (size t - 1) (omega arith)
 
-  drop_place : place_of t' (entry_at t (size t - 1)).number ≡ None
-  drop_place = ap (λ xs. get_or xs (entry_at t (size t - 1)).number None) written ∙ get_or-set_same t.places (entry_at t (size t - 1)).number None None (in_table t _ _ last_place)
+  drop_place : place_of t' (number_at t (size t - 1)) ≡ None
+  drop_place = ap (λ xs. get_or xs (number_at t (size t - 1)) None) written ∙ get_or-set_same t.places (number_at t (size t - 1)) None None (in_table t _ _ last_place)
 
-  drop_places : (m : ℕ) → m ≢ (entry_at t (size t - 1)).number → place_of t' m ≡ place_of t m
-  drop_places m n = ap (λ xs. get_or xs m None) written ∙ get_or-set_other t.places (entry_at t (size t - 1)).number m None None n
+  drop_places : (m : ℕ) → m ≢ number_at t (size t - 1) → place_of t' m ≡ place_of t m
+  drop_places m n = ap (λ xs. get_or xs m None) written ∙ get_or-set_other t.places (number_at t (size t - 1)) m None None n
 
   drop_long : length t'.places ≡ length t.places
-  drop_long = ap length written ∙ length-set t.places (entry_at t (size t - 1)).number None
+  drop_long = ap length written ∙ length-set t.places (number_at t (size t - 1)) None
 
-  kept_there : (m i : ℕ) → m ≢ (entry_at t (size t - 1)).number → place_of t m ≡ Some i → (i < size t - 1) × ((entry_at t i).number ≡ m)
+  kept_there : (m i : ℕ) → m ≢ number_at t (size t - 1) → place_of t m ≡ Some i → (i < size t - 1) × (number_at t i ≡ m)
   kept_there m i n h =
       let old = inverse.there m i h in
       let inside : i < size t = old.0 in
-      let other : i ≢ size t - 1 = λ e. n (sym old.1 ∙ ap (λ j. (entry_at t j).number) e) in
+      let other : i ≢ size t - 1 = λ e. n (sym old.1 ∙ ap (number_at t) e) in
       (omega arith, old.1)
 
   pub drop_inverse : IsInverse t'
   drop_inverse = record {
     numbers = drop_long ∙ inverse.numbers;
+    moments = ap length clock ∙ inverse.moments;
     room = omega (arith, drop_size, inverse.room);
     back = λ i h.
         let l : i < size t - 1 = omega (arith, drop_size) in
         let l' : i < size t = omega arith in
         let old = inverse.back i l' in
-        let n : (entry_at t i).number ≢ (entry_at t (size t - 1)).number = λ e. let f = same_Some i (size t - 1) (sym old ∙ ap (place_of t) e ∙ last_place) in absurd (omega (arith, f)) in
-        rw (drop_others i l) (drop_places _ n ∙ old);
+        let n : number_at t i ≢ number_at t (size t - 1) = λ e. let f = same_Some i (size t - 1) (sym old ∙ ap (place_of t) e ∙ last_place) in absurd (omega (arith, f)) in
+        rw (drop_number i l) (drop_places _ n ∙ old);
     there = λ m i h.
-        elim (cases_eq m (entry_at t (size t - 1)).number) as (λ _. (i < size t') × ((entry_at t' i).number ≡ m)) [
+        elim (cases_eq m (number_at t (size t - 1))) as (λ _. (i < size t') × (number_at t' i ≡ m)) [
           | inl e ↦ absurd (none-some i (sym drop_place ∙ ap (place_of t') (sym e) ∙ h))
-          | inr e ↦ let old = kept_there m i e (sym (drop_places m e) ∙ h) in (omega (arith, drop_size, old.0), rw (drop_others i old.0) old.1)
+          | inr e ↦ let old = kept_there m i e (sym (drop_places m e) ∙ h) in (omega (arith, drop_size, old.0), rw (drop_number i old.0) old.1)
         ];
   }
 
-  pub drop_dues : dues t' ≡ set (dues t) (entry_at t (size t - 1)).number None
-  drop_dues = dues_set t t' (entry_at t (size t - 1)).number None (in_table t _ _ last_place) drop_long (ap (due_through t') drop_place)
+  pub drop_dues : dues t' ≡ set (dues t) (number_at t (size t - 1)) None
+  drop_dues = dues_set t t' (number_at t (size t - 1)) None (in_table t _ _ last_place) drop_long (ap (due_through t') drop_place)
       (λ m n. rw (drop_places m n) (due_kept t t' m (place_of t m) (λ i h. drop_others i (kept_there m i n h).0)))
 
   pub drop_shorter : IsShorter t t'
   drop_shorter = record { same_size = omega (arith, drop_size); others = λ i h. drop_others i (omega (arith, drop_size)) }
 
--- the last entry took the place p, and the end went
+-- the last timer took the place p, and the end went
 pub removed_near : (t s t' : Table) (p : ℕ) → p < size t - 1 → IsOrdered (key t) (size t) → IsExchanged t s p (size t - 1) → IsShorter s t' → IsNear (key t') (size t') p
 removed_near t s t' p inside o ex short =
     let long : size t' + 1 ≡ size t = short.same_size ∙ ex.same_size in
-    let same : (i : ℕ) → i < size t' → i ≢ p → key t' i ≡ key t i = λ i h n. ap rank (short.others i h ∙ ex.others i n (λ e. absurd (omega arith))) in record {
+    let same : (i : ℕ) → i < size t' → i ≢ p → key t' i ≡ key t i = λ i h n.
+    ap rank (short.others i h ∙ same_entry t s i (ex.others i n (λ e. absurd (omega arith))) (ap (λ xs. get_or xs (number_at t i) 0) ex.moments)) in record {
       edges = λ j a b c d.
           let up : parent j < size t' = omega arith in
           let here = same j b c in
@@ -248,7 +283,7 @@ removed_near t s t' p inside o ex short =
           rw (here, there) (omega (arith, up, down));
     }
 
--- the last entry goes, and the rest stands
+-- the last timer goes, and the rest stands
 pub removed_last : (t t' : Table) → IsOrdered (key t) (size t) → IsShorter t t' → IsOrdered (key t') (size t')
 removed_last t t' o short = record {
   edges = λ j a b.
@@ -265,22 +300,22 @@ take_set (suc n) [] i y = refl
 take_set (suc n) (x ∷ xs) zero y = refl
 take_set (suc n) (x ∷ xs) (suc i) y = ap (λ zs. x ∷ zs) (take_set n xs i y)
 
--- an entry goes, and the last one is on its way from there
-module _ (t rest : Table) (p : ℕ) (inverse : IsInverse t) (inside : p < size t - 1) (kept : rest.entries.items ≡ take (size t - 1) t.entries.items) (written : rest.places ≡ set t.places (entry_at t p).number None) where
+-- a timer goes, and the last one is on its way from there
+module _ (t rest : Table) (p : ℕ) (inverse : IsInverse t) (inside : p < size t - 1) (kept : rest.order.items ≡ take (size t - 1) t.order.items) (written : rest.places ≡ set t.places (number_at t p) None) (clock : rest.moments ≡ t.moments) where
   abbrev last : ℕ
   last = size t - 1
 
-  abbrev gone : Entry
-  gone = entry_at t p
+  abbrev gone : ℕ
+  gone = number_at t p
 
-  abbrev moving : Entry
-  moving = entry_at t last
+  abbrev moving : ℕ
+  moving = number_at t last
 
   abbrev swapped : Table
-  swapped = record { entries = record { items = set (set t.entries.items p moving) last gone }; places = set (set t.places gone.number (Some last)) moving.number (Some p) }
+  swapped = record { order = record { items = set (set t.order.items p moving) last gone }; places = set (set t.places gone (Some last)) moving (Some p); moments = t.moments }
 
   abbrev v : Table
-  v = with_entry rest p moving
+  v = with_number rest p moving
 
   p_in : p < size t
   p_in = omega arith
@@ -291,11 +326,11 @@ module _ (t rest : Table) (p : ℕ) (inverse : IsInverse t) (inside : p < size t
   apart : p ≢ last
   apart x = absurd (omega arith)
 
-  numbers : gone.number ≢ moving.number
-  numbers x = apart (same_Some p last (sym (inverse.back p p_in) ∙ ap (place_of t) x ∙ inverse.back last last_in))
+  numbers_apart : gone ≢ moving
+  numbers_apart x = apart (same_Some p last (sym (inverse.back p p_in) ∙ ap (place_of t) x ∙ inverse.back last last_in))
 
   exchanged : IsExchanged t swapped p last
-  exchanged = exchanged_entries t swapped p last p_in last_in apart refl
+  exchanged = exchanged_numbers t swapped p last p_in last_in apart refl refl
 
   inverse_swapped : IsInverse swapped
   inverse_swapped = exchange_inverse t swapped p last p_in last_in apart inverse exchanged refl
@@ -303,25 +338,25 @@ module _ (t rest : Table) (p : ℕ) (inverse : IsInverse t) (inside : p < size t
   some : 0 < size swapped
   some = omega (arith, exchanged.same_size)
 
-  at_last : entry_at swapped (size swapped - 1) ≡ gone
-  at_last = ap (λ n. entry_at swapped (n - 1)) exchanged.same_size ∙ exchanged.at_b
+  at_last : number_at swapped (size swapped - 1) ≡ gone
+  at_last = ap (λ n. number_at swapped (n - 1)) exchanged.same_size ∙ exchanged.at_b
 
-  entries_v : v.entries.items ≡ take (size swapped - 1) swapped.entries.items
-  entries_v =
-      ap (λ xs. set xs p moving) kept ∙ sym (take_set last t.entries.items p moving) ∙ sym (take-set (set t.entries.items p moving) last gone) ∙ ap (λ n. take (n - 1) swapped.entries.items) (sym exchanged.same_size)
+  order_v : v.order.items ≡ take (size swapped - 1) swapped.order.items
+  order_v =
+      ap (λ xs. set xs p moving) kept ∙ sym (take_set last t.order.items p moving) ∙ sym (take-set (set t.order.items p moving) last gone) ∙ ap (λ n. take (n - 1) swapped.order.items) (sym exchanged.same_size)
 
-  places_v : v.places ≡ set swapped.places (entry_at swapped (size swapped - 1)).number None
+  places_v : v.places ≡ set swapped.places (number_at swapped (size swapped - 1)) None
   places_v =
-      ap (λ xs. set xs moving.number (Some p)) (written ∙ sym (set-set t.places gone.number (Some last) None)) ∙ set_comm (set t.places gone.number (Some last)) gone.number moving.number None (Some p) numbers
-      ∙ ap (λ (x : Entry). set swapped.places x.number None) (sym at_last)
+      ap (λ xs. set xs moving (Some p)) (written ∙ sym (set-set t.places gone (Some last) None)) ∙ set_comm (set t.places gone (Some last)) gone moving None (Some p) numbers_apart
+      ∙ ap (λ n. set swapped.places n None) (sym at_last)
 
-  pub remove_dues : dues v ≡ set (dues t) gone.number None
+  pub remove_dues : dues v ≡ set (dues t) gone None
   remove_dues =
-      drop_dues swapped v some inverse_swapped entries_v places_v ∙ ap (λ (x : Entry). set (dues swapped) x.number None) at_last ∙ ap (λ m. set m gone.number None) (exchange_dues t swapped p last p_in last_in apart inverse exchanged refl)
+      drop_dues swapped v some inverse_swapped order_v places_v clock ∙ ap (λ n. set (dues swapped) n None) at_last ∙ ap (λ m. set m gone None) (exchange_dues t swapped p last p_in last_in apart inverse exchanged refl)
 
   pub remove_moving : IsOrdered (key t) (size t) → IsMoving rest p moving
   remove_moving o = record {
-    inside = omega (arith, ap length kept, length-take-le last t.entries.items (omega arith));
-    inverse = drop_inverse swapped v some inverse_swapped entries_v places_v;
-    near = rw (sym (size_with rest p moving)) (removed_near t swapped v p inside o exchanged (drop_shorter swapped v some inverse_swapped entries_v places_v));
+    inside = omega (arith, ap length kept, length-take-le last t.order.items (omega arith));
+    inverse = drop_inverse swapped v some inverse_swapped order_v places_v clock;
+    near = rw (sym (size_with rest p moving)) (removed_near t swapped v p inside o exchanged (drop_shorter swapped v some inverse_swapped order_v places_v clock));
   }

@@ -1,10 +1,10 @@
--- A heap but for one place, when the entry there moves.
+-- A heap but for one place, when what stands there moves.
 use Rattle.std.proofs.Common.{◌≡◌, ◌≢◌, ℕ, zero, suc, ◌+◌, ◌*◌, ◌<◌, ◌≤◌, true, false, inl, inr, sym, ap, ◌∙◌, arith}
 use Rattle.std.proofs.lemmas.Bool.{cases_eq}
 use Rattle.std.proofs.lemmas.Bool.Decides.{nat_tests}
 use Rattle.timer_heap.specs.declared.entry.Entry.{Entry}
 use Rattle.timer_heap.specs.Table.{parent, is_before, rank, IsOrdered}
-use Rattle.timer_heap.specs.Moves.{IsNear, IsAbove, IsBelow, IsWithin}
+use Rattle.timer_heap.specs.Moves.{IsNear, IsAbove, IsBelow}
 
 -- two keys change places
 pub record IsSwapped (k k' : ℕ → ℕ) (a b : ℕ) : Type 0 where
@@ -107,18 +107,29 @@ root_first k n o (suc m) j a b =
           omega arith
     ]
 
--- so many comparisons were made on the way up to p
-pub record IsClimb (p c : ℕ) : Type 0 where
-  pub five : c ≤ 5
-  pub from_5 : 5 ≤ c → p ≤ 0
-  pub from_4 : 4 ≤ c → p ≤ 1
-  pub from_3 : 3 ≤ c → p ≤ 3
-  pub from_2 : 2 ≤ c → p ≤ 7
-  pub from_1 : 1 ≤ c → p ≤ 15
+-- so many comparisons were made on the way up to p, and so many before
+pub record IsClimb (p before c : ℕ) : Type 0 where
+  pub five : c ≤ before + 5
+  pub from_5 : before + 5 ≤ c → p ≤ 0
+  pub from_4 : before + 4 ≤ c → p ≤ 1
+  pub from_3 : before + 3 ≤ c → p ≤ 3
+  pub from_2 : before + 2 ≤ c → p ≤ 7
+  pub from_1 : before + 1 ≤ c → p ≤ 15
   pub from_0 : p ≤ 31
 
-pub climbed : (p c : ℕ) → 0 < p → IsClimb p c → IsClimb (parent p) (c + 1)
-climbed p c pos h = record {
+pub climbs : (p c : ℕ) → p < 32 → IsClimb p c c
+climbs p c low = record {
+  five = omega arith;
+  from_5 = λ x. absurd (omega arith);
+  from_4 = λ x. absurd (omega arith);
+  from_3 = λ x. absurd (omega arith);
+  from_2 = λ x. absurd (omega arith);
+  from_1 = λ x. absurd (omega arith);
+  from_0 = omega arith;
+}
+
+pub climbed : (p before c : ℕ) → 0 < p → IsClimb p before c → IsClimb (parent p) before (c + 1)
+climbed p before c pos h = record {
   five = grind arith;
   from_5 = λ x. let y : p ≤ 1 = h.from_4 (omega arith) in omega arith;
   from_4 = λ x. let y : p ≤ 3 = h.from_3 (omega arith) in omega arith;
@@ -128,13 +139,25 @@ climbed p c pos h = record {
   from_0 = let y : p ≤ 31 = h.from_0 in omega arith;
 }
 
--- each step down costs two comparisons at most
-pub lower : (p q c d : ℕ) → 2 * p + 1 < 32 → 2 * p + 1 ≤ q → q ≤ 2 * p + 2 → d ≤ c + 2 → IsWithin p c → IsWithin q d
+-- so many comparisons were made on the way down to p
+pub record IsWithin (p c : ℕ) : Type 0 where
+  pub five : c ≤ 5
+  pub below_31 : p < 31 → c ≤ 4
+  pub below_15 : p < 15 → c ≤ 3
+  pub below_7 : p < 7 → c ≤ 2
+  pub below_3 : p < 3 → c ≤ 1
+  pub at_0 : p ≡ 0 → c ≡ 0
+
+pub none_within : (p : ℕ) → IsWithin p 0
+none_within p = record { five = omega arith; below_31 = λ x. omega arith; below_15 = λ x. omega arith; below_7 = λ x. omega arith; below_3 = λ x. omega arith; at_0 = λ x. omega arith }
+
+-- each step down costs one comparison at most
+pub lower : (p q c d : ℕ) → 2 * p + 1 < 32 → 2 * p + 1 ≤ q → q ≤ 2 * p + 2 → d ≤ c + 1 → IsWithin p c → IsWithin q d
 lower p q c d room a b e h = record {
-  ten = let y : c ≤ 8 = h.below_31 (omega arith) in omega arith;
-  below_31 = λ x. let y : c ≤ 6 = h.below_15 (omega arith) in omega arith;
-  below_15 = λ x. let y : c ≤ 4 = h.below_7 (omega arith) in omega arith;
-  below_7 = λ x. let y : c ≤ 2 = h.below_3 (omega arith) in omega arith;
+  five = let y : c ≤ 4 = h.below_31 (omega arith) in omega arith;
+  below_31 = λ x. let y : c ≤ 3 = h.below_15 (omega arith) in omega arith;
+  below_15 = λ x. let y : c ≤ 2 = h.below_7 (omega arith) in omega arith;
+  below_7 = λ x. let y : c ≤ 1 = h.below_3 (omega arith) in omega arith;
   below_3 = λ x. let y : c ≡ 0 = h.at_0 (omega arith) in omega arith;
   at_0 = λ x. absurd (omega arith);
 }

@@ -8,7 +8,7 @@ use Rattle.std.proofs.lemmas.Bool.{cases_eq, cases_lt}
 use Rattle.std.proofs.lemmas.Bool.Decides.{nat_tests}
 use Rattle.std.proofs.lemmas.Nat.Bits.{bit_at_set_same, bit_at_set_other, bit_at-zero}
 use Rattle.timer_heap.specs.declared.table.Table.{Table}
-use Rattle.timer_heap.specs.Table.{size, dues, due_through, entry_at, place_of, key, parent, IsInverse, IsOrdered}
+use Rattle.timer_heap.specs.Table.{size, dues, due_through, number_at, entry_at, place_of, key, parent, IsInverse, IsOrdered}
 use Rattle.timer_heap.specs.Heap.{MarksDue}
 use Rattle.timer_heap.proofs.Inverse.{number_in}
 use Rattle.timer_heap.proofs.Edits.{dues_at}
@@ -56,7 +56,7 @@ module _ (t : Table) (inverse : IsInverse t) (moment p end word : ℕ) (swept : 
   p_in = let within = swept.within in omega arith
 
   abbrev number : ℕ
-  number = (entry_at t p).number
+  number = number_at t p
 
   low : number < 32
   low = number_in t p inverse p_in

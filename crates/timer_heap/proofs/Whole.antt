@@ -9,7 +9,7 @@ use Rattle.timer_heap.specs.declared.table.Table.{Table}
 use Rattle.board_terms.specs.Dues.{Dues, least, number_of, timer_of}
 use Rattle.timer_heap.specs.Heap.{no_dues}
 use Rattle.timer_heap.specs.View.{idle}
-use Rattle.timer_heap.specs.Table.{size, dues, due_through, entry_at, place_of, key, IsInverse, IsOrdered}
+use Rattle.timer_heap.specs.Table.{size, dues, due_through, number_at, entry_at, place_of, key, IsInverse, IsOrdered}
 use Rattle.timer_heap.proofs.Order.{root_first}
 use Rattle.timer_heap.proofs.Inverse.{number_in}
 use Rattle.timer_heap.proofs.Edits.{dues_at, length-dues}
@@ -21,23 +21,24 @@ all_none (suc k) zero = refl
 all_none (suc k) (suc n) = all_none k n
 
 -- nothing is in the table
-pub empty_inverse : (t : Table) → t.entries.items ≡ [] → t.places ≡ replicate 32 None → IsInverse t
-empty_inverse t none places =
+pub empty_inverse : (t : Table) → t.order.items ≡ [] → t.places ≡ replicate 32 None → t.moments ≡ replicate 32 0 → IsInverse t
+empty_inverse t none places moments =
     let zero_size : size t ≡ 0 = ap length none in record {
       numbers = ap length places;
+      moments = ap length moments;
       room = omega arith;
       back = λ i h. absurd (omega arith);
       there = λ n i h. absurd (let e : None ≡ Some i = sym (all_none 32 n) ∙ ap (λ xs. get_or xs n None) (sym places) ∙ h in cc);
     }
 
-pub empty_ordered : (t : Table) → t.entries.items ≡ [] → IsOrdered (key t) (size t)
+pub empty_ordered : (t : Table) → t.order.items ≡ [] → IsOrdered (key t) (size t)
 empty_ordered t none = let zero_size : size t ≡ 0 = ap length none in record { edges = λ j a b. absurd (omega arith) }
 
 pub empty_dues : (t : Table) → t.places ≡ replicate 32 None → dues t ≡ no_dues
 unfolding dues
 empty_dues t places = ap (map (due_through t)) places
 
--- a timer with an entry
+-- a timer with a place
 pub due_there : (t : Table) (n i : ℕ) → place_of t n ≡ Some i → get_or (dues t) n None ≡ Some (entry_at t i).due
 due_there t n i e = dues_at t n ∙ ap (due_through t) e
 
@@ -84,26 +85,26 @@ module _ (t : Table) (inverse : IsInverse t) where
       let g = get_or-le-sum_by weight (dues t) n None (omega (arith, long)) in
       omega (arith, f, g, full)
 
-  -- nothing changes where a timer without an entry is cleared
+  -- nothing changes where a timer without a place is cleared
   pub cleared_same : (n : ℕ) → place_of t n ≡ None → set (dues t) n None ≡ dues t
   cleared_same n at = ap (set (dues t) n) (sym (due_nowhere t n at)) ∙ set-get_or (dues t) n None
 
-  first_at : (n e : ℕ) → (0 < size t) → IsOrdered (key t) (size t) → (o : Option ℕ) → place_of t n ≡ o → due_through t o ≡ Some e → ((entry_at t 0).due ≤ e) × (e ≡ (entry_at t 0).due → (entry_at t 0).number ≤ n)
+  first_at : (n e : ℕ) → (0 < size t) → IsOrdered (key t) (size t) → (o : Option ℕ) → place_of t n ≡ o → due_through t o ≡ Some e → ((entry_at t 0).due ≤ e) × (e ≡ (entry_at t 0).due → number_at t 0 ≤ n)
   first_at n e some o None at h = absurd (cc)
   first_at n e some o (Some i) at h =
       let there = inverse.there n i at in
       let inside : i < size t = there.0 in
-      let number : (entry_at t i).number ≡ n = there.1 in
+      let number : number_at t i ≡ n = there.1 in
       let due : (entry_at t i).due ≡ e = cc in
       let root : key t 0 ≤ key t i = root_first (key t) (size t) o i i (omega arith) inside in
-      let a : (entry_at t 0).number < 32 = number_in t 0 inverse some in
-      let b : (entry_at t i).number < 32 = number_in t i inverse inside in
+      let a : number_at t 0 < 32 = number_in t 0 inverse some in
+      let b : number_at t i < 32 = number_in t i inverse inside in
       (omega (arith, root, a, b, due), λ x. omega (arith, root, x, due, number))
 
-  pub heap_least : 0 < size t → IsOrdered (key t) (size t) → least (dues t) ≡ Some ((entry_at t 0).due, timer_of (entry_at t 0).number)
-  heap_least some o = least_is (dues t) (entry_at t 0).due (entry_at t 0).number record {
+  pub heap_least : 0 < size t → IsOrdered (key t) (size t) → least (dues t) ≡ Some ((entry_at t 0).due, timer_of (number_at t 0))
+  heap_least some o = least_is (dues t) (entry_at t 0).due (number_at t 0) record {
     low = number_in t 0 inverse some;
-    due = due_there t (entry_at t 0).number 0 (inverse.back 0 some);
+    due = due_there t (number_at t 0) 0 (inverse.back 0 some);
     first = λ k e h. first_at k e some o (place_of t k) refl (sym (dues_at t k) ∙ h);
   }
 
@@ -114,22 +115,22 @@ module _ (t : Table) (inverse : IsInverse t) where
   pub heap_none : size t ≡ 0 → least (dues t) ≡ None
   heap_none none = least_none (dues t) (λ n. dues_at t n ∙ nowhere none n (place_of t n) refl)
 
-pub empty_full : (t : Table) → t.entries.items ≡ [] → t.places ≡ replicate 32 None → idle (dues t) + size t ≡ 32
+pub empty_full : (t : Table) → t.order.items ≡ [] → t.places ≡ replicate 32 None → idle (dues t) + size t ≡ 32
 empty_full t none places =
     let zero_size : size t ≡ 0 = ap length none in
     let f : idle (dues t) ≡ idle no_dues = ap idle (empty_dues t places) in
     omega (arith, f, zero_size)
 
 module _ (t : Table) (inverse : IsInverse t) where
-  -- the entry at i is that of another timer
-  other_entry : (n i : ℕ) → i < size t → place_of t n ≢ Some i → (entry_at t i).number ≢ n
+  -- another timer stands at i
+  other_entry : (n i : ℕ) → i < size t → place_of t n ≢ Some i → number_at t i ≢ n
   other_entry n i inside other e = other (ap (place_of t) (sym e) ∙ inverse.back i inside)
 
-  seen : (i : ℕ) → i < size t → get_or (dues t) (entry_at t i).number None ≡ Some (entry_at t i).due
-  seen i inside = due_there t (entry_at t i).number i (inverse.back i inside)
+  seen : (i : ℕ) → i < size t → get_or (dues t) (number_at t i) None ≡ Some (entry_at t i).due
+  seen i inside = due_there t (number_at t i) i (inverse.back i inside)
 
   none_at : (n i : ℕ) → ((m : ℕ) → m ≢ n → get_or (dues t) m None ≡ None) → i < size t → place_of t n ≢ Some i → ⊥
-  none_at n i none inside other = none-some (entry_at t i).due (sym (none (entry_at t i).number (other_entry n i inside other)) ∙ seen i inside)
+  none_at n i none inside other = none-some (entry_at t i).due (sym (none (number_at t i) (other_entry n i inside other)) ∙ seen i inside)
 
   pub only_one : (n p : ℕ) → ((m : ℕ) → m ≢ n → get_or (dues t) m None ≡ None) → place_of t n ≡ Some p → size t ≡ 1
   only_one n p none at =
@@ -152,7 +153,7 @@ module _ (t : Table) (inverse : IsInverse t) where
   has_entry m d (Some i) at h = (i, (inverse.there m i at).0, at)
 
   places_apart : (m n i p : ℕ) → m ≢ n → place_of t m ≡ Some i → place_of t n ≡ Some p → i ≢ p
-  places_apart m n i p apart a b e = apart (sym (inverse.there m i a).1 ∙ ap (λ j. (entry_at t j).number) e ∙ (inverse.there n p b).1)
+  places_apart m n i p apart a b e = apart (sym (inverse.there m i a).1 ∙ ap (number_at t) e ∙ (inverse.there n p b).1)
 
   pub two : (n p m d : ℕ) → m ≢ n → place_of t n ≡ Some p → get_or (dues t) m None ≡ Some d → 1 < size t
   two n p m d apart at h =
@@ -184,5 +185,5 @@ module _ (t : Table) (inverse : IsInverse t) where
   pub front : 0 < size t → IsOrdered (key t) (size t) → (d : ℕ) (u : ℕ × ℕ) → least (dues t) ≡ Some (d, u) → place_of t (number_of u) ≡ Some 0
   front some o d u h =
       let same = same_Some _ _ (sym (heap_least t inverse some o) ∙ h) in
-      let number : (entry_at t 0).number ≡ number_of u = sym (number_back (entry_at t 0).number) ∙ ap (λ (r : ℕ × (ℕ × ℕ)). number_of r.1) same in
+      let number : number_at t 0 ≡ number_of u = sym (number_back (number_at t 0)) ∙ ap (λ (r : ℕ × (ℕ × ℕ)). number_of r.1) same in
       ap (place_of t) (sym number) ∙ inverse.back 0 some

@@ -1,4 +1,4 @@
--- Entries in heap order, and the place of each timer among them.
+-- Timers in heap order, and the place and the due moment of each.
 use Rattle.std.specs.Prelude.{◌≡◌, ℕ, ◌+◌, ◌-◌, ◌*◌, ◌/◌, ◌<◌, ◌≤◌, Bool, nat_lt, ◌==◌, ◌&&◌, ◌||◌, Option, None, Some, map, length, slice_index_or, slice_set, if◌then◌else◌}
 use Rattle.std.specs.Option.{option_map}
 use Rattle.board_terms.specs.Dues.{Dues}
@@ -10,31 +10,39 @@ abbrev pub is_before : Entry → Entry → Bool
 is_before a b = nat_lt a.due b.due || (a.due == b.due && nat_lt a.number b.number)
 
 abbrev pub size : Table → ℕ
-size t = length t.entries.items
+size t = length t.order.items
 
-abbrev pub no_entry : Entry
-no_entry = record { due = 0; number = 0 }
-
-abbrev pub entry_at : Table → ℕ → Entry
-entry_at t i = slice_index_or t.entries.items i no_entry
+abbrev pub number_at : Table → ℕ → ℕ
+number_at t i = slice_index_or t.order.items i 0
 
 abbrev pub place_of : Table → ℕ → Option ℕ
 place_of t n = slice_index_or t.places n None
 
+abbrev pub moment_of : Table → ℕ → ℕ
+moment_of t n = slice_index_or t.moments n 0
+
+abbrev pub entry_of : Table → ℕ → Entry
+entry_of t n = record { due = moment_of t n; number = n }
+
+-- the entry of the timer at a place
+abbrev pub entry_at : Table → ℕ → Entry
+entry_at t i = entry_of t (number_at t i)
+
 -- when the timer of a place is due
 abbrev pub due_through : Table → Option ℕ → Option ℕ
-due_through t o = option_map (λ i. (entry_at t i).due) o
+due_through t o = option_map (λ i. moment_of t (number_at t i)) o
 
 -- when each timer is due
 unfoldable pub dues : Table → Dues
 dues t = map (due_through t) t.places
 
--- both facts of the table: the entry at each place has that place, and the place of each timer has its entry
+-- both facts of the table: the timer at each place has that place, and the place of each timer has its number
 pub record IsInverse (t : Table) : Type 0 where
   pub numbers : length t.places ≡ 32
+  pub moments : length t.moments ≡ 32
   pub room : size t ≤ 32
-  pub back : (i : ℕ) → i < size t → place_of t (entry_at t i).number ≡ Some i
-  pub there : (n i : ℕ) → place_of t n ≡ Some i → (i < size t) × ((entry_at t i).number ≡ n)
+  pub back : (i : ℕ) → i < size t → place_of t (number_at t i) ≡ Some i
+  pub there : (n i : ℕ) → place_of t n ≡ Some i → (i < size t) × (number_at t i ≡ n)
 
 -- a number that says by itself which of two entries comes first
 abbrev pub rank : Entry → ℕ
@@ -46,14 +54,14 @@ key t i = rank (entry_at t i)
 abbrev pub parent : ℕ → ℕ
 parent j = (j - 1) / 2
 
--- no entry comes before its parent
+-- no timer comes before its parent
 pub record IsOrdered (k : ℕ → ℕ) (n : ℕ) : Type 0 where
   pub edges : (j : ℕ) → 0 < j → j < n → k (parent j) ≤ k j
 
--- the table with an entry at a place
-abbrev pub with_entry : Table → ℕ → Entry → Table
-with_entry t i e = record { entries = record { items = slice_set t.entries.items i e }; places = slice_set t.places e.number (Some i) }
+-- the table with the timer of number n at a place
+abbrev pub with_number : Table → ℕ → ℕ → Table
+with_number t i n = record { order = record { items = slice_set t.order.items i n }; places = slice_set t.places n (Some i); moments = t.moments }
 
--- of the entry at l and the one after it, the place of the one that comes first
+-- of the timer at r and the one before it, the place of the one that comes first
 abbrev pub first_of : Table → ℕ → ℕ
-first_of t l = if nat_lt (l + 1) (size t) && is_before (entry_at t (l + 1)) (entry_at t l) then l + 1 else l
+first_of t r = if is_before (entry_at t r) (entry_at t (r - 1)) then r else r - 1

@@ -1,5 +1,5 @@
 // The one place where entries are compared.
-ghost use Rattle.std.specs.Prelude.{◌≡◌, ◌+◌, ◌<◌};
+ghost use Rattle.std.specs.Prelude.{◌≡◌, ◌+◌, ◌/◌, ◌%◌, ◌^◌, ◌<◌};
 ghost use Rattle.timer_heap.specs.Table.{is_before};
 
 use crate::entry::Entry;
@@ -19,6 +19,20 @@ impl Model for Comparer {
     ghost view = { λ a. a.made };
 }
 
+/// The upper word of a due moment, which is 0 in most.
+fn high(due: u128) -> u64
+    ensures { result ≡ due / 2 ^ 64 }
+{
+    (due >> 64) as u64
+}
+
+/// The lower word of a due moment.
+fn low(due: u128) -> u64
+    ensures { result ≡ due % 2 ^ 64 }
+{
+    (due % (1 << 64)) as u64
+}
+
 impl Comparer {
     /// No comparison was made.
     pub(crate) fn new() -> Comparer
@@ -35,7 +49,15 @@ impl Comparer {
         ensures counted { self.new ≡ self.old + 1 }
     {
         self.made += 1;
-        a.due < b.due || (a.due == b.due && a.number < b.number)
+        let (a_high, b_high) = (high(a.due), high(b.due));
+        if a_high != b_high {
+            return a_high < b_high;
+        }
+        let (a_low, b_low) = (low(a.due), low(b.due));
+        if a_low != b_low {
+            return a_low < b_low;
+        }
+        a.number < b.number
     }
 
     /// How many comparisons were made.

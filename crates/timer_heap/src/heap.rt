@@ -1,12 +1,11 @@
 // The timers that are due some time, the earliest at hand.
 ghost use Rattle.std.specs.Prelude.{◌≡◌, ℕ, ◌+◌, ◌*◌, ◌<◌, ◌≤◌, Option, None, Some, slice_set};
-ghost use Rattle.board_terms.specs.Dues.{number_of, timer_of, due_of, least};
+ghost use Rattle.board_terms.specs.Dues.{number_of, due_of, least};
 ghost use Rattle.timer_heap.specs.Heap.{no_dues, NoOther, Other, FirstOfThree, MarksDue};
 
-use crate::entry::Entry;
 use crate::table::Table;
 use arrayvec::ArrayVec;
-use board_terms::{TimerId, Vp};
+use board_terms::TimerId;
 use std::marker::Model;
 
 /// The timers that are due some time, each with its due moment (TLFS, "Synthetic Timers").
@@ -31,23 +30,6 @@ impl Model for TimerHeap {
     ghost invariant = { IsKept };
 }
 
-/// The number of a timer.
-fn number_of(timer: TimerId) -> u8
-    ensures value { result ≡ number_of timer }
-    ensures range { result < 32 }
-{
-    4 * timer.vp().number() + timer.index()
-}
-
-/// The timer of a number.
-fn timer_of(number: u8) -> TimerId
-    requires { number < 32 }
-    ensures { result ≡ timer_of number }
-{
-    let vp = Vp::new(number / 4).unwrap();
-    TimerId::new(vp, number % 4).unwrap()
-}
-
 impl TimerHeap {
     /// No timer is due.
     pub fn new() -> TimerHeap
@@ -55,8 +37,9 @@ impl TimerHeap {
     {
         TimerHeap {
             table: Table {
-                entries: ArrayVec::new(),
+                order: ArrayVec::new(),
                 places: [None; 32],
+                moments: [0; 32],
             },
         }
     }
@@ -69,14 +52,10 @@ impl TimerHeap {
         ensures alone { NoOther self.old timer → result ≡ 0 }
         ensures beside { Other self.old timer → 0 < result }
     {
-        let number = number_of(timer);
-        let entry = Entry {
-            due,
-            number: number as u64,
-        };
+        let number = timer.number();
         match self.table.place(number) {
-            Some(place) => self.table.change(place as usize, entry),
-            None => self.table.add(entry),
+            Some(place) => self.table.change(place as usize, number, due),
+            None => self.table.add(number, due),
         }
     }
 
@@ -90,7 +69,7 @@ impl TimerHeap {
         ensures absent { due_of self.old timer ≡ None → result ≡ 0 }
         ensures first { FirstOfThree self.old timer → 0 < result }
     {
-        match self.table.place(number_of(timer)) {
+        match self.table.place(timer.number()) {
             Some(place) => self.table.remove(place as usize),
             None => 0,
         }
@@ -103,16 +82,18 @@ impl TimerHeap {
         if self.table.len() == 0 {
             return None;
         }
-        let entry = self.table.entry(0);
-        Some((entry.due, timer_of(entry.number as u8)))
+        let number = self.table.number(0);
+        let timer = TimerId::from_number(number).unwrap();
+        Some((self.table.moment(number), timer))
     }
 
     /// When a timer is due, if it is.
     pub fn due_of(&self, timer: TimerId) -> Option<u128>
         ensures { result ≡ due_of self.now timer }
     {
-        match self.table.place(number_of(timer)) {
-            Some(place) => Some(self.table.entry(place as usize).due),
+        let number = timer.number();
+        match self.table.place(number) {
+            Some(_) => Some(self.table.moment(number)),
             None => None,
         }
     }

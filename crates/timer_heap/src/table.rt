@@ -1,54 +1,79 @@
-// Entries in heap order, and the place of each timer among them.
-ghost use Rattle.std.specs.Prelude.{◌≡◌, ◌≢◌, ℕ, ◌+◌, ◌-◌, ◌*◌, ◌<◌, ◌≤◌, length, slice_set, Option, Some, None};
-ghost use Rattle.timer_heap.specs.Table.{size, dues, entry_at, place_of, key, parent, with_entry, first_of, IsInverse, IsOrdered};
+// Timers in heap order, and the place and the due moment of each.
+ghost use Rattle.std.specs.Prelude.{◌≡◌, ℕ, ◌+◌, ◌-◌, ◌*◌, ◌<◌, ◌≤◌, length, slice_set, Option, Some, None};
+ghost use Rattle.timer_heap.specs.Table.{size, dues, number_at, moment_of, entry_of, place_of, key, with_number, first_of, IsInverse, IsOrdered};
 ghost use Rattle.timer_heap.specs.Heap.{MarksDue};
-ghost use Rattle.timer_heap.specs.Moves.{IsMoving, IsAbove, IsBelow, IsWithin};
+ghost use Rattle.timer_heap.specs.Moves.{IsMoving, IsAbove, IsBelow};
 
 use crate::comparer::Comparer;
 use crate::entry::Entry;
 use arrayvec::ArrayVec;
 
-/// Entries, and the place of each timer among them.
+/// The timers that are due some time, by number.
 #[derive(Drop)]
 pub(crate) struct Table {
-    pub(crate) entries: ArrayVec<Entry, 32>,
+    /// The numbers in heap order. A number alone moves, since its due moment stays where it is.
+    pub(crate) order: ArrayVec<u8, 32>,
+    /// The place of each timer in that order.
     pub(crate) places: [Option<u8>; 32],
+    /// When each timer is due that has a place.
+    pub(crate) moments: [u128; 32],
 }
 
-/// One entry takes the place of another.
-fn put(entries: &mut ArrayVec<Entry, 32>, at: usize, entry: Entry)
-    requires { at < length entries.old.items }
-    ensures { entries.new.items ≡ slice_set entries.old.items at entry }
+/// One number takes the place of another.
+fn put(order: &mut ArrayVec<u8, 32>, at: usize, number: u8)
+    requires { at < length order.old.items }
+    ensures { order.new.items ≡ slice_set order.old.items at number }
 {
-    entries[at] = entry;
+    order[at] = number;
 }
 
 impl Table {
-    /// The entry at a place.
+    /// The number at a place.
     #[inline]
-    pub(crate) fn entry(&self, at: usize) -> Entry
+    pub(crate) fn number(&self, at: usize) -> u8
         requires { at < size self.now }
-        ensures { result ≡ entry_at self.now at }
+        ensures { result ≡ number_at self.now at }
     {
-        self.entries[at]
+        self.order[at]
     }
 
-    /// How many entries there are.
+    /// How many timers have a place.
     #[inline]
     pub(crate) fn len(&self) -> usize
         ensures value { result ≡ size self.now }
         ensures room { result ≤ 32 }
     {
-        self.entries.len()
+        self.order.len()
     }
 
-    /// The place of a timer's entry.
+    /// The place of a timer.
     #[inline]
     pub(crate) fn place(&self, number: u8) -> Option<u8>
         requires { number < 32 }
         ensures { result ≡ place_of self.now number }
     {
         self.places[number as usize]
+    }
+
+    /// When a timer is due that has a place.
+    #[inline]
+    pub(crate) fn moment(&self, number: u8) -> u128
+        requires { number < 32 }
+        ensures { result ≡ moment_of self.now number }
+    {
+        self.moments[number as usize]
+    }
+
+    /// A timer with its due moment.
+    #[inline]
+    fn entry(&self, number: u8) -> Entry
+        requires { number < 32 }
+        ensures { result ≡ entry_of self.now number }
+    {
+        Entry {
+            due: self.moment(number),
+            number,
+        }
     }
 
     /// Which timers are due at a moment or before, by number: the bits of a word. No child is due before
@@ -63,9 +88,9 @@ impl Table {
         let mut end = size.min(1);
         let mut at = 0;
         while at < end {
-            let entry = self.entry(at);
-            if entry.due <= moment {
-                due |= 1 << entry.number;
+            let number = self.number(at);
+            if self.moment(number) <= moment {
+                due |= 1 << number;
                 end = size.min(2 * at + 3);
             }
             at += 1;
@@ -73,38 +98,82 @@ impl Table {
         due
     }
 
-    /// An entry stands at a place, and is found there. What stood there must be put elsewhere.
+    /// A timer stands at a place, and is found there. What stood there must be put elsewhere.
     #[inline]
-    fn put(&mut self, at: usize, entry: Entry)
+    fn put(&mut self, at: usize, number: u8)
         requires at_in { at < size self.old }
         requires place { at < 32 }
-        requires number { entry.number < 32 }
-        ensures { self.new ≡ with_entry self.old at entry }
+        requires number { number < 32 }
+        ensures { self.new ≡ with_number self.old at number }
     {
-        put(&mut self.entries, at, entry);
-        self.places[entry.number as usize] = Some(at as u8);
+        put(&mut self.order, at, number);
+        self.places[number as usize] = Some(at as u8);
     }
 
-    /// The place to which an entry moves up from `start`, until its parent does not come after it. The
-    /// entries that it passes move down; it is not yet put there.
-    fn rise(&mut self, start: usize, entry: Entry, comparer: &mut Comparer) -> usize
-        requires moving { IsMoving self.old start entry }
-        requires fresh { comparer.old ≡ 0 }
-        ensures moving { IsMoving self.new result entry }
-        ensures same { dues (with_entry self.new result entry) ≡ dues (with_entry self.old start entry) }
-        ensures size { size self.new ≡ size self.old }
-        ensures up { result ≤ start }
-        ensures above { IsAbove (key (with_entry self.new result entry)) result }
-        ensures moved { result ≢ start → IsBelow (key (with_entry self.new result entry)) (size self.new) result }
-        ensures few { comparer.new ≤ 5 }
-        ensures stayed { result ≡ start → comparer.new ≤ 1 × comparer.new ≤ start }
-        ensures counted { 0 < start → 0 < comparer.new }
+    /// The child that comes first, of the one before `right` and the one there.
+    #[inline]
+    fn first_child(&self, right: usize, comparer: &mut Comparer) -> usize
+        requires right_in { 0 < right × right < size self.now }
+        requires numbers { number_at self.now (right - 1) < 32 × number_at self.now right < 32 }
+        requires few { comparer.old < 100 }
+        ensures child { result ≡ first_of self.now right }
+        ensures counted { comparer.new ≡ comparer.old + 1 }
     {
+        let second = self.entry(self.number(right));
+        let first = self.entry(self.number(right - 1));
+        right - 1 + comparer.is_before(second, first) as usize
+    }
+
+    /// The place with no child below it to which a timer comes from `start` where the child that comes
+    /// first always moves up. It is not yet put there.
+    fn descend(&mut self, start: usize, number: u8, comparer: &mut Comparer) -> usize
+        requires moving { IsMoving self.old start number }
+        requires fresh { comparer.old ≡ 0 }
+        ensures moving { IsMoving self.new result number }
+        ensures same { dues (with_number self.new result number) ≡ dues (with_number self.old start number) }
+        ensures size { size self.new ≡ size self.old }
+        ensures last { size self.new ≤ 2 * result + 1 }
+        ensures few { comparer.new ≤ 5 }
+        ensures none { result ≡ 0 → comparer.new ≡ 0 }
+    {
+        let size = self.len();
+        let mut at = start;
+        while 2 * at + 2 < size {
+            let child = self.first_child(2 * at + 2, comparer);
+            let passed = self.number(child);
+            self.put(at, passed);
+            at = child;
+        }
+        let only = 2 * at + 1;
+        if only >= size {
+            return at;
+        }
+        let passed = self.number(only);
+        self.put(at, passed);
+        only
+    }
+
+    /// The place to which a timer moves up from `start`, which has no child, until its parent does not
+    /// come after it. The timers that it passes move down; it is not yet put there.
+    fn rise(&mut self, start: usize, number: u8, comparer: &mut Comparer) -> usize
+        requires moving { IsMoving self.old start number }
+        requires last { size self.old ≤ 2 * start + 1 }
+        requires few { comparer.old ≤ 5 }
+        ensures moving { IsMoving self.new result number }
+        ensures same { dues (with_number self.new result number) ≡ dues (with_number self.old start number) }
+        ensures size { size self.new ≡ size self.old }
+        ensures above { IsAbove (key (with_number self.new result number)) result }
+        ensures below { IsBelow (key (with_number self.new result number)) (size self.new) result }
+        ensures few { comparer.new ≤ comparer.old + 5 }
+        ensures counted { 0 < start → comparer.old < comparer.new }
+        ensures none { start ≡ 0 → comparer.new ≡ comparer.old }
+    {
+        let entry = self.entry(number);
         let mut at = start;
         while at > 0 {
             let above = (at - 1) / 2;
-            let passed = self.entry(above);
-            if !comparer.is_before(entry, passed) {
+            let passed = self.number(above);
+            if !comparer.is_before(entry, self.entry(passed)) {
                 return at;
             }
             self.put(at, passed);
@@ -113,59 +182,12 @@ impl Table {
         at
     }
 
-    /// The child that comes first, of the one at `left` and the one after it.
-    #[inline]
-    fn first_child(&self, left: usize, comparer: &mut Comparer) -> usize
-        requires left_in { left < size self.now }
-        requires few { comparer.old < 100 }
-        ensures child { result ≡ first_of self.now left }
-        ensures inside { result < size self.now }
-        ensures counted { comparer.old ≤ comparer.new × comparer.new ≤ comparer.old + 1 }
-    {
-        let size = self.len();
-        let right = left + 1;
-        if right < size && comparer.is_before(self.entry(right), self.entry(left)) {
-            right
-        } else {
-            left
-        }
-    }
-
-    /// The place to which an entry moves down from `start`, until neither child comes before it. The
-    /// entries that it passes move up; it is not yet put there.
-    fn sink(&mut self, start: usize, entry: Entry, comparer: &mut Comparer) -> usize
-        requires moving { IsMoving self.old start entry }
-        requires above { IsAbove (key (with_entry self.old start entry)) start }
-        requires few { IsWithin start comparer.old }
-        ensures moving { IsMoving self.new result entry }
-        ensures same { dues (with_entry self.new result entry) ≡ dues (with_entry self.old start entry) }
-        ensures size { size self.new ≡ size self.old }
-        ensures above { IsAbove (key (with_entry self.new result entry)) result }
-        ensures below { IsBelow (key (with_entry self.new result entry)) (size self.new) result }
-        ensures few { comparer.new ≤ 10 }
-        ensures counted { 2 * start + 1 < size self.old → 0 < comparer.new }
-        ensures none { size self.old ≤ 2 * start + 1 → comparer.new ≡ comparer.old }
-    {
-        let size = self.len();
-        let mut at = start;
-        while 2 * at + 1 < size {
-            let child = self.first_child(2 * at + 1, comparer);
-            let passed = self.entry(child);
-            if !comparer.is_before(passed, entry) {
-                return at;
-            }
-            self.put(at, passed);
-            at = child;
-        }
-        at
-    }
-
-    /// An entry goes to where it belongs, from `start`; the answer is how many comparisons were made.
-    /// An entry that rose need not sink, which keeps the comparisons within ten.
-    fn settle(&mut self, start: usize, entry: Entry) -> u8
-        requires { IsMoving self.old start entry }
+    /// A timer goes to where it belongs, from `start`; the answer is how many comparisons were made.
+    /// Most often it belongs far down, so that it goes there first, and is compared with its parents only.
+    fn settle(&mut self, start: usize, number: u8) -> u8
+        requires { IsMoving self.old start number }
         ensures inverse { IsInverse self.new }
-        ensures same { dues self.new ≡ dues (with_entry self.old start entry) }
+        ensures same { dues self.new ≡ dues (with_number self.old start number) }
         ensures size { size self.new ≡ size self.old }
         ensures ordered { IsOrdered (key self.new) (size self.new) }
         ensures few { result ≤ 10 }
@@ -173,25 +195,21 @@ impl Table {
         ensures beside { 1 < size self.old → 0 < result }
     {
         let mut comparer = Comparer::new();
-        let risen = self.rise(start, entry, &mut comparer);
-        if risen != start {
-            self.put(risen, entry);
-            return comparer.made();
-        }
-        let sunk = self.sink(start, entry, &mut comparer);
-        self.put(sunk, entry);
+        let leaf = self.descend(start, number, &mut comparer);
+        let place = self.rise(leaf, number, &mut comparer);
+        self.put(place, number);
         comparer.made()
     }
 
-    /// An entry joins; the answer is how many comparisons were made.
-    pub(crate) fn add(&mut self, entry: Entry) -> u8
+    /// A timer joins; the answer is how many comparisons were made.
+    pub(crate) fn add(&mut self, number: u8, due: u128) -> u8
         requires inverse { IsInverse self.old }
         requires ordered { IsOrdered (key self.old) (size self.old) }
-        requires number { entry.number < 32 }
-        requires absent { place_of self.old entry.number ≡ None }
+        requires number { number < 32 }
+        requires absent { place_of self.old number ≡ None }
         requires room { size self.old < 32 }
         ensures inverse { IsInverse self.new }
-        ensures set { dues self.new ≡ slice_set (dues self.old) entry.number (Some entry.due) }
+        ensures set { dues self.new ≡ slice_set (dues self.old) number (Some due) }
         ensures ordered { IsOrdered (key self.new) (size self.new) }
         ensures size { size self.new ≡ size self.old + 1 }
         ensures few { result ≤ 10 }
@@ -199,43 +217,46 @@ impl Table {
         ensures beside { 0 < size self.old → 0 < result }
     {
         let last = self.len();
-        self.entries.push(entry);
-        self.settle(last, entry)
+        self.moments[number as usize] = due;
+        self.order.push(number);
+        self.settle(last, number)
     }
 
-    /// The entry at a place gets another due moment; the answer is how many comparisons were made.
-    pub(crate) fn change(&mut self, at: usize, entry: Entry) -> u8
+    /// The timer at a place gets another due moment; the answer is how many comparisons were made.
+    pub(crate) fn change(&mut self, at: usize, number: u8, due: u128) -> u8
         requires inverse { IsInverse self.old }
         requires ordered { IsOrdered (key self.old) (size self.old) }
-        requires at { place_of self.old entry.number ≡ Some at }
+        requires number { number < 32 }
+        requires at { place_of self.old number ≡ Some at }
         ensures inverse { IsInverse self.new }
-        ensures set { dues self.new ≡ slice_set (dues self.old) entry.number (Some entry.due) }
+        ensures set { dues self.new ≡ slice_set (dues self.old) number (Some due) }
         ensures ordered { IsOrdered (key self.new) (size self.new) }
         ensures size { size self.new ≡ size self.old }
         ensures few { result ≤ 10 }
         ensures alone { size self.old ≡ 1 → result ≡ 0 }
         ensures beside { 1 < size self.old → 0 < result }
     {
-        self.settle(at, entry)
+        self.moments[number as usize] = due;
+        self.settle(at, number)
     }
 
-    /// The entry at a place goes; the answer is how many comparisons were made.
+    /// The timer at a place goes; the answer is how many comparisons were made.
     pub(crate) fn remove(&mut self, at: usize) -> u8
         requires inverse { IsInverse self.old }
         requires ordered { IsOrdered (key self.old) (size self.old) }
         requires at_in { at < size self.old }
         ensures inverse { IsInverse self.new }
-        ensures set { dues self.new ≡ slice_set (dues self.old) (entry_at self.old at).number None }
+        ensures set { dues self.new ≡ slice_set (dues self.old) (number_at self.old at) None }
         ensures ordered { IsOrdered (key self.new) (size self.new) }
         ensures size { size self.new + 1 ≡ size self.old }
         ensures few { result ≤ 10 }
         ensures alone { size self.old ≡ 1 → result ≡ 0 }
         ensures beside { at + 1 < size self.old → 2 < size self.old → 0 < result }
     {
-        let number = self.entry(at).number;
+        let number = self.number(at);
         let last = self.len() - 1;
-        let moving = self.entry(last);
-        self.entries.truncate(last);
+        let moving = self.number(last);
+        self.order.truncate(last);
         self.places[number as usize] = None;
         if at == last {
             return 0;

@@ -8,19 +8,19 @@ use Rattle.timer_heap.proofs.heap.TimerHeap.clear.Goals as goal
 
 pub remove-requires-clause-at_in : goal.remove-requires-clause-at_in
 remove-requires-clause-at_in c =
-    let at : place_of c.self.inside.table c.number_of.result ≡ Some c.in-Some.place = cc in
+    let at : place_of c.self.inside.table c.number.result ≡ Some c.in-Some.place = cc in
     (c.self.invariant.inverse.there _ _ at).0
 
 pub invariant_of-self : goal.invariant_of-self
 invariant_of-self c =
     let t = c.self.inside.table in
     let inverse = c.self.invariant.inverse in
-    let at : place_of t c.number_of.result ≡ Some c.in-Some.place = cc in
+    let at : place_of t c.number.result ≡ Some c.in-Some.place = cc in
     let number = (inverse.there _ _ at).1 in
-    let e : dues c.remove.new.self ≡ set (dues t) c.number_of.result None = c.remove.ensures.set ∙ ap (λ n. set (dues t) n None) number in record {
+    let e : dues c.remove.new.self ≡ set (dues t) c.number.result None = c.remove.ensures.set ∙ ap (λ n. set (dues t) n None) number in record {
       inverse = c.remove.ensures.inverse;
       ordered = c.remove.ensures.ordered;
-      full = kept_removed t inverse c.remove.new.self _ _ c.number_of.ensures.range at c.self.invariant.full e c.remove.ensures.size;
+      full = kept_removed t inverse c.remove.new.self _ _ c.number.ensures.range at c.self.invariant.full e c.remove.ensures.size;
     }
 
 pub returns-in-None-clause-set : goal.returns-in-None-clause-set

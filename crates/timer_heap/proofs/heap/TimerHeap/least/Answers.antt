@@ -1,7 +1,7 @@
 use Rattle.std.proofs.Common.{◌≡◌, ◌<◌, sym, ap, ◌∙◌, arith}
 use Rattle.std.specs.Prelude.{Some}
 use Rattle.board_terms.specs.Dues.{least, timer_of}
-use Rattle.timer_heap.specs.Table.{size, entry_at}
+use Rattle.timer_heap.specs.Table.{size, moment_of}
 use Rattle.timer_heap.proofs.Whole.{heap_least, heap_none}
 use Rattle.timer_heap.proofs.heap.TimerHeap.least.Goals as goal
 
@@ -15,6 +15,6 @@ pub returns : goal.returns
 returns c =
     let t = c.self.inside.table in
     let some : 0 < size t = omega arith in
-    let one = c.entry-entry.ensures in
-    let two = c.timer_of.ensures in
-    (λ i. Some ((one i).due, two i)) ∙ (λ i. Some ((entry_at t 0).due, timer_of (one i).number)) ∙ sym (ap least (sym c.self.view_is) ∙ heap_least t c.self.invariant.inverse some c.self.invariant.ordered)
+    let number = c.number-number.ensures in
+    let timer : c.unwrap-timer.result ≡ timer_of c.number-number.result = rw c.unwrap-timer.ensures at c.from_number.ensures.value in
+    (λ i. Some (c.moment.ensures i, timer i)) ∙ (λ i. Some (moment_of t (number i), timer_of (number i))) ∙ sym (ap least (sym c.self.view_is) ∙ heap_least t c.self.invariant.inverse some c.self.invariant.ordered)

@@ -10,18 +10,18 @@ invariant_of-self c =
     let e = c.change.ensures in record {
       inverse = e.inverse;
       ordered = e.ordered;
-      full = kept_changed c.self.inside.table c.self.invariant.inverse c.change.new.self _ c.in-Some.place _ c.number_of-number.ensures.range (cc) c.self.invariant.full e.set e.size;
+      full = kept_changed c.self.inside.table c.self.invariant.inverse c.change.new.self _ c.in-Some.place _ c.number-number.ensures.range (cc) c.self.invariant.full e.set e.size;
     }
 
 pub add-requires-clause-room : goal.add-requires-clause-room
-add-requires-clause-room c = room_for c.self.inside.table c.self.invariant.inverse _ c.number_of-number.ensures.range (cc) c.self.invariant.full
+add-requires-clause-room c = room_for c.self.inside.table c.self.invariant.inverse _ c.number-number.ensures.range (cc) c.self.invariant.full
 
 pub invariant_of-self-in-None : goal.invariant_of-self-in-None
 invariant_of-self-in-None c =
     let e = c.add.ensures in record {
       inverse = e.inverse;
       ordered = e.ordered;
-      full = kept_added c.self.inside.table c.self.invariant.inverse c.add.new.self _ _ c.number_of-number.ensures.range (cc) c.self.invariant.full e.set e.size;
+      full = kept_added c.self.inside.table c.self.invariant.inverse c.add.new.self _ _ c.number-number.ensures.range (cc) c.self.invariant.full e.set e.size;
     }
 
 pub returns-in-Some-clause-alone : goal.returns-in-Some-clause-alone

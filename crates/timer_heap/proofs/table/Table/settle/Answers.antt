@@ -4,12 +4,6 @@ use Rattle.timer_heap.proofs.table.Table.settle.Goals as goal
 
 pub put-requires : goal.put-requires
 put-requires c =
-    let m = c.rise-risen.ensures.moving in
-    let inside = m.inside in
-    let room = moving_room _ _ _ m in record { at_in = inside; place = omega arith; number = moving_number _ _ _ m }
-
-pub put-requires-2 : goal.put-requires-2
-put-requires-2 c =
-    let m = c.sink-sunk.ensures.moving in
+    let m = c.rise-place.ensures.moving in
     let inside = m.inside in
     let room = moving_room _ _ _ m in record { at_in = inside; place = omega arith; number = moving_number _ _ _ m }
