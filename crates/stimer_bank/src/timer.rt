@@ -1,6 +1,6 @@
 // One timer: its registers, when it is due, and how it expires.
 ghost use Rattle.std.specs.Prelude.{◌≡◌, ℕ, true, false, ◌+◌, ◌*◌, ◌^◌, ◌-◌, ◌<◌, ◌≤◌, Option, Some, None, IsSome, IsTrue};
-ghost use Rattle.stimer_bank.specs.Timer.{has_bit, is_periodic, vector_of, sint_of, is_direct, is_mute, disabled, ruled, written_config, written_count, started, after_config, after_count, is_due, IsSound, IsRuled, mode_of, expired, once, catching_up, lazily, expiry_of, after_expiry};
+ghost use Rattle.stimer_bank.specs.Timer.{has_bit, is_periodic, vector_of, sint_of, is_direct, is_mute, disabled, ruled, written_config, written_count, started, after_config, after_count, is_due, IsSound, IsRuled, mode_of, expired, once, catching_up, lazily, late, expiry_of, after_expiry};
 
 use board_terms::{Moment, Sint, Vector};
 
@@ -195,6 +195,19 @@ impl Timer {
         }
     }
 
+    /// How many periods late it is. Most often it is none, and then nothing is divided.
+    fn missed(self, due: u64, moment: Moment) -> u64
+        requires period { 0 < self.count }
+        requires late { due ≤ moment }
+        ensures { result ≡ late self.count due moment }
+    {
+        let behind = moment - due;
+        if behind < self.count {
+            return 0;
+        }
+        behind / self.count
+    }
+
     /// How it expires at a moment that has reached its due moment, and when it is due next.
     fn expiry(self, due: u64, moment: Moment) -> (Expiry, Option<u128>)
         requires period { 0 < self.count }
@@ -206,7 +219,7 @@ impl Timer {
         if !is_periodic(self.config) {
             return expire_once(due);
         }
-        let missed = (moment - due) / self.count;
+        let missed = self.missed(due, moment);
         if is_lazy(self.config) {
             let last = due + missed * self.count;
             return expire_lazily(self.count, last, missed, moment);
@@ -215,25 +228,19 @@ impl Timer {
     }
 
     /// It expires at a moment, and is due anew if it is periodic.
-    pub(crate) fn expire(self, moment: Moment) -> (Timer, Expiry)
-        requires sound { IsSound self }
-        requires is_due { IsTrue (is_due self moment) }
-        ensures after { result ≡ after_expiry self moment }
-        ensures sound { IsSound result.0 }
+    pub(crate) fn expire(&mut self, moment: Moment) -> Expiry
+        requires sound { IsSound self.old }
+        requires is_due { IsTrue (is_due self.old moment) }
+        ensures after { (self.new, result) ≡ after_expiry self.old moment }
+        ensures sound { IsSound self.new }
     {
         let due = self.due.unwrap() as u64;
         let (expiry, next) = self.expiry(due, moment);
-        let config = if is_periodic(self.config) {
-            self.config
-        } else {
-            disabled(self.config)
-        };
-        let timer = Timer {
-            config,
-            count: self.count,
-            due: next,
-        };
-        (timer, expiry)
+        if !is_periodic(self.config) {
+            self.config = disabled(self.config);
+        }
+        self.due = next;
+        expiry
     }
 }
 
