@@ -1,5 +1,5 @@
 // An actor, and its calls.
-ghost use Rattle.std.specs.Prelude.{◌≡◌, ◌≢◌, ◌≤◌, ℕ, ◌<◌, true, false, Err, [], ◌∷◌, ◌++◌, IfOk, OnOk, OnErr, IsErrOf, if◌then◌else◌, nat_lt, nat_le, ◌&&◌};
+ghost use Rattle.std.specs.Prelude.{◌≡◌, ℕ, ◌<◌, true, false, Err, [], ◌∷◌, ◌++◌, IfOk, OnErr, IsErrOf, if◌then◌else◌, nat_lt, nat_le, ◌&&◌};
 ghost use Rattle.posted_words.specs.Words.{token, sweep_of};
 ghost use Rattle.synic_board.specs.declared.event.Event.TheVariants.{Absorb};
 ghost use Rattle.board_threads.specs.History.{entry};

@@ -1,5 +1,5 @@
 // A crew of actors and lines on one board.
-ghost use Rattle.std.specs.Prelude.{◌≡◌, ◌↔◌, ◌≤◌, ◌+◌, ◌*◌, ℕ, true, false, IfOk, IsErrOf, All, map, length, vec_len, Vec};
+ghost use Rattle.std.specs.Prelude.{◌≡◌, ◌↔◌, ◌≤◌, ◌+◌, ◌*◌, true, false, IfOk, IsErrOf, All, map, vec_len, Vec};
 ghost use Rattle.std.specs.Global.{Global};
 ghost use Rattle.std.specs.List.{AllZip, range_with_len};
 ghost use Rattle.synic_board.specs.State.{opened};
@@ -9,7 +9,7 @@ ghost use Rattle.board_threads.specs.Sharing.{new_actor};
 ghost use Rattle.board_threads.specs.Settling.{IsSettled, AreAbsorbed};
 ghost use Rattle.board_threads.specs.Judging.{IsSized, has_bad_step};
 ghost use Rattle.board_threads.specs.Crew.{IsCrewed, HasEach, lists, logs_of};
-ghost use Rattle.board_threads.specs.Work.{IsNewActor, IsNewLine, IsThere, HaveWorked};
+ghost use Rattle.board_threads.specs.Work.{IsNewLine, HaveWorked};
 
 use crate::actor::Actor;
 use crate::fault::WorkFault;

@@ -1,5 +1,5 @@
 // What is compared once the threads have ended.
-ghost use Rattle.std.specs.Prelude.{◌≡◌, ◌≢◌, ℕ, IsTrue, IfOk, All, length, map};
+ghost use Rattle.std.specs.Prelude.{◌≡◌, ◌≢◌, IsTrue, IfOk, All, length, map};
 ghost use Rattle.std.specs.List.{sum_by};
 ghost use Rattle.posted_words.specs.Words.{token};
 ghost use Rattle.board_threads.specs.History.{calls_by};

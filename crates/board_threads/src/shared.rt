@@ -1,5 +1,5 @@
 // The board that threads share.
-ghost use Rattle.std.specs.Prelude.{◌≡◌, ◌↔◌, ◌≤◌, ℕ, ◌*◌, ◌<◌, true, [], ◌∷◌, ◌++◌, IsTrue, IfOk, OnErr, IsErrOf, map, All, replicate};
+ghost use Rattle.std.specs.Prelude.{◌≡◌, ◌↔◌, ℕ, ◌*◌, ◌<◌, true, [], ◌∷◌, ◌++◌, IsTrue, IfOk, OnErr, IsErrOf, map, All, replicate};
 ghost use Rattle.std.specs.List.{range_with_len};
 ghost use Rattle.atomic_table.specs.Seated.{TableId};
 ghost use Rattle.synic_board.specs.declared.event.Event.TheVariants.{Absorb};

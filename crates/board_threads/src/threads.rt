@@ -5,7 +5,7 @@ ghost use Rattle.posted_words.specs.Words.{Token};
 ghost use Rattle.posted_words.specs.declared.line.Raised.{Raised};
 ghost use Rattle.board_threads.specs.Sharing.{Acting};
 ghost use Rattle.board_threads.specs.declared.script.Step.{Step};
-ghost use Rattle.std.specs.List.{AllZip, range_with_len};
+ghost use Rattle.std.specs.List.{AllZip};
 ghost use Rattle.std.specs.Thread.{IsSync};
 ghost use Rattle.atomic_table.specs.Seated.{TableId};
 ghost use Rattle.board_threads.specs.Work.{IsNewActor, IsNewLine, IsThere, HasActed, HasRaised};

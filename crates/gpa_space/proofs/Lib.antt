@@ -1,3 +1,4 @@
 pub mod Bits
 pub mod Loads
+pub mod Messages
 pub mod Visible

@@ -1,6 +1,6 @@
 -- A page of 4096 bytes, sixteen message slots of 256 bytes, or sixteen sets of 2048 event flags
 -- (TLFS, "SIMP Register" and "SIEFP Register").
-use Rattle.std.specs.Prelude.{ℕ, Bool, ◌+◌, ◌*◌, ◌/◌, ◌^◌, ◌==◌, List, ◌++◌, length, take, drop, replicate, slice_index_or, slice_set, bit_or}
+use Rattle.std.specs.Prelude.{ℕ, Bool, ◌+◌, ◌-◌, ◌*◌, ◌/◌, ◌^◌, ◌==◌, List, ◌++◌, length, take, drop, replicate, slice_index_or, slice_set, bit_or}
 use Rattle.std.specs.Int.{bit_at}
 
 abbrev pub zero_page : List ℕ
@@ -17,6 +17,10 @@ slot_place s = 256 * s
 -- the slot of a source is replaced
 abbrev pub with_slot : List ℕ → ℕ → List ℕ → List ℕ
 with_slot page s slot = take (slot_place s) page ++ slot ++ drop (slot_place s + 256) page
+
+-- the 256 bytes of a message: a header of 16, a payload, and zeros behind it
+abbrev pub message_bytes : List ℕ → List ℕ → List ℕ
+message_bytes header payload = header ++ payload ++ replicate (240 - length payload) 0
 
 -- a bit of a byte
 abbrev pub is_set : List ℕ → ℕ → ℕ → Bool

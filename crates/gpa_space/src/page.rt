@@ -1,6 +1,6 @@
 // A page of 4096 bytes.
-ghost use Rattle.std.specs.Prelude.{◌≡◌, ◌<◌, ◌+◌, ◌≤◌, length, take, drop, not, IfOk};
-ghost use Rattle.gpa_space.specs.Page.{zero_page, overwritten, with_slot, is_set, with_bit};
+ghost use Rattle.std.specs.Prelude.{◌≡◌, ◌<◌, ◌+◌, ◌≤◌, length, take, drop, replicate, not, IfOk};
+ghost use Rattle.gpa_space.specs.Page.{zero_page, overwritten, with_slot, message_bytes, is_set, with_bit};
 
 use arrayvec::ArrayVec;
 use board_terms::{Bytes8, Sint};
@@ -12,6 +12,9 @@ pub const SIZE: usize = 4096;
 
 /// The number of bytes of a message slot, and of the event flags of a source.
 pub const SLOT_SIZE: usize = 256;
+
+/// The number of bytes of a message before its payload (TLFS, "SynIC Message").
+pub const HEADER_SIZE: usize = 16;
 
 /// Where the message flags stand in a slot; bit 0 of them is the pending bit (TLFS, "SynIC Message
 /// Flags").
@@ -65,7 +68,8 @@ impl Page {
     /// Replaces some of the bytes.
     pub fn store(&mut self, at: usize, bytes: &[u8])
         requires { at + length bytes.now ≤ 4096 }
-        ensures { self.new ≡ overwritten self.old at bytes.now }
+        ensures after { self.new ≡ overwritten self.old at bytes.now }
+        ensures len { length self.old ≡ 4096 }
     {
         self.bytes[at..at + bytes.len()].copy_from_slice(bytes);
     }
@@ -76,6 +80,26 @@ impl Page {
     {
         let at = SLOT_SIZE * sint.number() as usize;
         self.bytes[at..at + SLOT_SIZE].copy_from_slice(slot);
+    }
+
+    /// Some of the bytes become zeros.
+    fn clear(&mut self, at: usize, count: usize)
+        requires { at + count ≤ 4096 }
+        ensures { self.new ≡ overwritten self.old at (replicate count 0) }
+    {
+        self.bytes[at..at + count].fill(0);
+    }
+
+    /// Replaces a slot by a message of a header and a payload, with zeros behind it.
+    pub fn write_message(&mut self, sint: Sint, header: &[u8; HEADER_SIZE], payload: &[u8])
+        requires { length payload.now ≤ 240 }
+        ensures { self.new ≡ with_slot self.old sint (message_bytes header.now payload.now) }
+    {
+        let at = SLOT_SIZE * sint.number() as usize;
+        let size = HEADER_SIZE + payload.len();
+        self.store(at, header);
+        self.store(at + HEADER_SIZE, payload);
+        self.clear(at + size, SLOT_SIZE - size);
     }
 
     /// Sets a bit of a byte, and tells whether it was clear.

@@ -1,11 +1,11 @@
 // Guest pages, and the overlay pages above them.
 ghost use Rattle.std.specs.Prelude.{◌≡◌, ◌==◌, ◌<◌, ◌≤◌, ◌*◌, ◌/◌, length, not, IfOk, replicate, bit_and};
 ghost use Rattle.board_terms.specs.declared.pages.Kind.TheVariants as kind;
-ghost use Rattle.gpa_space.specs.Page.{zero_page};
+ghost use Rattle.gpa_space.specs.Page.{zero_page, message_bytes};
 ghost use Rattle.gpa_space.specs.Space.{opened, processors_of, overlay_of, with_register, visible, overlay_owner, owner_of, refusal_of, loaded, store_answer, after_store, own_page, after_slot, is_pending, after_pending, is_flag_set, after_flag};
 
 use crate::lying::Lying;
-use crate::page::{MESSAGE_FLAGS, Page, SIZE, SLOT_SIZE};
+use crate::page::{HEADER_SIZE, MESSAGE_FLAGS, Page, SIZE, SLOT_SIZE};
 use board_terms::{Bytes8, Kind, Owner, Refusal, Sint, Vp};
 use std::alloc::{AllocError, Global};
 use std::marker::Model;
@@ -179,6 +179,16 @@ impl Space {
         ensures { self.new ≡ after_slot self.old vp sint slot.now }
     {
         self.own[overlay_of(vp, Kind::Sim)].write_slot(sint, slot);
+    }
+
+    /// Writes a message of a header and a payload into the slot of a source in the page of messages,
+    /// visible or not, with zeros behind the payload.
+    pub fn write_message(&mut self, vp: Vp, sint: Sint, header: &[u8; HEADER_SIZE], payload: &[u8])
+        requires on_board { vp < processors_of self.old }
+        requires fits { length payload.now ≤ 240 }
+        ensures { self.new ≡ after_slot self.old vp sint (message_bytes header.now payload.now) }
+    {
+        self.own[overlay_of(vp, Kind::Sim)].write_message(sint, header, payload);
     }
 
     /// Sets the pending bit of a slot, bit 0 of its byte 5, in the page of messages, visible or not,

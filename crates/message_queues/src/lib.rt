@@ -9,4 +9,4 @@ mod slots;
 mod tests;
 
 pub use queues::Queues;
-pub use slots::{image, slot_type};
+pub use slots::{header, image, slot_type};

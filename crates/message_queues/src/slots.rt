@@ -1,5 +1,5 @@
 // Messages in their slots.
-ghost use Rattle.std.specs.Prelude.{◌≡◌, ◌-◌, ◌<◌, ◌≤◌, ◌++◌, length, replicate};
+ghost use Rattle.std.specs.Prelude.{◌≡◌, ◌-◌, ◌≤◌, ◌++◌, length, replicate};
 ghost use Rattle.message_queues.specs.Image.{flags_of, header, timer_payload, image, slot_type};
 
 use board_terms::{Message, Moment, Sint};
@@ -57,9 +57,10 @@ fn flags_of(pending: bool) -> u8
     if pending { 1 } else { 0 }
 }
 
-/// Bytes 0 to 15 of a message.
+/// Bytes 0 to 15 of a message: its type, the payload's length, whether more messages wait behind it,
+/// and its port (TLFS, "SynIC Message").
 #[inline]
-fn header(kind: u32, size: u8, pending: bool, port: u64) -> [u8; 16]
+pub fn header(kind: u32, size: u8, pending: bool, port: u64) -> [u8; 16]
     ensures { result ≡ header kind size pending port }
 {
     let [a, b, c, d] = kind.to_le_bytes();

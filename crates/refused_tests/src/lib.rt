@@ -8,6 +8,8 @@ mod boards;
 #[cfg(test)]
 mod crews;
 #[cfg(test)]
+mod events;
+#[cfg(test)]
 mod shared;
 #[cfg(test)]
 mod stopped;

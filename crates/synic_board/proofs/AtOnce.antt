@@ -4,10 +4,12 @@ use Rattle.std.specs.Prelude.{if◌then◌else◌}
 use Rattle.std.proofs.lemmas.Bool.Decides.{nat_tests}
 use Rattle.std.proofs.lemmas.List.{get_or-set_same, set-set, set-get_or}
 use Rattle.board_terms.specs.declared.messages.Message.{Message}
+use Rattle.board_terms.specs.declared.messages.Message.TheVariants.{FromPort}
 use Rattle.board_terms.specs.Messages.{ticket_of}
 use Rattle.board_terms.specs.declared.notices.Notice.TheVariants.{Accepted, Placed}
 use Rattle.message_queues.specs.Queues.{Queues, place_of, queue_of}
-use Rattle.message_queues.specs.Image.{image}
+use Rattle.message_queues.specs.Image.{image, header}
+use Rattle.gpa_space.specs.Page.{message_bytes}
 use Rattle.gpa_space.specs.Space.{after_slot}
 use Rattle.synic_board.specs.State.{State, space_of, with_space, with_slot_ticket}
 use Rattle.synic_board.specs.Effects.{Effect, nothing, after}
@@ -51,3 +53,8 @@ at-once s p i m free within =
     told qs =
         let t : State = with_slot_ticket (record (with_space s (after_slot (space_of s) p i (image m false s.moment))) { next_ticket = s.next_ticket + 1; queues = qs }) p i (Some (ticket_of m)) in
         ((raised t p i).0, Accepted (ticket_of m) p i ∷ Placed (ticket_of m) p i ∷ (raised t p i).1)
+
+-- the image of a post that nothing waits behind
+pub post-image : (ticket port kind moment : ℕ) (payload : List ℕ) → image (FromPort ticket port kind (record { items = payload })) false moment ≡ message_bytes (header kind (length payload) false port) payload
+unfolding image
+post-image ticket port kind moment payload = refl

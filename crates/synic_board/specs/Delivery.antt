@@ -1,6 +1,7 @@
 -- Delivery attempts: a queued message goes into the slot of its source (TLFS, "Message Delivery").
 use Rattle.std.specs.Prelude.{ℕ, zero, suc, ◌==◌, ◌&&◌, ◌+◌, Bool, false, not, nat_lt, List, [], ◌∷◌, length, Some, if◌then◌else◌}
 use Rattle.board_terms.specs.declared.messages.Message.{Message}
+use Rattle.board_terms.specs.declared.messages.Message.TheVariants.{FromPort}
 use Rattle.board_terms.specs.Messages.{ticket_of}
 use Rattle.board_terms.specs.declared.notices.Notice.{Notice}
 use Rattle.board_terms.specs.declared.notices.Notice.TheVariants.{Accepted, Placed, Pending}
@@ -64,7 +65,18 @@ accepted s p i m = (record s { queues = joined s.queues p i m; next_ticket = s.n
 abbrev pub delivered : State → ℕ → ℕ → Message → Effect
 delivered s p i m = after (accepted s p i m) (tried (accepted s p i m).0 p i)
 
--- what that comes to where nothing is queued before the message and its slot is empty, before its vector is raised
+-- a message that stands in its slot takes the next ticket, which the slot holds
+abbrev pub slot_taken : State → ℕ → ℕ → ℕ → Effect
+slot_taken s p i ticket = (with_slot_ticket (record s { next_ticket = s.next_ticket + 1 }) p i (Some ticket), Accepted ticket p i ∷ Placed ticket p i ∷ [])
+
+-- these bytes are written into its slot before
+abbrev pub filled_at_once : State → ℕ → ℕ → List ℕ → ℕ → Effect
+filled_at_once s p i bytes ticket = slot_taken (with_space s (after_slot (space_of s) p i bytes)) p i ticket
+
+-- what `delivered` comes to where nothing is queued before the message and its slot is empty, before its vector is raised
 abbrev pub placed_at_once : State → ℕ → ℕ → Message → Effect
-placed_at_once s p i m =
-    (with_slot_ticket (record (with_space s (after_slot (space_of s) p i (image m false s.moment))) { next_ticket = s.next_ticket + 1 }) p i (Some (ticket_of m)), Accepted (ticket_of m) p i ∷ Placed (ticket_of m) p i ∷ [])
+placed_at_once s p i m = filled_at_once s p i (image m false s.moment) (ticket_of m)
+
+-- the message of a post, with the next ticket
+abbrev pub posted_message : State → ℕ → ℕ → List ℕ → Message
+posted_message s port kind payload = FromPort s.next_ticket port kind (record { items = payload })

@@ -1,5 +1,5 @@
 // A list of events, one after another.
-ghost use Rattle.std.specs.Prelude.{◌≡◌, ◌<◌, ◌≤◌, ◌+◌, ◌*◌, ◌++◌, ◌∷◌, [], length, take, drop, vec_len, vec_capacity, IfOk, IfErr};
+ghost use Rattle.std.specs.Prelude.{◌≡◌, ◌<◌, ◌≤◌, ◌+◌, ◌*◌, ◌++◌, length, take, drop, vec_len, vec_capacity, IfOk, IfErr};
 ghost use Rattle.synic_board.specs.Run.{run_of, told_behind};
 ghost use Rattle.synic_board.specs.Places.{Conserves};
 

@@ -1,5 +1,5 @@
 // The workers of a board, and their threads.
-ghost use Rattle.std.specs.Prelude.{◌≡◌, ◌≤◌, IfOk, All};
+ghost use Rattle.std.specs.Prelude.{◌≡◌, IfOk, All};
 ghost use Rattle.std.specs.Thread.{IsSync};
 ghost use Rattle.thread_bench.specs.Own.{IsOwn, IsOwnActor, IsOwnLine};
 

@@ -9,8 +9,7 @@ ghost use Rattle.synic_board.specs.Posts.{opened_port, closed, withdrawn, post_r
 use crate::event::Reply;
 use crate::machine::Machine;
 use crate::summary::Entry;
-use arrayvec::ArrayVec;
-use board_terms::{Message, Notice, Notices, PayloadBytes, PortShape, Refusal, Sint, Ticket, Vp};
+use board_terms::{Notice, Notices, PortShape, Refusal, Sint, Ticket, Vp};
 use event_ports::Port;
 
 impl Machine {
@@ -76,13 +75,7 @@ impl Machine {
             return Reply::Refused(refusal);
         }
         let ticket = self.next_ticket;
-        let message = Message::FromPort {
-            ticket,
-            port,
-            kind,
-            payload: payload_of(payload),
-        };
-        self.deliver(vp, sint, message, notices);
+        self.deliver_post(vp, sint, port, kind, payload, notices);
         Reply::Accepted(ticket)
     }
 
@@ -150,14 +143,4 @@ fn tell_withdrawn(vp: Vp, sint: Sint, tickets: &[Ticket], notices: &mut Notices)
             sint,
         });
     }
-}
-
-/// A payload of these bytes.
-fn payload_of(bytes: &[u8]) -> PayloadBytes
-    requires { length bytes.now ≤ 240 }
-    ensures { result ≡ record { items = bytes.now } }
-{
-    let mut payload = ArrayVec::new();
-    let _ = payload.try_extend_from_slice(bytes);
-    payload
 }
