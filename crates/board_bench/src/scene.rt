@@ -1,4 +1,6 @@
 // The board of a workload, what is done on it first, and what is then done over and over.
+ghost use Rattle.std.specs.Prelude.{◌<◌};
+
 use crate::events::{
     ENABLE, EOI, EOM, PAGE, SCONTROL, SIEFP, SIMP, assert_vector, clear_flags, empty_slot,
     open_port, post, store, write, write_source, write_timer_config, write_timer_count,
@@ -262,7 +264,9 @@ fn mixed(alloc: Global) -> Result<Scene, AllocError> {
     })
 }
 
-fn set_up_mixed(vp: u8, setup: &mut Vec<Event>) -> Result<(), AllocError> {
+fn set_up_mixed(vp: u8, setup: &mut Vec<Event>) -> Result<(), AllocError>
+    requires { vp < 8 }
+{
     let messages = PortShape::Messages { buffers: BUFFERS };
     let flags = PortShape::Flags {
         base: 0,
@@ -287,7 +291,9 @@ fn set_up_mixed(vp: u8, setup: &mut Vec<Event>) -> Result<(), AllocError> {
 
 /// The clock goes on, a device interrupts, a message is posted, and a flag is signalled; behind each
 /// a vector is taken and ended.
-fn interrupt_mixed(vp: u8, round: &mut Vec<Event>) -> Result<(), AllocError> {
+fn interrupt_mixed(vp: u8, round: &mut Vec<Event>) -> Result<(), AllocError>
+    requires { vp < 8 }
+{
     let moment = MESSAGE_STEP * (vp as u64 + 1);
     let port = PROCESSORS + vp;
     let signal = Event::Signal { port, flag: 0 };
@@ -300,7 +306,9 @@ fn interrupt_mixed(vp: u8, round: &mut Vec<Event>) -> Result<(), AllocError> {
 }
 
 /// The messages are consumed, the flag is cleared, and the page of event flags moves away and back.
-fn store_mixed(vp: u8, round: &mut Vec<Event>) -> Result<(), AllocError> {
+fn store_mixed(vp: u8, round: &mut Vec<Event>) -> Result<(), AllocError>
+    requires { vp < 8 }
+{
     let page = PROCESSORS + vp;
     for source in [SOURCE, POST_SOURCE] {
         round.push(empty_slot(vp, source))?;
