@@ -1,12 +1,12 @@
 -- The table when a timer comes, changes or goes.
-use Rattle.std.proofs.Common.{◌≡◌, ◌≢◌, ℕ, zero, suc, ◌+◌, ◌-◌, ◌<◌, ◌≤◌, List, inl, inr, [], ◌∷◌, ◌++◌, length, set, get_or, map, take, refl, sym, ap, ◌∙◌, arith}
+use Rattle.std.proofs.Common.{◌≡◌, ◌≢◌, ℕ, zero, suc, ◌+◌, ◌-◌, ◌*◌, ◌/◌, ◌%◌, ◌^◌, ◌<◌, ◌≤◌, List, inl, inr, [], ◌∷◌, ◌++◌, length, set, get_or, map, take, refl, sym, ap, ◌∙◌, arith}
 use Rattle.std.specs.Prelude.{Option, None, Some}
 use Rattle.std.proofs.lemmas.Bool.{cases_eq, cases_lt}
 use Rattle.std.proofs.lemmas.Option.{none-some, same_Some}
 use Rattle.std.proofs.lemmas.List.{get_or-set_same, get_or-set_other, get_or_past, get_or-map, same_lists, length-set, length-map, get_or_default, get_or_append_left, get_or_push, get_or-take, length-take-le, length_push, set-get_or, set-set, set_comm, set_at, take-set}
 use Rattle.timer_heap.specs.declared.entry.Entry.{Entry}
 use Rattle.timer_heap.specs.declared.table.Table.{Table}
-use Rattle.timer_heap.specs.Table.{size, dues, due_through, number_at, moment_of, entry_of, entry_at, place_of, key, rank, parent, with_number, IsInverse, IsOrdered}
+use Rattle.timer_heap.specs.Table.{size, dues, due_through, number_at, moment_of, entry_of, entry_at, place_of, key, rank, parent, with_number, with_moment, IsInverse, IsOrdered}
 use Rattle.timer_heap.specs.Moves.{IsNear, IsMoving}
 use Rattle.timer_heap.proofs.Inverse.{in_table, size_with, IsExchanged, exchanged_numbers, exchange_inverse, exchange_dues}
 
@@ -42,9 +42,23 @@ dues_set t t' n x inside long here others =
 same_entry : (t t' : Table) (i : ℕ) → number_at t' i ≡ number_at t i → moment_of t' (number_at t i) ≡ moment_of t (number_at t i) → entry_at t' i ≡ entry_at t i
 same_entry t t' i a b = ap (entry_of t') a ∙ (λ j. record { due = b j; number = number_at t i })
 
+same_moment : (t t' : Table) (n : ℕ) → t'.highs ≡ t.highs → t'.lows ≡ t.lows → moment_of t' n ≡ moment_of t n
+same_moment t t' n h l = λ j. get_or (h j) n 0 * 2 ^ 64 + get_or (l j) n 0
+
+-- the due moment of a timer is written, and no other
+module _ (t : Table) (e due : ℕ) (inverse : IsInverse t) (low : e < 32) where
+  pub timed_here : moment_of (with_moment t e due) e ≡ due
+  timed_here =
+      let h : get_or (set t.highs e (due / 2 ^ 64)) e 0 ≡ due / 2 ^ 64 = get_or-set_same t.highs e (due / 2 ^ 64) 0 (omega (arith, inverse.highs)) in
+      let l : get_or (set t.lows e (due % 2 ^ 64)) e 0 ≡ due % 2 ^ 64 = get_or-set_same t.lows e (due % 2 ^ 64) 0 (omega (arith, inverse.lows)) in
+      rw (h, l) (omega arith)
+
+  pub timed_other : (m : ℕ) → m ≢ e → moment_of (with_moment t e due) m ≡ moment_of t m
+  timed_other m n = λ j. get_or-set_other t.highs e m (due / 2 ^ 64) 0 n j * 2 ^ 64 + get_or-set_other t.lows e m (due % 2 ^ 64) 0 n j
+
 -- a timer joins the end
 module _ (t pushed : Table) (e due : ℕ) (inverse : IsInverse t) (low : e < 32) (absent : place_of t e ≡ None) (room : size t < 32)
-    (more : pushed.order.items ≡ t.order.items ++ e ∷ []) (same : pushed.places ≡ t.places) (clock : pushed.moments ≡ set t.moments e due) where
+    (more : pushed.order.items ≡ t.order.items ++ e ∷ []) (same : pushed.places ≡ t.places) (highs : pushed.highs ≡ set t.highs e (due / 2 ^ 64)) (lows : pushed.lows ≡ set t.lows e (due % 2 ^ 64)) where
   abbrev t' : Table
   t' = with_number pushed (size t) e
 
@@ -67,10 +81,10 @@ module _ (t pushed : Table) (e due : ℕ) (inverse : IsInverse t) (low : e < 32)
   add_apart i h x = none-some i (sym absent ∙ ap (place_of t) (sym x) ∙ inverse.back i h)
 
   add_here : moment_of t' e ≡ due
-  add_here = ap (λ xs. get_or xs e 0) clock ∙ get_or-set_same t.moments e due 0 (omega (arith, inverse.moments))
+  add_here = same_moment (with_moment t e due) t' e highs lows ∙ timed_here t e due inverse low
 
   add_moment : (m : ℕ) → m ≢ e → moment_of t' m ≡ moment_of t m
-  add_moment m n = ap (λ xs. get_or xs m 0) clock ∙ get_or-set_other t.moments e m due 0 n
+  add_moment m n = same_moment (with_moment t e due) t' m highs lows ∙ timed_other t e due inverse low m n
 
   add_others : (i : ℕ) → i < size t → entry_at t' i ≡ entry_at t i
   add_others i h = same_entry t t' i (add_number i h) (add_moment (number_at t i) (add_apart i h))
@@ -90,7 +104,8 @@ module _ (t pushed : Table) (e due : ℕ) (inverse : IsInverse t) (low : e < 32)
   add_inverse : IsInverse t'
   add_inverse = record {
     numbers = add_long ∙ inverse.numbers;
-    moments = ap length clock ∙ length-set t.moments e due ∙ inverse.moments;
+    highs = ap length highs ∙ length-set t.highs e (due / 2 ^ 64) ∙ inverse.highs;
+    lows = ap length lows ∙ length-set t.lows e (due % 2 ^ 64) ∙ inverse.lows;
     room = omega (arith, add_size);
     back = λ i h.
         elim (cases_eq i (size t)) as (λ _. place_of t' (number_at t' i) ≡ Some i) [
@@ -135,7 +150,7 @@ module _ (t pushed : Table) (e due : ℕ) (inverse : IsInverse t) (low : e < 32)
 -- a timer gets another due moment
 module _ (t : Table) (p e due : ℕ) (inverse : IsInverse t) (low : e < 32) (at : place_of t e ≡ Some p) where
   abbrev timed : Table
-  timed = record { order = t.order; places = t.places; moments = set t.moments e due }
+  timed = with_moment t e due
 
   abbrev changed : Table
   changed = with_number timed p e
@@ -156,14 +171,14 @@ module _ (t : Table) (p e due : ℕ) (inverse : IsInverse t) (low : e < 32) (at 
   change_number i = ap (λ xs. get_or xs i 0) change_order
 
   change_here : moment_of changed e ≡ due
-  change_here = get_or-set_same t.moments e due 0 (omega (arith, inverse.moments))
+  change_here = timed_here t e due inverse low
 
   change_at : number_at changed p ≡ e
   change_at = change_number p ∙ (inverse.there e p at).1
 
   change_others : (i : ℕ) → i < size t → i ≢ p → entry_at changed i ≡ entry_at t i
   change_others i h n =
-      same_entry t changed i (change_number i) (get_or-set_other t.moments e (number_at t i) due 0 (λ x. n (same_Some i p (sym (inverse.back i h) ∙ ap (place_of t) x ∙ at))))
+      same_entry t changed i (change_number i) (timed_other t e due inverse low (number_at t i) (λ x. n (same_Some i p (sym (inverse.back i h) ∙ ap (place_of t) x ∙ at))))
 
   change_size : size changed ≡ size t
   change_size = ap length change_order
@@ -171,7 +186,8 @@ module _ (t : Table) (p e due : ℕ) (inverse : IsInverse t) (low : e < 32) (at 
   change_inverse : IsInverse changed
   change_inverse = record {
     numbers = ap length change_places ∙ inverse.numbers;
-    moments = length-set t.moments e due ∙ inverse.moments;
+    highs = length-set t.highs e (due / 2 ^ 64) ∙ inverse.highs;
+    lows = length-set t.lows e (due % 2 ^ 64) ∙ inverse.lows;
     room = omega (arith, change_size, inverse.room);
     back = λ i h. rw (change_number i) (change_place _ ∙ inverse.back i (omega (arith, change_size)));
     there = λ m i h. let old = inverse.there m i (sym (change_place m) ∙ h) in (omega (arith, change_size, old.0), change_number i ∙ old.1);
@@ -207,7 +223,7 @@ pub record IsShorter (old new : Table) : Type 0 where
   pub others : (i : ℕ) → i < size new → entry_at new i ≡ entry_at old i
 
 -- the last timer goes
-module _ (t t' : Table) (some : 0 < size t) (inverse : IsInverse t) (kept : t'.order.items ≡ take (size t - 1) t.order.items) (written : t'.places ≡ set t.places (number_at t (size t - 1)) None) (clock : t'.moments ≡ t.moments) where
+module _ (t t' : Table) (some : 0 < size t) (inverse : IsInverse t) (kept : t'.order.items ≡ take (size t - 1) t.order.items) (written : t'.places ≡ set t.places (number_at t (size t - 1)) None) (highs : t'.highs ≡ t.highs) (lows : t'.lows ≡ t.lows) where
   drop_size : size t' ≡ size t - 1
   drop_size = ap length kept ∙ length-take-le (size t - 1) t.order.items (omega arith)
 
@@ -215,7 +231,7 @@ module _ (t t' : Table) (some : 0 < size t) (inverse : IsInverse t) (kept : t'.o
   drop_number i h = ap (λ xs. get_or xs i 0) kept ∙ get_or-take (size t - 1) t.order.items i 0 h
 
   drop_others : (i : ℕ) → i < size t - 1 → entry_at t' i ≡ entry_at t i
-  drop_others i h = same_entry t t' i (drop_number i h) (ap (λ xs. get_or xs (number_at t i) 0) clock)
+  drop_others i h = same_entry t t' i (drop_number i h) (same_moment t t' (number_at t i) highs lows)
 
   last_place : place_of t (number_at t (size t - 1)) ≡ Some (size t - 1)
   last_place = inverse.back (size t - 1) (omega arith)
@@ -239,7 +255,8 @@ module _ (t t' : Table) (some : 0 < size t) (inverse : IsInverse t) (kept : t'.o
   pub drop_inverse : IsInverse t'
   drop_inverse = record {
     numbers = drop_long ∙ inverse.numbers;
-    moments = ap length clock ∙ inverse.moments;
+    highs = ap length highs ∙ inverse.highs;
+    lows = ap length lows ∙ inverse.lows;
     room = omega (arith, drop_size, inverse.room);
     back = λ i h.
         let l : i < size t - 1 = omega (arith, drop_size) in
@@ -266,7 +283,7 @@ pub removed_near : (t s t' : Table) (p : ℕ) → p < size t - 1 → IsOrdered (
 removed_near t s t' p inside o ex short =
     let long : size t' + 1 ≡ size t = short.same_size ∙ ex.same_size in
     let same : (i : ℕ) → i < size t' → i ≢ p → key t' i ≡ key t i = λ i h n.
-    ap rank (short.others i h ∙ same_entry t s i (ex.others i n (λ e. absurd (omega arith))) (ap (λ xs. get_or xs (number_at t i) 0) ex.moments)) in record {
+    ap rank (short.others i h ∙ same_entry t s i (ex.others i n (λ e. absurd (omega arith))) (same_moment t s (number_at t i) ex.highs ex.lows)) in record {
       edges = λ j a b c d.
           let up : parent j < size t' = omega arith in
           let here = same j b c in
@@ -301,7 +318,7 @@ take_set (suc n) (x ∷ xs) zero y = refl
 take_set (suc n) (x ∷ xs) (suc i) y = ap (λ zs. x ∷ zs) (take_set n xs i y)
 
 -- a timer goes, and the last one is on its way from there
-module _ (t rest : Table) (p : ℕ) (inverse : IsInverse t) (inside : p < size t - 1) (kept : rest.order.items ≡ take (size t - 1) t.order.items) (written : rest.places ≡ set t.places (number_at t p) None) (clock : rest.moments ≡ t.moments) where
+module _ (t rest : Table) (p : ℕ) (inverse : IsInverse t) (inside : p < size t - 1) (kept : rest.order.items ≡ take (size t - 1) t.order.items) (written : rest.places ≡ set t.places (number_at t p) None) (highs : rest.highs ≡ t.highs) (lows : rest.lows ≡ t.lows) where
   abbrev last : ℕ
   last = size t - 1
 
@@ -312,7 +329,7 @@ module _ (t rest : Table) (p : ℕ) (inverse : IsInverse t) (inside : p < size t
   moving = number_at t last
 
   abbrev swapped : Table
-  swapped = record { order = record { items = set (set t.order.items p moving) last gone }; places = set (set t.places gone (Some last)) moving (Some p); moments = t.moments }
+  swapped = record { order = record { items = set (set t.order.items p moving) last gone }; places = set (set t.places gone (Some last)) moving (Some p); highs = t.highs; lows = t.lows }
 
   abbrev v : Table
   v = with_number rest p moving
@@ -330,7 +347,7 @@ module _ (t rest : Table) (p : ℕ) (inverse : IsInverse t) (inside : p < size t
   numbers_apart x = apart (same_Some p last (sym (inverse.back p p_in) ∙ ap (place_of t) x ∙ inverse.back last last_in))
 
   exchanged : IsExchanged t swapped p last
-  exchanged = exchanged_numbers t swapped p last p_in last_in apart refl refl
+  exchanged = exchanged_numbers t swapped p last p_in last_in apart refl refl refl
 
   inverse_swapped : IsInverse swapped
   inverse_swapped = exchange_inverse t swapped p last p_in last_in apart inverse exchanged refl
@@ -352,11 +369,11 @@ module _ (t rest : Table) (p : ℕ) (inverse : IsInverse t) (inside : p < size t
 
   pub remove_dues : dues v ≡ set (dues t) gone None
   remove_dues =
-      drop_dues swapped v some inverse_swapped order_v places_v clock ∙ ap (λ n. set (dues swapped) n None) at_last ∙ ap (λ m. set m gone None) (exchange_dues t swapped p last p_in last_in apart inverse exchanged refl)
+      drop_dues swapped v some inverse_swapped order_v places_v highs lows ∙ ap (λ n. set (dues swapped) n None) at_last ∙ ap (λ m. set m gone None) (exchange_dues t swapped p last p_in last_in apart inverse exchanged refl)
 
   pub remove_moving : IsOrdered (key t) (size t) → IsMoving rest p moving
   remove_moving o = record {
     inside = omega (arith, ap length kept, length-take-le last t.order.items (omega arith));
-    inverse = drop_inverse swapped v some inverse_swapped order_v places_v clock;
-    near = rw (sym (size_with rest p moving)) (removed_near t swapped v p inside o exchanged (drop_shorter swapped v some inverse_swapped order_v places_v clock));
+    inverse = drop_inverse swapped v some inverse_swapped order_v places_v highs lows;
+    near = rw (sym (size_with rest p moving)) (removed_near t swapped v p inside o exchanged (drop_shorter swapped v some inverse_swapped order_v places_v highs lows));
   }

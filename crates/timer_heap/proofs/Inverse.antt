@@ -1,5 +1,5 @@
 -- The table when a timer passes another on its way.
-use Rattle.std.proofs.Common.{◌≡◌, ◌≢◌, ℕ, ◌<◌, ◌≤◌, true, false, inl, inr, length, set, get_or, refl, sym, ap, ◌∙◌, arith}
+use Rattle.std.proofs.Common.{◌≡◌, ◌≢◌, ℕ, ◌+◌, ◌*◌, ◌^◌, ◌<◌, ◌≤◌, true, false, inl, inr, length, set, get_or, refl, sym, ap, ◌∙◌, arith}
 use Rattle.std.specs.Prelude.{Option, None, Some}
 use Rattle.std.proofs.lemmas.Bool.{cases_eq, cases_lt}
 use Rattle.std.proofs.lemmas.Option.{none-some, same_Some}
@@ -22,17 +22,19 @@ pub record IsExchanged (old new : Table) (a b : ℕ) : Type 0 where
   pub at_a : number_at new a ≡ number_at old b
   pub at_b : number_at new b ≡ number_at old a
   pub others : (i : ℕ) → i ≢ a → i ≢ b → number_at new i ≡ number_at old i
-  pub moments : new.moments ≡ old.moments
+  pub highs : new.highs ≡ old.highs
+  pub lows : new.lows ≡ old.lows
 
-pub exchanged_numbers : (t t' : Table) (a b : ℕ) → a < size t → b < size t → a ≢ b → t'.order.items ≡ set (set t.order.items a (number_at t b)) b (number_at t a) → t'.moments ≡ t.moments → IsExchanged t t' a b
-exchanged_numbers t t' a b a_in b_in apart e same =
+pub exchanged_numbers : (t t' : Table) (a b : ℕ) → a < size t → b < size t → a ≢ b → t'.order.items ≡ set (set t.order.items a (number_at t b)) b (number_at t a) → t'.highs ≡ t.highs → t'.lows ≡ t.lows → IsExchanged t t' a b
+exchanged_numbers t t' a b a_in b_in apart e h l' =
     let xs = t.order.items in
     let l : b < length (set xs a (number_at t b)) = simp length-set b_in in record {
       same_size = ap length e ∙ length-set (set xs a (number_at t b)) b (number_at t a) ∙ length-set xs a (number_at t b);
       at_a = ap (λ ys. get_or ys a 0) e ∙ get_or-set_other (set xs a (number_at t b)) b a (number_at t a) 0 apart ∙ get_or-set_same xs a (number_at t b) 0 a_in;
       at_b = ap (λ ys. get_or ys b 0) e ∙ get_or-set_same (set xs a (number_at t b)) b (number_at t a) 0 l;
       others = λ i x y. ap (λ ys. get_or ys i 0) e ∙ get_or-set_other (set xs a (number_at t b)) b i (number_at t a) 0 y ∙ get_or-set_other xs a i (number_at t b) 0 x;
-      moments = same;
+      highs = h;
+      lows = l';
     }
 
 module _ (t t' : Table) (a b : ℕ) (a_in : a < size t) (b_in : b < size t) (apart : a ≢ b) (inverse : IsInverse t) (moved : IsExchanged t t' a b)
@@ -67,7 +69,8 @@ module _ (t t' : Table) (a b : ℕ) (a_in : a < size t) (b_in : b < size t) (apa
   pub exchange_inverse : IsInverse t'
   exchange_inverse = record {
     numbers = same_length ∙ inverse.numbers;
-    moments = ap length moved.moments ∙ inverse.moments;
+    highs = ap length moved.highs ∙ inverse.highs;
+    lows = ap length moved.lows ∙ inverse.lows;
     room = omega (arith, moved.same_size, inverse.room);
     back = λ i h.
         elim (cases_eq i a) as (λ _. place_of t' (number_at t' i) ≡ Some i) [
@@ -105,15 +108,15 @@ module _ (t t' : Table) (a b : ℕ) (a_in : a < size t) (b_in : b < size t) (apa
       let old = inverse.there n i h in
       let ia : i ≢ a = λ x. g (sym old.1 ∙ ap (number_at t) x) in
       let ib : i ≢ b = λ x. e (sym old.1 ∙ ap (number_at t) x) in
-      λ j. Some (get_or (moved.moments j) (moved.others i ia ib j) 0)
+      λ j. Some (get_or (moved.highs j) (moved.others i ia ib j) 0 * 2 ^ 64 + get_or (moved.lows j) (moved.others i ia ib j) 0)
 
   due_same : (n : ℕ) → due_through t' (place_of t' n) ≡ due_through t (place_of t n)
   due_same n =
       elim (cases_eq n (number_at t b)) as (λ _. due_through t' (place_of t' n) ≡ due_through t (place_of t n)) [
-        | inl e ↦ rw (e, new_at_b, at_b) (λ j. Some (get_or (moved.moments j) (moved.at_a j) 0))
+        | inl e ↦ rw (e, new_at_b, at_b) (λ j. Some (get_or (moved.highs j) (moved.at_a j) 0 * 2 ^ 64 + get_or (moved.lows j) (moved.at_a j) 0))
         | inr e ↦
             elim (cases_eq n (number_at t a)) as (λ _. due_through t' (place_of t' n) ≡ due_through t (place_of t n)) [
-              | inl g ↦ rw (g, new_at_a, at_a) (λ j. Some (get_or (moved.moments j) (moved.at_b j) 0))
+              | inl g ↦ rw (g, new_at_a, at_a) (λ j. Some (get_or (moved.highs j) (moved.at_b j) 0 * 2 ^ 64 + get_or (moved.lows j) (moved.at_b j) 0))
               | inr g ↦ rw (new_others n g e) (due_others n e g (place_of t n) refl)
             ]
       ]
@@ -159,7 +162,7 @@ module _ (t : Table) (p q : ℕ) (e : ℕ) (p_in : p < size t) (q_in : q < size 
 
   exchanged : IsExchanged before after p q
   exchanged = exchanged_numbers before after p q (rw size_with p_in) (rw size_with q_in) apart
-      (sym ((λ i. set (set before.order.items p (there i)) q (here i)) ∙ ap (λ xs. set xs q e) (set-set t.order.items p e (number_at t q)))) refl
+      (sym ((λ i. set (set before.order.items p (there i)) q (here i)) ∙ ap (λ xs. set xs q e) (set-set t.order.items p e (number_at t q)))) refl refl
 
   numbers : e ≢ number_at t q
   numbers x =

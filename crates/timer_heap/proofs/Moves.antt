@@ -1,5 +1,5 @@
 -- A timer on its way down or up.
-use Rattle.std.proofs.Common.{◌≡◌, ◌≢◌, ℕ, ◌+◌, ◌-◌, ◌*◌, ◌<◌, ◌≤◌, true, false, get_or, inl, inr, refl, ◌∙◌, arith}
+use Rattle.std.proofs.Common.{◌≡◌, ◌≢◌, ℕ, ◌+◌, ◌-◌, ◌*◌, ◌^◌, ◌<◌, ◌≤◌, true, false, get_or, inl, inr, refl, ◌∙◌, arith}
 use Rattle.std.specs.Prelude.{if◌then◌else◌}
 use Rattle.std.proofs.lemmas.Bool.{cases_eq}
 use Rattle.timer_heap.specs.declared.table.Table.{Table}
@@ -128,15 +128,16 @@ pub record IsRising (first t : Table) (e start p before c : ℕ) : Type 0 where
   pub up : p ≤ start
   pub same : dues (with_number t p e) ≡ dues (with_number first start e)
   pub same_size : size t ≡ size first
-  pub timed : t.moments ≡ first.moments
+  pub highs : t.highs ≡ first.highs
+  pub lows : t.lows ≡ first.lows
   pub below : IsBelow (key (with_number t p e)) (size t) p
   pub climb : IsClimb p before c
   pub begun : p ≡ start → c ≡ before
   pub counted : p ≢ start → before < c
 
 -- its due moment stays
-pub same_entry_of : (first t : Table) (e : ℕ) → t.moments ≡ first.moments → entry_of t e ≡ entry_of first e
-same_entry_of first t e h = λ i. record { due = get_or (h i) e 0; number = e }
+pub same_entry_of : (first t : Table) (e : ℕ) → t.highs ≡ first.highs → t.lows ≡ first.lows → entry_of t e ≡ entry_of first e
+same_entry_of first t e h l = λ i. record { due = get_or (h i) e 0 * 2 ^ 64 + get_or (l i) e 0; number = e }
 
 -- it begins where there is no child
 pub starts_rising : (t : Table) (e p c : ℕ) → IsMoving t p e → size t ≤ 2 * p + 1 → IsRising t t e p p c c
@@ -147,7 +148,8 @@ starts_rising t e p c m last =
       up = omega arith;
       same = refl;
       same_size = refl;
-      timed = refl;
+      highs = refl;
+      lows = refl;
       below = record { edges = λ j a b up. absurd (omega arith) };
       climb = climbs p c (omega arith);
       begun = λ x. refl;
@@ -170,7 +172,8 @@ rises first t e start p before c h pos less =
       up = omega arith;
       same = step.same ∙ h.same;
       same_size = long ∙ h.same_size;
-      timed = h.timed;
+      highs = h.highs;
+      lows = h.lows;
       below = rw long below;
       climb = climbed p before c pos h.climb;
       begun = λ x. absurd (omega arith);

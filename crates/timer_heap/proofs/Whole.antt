@@ -21,11 +21,12 @@ all_none (suc k) zero = refl
 all_none (suc k) (suc n) = all_none k n
 
 -- nothing is in the table
-pub empty_inverse : (t : Table) → t.order.items ≡ [] → t.places ≡ replicate 32 None → t.moments ≡ replicate 32 0 → IsInverse t
-empty_inverse t none places moments =
+pub empty_inverse : (t : Table) → t.order.items ≡ [] → t.places ≡ replicate 32 None → t.highs ≡ replicate 32 0 → t.lows ≡ replicate 32 0 → IsInverse t
+empty_inverse t none places highs lows =
     let zero_size : size t ≡ 0 = ap length none in record {
       numbers = ap length places;
-      moments = ap length moments;
+      highs = ap length highs;
+      lows = ap length lows;
       room = omega arith;
       back = λ i h. absurd (omega arith);
       there = λ n i h. absurd (let e : None ≡ Some i = sym (all_none 32 n) ∙ ap (λ xs. get_or xs n None) (sym places) ∙ h in cc);

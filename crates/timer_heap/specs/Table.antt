@@ -1,5 +1,5 @@
 -- Timers in heap order, and the place and the due moment of each.
-use Rattle.std.specs.Prelude.{◌≡◌, ℕ, ◌+◌, ◌-◌, ◌*◌, ◌/◌, ◌<◌, ◌≤◌, Bool, nat_lt, ◌==◌, ◌&&◌, ◌||◌, Option, None, Some, map, length, slice_index_or, slice_set, if◌then◌else◌}
+use Rattle.std.specs.Prelude.{◌≡◌, ℕ, ◌+◌, ◌-◌, ◌*◌, ◌/◌, ◌%◌, ◌^◌, ◌<◌, ◌≤◌, Bool, nat_lt, ◌==◌, ◌&&◌, ◌||◌, Option, None, Some, map, length, slice_index_or, slice_set, if◌then◌else◌}
 use Rattle.std.specs.Option.{option_map}
 use Rattle.board_terms.specs.Dues.{Dues}
 use Rattle.timer_heap.specs.declared.entry.Entry.{Entry}
@@ -18,8 +18,9 @@ number_at t i = slice_index_or t.order.items i 0
 abbrev pub place_of : Table → ℕ → Option ℕ
 place_of t n = slice_index_or t.places n None
 
+-- when a timer is due that has a place, from the upper and the lower word
 abbrev pub moment_of : Table → ℕ → ℕ
-moment_of t n = slice_index_or t.moments n 0
+moment_of t n = slice_index_or t.highs n 0 * 2 ^ 64 + slice_index_or t.lows n 0
 
 abbrev pub entry_of : Table → ℕ → Entry
 entry_of t n = record { due = moment_of t n; number = n }
@@ -39,7 +40,8 @@ dues t = map (due_through t) t.places
 -- both facts of the table: the timer at each place has that place, and the place of each timer has its number
 pub record IsInverse (t : Table) : Type 0 where
   pub numbers : length t.places ≡ 32
-  pub moments : length t.moments ≡ 32
+  pub highs : length t.highs ≡ 32
+  pub lows : length t.lows ≡ 32
   pub room : size t ≤ 32
   pub back : (i : ℕ) → i < size t → place_of t (number_at t i) ≡ Some i
   pub there : (n i : ℕ) → place_of t n ≡ Some i → (i < size t) × (number_at t i ≡ n)
@@ -60,7 +62,11 @@ pub record IsOrdered (k : ℕ → ℕ) (n : ℕ) : Type 0 where
 
 -- the table with the timer of number n at a place
 abbrev pub with_number : Table → ℕ → ℕ → Table
-with_number t i n = record { order = record { items = slice_set t.order.items i n }; places = slice_set t.places n (Some i); moments = t.moments }
+with_number t i n = record { order = record { items = slice_set t.order.items i n }; places = slice_set t.places n (Some i); highs = t.highs; lows = t.lows }
+
+-- the table with a due moment of the timer of number n
+abbrev pub with_moment : Table → ℕ → ℕ → Table
+with_moment t n due = record { order = t.order; places = t.places; highs = slice_set t.highs n (due / 2 ^ 64); lows = slice_set t.lows n (due % 2 ^ 64) }
 
 -- of the timer at r and the one before it, the place of the one that comes first
 abbrev pub first_of : Table → ℕ → ℕ

@@ -20,14 +20,14 @@ impl Model for Comparer {
 }
 
 /// The upper word of a due moment, which is 0 in most.
-fn high(due: u128) -> u64
+pub(crate) fn high(due: u128) -> u64
     ensures { result ≡ due / 2 ^ 64 }
 {
     (due >> 64) as u64
 }
 
 /// The lower word of a due moment.
-fn low(due: u128) -> u64
+pub(crate) fn low(due: u128) -> u64
     ensures { result ≡ due % 2 ^ 64 }
 {
     (due % (1 << 64)) as u64

@@ -39,7 +39,8 @@ impl TimerHeap {
             table: Table {
                 order: ArrayVec::new(),
                 places: [None; 32],
-                moments: [0; 32],
+                highs: [0; 32],
+                lows: [0; 32],
             },
         }
     }

@@ -1,10 +1,10 @@
 // Timers in heap order, and the place and the due moment of each.
 ghost use Rattle.std.specs.Prelude.{◌≡◌, ℕ, ◌+◌, ◌-◌, ◌*◌, ◌<◌, ◌≤◌, length, slice_set, Option, Some, None};
-ghost use Rattle.timer_heap.specs.Table.{size, dues, number_at, moment_of, entry_of, place_of, key, with_number, first_of, IsInverse, IsOrdered};
+ghost use Rattle.timer_heap.specs.Table.{size, dues, number_at, moment_of, entry_of, place_of, key, with_number, with_moment, first_of, IsInverse, IsOrdered};
 ghost use Rattle.timer_heap.specs.Heap.{MarksDue};
 ghost use Rattle.timer_heap.specs.Moves.{IsMoving, IsAbove, IsBelow};
 
-use crate::comparer::Comparer;
+use crate::comparer::{Comparer, high, low};
 use crate::entry::Entry;
 use arrayvec::ArrayVec;
 
@@ -15,8 +15,9 @@ pub(crate) struct Table {
     pub(crate) order: ArrayVec<u8, 32>,
     /// The place of each timer in that order.
     pub(crate) places: [Option<u8>; 32],
-    /// When each timer is due that has a place.
-    pub(crate) moments: [u128; 32],
+    /// When each timer is due that has a place: the upper and the lower word.
+    pub(crate) highs: [u64; 32],
+    pub(crate) lows: [u64; 32],
 }
 
 /// One number takes the place of another.
@@ -61,7 +62,19 @@ impl Table {
         requires { number < 32 }
         ensures { result ≡ moment_of self.now number }
     {
-        self.moments[number as usize]
+        let at = number as usize;
+        self.highs[at] as u128 * (1 << 64) + self.lows[at] as u128
+    }
+
+    /// A timer that has a place gets a due moment.
+    #[inline]
+    fn set_moment(&mut self, number: u8, due: u128)
+        requires { number < 32 }
+        ensures { self.new ≡ with_moment self.old number due }
+    {
+        let at = number as usize;
+        self.highs[at] = high(due);
+        self.lows[at] = low(due);
     }
 
     /// A timer with its due moment.
@@ -217,7 +230,7 @@ impl Table {
         ensures beside { 0 < size self.old → 0 < result }
     {
         let last = self.len();
-        self.moments[number as usize] = due;
+        self.set_moment(number, due);
         self.order.push(number);
         self.settle(last, number)
     }
@@ -236,7 +249,7 @@ impl Table {
         ensures alone { size self.old ≡ 1 → result ≡ 0 }
         ensures beside { 1 < size self.old → 0 < result }
     {
-        self.moments[number as usize] = due;
+        self.set_moment(number, due);
         self.settle(at, number)
     }
 

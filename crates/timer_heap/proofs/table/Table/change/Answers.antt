@@ -3,7 +3,7 @@ use Rattle.timer_heap.proofs.Edits.{change_moving, change_dues}
 use Rattle.timer_heap.proofs.table.Table.change.Goals as goal
 
 pub settle-requires : goal.settle-requires
-settle-requires c = change_moving _ _ _ _ c.requires.inverse c.requires.number c.requires.at c.requires.ordered
+settle-requires c = rw c.set_moment.ensures (change_moving _ _ _ c.args.due c.requires.inverse c.requires.number c.requires.at c.requires.ordered)
 
 pub returns-clause-set : goal.returns-clause-set
-returns-clause-set c = c.settle.ensures.same ∙ change_dues _ _ _ _ c.requires.inverse c.requires.number c.requires.at
+returns-clause-set c = c.settle.ensures.same ∙ rw c.set_moment.ensures (change_dues _ _ _ c.args.due c.requires.inverse c.requires.number c.requires.at)

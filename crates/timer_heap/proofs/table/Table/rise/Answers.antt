@@ -33,7 +33,7 @@ returns-then-not-is_before-clause-above c = λ pos.
     let m = c.loop-at.invariant.moving in
     let inside = m.inside in
     let told : c.is_before.result ≡ false = cc in
-    let mine : c.entry-entry.result ≡ entry_of c.loop-at.self c.args.number = c.entry-entry.ensures ∙ sym (same_entry_of c.args.self.now c.loop-at.self _ c.loop-at.invariant.timed) in
+    let mine : c.entry-entry.result ≡ entry_of c.loop-at.self c.args.number = c.entry-entry.ensures ∙ sym (same_entry_of c.args.self.now c.loop-at.self _ c.loop-at.invariant.highs c.loop-at.invariant.lows) in
     let theirs : c.entry.result ≡ entry_at c.loop-at.self (parent c.loop-at.at) = c.entry.ensures ∙ ap (entry_of c.loop-at.self) c.number-passed.ensures in
     let b : is_before (entry_of c.loop-at.self c.args.number) (entry_at c.loop-at.self (parent c.loop-at.at)) ≡ false = (λ i. is_before (sym mine i) (sym theirs i)) ∙ sym c.is_before.ensures.value ∙ told in
     entry_not_before c.loop-at.self c.loop-at.at (parent c.loop-at.at) c.args.number inside (omega arith) (λ x. absurd (omega arith)) m.inverse b
@@ -43,7 +43,7 @@ loop-at-preserved c =
     let i = c.loop-at.invariant in
     let inside = i.moving.inside in
     let told : c.is_before.result ≡ true = cc in
-    let mine : c.entry-entry.result ≡ entry_of c.loop-at.self c.args.number = c.entry-entry.ensures ∙ sym (same_entry_of c.args.self.now c.loop-at.self _ i.timed) in
+    let mine : c.entry-entry.result ≡ entry_of c.loop-at.self c.args.number = c.entry-entry.ensures ∙ sym (same_entry_of c.args.self.now c.loop-at.self _ i.highs i.lows) in
     let theirs : c.entry.result ≡ entry_at c.loop-at.self (parent c.loop-at.at) = c.entry.ensures ∙ ap (entry_of c.loop-at.self) c.number-passed.ensures in
     let b : is_before (entry_of c.loop-at.self c.args.number) (entry_at c.loop-at.self (parent c.loop-at.at)) ≡ true = (λ i. is_before (sym mine i) (sym theirs i)) ∙ sym c.is_before.ensures.value ∙ told in
     let less = entry_before c.loop-at.self c.loop-at.at (parent c.loop-at.at) c.args.number inside (omega arith) (λ x. absurd (omega arith)) i.moving.inverse b in
