@@ -1,233 +1,334 @@
 // The event that a line names.
-ghost use Rattle.std.specs.Prelude.{◌≡◌, ◌∷◌};
+ghost use Rattle.std.specs.Prelude.{◌≡◌, ◌∷◌, if◌then◌else◌, Some, None};
 ghost use Rattle.board_lines.specs.Reading.{event_say, open_say, messages_say, flags_say, close_say, write_say, read_say, post_say, signal_say, assert_say, absorb_say, store_say, load_say, tick_say, take_say};
 
 use crate::numbers::{bytes_in, hex_u32_of, hex_u64_of, u8_of, u16_of, u64_of, vector_of};
 use board_terms::PortShape;
-use board_text::Fields;
+use board_text::{Fields, is_word};
 use synic_board::Event;
 
 /// The event of that first word, and of the fields behind it, which are all used.
 pub fn event_of(word: &[u8], fields: &mut Fields<'_>) -> Option<Event>
     ensures { result ≡ event_say (word.now ∷ fields.old) }
 {
-    if word == b"open".as_slice() {
-        return open_of(fields);
+    let mut event = Event::Take { vp: 0 };
+    if read_event(word, fields, &mut event) {
+        Some(event)
+    } else {
+        None
     }
-    if word == b"close".as_slice() {
-        return close_of(fields);
-    }
-    if word == b"write".as_slice() {
-        return write_of(fields);
-    }
-    if word == b"read".as_slice() {
-        return read_of(fields);
-    }
-    if word == b"post".as_slice() {
-        return post_of(fields);
-    }
-    if word == b"signal".as_slice() {
-        return signal_of(fields);
-    }
-    if word == b"assert".as_slice() {
-        return assert_of(fields);
-    }
-    if word == b"absorb".as_slice() {
-        return absorb_of(fields);
-    }
-    if word == b"store".as_slice() {
-        return store_of(fields);
-    }
-    if word == b"load".as_slice() {
-        return load_of(fields);
-    }
-    if word == b"tick".as_slice() {
-        return tick_of(fields);
-    }
-    if word == b"take".as_slice() {
-        return take_of(fields);
-    }
-    None
 }
 
-fn open_of(fields: &mut Fields<'_>) -> Option<Event>
-    ensures { result ≡ open_say fields.old }
+/// Puts the event of that first word, and of the fields behind it, which are all used, into `event`,
+/// and says whether there is one. If there is none, `event` is some event.
+#[inline(always)]
+pub fn read_event(word: &[u8], fields: &mut Fields<'_>, event: &mut Event) -> bool
+    ensures { (if result then Some event.new else None) ≡ event_say (word.now ∷ fields.old) }
 {
-    let port = u8_of(fields)?;
-    let Some(word) = fields.next() else {
-        return None;
+    if is_word(word, b"open") {
+        return open_of(fields, event);
+    }
+    if is_word(word, b"close") {
+        return close_of(fields, event);
+    }
+    if is_word(word, b"write") {
+        return write_of(fields, event);
+    }
+    if is_word(word, b"read") {
+        return read_of(fields, event);
+    }
+    if is_word(word, b"post") {
+        return post_of(fields, event);
+    }
+    if is_word(word, b"signal") {
+        return signal_of(fields, event);
+    }
+    if is_word(word, b"assert") {
+        return assert_of(fields, event);
+    }
+    if is_word(word, b"absorb") {
+        return absorb_of(fields, event);
+    }
+    if is_word(word, b"store") {
+        return store_of(fields, event);
+    }
+    if is_word(word, b"load") {
+        return load_of(fields, event);
+    }
+    if is_word(word, b"tick") {
+        return tick_of(fields, event);
+    }
+    if is_word(word, b"take") {
+        return take_of(fields, event);
+    }
+    false
+}
+
+#[inline(always)]
+fn open_of(fields: &mut Fields<'_>, event: &mut Event) -> bool
+    ensures { (if result then Some event.new else None) ≡ open_say fields.old }
+{
+    let Some(port) = u8_of(fields) else {
+        return false;
     };
-    if word == b"message".as_slice() {
-        return messages_of(port, fields);
+    let Some(word) = fields.next() else {
+        return false;
+    };
+    if is_word(word, b"message") {
+        return messages_of(port, fields, event);
     }
-    if word == b"event".as_slice() {
-        return flags_of(port, fields);
+    if is_word(word, b"event") {
+        return flags_of(port, fields, event);
     }
-    None
+    false
 }
 
-fn messages_of(port: u8, fields: &mut Fields<'_>) -> Option<Event>
-    ensures { result ≡ messages_say port fields.old }
+#[inline(always)]
+fn messages_of(port: u8, fields: &mut Fields<'_>, event: &mut Event) -> bool
+    ensures { (if result then Some event.new else None) ≡ messages_say port fields.old }
 {
-    let vp = u8_of(fields)?;
-    let sint = u8_of(fields)?;
-    let buffers = u8_of(fields)?;
+    let Some(vp) = u8_of(fields) else {
+        return false;
+    };
+    let Some(sint) = u8_of(fields) else {
+        return false;
+    };
+    let Some(buffers) = u8_of(fields) else {
+        return false;
+    };
     if !fields.is_empty() {
-        return None;
+        return false;
     }
     let shape = PortShape::Messages { buffers };
-    Some(Event::OpenPort {
+    *event = Event::OpenPort {
         port,
         vp,
         sint,
         shape,
-    })
+    };
+    true
 }
 
-fn flags_of(port: u8, fields: &mut Fields<'_>) -> Option<Event>
-    ensures { result ≡ flags_say port fields.old }
+#[inline(always)]
+fn flags_of(port: u8, fields: &mut Fields<'_>, event: &mut Event) -> bool
+    ensures { (if result then Some event.new else None) ≡ flags_say port fields.old }
 {
-    let vp = u8_of(fields)?;
-    let sint = u8_of(fields)?;
-    let base = u16_of(fields)?;
-    let count = u16_of(fields)?;
+    let Some(vp) = u8_of(fields) else {
+        return false;
+    };
+    let Some(sint) = u8_of(fields) else {
+        return false;
+    };
+    let Some(base) = u16_of(fields) else {
+        return false;
+    };
+    let Some(count) = u16_of(fields) else {
+        return false;
+    };
     if !fields.is_empty() {
-        return None;
+        return false;
     }
     let shape = PortShape::Flags { base, count };
-    Some(Event::OpenPort {
+    *event = Event::OpenPort {
         port,
         vp,
         sint,
         shape,
-    })
+    };
+    true
 }
 
-fn close_of(fields: &mut Fields<'_>) -> Option<Event>
-    ensures { result ≡ close_say fields.old }
+#[inline(always)]
+fn close_of(fields: &mut Fields<'_>, event: &mut Event) -> bool
+    ensures { (if result then Some event.new else None) ≡ close_say fields.old }
 {
-    let port = u8_of(fields)?;
+    let Some(port) = u8_of(fields) else {
+        return false;
+    };
     if !fields.is_empty() {
-        return None;
+        return false;
     }
-    Some(Event::ClosePort { port })
+    *event = Event::ClosePort { port };
+    true
 }
 
-fn post_of(fields: &mut Fields<'_>) -> Option<Event>
-    ensures { result ≡ post_say fields.old }
+#[inline(always)]
+fn post_of(fields: &mut Fields<'_>, event: &mut Event) -> bool
+    ensures { (if result then Some event.new else None) ≡ post_say fields.old }
 {
-    let port = u8_of(fields)?;
-    let kind = hex_u32_of(fields)?;
-    let payload = bytes_in(fields)?;
+    let Some(port) = u8_of(fields) else {
+        return false;
+    };
+    let Some(kind) = hex_u32_of(fields) else {
+        return false;
+    };
+    let Some(payload) = bytes_in(fields) else {
+        return false;
+    };
     if !fields.is_empty() {
-        return None;
+        return false;
     }
-    Some(Event::Post {
+    *event = Event::Post {
         port,
         kind,
         payload,
-    })
+    };
+    true
 }
 
-fn signal_of(fields: &mut Fields<'_>) -> Option<Event>
-    ensures { result ≡ signal_say fields.old }
+#[inline(always)]
+fn signal_of(fields: &mut Fields<'_>, event: &mut Event) -> bool
+    ensures { (if result then Some event.new else None) ≡ signal_say fields.old }
 {
-    let port = u8_of(fields)?;
-    let flag = u16_of(fields)?;
+    let Some(port) = u8_of(fields) else {
+        return false;
+    };
+    let Some(flag) = u16_of(fields) else {
+        return false;
+    };
     if !fields.is_empty() {
-        return None;
+        return false;
     }
-    Some(Event::Signal { port, flag })
+    *event = Event::Signal { port, flag };
+    true
 }
 
-fn store_of(fields: &mut Fields<'_>) -> Option<Event>
-    ensures { result ≡ store_say fields.old }
+#[inline(always)]
+fn store_of(fields: &mut Fields<'_>, event: &mut Event) -> bool
+    ensures { (if result then Some event.new else None) ≡ store_say fields.old }
 {
-    let address = hex_u64_of(fields)?;
-    let bytes = bytes_in(fields)?;
+    let Some(address) = hex_u64_of(fields) else {
+        return false;
+    };
+    let Some(bytes) = bytes_in(fields) else {
+        return false;
+    };
     if !fields.is_empty() {
-        return None;
+        return false;
     }
-    Some(Event::Store { address, bytes })
+    *event = Event::Store { address, bytes };
+    true
 }
 
-fn load_of(fields: &mut Fields<'_>) -> Option<Event>
-    ensures { result ≡ load_say fields.old }
+#[inline(always)]
+fn load_of(fields: &mut Fields<'_>, event: &mut Event) -> bool
+    ensures { (if result then Some event.new else None) ≡ load_say fields.old }
 {
-    let address = hex_u64_of(fields)?;
-    let length = u8_of(fields)?;
+    let Some(address) = hex_u64_of(fields) else {
+        return false;
+    };
+    let Some(length) = u8_of(fields) else {
+        return false;
+    };
     if !fields.is_empty() {
-        return None;
+        return false;
     }
-    Some(Event::Load { address, length })
+    *event = Event::Load { address, length };
+    true
 }
 
-fn tick_of(fields: &mut Fields<'_>) -> Option<Event>
-    ensures { result ≡ tick_say fields.old }
+#[inline(always)]
+fn tick_of(fields: &mut Fields<'_>, event: &mut Event) -> bool
+    ensures { (if result then Some event.new else None) ≡ tick_say fields.old }
 {
-    let moment = u64_of(fields)?;
+    let Some(moment) = u64_of(fields) else {
+        return false;
+    };
     if !fields.is_empty() {
-        return None;
+        return false;
     }
-    Some(Event::Tick { moment })
+    *event = Event::Tick { moment };
+    true
 }
 
-fn write_of(fields: &mut Fields<'_>) -> Option<Event>
-    ensures { result ≡ write_say fields.old }
+#[inline(always)]
+fn write_of(fields: &mut Fields<'_>, event: &mut Event) -> bool
+    ensures { (if result then Some event.new else None) ≡ write_say fields.old }
 {
-    let vp = u8_of(fields)?;
-    let register = hex_u32_of(fields)?;
-    let value = hex_u64_of(fields)?;
+    let Some(vp) = u8_of(fields) else {
+        return false;
+    };
+    let Some(register) = hex_u32_of(fields) else {
+        return false;
+    };
+    let Some(value) = hex_u64_of(fields) else {
+        return false;
+    };
     if !fields.is_empty() {
-        return None;
+        return false;
     }
-    Some(Event::Write {
+    *event = Event::Write {
         vp,
         register,
         value,
-    })
+    };
+    true
 }
 
-fn read_of(fields: &mut Fields<'_>) -> Option<Event>
-    ensures { result ≡ read_say fields.old }
+#[inline(always)]
+fn read_of(fields: &mut Fields<'_>, event: &mut Event) -> bool
+    ensures { (if result then Some event.new else None) ≡ read_say fields.old }
 {
-    let vp = u8_of(fields)?;
-    let register = hex_u32_of(fields)?;
+    let Some(vp) = u8_of(fields) else {
+        return false;
+    };
+    let Some(register) = hex_u32_of(fields) else {
+        return false;
+    };
     if !fields.is_empty() {
-        return None;
+        return false;
     }
-    Some(Event::Read { vp, register })
+    *event = Event::Read { vp, register };
+    true
 }
 
-fn assert_of(fields: &mut Fields<'_>) -> Option<Event>
-    ensures { result ≡ assert_say fields.old }
+#[inline(always)]
+fn assert_of(fields: &mut Fields<'_>, event: &mut Event) -> bool
+    ensures { (if result then Some event.new else None) ≡ assert_say fields.old }
 {
-    let vp = u8_of(fields)?;
-    let vector = vector_of(fields)?;
+    let Some(vp) = u8_of(fields) else {
+        return false;
+    };
+    let Some(vector) = vector_of(fields) else {
+        return false;
+    };
     if !fields.is_empty() {
-        return None;
+        return false;
     }
-    Some(Event::Assert { vp, vector })
+    *event = Event::Assert { vp, vector };
+    true
 }
 
-fn absorb_of(fields: &mut Fields<'_>) -> Option<Event>
-    ensures { result ≡ absorb_say fields.old }
+#[inline(always)]
+fn absorb_of(fields: &mut Fields<'_>, event: &mut Event) -> bool
+    ensures { (if result then Some event.new else None) ≡ absorb_say fields.old }
 {
-    let vp = u8_of(fields)?;
-    let part = u8_of(fields)?;
-    let bits = hex_u64_of(fields)?;
+    let Some(vp) = u8_of(fields) else {
+        return false;
+    };
+    let Some(part) = u8_of(fields) else {
+        return false;
+    };
+    let Some(bits) = hex_u64_of(fields) else {
+        return false;
+    };
     if !fields.is_empty() {
-        return None;
+        return false;
     }
-    Some(Event::Absorb { vp, part, bits })
+    *event = Event::Absorb { vp, part, bits };
+    true
 }
 
-fn take_of(fields: &mut Fields<'_>) -> Option<Event>
-    ensures { result ≡ take_say fields.old }
+#[inline(always)]
+fn take_of(fields: &mut Fields<'_>, event: &mut Event) -> bool
+    ensures { (if result then Some event.new else None) ≡ take_say fields.old }
 {
-    let vp = u8_of(fields)?;
+    let Some(vp) = u8_of(fields) else {
+        return false;
+    };
     if !fields.is_empty() {
-        return None;
+        return false;
     }
-    Some(Event::Take { vp })
+    *event = Event::Take { vp };
+    true
 }

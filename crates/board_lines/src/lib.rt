@@ -8,7 +8,7 @@ mod numbers;
 mod opening;
 mod print;
 
-pub use event::event_of;
+pub use event::{event_of, read_event};
 pub use fault::{ScriptFault, put_fault, skips};
 pub use numbers::{u8_of, vector_of};
 pub use opening::opening_of;

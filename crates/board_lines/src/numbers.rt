@@ -4,68 +4,59 @@ ghost use Rattle.board_lines.specs.Reading.{TakesNumber, TakesBytes, u8_at, u16_
 
 use arrayvec::ArrayVec;
 use board_terms::{Ticket, Vector};
-use board_text::{Fields, byte_of, bytes_of, decimal_of, hex_of};
+use board_text::{Fields, byte_of, bytes_of};
 
 /// A decimal number up to 255.
+#[inline(always)]
 pub fn u8_of(fields: &mut Fields<'_>) -> Option<u8>
     ensures { TakesNumber u8_at result fields.old fields.new }
 {
-    let Some(field) = fields.next() else {
-        return None;
-    };
-    let Some(number) = decimal_of(field, u64::from(u8::MAX)) else {
+    let Some(number) = fields.decimal(u64::from(u8::MAX)) else {
         return None;
     };
     Some(number as u8)
 }
 
 /// A decimal number of 16 bits.
+#[inline(always)]
 pub(crate) fn u16_of(fields: &mut Fields<'_>) -> Option<u16>
     ensures { TakesNumber u16_at result fields.old fields.new }
 {
-    let Some(field) = fields.next() else {
-        return None;
-    };
-    let Some(number) = decimal_of(field, u64::from(u16::MAX)) else {
+    let Some(number) = fields.decimal(u64::from(u16::MAX)) else {
         return None;
     };
     Some(number as u16)
 }
 
 /// A decimal number of 64 bits.
+#[inline(always)]
 pub(crate) fn u64_of(fields: &mut Fields<'_>) -> Option<Ticket>
     ensures { TakesNumber u64_at result fields.old fields.new }
 {
-    let Some(field) = fields.next() else {
-        return None;
-    };
-    decimal_of(field, u64::MAX)
+    fields.decimal(u64::MAX)
 }
 
 /// A hexadecimal number of 32 bits.
+#[inline(always)]
 pub(crate) fn hex_u32_of(fields: &mut Fields<'_>) -> Option<u32>
     ensures { TakesNumber hex_u32_at result fields.old fields.new }
 {
-    let Some(field) = fields.next() else {
-        return None;
-    };
-    let Some(number) = hex_of(field, u64::from(u32::MAX)) else {
+    let Some(number) = fields.hexadecimal(u64::from(u32::MAX)) else {
         return None;
     };
     Some(number as u32)
 }
 
 /// A hexadecimal number of 64 bits.
+#[inline(always)]
 pub(crate) fn hex_u64_of(fields: &mut Fields<'_>) -> Option<u64>
     ensures { TakesNumber hex_u64_at result fields.old fields.new }
 {
-    let Some(field) = fields.next() else {
-        return None;
-    };
-    hex_of(field, u64::MAX)
+    fields.hexadecimal(u64::MAX)
 }
 
 /// A vector in two hexadecimal digits.
+#[inline(always)]
 pub fn vector_of(fields: &mut Fields<'_>) -> Option<Vector>
     ensures { TakesNumber vector_at result fields.old fields.new }
 {
@@ -79,6 +70,7 @@ pub fn vector_of(fields: &mut Fields<'_>) -> Option<Vector>
 }
 
 /// At most so many bytes in two hexadecimal digits each, or `-` for none.
+#[inline(always)]
 pub(crate) fn bytes_in<const N: usize>(fields: &mut Fields<'_>) -> Option<ArrayVec<u8, N>>
     ensures { TakesBytes N result fields.old fields.new }
 {

@@ -18,6 +18,7 @@ use std::alloc::AllocError;
 pub use summary::put_summary;
 
 /// Writes a text at the end of `out`.
+#[inline(always)]
 fn put(out: &mut Vec<u8>, text: &[u8]) -> Result<(), AllocError>
     ensures { OnOk result (out.new.items ≡ out.old.items ++ text.now) }
 {
@@ -36,6 +37,7 @@ fn put_data(out: &mut Vec<u8>, bytes: &[u8]) -> Result<(), AllocError>
 }
 
 /// Writes a vector, or that there is none, at the end of `out`.
+#[inline(always)]
 fn put_vector(out: &mut Vec<u8>, vector: Option<Vector>) -> Result<(), AllocError>
     ensures { OnOk result (out.new.items ≡ out.old.items ++ vector_or_none vector) }
 {

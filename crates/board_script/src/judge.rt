@@ -6,13 +6,14 @@ use board_lines::ScriptFault;
 use board_terms::Notices;
 use line_driver::{Judge, Taken};
 use std::alloc::Global;
-use synic_board::Board;
+use synic_board::{Board, Event};
 
 /// Judges the lines of a script, and performs them on a board of its own.
 #[derive(Drop)]
 pub(crate) struct ScriptJudge {
     pub(crate) alloc: Global,
     pub(crate) board: Option<Board>,
+    pub(crate) event: Event,
     pub(crate) notices: Notices,
 }
 
@@ -24,6 +25,13 @@ impl Judge for ScriptJudge {
     ghost wrong = { λ judge line fault. IsFaulty (machine_of judge.board) line fault };
 
     fn take(&mut self, line: &[u8], out: &mut Vec<u8>) -> Taken<ScriptFault> {
-        respond(self.alloc, &mut self.board, line, &mut self.notices, out)
+        respond(
+            self.alloc,
+            &mut self.board,
+            line,
+            &mut self.event,
+            &mut self.notices,
+            out,
+        )
     }
 }

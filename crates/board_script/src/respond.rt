@@ -6,18 +6,22 @@ ghost use Rattle.board_script.specs.Output.{told};
 ghost use Rattle.board_script.specs.Streams.{IsAnswered, IsFaulty, AnswersItem, machine_of};
 ghost use Rattle.line_driver.specs.Judging.{Takes};
 
-use board_lines::{ScriptFault, event_of, opening_of, put_notices, put_reply, put_summary, skips};
+use board_lines::{
+    ScriptFault, opening_of, put_notices, put_reply, put_summary, read_event, skips,
+};
 use board_terms::Notices;
-use board_text::Fields;
+use board_text::{Fields, is_word};
 use line_driver::Taken;
 use std::alloc::{AllocError, Global};
 use synic_board::{Board, Event, OpenFault};
 
-/// Judges a line, does what it asks of the board, and writes the answer into `out`.
+/// Judges a line, does what it asks of the board, and writes the answer into `out`. An event is read
+/// into `event`, of which nothing is kept from line to line.
 pub(crate) fn respond(
     alloc: Global,
     board: &mut Option<Board>,
     line: &[u8],
+    event: &mut Event,
     notices: &mut Notices,
     out: &mut Vec<u8>,
 ) -> Taken<ScriptFault>
@@ -33,7 +37,7 @@ pub(crate) fn respond(
         return Taken::Wrong(ScriptFault::Form);
     };
     match board {
-        Some(board) => take_line(board, word, &mut fields, notices, out),
+        Some(board) => take_line(board, word, &mut fields, event, notices, out),
         None => open(alloc, board, word, &mut fields),
     }
 }
@@ -48,7 +52,7 @@ fn open(
     requires { board.old ≡ None }
     ensures { AnswersItem result (item_say (word.now ∷ fields.old)) None (machine_of board.new) [] }
 {
-    if word == b"board".as_slice() {
+    if is_word(word, b"board") {
         return open_sized(alloc, board, fields);
     }
     Taken::Wrong(ScriptFault::First)
@@ -81,13 +85,14 @@ fn take_line(
     board: &mut Board,
     word: &[u8],
     fields: &mut Fields<'_>,
+    event: &mut Event,
     notices: &mut Notices,
     out: &mut Vec<u8>,
 ) -> Taken<ScriptFault>
     requires { out.old.items ≡ [] }
     ensures { AnswersItem result (item_say (word.now ∷ fields.old)) (Some board.old.state) (Some board.new.state) out.new.items }
 {
-    if word == b"summary".as_slice() {
+    if is_word(word, b"summary") {
         if !fields.is_empty() {
             return Taken::Wrong(ScriptFault::Form);
         }
@@ -96,10 +101,10 @@ fn take_line(
             Err(_) => Taken::Memory,
         };
     }
-    let Some(event) = event_of(word, fields) else {
+    if !read_event(word, fields, event) {
         return Taken::Wrong(ScriptFault::Form);
-    };
-    match perform(board, &event, notices, out) {
+    }
+    match perform(board, event, notices, out) {
         Ok(()) => Taken::Good,
         Err(_) => Taken::Memory,
     }

@@ -8,6 +8,7 @@ use board_terms::Notices;
 use line_driver::{End, close, drive};
 use std::alloc::Global;
 use std::io::{Read, Write};
+use synic_board::Event;
 
 /// How a replay ends.
 #[derive(Clone, Copy, PartialEq, Eq, Debug)]
@@ -40,6 +41,7 @@ pub fn replay<R: Read, W: Write>(alloc: Global, reader: &mut R, writer: &mut W) 
     let mut judge = ScriptJudge {
         alloc,
         board: None,
+        event: Event::Take { vp: 0 },
         notices,
     };
     let mut out = Vec::new(alloc);

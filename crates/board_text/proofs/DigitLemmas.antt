@@ -27,6 +27,13 @@ glyph-injective c d e = go (glyph_by c) (glyph_by d)
     go (inr x) (inl y) = absurd (omega (arith, x.0, x.1, y.0, y.1, e))
     go (inr x) (inr y) = omega (arith, x.1, y.1, e)
 
+pub decimal-glyph : (d : ℕ) → d < 10 → digit_glyph false d ≡ 48 + d
+decimal-glyph d h = go (glyph_by d)
+  where
+    go : ((d < 10) × (digit_glyph false d ≡ 48 + d)) ⊎ ((10 ≤ d) × (digit_glyph false d ≡ 87 + d)) → digit_glyph false d ≡ 48 + d
+    go (inl x) = x.1
+    go (inr x) = absurd (omega (arith, x.0, h))
+
 module _ (base : ℕ) where
   abbrev onto : ℕ → ℕ → List ℕ → List ℕ
   onto k n acc = digits_onto k base false n acc
@@ -42,7 +49,7 @@ module _ (base : ℕ) where
   onto-step zero n acc h e = absurd (omega arith)
   onto-step (suc k) n acc h e = turn k n acc false (ne_eqb _ 0 e) ∙ ap (λ (j : ℕ). onto j (n / base) (digit_glyph false (n % base) ∷ acc)) {x = k} {y = suc k - 1} (omega arith)
 
-  onto-append : (k n : ℕ) (acc rest : List ℕ) → onto k n (acc ++ rest) ≡ onto k n acc ++ rest
+  pub onto-append : (k n : ℕ) (acc rest : List ℕ) → onto k n (acc ++ rest) ≡ onto k n acc ++ rest
   onto-append zero n acc rest = refl
   onto-append (suc k) n acc rest = go (nat_eq (n / base) 0) (onto-append k (n / base) (digit_glyph false (n % base) ∷ acc) rest)
     where
@@ -143,6 +150,29 @@ module _ (base : ℕ) where
 pub onto-all : (base n : ℕ) → digits_onto 64 base false n [] ≡ digits base false n
 unfolding digits
 onto-all base n = refl
+
+pub decimal-less : (k n : ℕ) → 0 < k → n < 10 ^ k → n / 10 < 10 ^ (k - 1)
+decimal-less zero n some h = absurd (omega arith)
+decimal-less (suc k) n some h = let back : k ≡ suc k - 1 = omega arith in subst (λ (j : ℕ). n / 10 < 10 ^ j) back (less 10 (omega arith) (omega arith) k n h)
+
+pub decimal-more : (k n : ℕ) → 10 ≤ n → n < 10 ^ k → 2 ≤ k
+decimal-more zero n more h = absurd (omega (arith, pow-zero 10))
+decimal-more (suc zero) n more h = absurd (omega arith)
+decimal-more (suc (suc k)) n more h = omega arith
+
+-- a digit is put before what is written, and more are to come
+pub decimal-step : (k n : ℕ) (acc : List ℕ) → 0 < k → 10 ≤ n → digits_onto k 10 false n acc ≡ digits_onto (k - 1) 10 false (n / 10) ((48 + n % 10) ∷ acc)
+decimal-step k n acc some more = onto-step 10 k n acc some (λ e. omega (arith, e)) ∙ ap (λ (g : ℕ). digits_onto (k - 1) 10 false (n / 10) (g ∷ acc)) (decimal-glyph (n % 10) (omega arith))
+
+-- the last digit
+pub decimal-last : (k n : ℕ) (acc : List ℕ) → 0 < k → n < 10 → digits_onto k 10 false n acc ≡ (48 + n) ∷ acc
+decimal-last k n acc some few =
+    let same : n % 10 ≡ n = omega arith in
+    onto-last 10 k n acc some (omega arith) ∙ ap (λ (g : ℕ). g ∷ acc) (decimal-glyph (n % 10) (omega arith) ∙ ap (λ (d : ℕ). 48 + d) same)
+
+pub decimal-whole : (n : ℕ) (acc : List ℕ) → digits_onto 64 10 false n acc ≡ digits 10 false n ++ acc
+unfolding digits
+decimal-whole n acc = onto-append 10 64 n [] acc
 
 pub hex-less : (i rest : ℕ) → 0 < i → rest < 16 ^ i → rest / 16 < 16 ^ (i - 1)
 hex-less zero rest some h = absurd (omega arith)

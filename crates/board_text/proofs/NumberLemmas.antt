@@ -1,6 +1,6 @@
 -- Numbers.
 use Rattle.std.proofs.Common.{◌≡◌, ◌≢◌, ℕ, ◌+◌, ◌*◌, ◌<◌, ◌≤◌, ◌^◌, ◌/◌, ◌%◌, ◌&&◌, zero, suc, List, [], ◌∷◌, ◌++◌, length, take, get_or, Bool, true, false, cond, nat_le, ◌-◌, drop, leb-true, le-leb, Option, Some, None, IfSome, IfNone, decimal, refl, sym, ap, ◌∙◌, arith}
-use Rattle.std.proofs.Math.Nat.{pow-le-pow_left, mul-pos}
+use Rattle.std.proofs.Math.Nat.{pow-le-pow_left, pow-le-pow_right, pow-suc, mul-pos, mul-le-mul_right}
 use Rattle.std.proofs.lemmas.List.{take_more}
 use Rattle.std.proofs.lemmas.List.Elements.{All-get_or}
 use Rattle.std.proofs.Math.ListN.{set}
@@ -58,6 +58,19 @@ so_far-more base text (suc i) n d low high within first digit small is h =
       some = λ _. (let more : 0 < n * base = mul-pos some (omega arith) in omega arith);
       spells = λ _. take_more text (suc i) 0 within ∙ ap (λ (x : ℕ). take (suc i) text ++ x ∷ []) is ∙ ap (λ (x : List ℕ). x ++ digit_glyph false d ∷ []) (h.spells (omega arith)) ∙ sym (digits-push base low high n d digit some (let few = h.small in omega arith));
     }
+
+-- a digit more of a number that has room for it
+pub front-room : (base i longest n d : ℕ) → 10 ≤ base → i < longest → base ^ longest ≤ 2 ^ 64 → n < base ^ i → d < base → (n * base + d < base ^ (i + 1)) × (n * base + d < 2 ^ 64)
+front-room base i longest n d low within few small digit =
+    let product : (n + 1) * base ≤ base ^ i * base = mul-le-mul_right base (omega (arith, small)) in
+    let power : base ^ (i + 1) ≡ base ^ i * base = ap (λ (k : ℕ). base ^ k) {x = i + 1} {y = suc i} (omega arith) ∙ pow-suc base i in
+    let next : n * base + d < base ^ (i + 1) = omega (arith, product, power, digit) in
+    let wide : base ^ (i + 1) ≤ base ^ longest = pow-le-pow_right (omega (arith, low)) (omega (arith, within)) in
+    (next, omega (arith, next, wide, few))
+
+pub zero-front : (base : ℕ) (text : List ℕ) → 10 ≤ base → base ≤ 16 → 0 < length text → get_or text 0 0 ≡ 48 → take 1 text ≡ digits base false 0
+zero-front base [] low high some is = absurd (omega arith)
+zero-front base (x ∷ text) low high some is = ap (λ (b : ℕ). b ∷ []) is ∙ sym (digits-one base low high 0 (omega arith))
 
 pub no_byte : (base : ℕ) (text : List ℕ) (i n : ℕ) → 10 ≤ base → base ≤ 16 → i < length text → ((d : ℕ) → d < 16 → get_or text i 0 ≡ digit_glyph false d → ⊥) → text ≡ digits base false n → ⊥
 no_byte base text i n low high within not e =

@@ -80,7 +80,7 @@ one-words [] h = tt
 one-words (f ∷ []) h = one-plain f h.0
 one-words (f ∷ g ∷ fields) h = one-append f (32 ∷ words (g ∷ fields)) (one-plain f h.0) ((λ e. omega (arith, e)), one-words (g ∷ fields) h.1)
 
-split-one : (xs : List ℕ) → IsPlain xs → fields_of xs ≡ xs ∷ []
+pub split-one : (xs : List ℕ) → IsPlain xs → fields_of xs ≡ xs ∷ []
 split-one [] h = refl
 split-one (x ∷ xs) h = rw (ne_eqb x 32 (λ e. let low = h.0 in omega arith), split-one xs h.1) refl
 

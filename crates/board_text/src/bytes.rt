@@ -8,6 +8,7 @@ use arrayvec::ArrayVec;
 use std::alloc::AllocError;
 
 /// The byte that is written so, in two digits.
+#[inline(always)]
 pub fn byte_of(text: &[u8]) -> Option<u8>
     ensures found { IfSome result (λ b. text.now ≡ two_digits b) }
     ensures none { IfNone result ((b : ℕ) → b < 256 → text.now ≡ two_digits b → ⊥) }
@@ -46,6 +47,7 @@ pub fn bytes_of<const N: usize>(text: &[u8], out: &mut ArrayVec<u8, N>) -> bool
 }
 
 /// Writes a byte in two digits at the end of `out`.
+#[inline(always)]
 pub fn put_byte(out: &mut Vec<u8>, byte: u8) -> Result<(), AllocError>
     ensures { OnOk result (out.new.items ≡ out.old.items ++ two_digits byte) }
 {

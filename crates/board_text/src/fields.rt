@@ -1,9 +1,29 @@
 // The fields of a line, one by one.
-ghost use Rattle.std.specs.Prelude.{◌≡◌, ◌↔◌, [], ◌∷◌, Option, IsTrue};
+ghost use Rattle.std.specs.Prelude.{◌≡◌, ◌↔◌, ◌≤◌, ◌^◌, [], ◌∷◌, Option, IsTrue, IfSome};
 ghost use Rattle.std.specs.Borrow.{Bor};
-ghost use Rattle.board_text.specs.Fields.{fields_of, fields_left, TakesField};
+ghost use Rattle.std.specs.Str.{bytes_eq};
+ghost use Rattle.board_text.specs.Fields.{fields_of, fields_left, TakesField, ReadsField, ReadsShort};
+ghost use Rattle.board_text.specs.Numbers.{decimal_at, hex_at};
 
+use crate::numbers::{decimal_of, hex_of, short_number};
 use std::marker::Model;
+
+/// Whether a field is that word. The length is known where this is called, so that the comparison has
+/// no loop there.
+#[inline(always)]
+pub fn is_word<const N: usize>(field: &[u8], word: &[u8; N]) -> bool
+    ensures { result ≡ bytes_eq field.now word.now }
+{
+    if field.len() != N {
+        return false;
+    }
+    for i in 0..N {
+        if field[i] != word[i] {
+            return false;
+        }
+    }
+    true
+}
 
 /// The fields of a line that were not yet taken. Single spaces part them, so an empty line has one
 /// empty field, and two spaces in a row have one between them.
@@ -23,6 +43,7 @@ impl<'a> Model for Fields<'a> {
 
 impl<'a> Fields<'a> {
     /// The fields of a line.
+    #[inline(always)]
     pub fn new(line: &'a [u8]) -> Fields<'a>
         ensures { result ≡ fields_of line.now }
     {
@@ -30,6 +51,7 @@ impl<'a> Fields<'a> {
     }
 
     /// The next field, if one is left.
+    #[inline(always)]
     pub fn next(&mut self) -> Option<&'a [u8]>
         ensures { TakesField result self.old self.new }
     {
@@ -44,7 +66,72 @@ impl<'a> Fields<'a> {
         Some(rest)
     }
 
+    /// The next field, if it is a decimal number up to `most`. If it is not, some fields are left.
+    #[inline(always)]
+    pub fn decimal(&mut self, most: u64) -> Option<u64>
+        ensures read { ReadsField (decimal_at most) result self.old self.new }
+        ensures few { IfSome result (λ n. n ≤ most) }
+    {
+        if let Some(n) = self.short(10, 19, most) {
+            return Some(n);
+        }
+        self.long_decimal(most)
+    }
+
+    /// The next field, if it is a hexadecimal number up to `most`. If it is not, some fields are left.
+    #[inline(always)]
+    pub fn hexadecimal(&mut self, most: u64) -> Option<u64>
+        ensures read { ReadsField (hex_at most) result self.old self.new }
+        ensures few { IfSome result (λ n. n ≤ most) }
+    {
+        if let Some(n) = self.short(16, 16, most) {
+            return Some(n);
+        }
+        self.long_hexadecimal(most)
+    }
+
+    /// The next field, if it is a number up to `most` of not too many digits. If it is not, nothing was
+    /// taken.
+    #[inline(always)]
+    fn short(&mut self, base: u64, digits: usize, most: u64) -> Option<u64>
+        requires low { 10 ≤ base }
+        requires high { base ≤ 16 }
+        requires few { base ^ digits ≤ 2 ^ 64 }
+        ensures { ReadsShort base most result self.old self.new }
+    {
+        let rest = self.rest?;
+        let (n, count) = short_number(rest, base, digits)?;
+        if n > most {
+            return None;
+        }
+        if count == rest.len() {
+            self.rest = None;
+        } else {
+            self.rest = Some(&rest[count + 1..]);
+        }
+        Some(n)
+    }
+
+    #[cold]
+    fn long_decimal(&mut self, most: u64) -> Option<u64>
+        ensures read { ReadsField (decimal_at most) result self.old self.new }
+        ensures few { IfSome result (λ n. n ≤ most) }
+    {
+        let field = self.next()?;
+        decimal_of(field, most)
+    }
+
+    #[cold]
+    fn long_hexadecimal(&mut self, most: u64) -> Option<u64>
+        ensures read { ReadsField (hex_at most) result self.old self.new }
+        ensures few { IfSome result (λ n. n ≤ most) }
+    {
+        let field = self.next()?;
+        hex_of(field, most)
+    }
+
     /// Whether no field is left.
+    #[inline(always)]
     pub fn is_empty(&self) -> bool
         ensures { IsTrue result ↔ (self.now ≡ []) }
     {

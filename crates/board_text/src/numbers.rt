@@ -1,7 +1,7 @@
 // Decimal and hexadecimal numbers.
 ghost use Rattle.std.specs.Prelude.{◌≡◌, ◌≢◌, ℕ, ◌+◌, ◌*◌, ◌<◌, ◌≤◌, ◌^◌, ◌++◌, MatchOption, length, get_or, drop, decimal, false, IfSome, IfNone, OnOk};
 ghost use Rattle.std.specs.Fmt.{digits, digit_glyph};
-ghost use Rattle.board_text.specs.Numbers.{hex, decimal_at, hex_at};
+ghost use Rattle.board_text.specs.Numbers.{hex, decimal_at, hex_at, IsFront};
 
 use itoa::{Buffer, Integer};
 use std::alloc::AllocError;
@@ -26,7 +26,66 @@ pub fn hex_of(text: &[u8], most: u64) -> Option<u64>
     if n <= most { Some(n) } else { None }
 }
 
+/// The number of few digits that a text begins with, and how many they are. It ends at a space or with
+/// the text.
+#[inline(always)]
+pub(crate) fn short_number(text: &[u8], base: u64, digits: usize) -> Option<(u64, usize)>
+    requires low { 10 ≤ base }
+    requires high { base ≤ 16 }
+    requires few { base ^ digits ≤ 2 ^ 64 }
+    ensures { IfSome result (λ p. IsFront base text.now p.0 p.1) }
+{
+    let [first, ..] = text else {
+        return None;
+    };
+    if *first != b'0' {
+        return positive_front(text, base, digits);
+    }
+    if text.len() == 1 {
+        return Some((0, 1));
+    }
+    if text[1] == b' ' {
+        return Some((0, 1));
+    }
+    None
+}
+
+/// The same of a text that does not begin with a zero.
+#[inline(always)]
+fn positive_front(text: &[u8], base: u64, digits: usize) -> Option<(u64, usize)>
+    requires low { 10 ≤ base }
+    requires high { base ≤ 16 }
+    requires few { base ^ digits ≤ 2 ^ 64 }
+    requires first { get_or text.now 0 0 ≢ 48 }
+    ensures { IfSome result (λ p. IsFront base text.now p.0 p.1) }
+{
+    let mut n: u64 = 0;
+    let mut count = 0;
+    while count < text.len() {
+        if count == digits {
+            return None;
+        }
+        let Some(digit) = digit_of(text[count]) else {
+            break;
+        };
+        let digit = u64::from(digit);
+        if digit >= base {
+            break;
+        }
+        n = n * base + digit;
+        count += 1;
+    }
+    if count == 0 {
+        return None;
+    }
+    if count < text.len() && text[count] != b' ' {
+        return None;
+    }
+    Some((n, count))
+}
+
 /// What a digit of at most 16 stands for, in lower case.
+#[inline(always)]
 pub(crate) fn digit_of(c: u8) -> Option<u8>
     ensures { MatchOption result ((d : ℕ) → d < 16 → c ≡ digit_glyph false d → ⊥) (λ d. (d < 16) × (c ≡ digit_glyph false d)) }
 {
@@ -38,6 +97,7 @@ pub(crate) fn digit_of(c: u8) -> Option<u8>
 }
 
 /// The digit that stands for a number below 16.
+#[inline(always)]
 pub(crate) fn glyph_of(digit: u8) -> u8
     requires { digit < 16 }
     ensures { result ≡ digit_glyph false digit }

@@ -6,6 +6,7 @@ use std::io::Write;
 
 /// Writes all of the bytes, unless a write fails or takes nothing: no write is tried again. What was
 /// written is a beginning of them.
+#[inline(always)]
 pub fn send<W: Write>(writer: &mut W, bytes: &[u8]) -> bool
     ensures { (sent rest : List ℕ) × Appends (W.contents writer.old) (W.contents writer.new) sent
         × (bytes.now ≡ sent ++ rest) × (IsTrue result → rest ≡ []) }

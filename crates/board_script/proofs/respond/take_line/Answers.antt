@@ -10,7 +10,8 @@ use Rattle.board_script.proofs.respond.take_line.Goals as goal
 
 pub returns-in-Ok-perform : goal.returns-in-Ok-perform
 returns-in-Ok-perform c =
-    let item = event-item (c.args.word.now ∷ c.args.fields.now) c.in-Some.event (sym c.in-Some.ensures) in
-    let written = c.in-Ok-perform.ensures.written ∙ ap (λ (out : List ℕ). out ++ told (step c.args.board.now.state c.in-Some.event)) c.requires in
+    let event = c.read_event.new.event in
+    let item = event-item (c.args.word.now ∷ c.args.fields.now) event (sym c.if-not-read_event.ensures) in
+    let written = c.in-Ok-perform.ensures.written ∙ ap (λ (out : List ℕ). out ++ told (step c.args.board.now.state event)) c.requires in
     subst (λ (r : Option Item). AnswersItem Good r (Some c.args.board.now.state) (Some c.perform.new.board.state) c.perform.new.out.items) (sym item)
     (refl, ap Some c.perform.ensures.state, written)

@@ -39,8 +39,14 @@ returns-in-Cut-clause-text g c = replays-finished seen _ _ refl _ _ _ _ _ _ _ _ 
 pub returns-in-Memory-clause-text : goal.returns-in-Memory-clause-text
 returns-in-Memory-clause-text g c = let d = c.in-Memory.ensures.lines in replays-begun seen _ _ refl ends.Memory _ _ _ _ d d.sends
 
+pub returns-in-Memory-clause-limit : goal.returns-in-Memory-clause-limit
+returns-in-Memory-clause-limit g c = limit-within c.drive.result _ _ c.drive.ensures.limit
+
 pub returns-in-Reading-clause-text : goal.returns-in-Reading-clause-text
 returns-in-Reading-clause-text g c = let d = c.in-Reading.ensures.lines in replays-begun seen _ _ refl ends.Reading _ _ _ _ d d.sends
 
 pub returns-clause-text : goal.returns-clause-text
 returns-clause-text g c = replays-writing seen _ _ refl _ _ _ _ c.in-Writing.ensures.lines
+
+pub returns-clause-limit : goal.returns-clause-limit
+returns-clause-limit g c = limit-within c.drive.result _ _ c.drive.ensures.limit

@@ -1,0 +1,56 @@
+// Short texts that are written from their end to their front, so that a number needs no count of its
+// digits, and a line is formed in one place.
+ghost use Rattle.std.specs.Prelude.{◌≡◌, ℕ, ◌+◌, ◌≤◌, ◌<◌, ◌++◌, decimal, drop};
+ghost use Rattle.board_text.specs.Numbers.{two_digits};
+
+use crate::numbers::glyph_of;
+
+/// How many bytes such a text has room for.
+pub const ROOM: usize = 96;
+
+/// Writes a text before a place, and says where it begins.
+#[inline(always)]
+pub fn text_before<const N: usize>(room: &mut [u8; ROOM], at: usize, text: &[u8; N]) -> usize
+    requires place { at ≤ 96 }
+    requires fits { N ≤ at }
+    ensures begins { result + N ≡ at }
+    ensures written { drop result room.new ≡ text.now ++ drop at room.old }
+{
+    let start = at - N;
+    room[start..at].copy_from_slice(text.as_slice());
+    start
+}
+
+/// Writes a number in decimal before a place, and says where it begins.
+#[inline(always)]
+pub fn decimal_before(room: &mut [u8; ROOM], at: usize, n: u64) -> usize
+    requires place { at ≤ 96 }
+    requires fits { 20 ≤ at }
+    ensures begins { result < at }
+    ensures short { at ≤ result + 20 }
+    ensures written { drop result room.new ≡ decimal n ++ drop at room.old }
+{
+    let mut start = at;
+    let mut rest = n;
+    while rest >= 10 {
+        start -= 1;
+        room[start] = b'0' + (rest % 10) as u8;
+        rest /= 10;
+    }
+    start -= 1;
+    room[start] = b'0' + rest as u8;
+    start
+}
+
+/// Writes a byte in two hexadecimal digits before a place, and says where it begins.
+#[inline(always)]
+pub fn byte_before(room: &mut [u8; ROOM], at: usize, byte: u8) -> usize
+    requires place { at ≤ 96 }
+    requires fits { 2 ≤ at }
+    ensures begins { result + 2 ≡ at }
+    ensures written { drop result room.new ≡ two_digits byte ++ drop at room.old }
+{
+    room[at - 1] = glyph_of(byte % 16);
+    room[at - 2] = glyph_of(byte / 16);
+    at - 2
+}
