@@ -8,10 +8,6 @@ pub text_of-append : (xs ys : List (List (List ℕ))) → text_of (xs ++ ys) ≡
 text_of-append [] ys = refl
 text_of-append (fields ∷ xs) ys = ap (λ (rest : List ℕ). line_of fields ++ rest) (text_of-append xs ys) ∙ sym (append_assoc (line_of fields) (text_of xs) (text_of ys))
 
--- three words behind one another
-pub three-words : (out a b c one two three four : List ℕ) → one ≡ out ++ (a ++ 32 ∷ []) → two ≡ one ++ b → three ≡ two ++ 32 ∷ [] → four ≡ three ++ c → four ≡ out ++ (a ++ 32 ∷ (b ++ 32 ∷ c))
-three-words out a b c one two three four h k l m = rw (m, l, k, h) (simp append_assoc)
-
 -- one line set more
 pub numbered-step : {A : Type 0} (lines : ℕ → A → List (List (List ℕ))) (n : ℕ) (xs : List A) (d : A) (so_far next out : List ℕ) → n < length xs →
     next ≡ so_far ++ text_of (lines n (get_or xs n d)) → so_far ++ text_of (numbered lines n (drop n xs)) ≡ out → next ++ text_of (numbered lines (n + 1) (drop (n + 1) xs)) ≡ out

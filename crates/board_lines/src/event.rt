@@ -2,7 +2,10 @@
 ghost use Rattle.std.specs.Prelude.{◌≡◌, ◌∷◌, if◌then◌else◌, Some, None};
 ghost use Rattle.board_lines.specs.Reading.{event_say, open_say, messages_say, flags_say, close_say, write_say, read_say, post_say, signal_say, assert_say, absorb_say, store_say, load_say, tick_say, take_say};
 
-use crate::numbers::{bytes_in, hex_u32_of, hex_u64_of, u8_of, u16_of, u64_of, vector_of};
+use crate::numbers::{
+    bytes_in, hex_u32_of, hex_u64_of, read_bytes, u8_of, u16_of, u64_of, vector_of,
+};
+use arrayvec::ArrayVec;
 use board_terms::PortShape;
 use board_text::{Fields, is_word};
 use synic_board::Event;
@@ -162,18 +165,15 @@ fn post_of(fields: &mut Fields<'_>, event: &mut Event) -> bool
     let Some(kind) = hex_u32_of(fields) else {
         return false;
     };
-    let Some(payload) = bytes_in(fields) else {
-        return false;
-    };
-    if !fields.is_empty() {
-        return false;
-    }
     *event = Event::Post {
         port,
         kind,
-        payload,
+        payload: ArrayVec::new(),
     };
-    true
+    match event {
+        Event::Post { payload, .. } => read_bytes(fields, payload) && fields.is_empty(),
+        _ => false,
+    }
 }
 
 #[inline(always)]

@@ -1,10 +1,10 @@
 // The numbers of a line, read field by field.
-ghost use Rattle.std.specs.Prelude.{◌≡◌};
+ghost use Rattle.std.specs.Prelude.{◌≡◌, [], if◌then◌else◌, Some, None};
 ghost use Rattle.board_lines.specs.Reading.{TakesNumber, TakesBytes, u8_at, u16_at, u64_at, hex_u32_at, hex_u64_at, vector_at};
 
 use arrayvec::ArrayVec;
 use board_terms::{Ticket, Vector};
-use board_text::{Fields, byte_of, bytes_of};
+use board_text::{Fields, byte_of, bytes_of, is_word};
 
 /// A decimal number up to 255.
 #[inline(always)]
@@ -74,18 +74,35 @@ pub fn vector_of(fields: &mut Fields<'_>) -> Option<Vector>
 pub(crate) fn bytes_in<const N: usize>(fields: &mut Fields<'_>) -> Option<ArrayVec<u8, N>>
     ensures { TakesBytes N result fields.old fields.new }
 {
-    let Some(field) = fields.next() else {
-        return None;
-    };
     let mut bytes = ArrayVec::new();
-    if field == b"-".as_slice() {
-        return Some(bytes);
+    if read_bytes(fields, &mut bytes) {
+        Some(bytes)
+    } else {
+        None
     }
-    if !bytes_of(field, &mut bytes) {
-        return None;
+}
+
+/// Puts at most so many bytes in two hexadecimal digits each, or `-` for none, into an empty `bytes`,
+/// and says whether the next field is such.
+#[inline(always)]
+pub(crate) fn read_bytes<const N: usize>(
+    fields: &mut Fields<'_>,
+    bytes: &mut ArrayVec<u8, N>,
+) -> bool
+    requires { bytes.old.items ≡ [] }
+    ensures { TakesBytes N (if result then Some bytes.new else None) fields.old fields.new }
+{
+    let Some(field) = fields.next() else {
+        return false;
+    };
+    if is_word(field, b"-") {
+        return true;
+    }
+    if !bytes_of(field, bytes) {
+        return false;
     }
     if bytes.as_slice().is_empty() {
-        return None;
+        return false;
     }
-    Some(bytes)
+    true
 }

@@ -102,11 +102,8 @@ pub(crate) fn glyph_of(digit: u8) -> u8
     requires { digit < 16 }
     ensures { result ≡ digit_glyph false digit }
 {
-    if digit < 10 {
-        b'0' + digit
-    } else {
-        b'a' + (digit - 10)
-    }
+    let glyphs = b"0123456789abcdef";
+    glyphs[digit as usize]
 }
 
 /// The number below 2^64 that is written so.

@@ -5,7 +5,7 @@ ghost use Rattle.board_text.specs.Fields.{words};
 ghost use Rattle.board_lines.specs.Printing.{reply_fields};
 ghost use Rattle.board_trace.specs.Trace.{end_fields};
 ghost use Rattle.line_driver.specs.Judging.{Takes};
-ghost use Rattle.board_trace.specs.Stages.{entry_at, board_at, stage_of, count, IsGood, IsWrong, Opens, Runs, IsOver};
+ghost use Rattle.board_trace.specs.Stages.{Title, Opening, Over, entry_at, board_at, stage_of, count, IsGood, IsWrong, Opens, Runs, IsOver};
 
 use crate::print::put_end;
 use board_lines::{event_of, opening_of, put_reply, u8_of};
@@ -61,25 +61,8 @@ pub(crate) fn take_line(
     ensures { Takes IsGood IsWrong result (stage_of stage.old) (stage_of stage.new) line.now [] }
 {
     match stage {
-        Stage::Title => {
-            if line != b"trace 1".as_slice() {
-                return Taken::Wrong(());
-            }
-            *stage = Stage::Opening;
-            Taken::Good
-        }
-        Stage::Opening => match open(alloc, line) {
-            Opened::Board(board) => {
-                *stage = Stage::Running {
-                    board,
-                    entries: 0,
-                    due: None,
-                };
-                Taken::Good
-            }
-            Opened::Wrong => Taken::Wrong(()),
-            Opened::Memory => Taken::Memory,
-        },
+        Stage::Title => take_title(stage, line),
+        Stage::Opening => take_opening(alloc, stage, line),
         Stage::Running {
             board,
             entries,
@@ -88,7 +71,7 @@ pub(crate) fn take_line(
             Ran::On => Taken::Good,
             Ran::End => {
                 let all = *entries;
-                *stage = Stage::Over(all);
+                close(stage, all);
                 Taken::Good
             }
             Ran::Wrong => Taken::Wrong(()),
@@ -96,6 +79,50 @@ pub(crate) fn take_line(
         },
         Stage::Over(_) => Taken::Wrong(()),
     }
+}
+
+// A stage is written by functions of their own: its room is cleared where one is formed, which is
+// not to be at each line.
+
+/// Takes the title.
+#[inline(never)]
+fn take_title(stage: &mut Stage, line: &[u8]) -> Taken<()>
+    requires { stage_of stage.old ≡ Title }
+    ensures { Takes IsGood IsWrong result (stage_of stage.old) (stage_of stage.new) line.now [] }
+{
+    if line != b"trace 1".as_slice() {
+        return Taken::Wrong(());
+    }
+    *stage = Stage::Opening;
+    Taken::Good
+}
+
+/// Takes the board line.
+#[inline(never)]
+fn take_opening(alloc: Global, stage: &mut Stage, line: &[u8]) -> Taken<()>
+    requires { stage_of stage.old ≡ Opening }
+    ensures { Takes IsGood IsWrong result (stage_of stage.old) (stage_of stage.new) line.now [] }
+{
+    match open(alloc, line) {
+        Opened::Board(board) => {
+            *stage = Stage::Running {
+                board,
+                entries: 0,
+                due: None,
+            };
+            Taken::Good
+        }
+        Opened::Wrong => Taken::Wrong(()),
+        Opened::Memory => Taken::Memory,
+    }
+}
+
+/// Is over, behind so many entries.
+#[inline(never)]
+fn close(stage: &mut Stage, entries: u64)
+    ensures { stage_of stage.new ≡ Over entries }
+{
+    *stage = Stage::Over(entries);
 }
 
 /// The entries of a trace that is over.
