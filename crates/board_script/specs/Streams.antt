@@ -29,6 +29,11 @@ Replays Memory r0 r1 w0 w1 = Begun output_of r0 r1 w0 w1
 Replays Reading r0 r1 w0 w1 = Begun output_of r0 r1 w0 w1
 Replays Writing r0 r1 w0 w1 = Begun text r0 r1 w0 w1
 
+-- how many bytes are read at most: the byte behind the limit only where reading ends for it
+abbrev pub most_read : ReplayEnd → ℕ
+most_read Reading = 1073741825
+most_read end = 1073741824
+
 -- the fault's line was written, if there is one, or a part of it
 abbrev pub Finishes : ReplayEnd → Option (ℕ × ScriptFault) → Option (List ℕ) → Option (List ℕ) → Type 0
 Finishes Done fault w0 w1 = (fault ≡ None) × Appends w0 w1 []

@@ -1,5 +1,6 @@
 pub mod Written
 pub mod StageLemmas
 pub mod Judged
+pub mod Limits
 pub mod LawLemmas
 pub mod PrintLemmas

@@ -48,3 +48,8 @@ Says (Refused k) verdict w0 w1 = (verdict ≡ verdicts.Refused k) × Appends w0 
 Says Memory verdict w0 w1 = w1 ≡ w0
 Says Reading verdict w0 w1 = ⊥
 Says Writing verdict w0 w1 = (sent rest : List ℕ) × Appends w0 w1 sent × (verdict_text verdict ≡ sent ++ rest)
+
+-- how many bytes are read at most: the byte behind the limit only where reading ends for it
+abbrev pub most_read : CheckEnd → ℕ
+most_read Reading = 1073741825
+most_read end = 1073741824

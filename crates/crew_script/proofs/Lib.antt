@@ -1,3 +1,4 @@
 pub mod Counting
+pub mod Limits
 pub mod Reading
 pub mod Telling

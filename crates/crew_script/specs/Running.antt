@@ -76,3 +76,8 @@ Runs end crew w0 w1 = Says end (Report (closed crew)) w0 w1
 abbrev pub Prepares : Outcome → Crew → List ℕ → Type 0
 Prepares outcomes.Done crew text = Report crew Done text
 Prepares outcome crew text = Unit {0}
+
+-- how many bytes are read at most: the byte behind the limit only where reading ends for it
+abbrev pub most_read : CrewRun → ℕ
+most_read Reading = 1073741825
+most_read end = 1073741824

@@ -2,7 +2,7 @@
 ghost use Rattle.board_text.specs.Streams.{ReadsUpTo};
 ghost use Rattle.crew_script.specs.View.{crew_of};
 ghost use Rattle.crew_script.specs.Crew.{closed};
-ghost use Rattle.crew_script.specs.Running.{Crews, Refuses, Runs, Prepares};
+ghost use Rattle.crew_script.specs.Running.{Crews, most_read, Refuses, Runs, Prepares};
 ghost use Rattle.std.specs.Prelude.{◌≡◌, []};
 
 use crate::held::CrewScript;
@@ -47,8 +47,7 @@ pub fn crew<T: Threads + Wait + Sync, R: Read, W: Write, G: Gate + Sync>(
 ) -> CrewRun
     ensures text { Crews result (R.remaining reader.old) (W.contents writer.old) (W.contents writer.new) }
 
-    // One byte more than the limit shows that there is one.
-    ensures limit { ReadsUpTo 1073741825 (R.remaining reader.old) (R.remaining reader.new) }
+    ensures limit { ReadsUpTo (most_read result) (R.remaining reader.old) (R.remaining reader.new) }
 {
     let mut judge = CrewJudge {
         alloc,

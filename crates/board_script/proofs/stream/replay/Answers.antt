@@ -1,10 +1,10 @@
 use Rattle.std.proofs.Common.{None, Some, is_some, refl}
 use Rattle.line_driver.specs.declared.driving.End.TheVariants as ends
-use Rattle.line_driver.proofs.Limits.{limit-within}
 use Rattle.board_script.specs.Output.{Machine}
 use Rattle.board_script.specs.Streams.{machine_of}
 use Rattle.board_script.specs.declared.judge.ScriptJudge.{ScriptJudge}
 use Rattle.board_lines.specs.declared.fault.ScriptFault.TheVariants as faults
+use Rattle.board_script.proofs.Limits.{within}
 use Rattle.board_script.proofs.Judged.{FaultAt, replays-finished, replays-begun, replays-writing, replays-nothing}
 use Rattle.board_script.proofs.stream.replay.Goals as goal
 
@@ -28,7 +28,7 @@ pub returns-in-Wrong-clause-text : goal.returns-in-Wrong-clause-text
 returns-in-Wrong-clause-text g c = replays-finished seen _ _ refl _ _ _ _ _ _ _ _ refl c.in-Wrong.ensures.lines c.finish-in-Wrong.ensures
 
 pub returns-in-Wrong-clause-limit : goal.returns-in-Wrong-clause-limit
-returns-in-Wrong-clause-limit g c = limit-within c.drive.result _ _ c.drive.ensures.limit
+returns-in-Wrong-clause-limit g c = within _ _ _ _ _ _ c.finish-in-Wrong.ensures c.in-Wrong.ensures.limit
 
 pub returns-in-Long-clause-text : goal.returns-in-Long-clause-text
 returns-in-Long-clause-text g c = replays-finished seen _ _ refl _ _ _ _ _ _ _ _ refl c.in-Long.ensures.lines c.finish-in-Long.ensures
@@ -40,7 +40,7 @@ pub returns-in-Memory-clause-text : goal.returns-in-Memory-clause-text
 returns-in-Memory-clause-text g c = let d = c.in-Memory.ensures.lines in replays-begun seen _ _ refl ends.Memory _ _ _ _ d d.sends
 
 pub returns-in-Memory-clause-limit : goal.returns-in-Memory-clause-limit
-returns-in-Memory-clause-limit g c = limit-within c.drive.result _ _ c.drive.ensures.limit
+returns-in-Memory-clause-limit g c = c.in-Memory.ensures.limit
 
 pub returns-in-Reading-clause-text : goal.returns-in-Reading-clause-text
 returns-in-Reading-clause-text g c = let d = c.in-Reading.ensures.lines in replays-begun seen _ _ refl ends.Reading _ _ _ _ d d.sends
@@ -49,4 +49,4 @@ pub returns-clause-text : goal.returns-clause-text
 returns-clause-text g c = replays-writing seen _ _ refl _ _ _ _ c.in-Writing.ensures.lines
 
 pub returns-clause-limit : goal.returns-clause-limit
-returns-clause-limit g c = limit-within c.drive.result _ _ c.drive.ensures.limit
+returns-clause-limit g c = c.in-Writing.ensures.limit

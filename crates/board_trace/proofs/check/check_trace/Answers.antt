@@ -2,7 +2,7 @@ use Rattle.std.proofs.Common.{[], refl, inl}
 use Rattle.board_trace.specs.Stages.{Stage, stage_of}
 use Rattle.board_trace.specs.declared.judge.TraceJudge.{TraceJudge}
 use Rattle.line_driver.specs.declared.driving.End.TheVariants as ends
-use Rattle.line_driver.proofs.Limits.{limit-within}
+use Rattle.board_trace.proofs.Limits.{refused-within}
 use Rattle.board_trace.proofs.Judged.{quiet, at-line, refused-said, unfinished-said, finished-said}
 use Rattle.board_trace.proofs.check.check_trace.Goals as goal
 
@@ -25,7 +25,7 @@ pub returns-in-Wrong-clause-verdict : goal.returns-in-Wrong-clause-verdict
 returns-in-Wrong-clause-verdict g c = refused-said seen _ _ refl c.drive.result _ _ _ _ _ _ _ (at-line _ _ c.in-Wrong.is) c.drive.ensures.lines c.say-in-Wrong.ensures
 
 pub returns-in-Wrong-clause-limit : goal.returns-in-Wrong-clause-limit
-returns-in-Wrong-clause-limit g c = limit-within c.drive.result _ _ c.drive.ensures.limit
+returns-in-Wrong-clause-limit g c = refused-within c.drive.result _ _ _ _ _ _ _ (at-line _ _ c.in-Wrong.is) c.say-in-Wrong.ensures c.drive.ensures.limit
 
 pub returns-clause-verdict : goal.returns-clause-verdict
 returns-clause-verdict g c = record { sent = []; writes = quiet seen _ _ refl ends.Writing _ _ _ _ c.in-Writing.ensures.lines; begins = inl refl }

@@ -1,13 +1,13 @@
 use Rattle.std.proofs.Common.{rules, ◌≡◌, [], Option, None, Some, refl, sym, ap, subst, ◌∙◌}
 use Rattle.std.specs.Io.KnownBytes.{Appends}
 use Rattle.line_driver.specs.declared.driving.End.TheVariants as ends
-use Rattle.line_driver.proofs.Limits.{limit-within}
 use Rattle.board_lines.specs.declared.fault.ScriptFault.TheVariants as faults
 use Rattle.crew_script.specs.Crew.{Crew, closed}
 use Rattle.crew_script.specs.View.{crew_of, asked}
 use Rattle.crew_script.specs.Running.{Refusal, Report, Runs}
 use Rattle.crew_script.specs.declared.judge.CrewJudge.{CrewJudge}
 use Rattle.crew_script.specs.declared.running.CrewRun.TheVariants.{Memory}
+use Rattle.crew_script.proofs.Limits.{within}
 use Rattle.crew_script.proofs.Reading.{nothing-sent, asked-for, no-board, wrong, long, cut}
 use Rattle.crew_script.proofs.Telling.{known, spoken, tells-refusal, tells-report, none-sent}
 use Rattle.crew_script.proofs.running.crew.Goals as goal
@@ -39,8 +39,22 @@ returns-in-Wrong-clause-text g c =
     let first = subst (Appends _ _) (sym d.sends ∙ nothing-sent seen _ _ refl (ends.Wrong line fault) _ _ d.read) d.writes in
     spoken (Refusal line fault) _ _ _ _ _ (λ input p. tells-refusal line fault input (wrong seen _ _ refl line fault d.answers input p)) d.whole first _ c.refuse-in-Wrong.ensures
 
+pub returns-in-Some-clause-limit : goal.returns-in-Some-clause-limit
+returns-in-Some-clause-limit g c =
+    let ran : Runs c.run.result (crew_of c.in-Some.script) (g.W.Write.contents c.drive.new.writer) (g.W.Write.contents c.run.new.writer) = search rules in
+    within c.run.result (Report (closed (crew_of c.in-Some.script))) _ _ _ _ (λ _ none. none) ran c.in-Last.ensures.limit
+
+pub returns-in-Last-clause-limit : goal.returns-in-Last-clause-limit
+returns-in-Last-clause-limit g c = within _ (Refusal c.in-Last.line faults.First) _ _ _ _ (λ _ none. none) c.refuse.ensures c.in-Last.ensures.limit
+
 pub returns-in-Wrong-clause-limit : goal.returns-in-Wrong-clause-limit
-returns-in-Wrong-clause-limit g c = limit-within c.drive.result _ _ c.drive.ensures.limit
+returns-in-Wrong-clause-limit g c = within _ (Refusal c.in-Wrong.line c.in-Wrong.fault) _ _ _ _ (λ _ none. none) c.refuse-in-Wrong.ensures c.in-Wrong.ensures.limit
+
+pub returns-in-Long-clause-limit : goal.returns-in-Long-clause-limit
+returns-in-Long-clause-limit g c = within _ (Refusal c.in-Long.line faults.Long) _ _ _ _ (λ _ none. none) c.refuse-in-Long.ensures c.in-Long.ensures.limit
+
+pub returns-in-Cut-clause-limit : goal.returns-in-Cut-clause-limit
+returns-in-Cut-clause-limit g c = within _ (Refusal c.in-Cut.line faults.Cut) _ _ _ _ (λ _ none. none) c.refuse-in-Cut.ensures c.in-Cut.ensures.limit
 
 pub returns-in-Long-clause-text : goal.returns-in-Long-clause-text
 returns-in-Long-clause-text g c =

@@ -1,0 +1,28 @@
+-- How much is read at most.
+use Rattle.std.proofs.Common.{◌≡◌, ℕ, List, Option, refl, sym, ◌∙◌, subst}
+use Rattle.board_text.specs.Streams.{ReadsUpTo}
+use Rattle.line_driver.specs.Driving.{most_of}
+use Rattle.line_driver.specs.declared.driving.End.{End}
+use Rattle.line_driver.specs.declared.driving.End.TheVariants as ends
+use Rattle.board_trace.specs.Verdicts.{Says, most_read}
+use Rattle.board_trace.specs.declared.check.Verdict.{Verdict}
+use Rattle.board_trace.specs.declared.check.CheckEnd.{CheckEnd}
+use Rattle.board_trace.specs.declared.check.CheckEnd.TheVariants.{Legal, Refused, Memory, Reading, Writing}
+use Rattle.board_trace.proofs.Judged.{IsAt}
+
+at-within : (end : End (Unit {0})) (k : ℕ) → IsAt end k → most_of end ≡ 1073741824
+at-within (ends.Wrong line fault) k is = refl
+at-within (ends.Long line) k is = refl
+at-within (ends.Cut line) k is = refl
+at-within end k is = absurd is
+
+said-within : (result : CheckEnd) (verdict : Verdict) (w0 w1 : Option (List ℕ)) → Says result verdict w0 w1 → most_read result ≡ 1073741824
+said-within (Legal n) verdict w0 w1 says = refl
+said-within (Refused k) verdict w0 w1 says = refl
+said-within Memory verdict w0 w1 says = refl
+said-within Reading verdict w0 w1 says = absurd says
+said-within Writing verdict w0 w1 says = refl
+
+-- Where a line is wrong, the limit is not passed.
+pub refused-within : (end : End (Unit {0})) (k : ℕ) (result : CheckEnd) (verdict : Verdict) (r0 r1 w0 w1 : Option (List ℕ)) → IsAt end k → Says result verdict w0 w1 → ReadsUpTo (most_of end) r0 r1 → ReadsUpTo (most_read result) r0 r1
+refused-within end k result verdict r0 r1 w0 w1 is says = subst (λ n. ReadsUpTo n r0 r1) (at-within end k is ∙ sym (said-within result verdict w0 w1 says))
