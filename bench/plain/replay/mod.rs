@@ -1,10 +1,11 @@
-//! A script, line by line: read, performed, and its text written.
+//! A script, line by line: read, performed, and its text written. A trace likewise, and checked.
 
 mod fields;
 mod lines;
 mod print;
 mod script;
 mod text;
+mod trace;
 
 use crate::board::Board;
 use crate::board::events::Notices;
@@ -13,6 +14,7 @@ use script::{Item, event_of, opening_of};
 use std::fs::File;
 use std::io;
 use text::Text;
+pub use trace::check;
 
 /// The most bytes that a message carries.
 pub const PAYLOAD: usize = 240;

@@ -39,6 +39,17 @@ pub fn event_of<'a>(line: &[u8], payload: &'a mut [u8; PAYLOAD]) -> Option<Item<
     Some(Item::Event(event?))
 }
 
+/// An actor's number, and the event behind it.
+pub fn entry_of<'a>(line: &[u8], payload: &'a mut [u8; PAYLOAD]) -> Option<Event<'a>> {
+    let mut fields = Fields(line);
+    fields.small()?;
+    fields.space()?;
+    match event_of(fields.0, payload)? {
+        Item::Event(event) => Some(event),
+        Item::Summary => None,
+    }
+}
+
 fn write_of(mut fields: Fields) -> Option<Event<'static>> {
     let vp = fields.small()?;
     fields.space()?;

@@ -53,6 +53,12 @@ impl Text {
         self.output.write_all(&self.block[..length])
     }
 
+    /// What was gathered, which is not written.
+    pub fn take(&mut self) -> &[u8] {
+        let length = std::mem::take(&mut self.length);
+        &self.block[..length]
+    }
+
     /// Flushes where the next line's text might not fit.
     #[inline(always)]
     pub fn flush_full(&mut self) -> io::Result<()> {
