@@ -1,0 +1,79 @@
+"""What a text that is cut after some byte must give, from what the whole one gives."""
+
+LONGEST = 640
+
+
+def outputs_of_lines(lines, output):
+    """What each of these lines of a script writes, by the answer that each kind of line has. None of
+    them has a fault."""
+    left = output.splitlines(True)
+    blocks = []
+    for line in lines:
+        if line == b"summary":
+            taken = next((i for i, text in enumerate(left) if not text.startswith(b": ")), len(left))
+        elif line.startswith(b"board") or line.startswith(b"#") or not line:
+            taken = 0
+        else:
+            behind = (i for i, text in enumerate(left) if i and not text.startswith(b". "))
+            taken = next(behind, len(left))
+        blocks.append(b"".join(left[:taken]))
+        left = left[taken:]
+    return blocks
+
+
+def fault_of(output):
+    """The line of the fault that an output ends with, or None."""
+    last = output.splitlines()[-1:]
+    return int(last[0].split()[1]) if last and last[0].startswith(b"! ") else None
+
+
+class Script:
+    """A script, and what it writes."""
+
+    def __init__(self, text, output):
+        self.text = text
+        self.output = output
+        self.fault = fault_of(output)
+        lines = text.splitlines()
+        good = len(lines) if self.fault is None else self.fault - 1
+        self.blocks = outputs_of_lines(lines[:good], output)
+        self.opening = next((i for i, line in enumerate(lines) if line and not line.startswith(b"#")), len(lines))
+
+    def cut(self, size):
+        """The status and the output of the first bytes."""
+        begun = self.text[:size]
+        whole = begun.count(b"\n")
+        if self.fault is not None and whole >= self.fault:
+            return 1, self.output
+        written = b"".join(self.blocks[:whole])
+        rest = len(begun) - begun.rfind(b"\n") - 1
+        if rest > LONGEST:
+            return 1, written + b"! %d long\n" % (whole + 1)
+        if rest:
+            return 1, written + b"! %d cut\n" % (whole + 1)
+        if whole <= self.opening:
+            return 1, written + b"! %d first\n" % (whole + 1)
+        return 0, written
+
+
+def verdict_of_cut(trace, verdict, size):
+    """The status and the verdict of the first bytes of a trace that has this verdict."""
+    begun = trace[:size]
+    wrong = int(verdict.split()[1]) if verdict.startswith(b"refused") else None
+    line = begun.count(b"\n") + 1
+    if wrong is not None and line > wrong:
+        return 3, b"refused %d\n" % wrong
+    last = begun.splitlines()[-1:]
+    if begun.endswith(b"\n") and last[0].startswith(b"end "):
+        return 0, b"legal %s\n" % last[0].split()[1]
+    return 3, b"refused %d\n" % line
+
+
+def trace_of(text, output):
+    """The trace of a script's events and their replies, all by actor 0, and how many they are."""
+    entries = []
+    for line, block in zip(text.splitlines(), outputs_of_lines(text.splitlines(), output)):
+        if block.startswith(b"= "):
+            entries.append(b"0 %s\n%s\n" % (line, block.split(b"\n", 1)[0]))
+    board = next(line for line in text.splitlines() if line.startswith(b"board"))
+    return b"trace 1\n%s\n%send %d\n" % (board, b"".join(entries), len(entries)), len(entries)

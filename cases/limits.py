@@ -1,0 +1,106 @@
+"""What the machine refuses the program: memory, threads, streams, and bytes beyond the limit."""
+
+import os
+import resource
+import subprocess
+
+# how many bytes a text may have
+MOST = 1 << 30
+
+KIB = 1024
+
+MIB = 1024 * KIB
+
+SECONDS = 120
+
+
+def with_memory(binary, arguments, data, most):
+    """A run in an address space of so many bytes."""
+    def narrow():
+        resource.setrlimit(resource.RLIMIT_AS, (most, most))
+    return subprocess.run([binary, *arguments], input=data, stdout=subprocess.PIPE,
+                          stderr=subprocess.PIPE, preexec_fn=narrow, timeout=SECONDS)
+
+
+def out_of_memory(binary):
+    """In smaller and smaller address spaces the program does its work, then says that memory is
+    wanting, and then isn't loaded. Nothing else is written."""
+    complaints, wanting = [], 0
+    for most in range(8 * MIB, MIB, -64 * KIB):
+        ended = with_memory(binary, ["replay"], b"board 8 64 0\ntake 0\n", most)
+        seen = (ended.returncode, ended.stdout, ended.stderr)
+        if seen == (4, b"", b"synicboard: out of memory\n"):
+            wanting += 1
+        elif seen != (0, b"= taken none\n", b""):
+            if ended.returncode not in (127, -6, -7, -11) or ended.stdout:
+                complaints.append("in %d KiB: %r" % (most // KIB, seen))
+            break
+    if wanting == 0:
+        complaints.append("no address space was too small for it")
+    return complaints
+
+
+def no_thread(binary, crowd):
+    """Where stacks of threads have no room, no crew is run, and nothing is written."""
+    ended = with_memory(binary, ["crew"], crowd, 64 * MIB)
+    seen = (ended.returncode, ended.stdout, ended.stderr)
+    return [] if seen == (4, b"", b"synicboard: no thread\n") else ["%r" % (seen,)]
+
+
+def closed_streams(binary):
+    """Standard input or standard output is no open file."""
+    complaints = []
+    for closed, stderr in (("<&-", b"synicboard: read failed\n"), (">&-", b"synicboard: write failed\n")):
+        for subcommand in ("replay", "check", "crew"):
+            ended = subprocess.run(["sh", "-c", 'exec "$0" "$1" ' + closed, binary, subcommand], input=b"",
+                                   stderr=subprocess.PIPE, timeout=SECONDS)
+            if (ended.returncode, ended.stderr) != (5, stderr):
+                complaints.append("%s %s: %r" % (subcommand, closed, (ended.returncode, ended.stderr)))
+    return complaints
+
+
+def of_length(binary, length):
+    """How a script of so many bytes ends: a board, and comments."""
+    program = subprocess.Popen([binary, "replay"], stdin=subprocess.PIPE, stdout=subprocess.PIPE,
+                               stderr=subprocess.PIPE)
+    block = (b"#" * 511 + b"\n") * 2048
+    left = length
+    try:
+        for part in [b"board 1 1 0\n#" + b"#" * 498 + b"\n"]:
+            program.stdin.write(part)
+            left -= len(part)
+        while left:
+            part = block[-left:] if left < len(block) else block
+            program.stdin.write(part)
+            left -= len(part)
+    except BrokenPipeError:
+        pass
+    try:
+        program.stdin.close()
+    except BrokenPipeError:
+        pass
+    stdout, stderr = program.stdout.read(), program.stderr.read()
+    return program.wait(SECONDS), stdout, stderr
+
+
+def bytes_at_the_limit(binary):
+    """As many bytes as may be read, and one more."""
+    complaints = []
+    for length, wanted in ((MOST, (0, b"", b"")), (MOST + 1, (5, b"", b"synicboard: read failed\n"))):
+        ended = of_length(binary, length)
+        if ended != wanted:
+            complaints.append("%d bytes: %r, expected %r" % (length, ended, wanted))
+    return complaints
+
+
+def fault_before_more(binary):
+    """A fault is written while the peer still holds the pipe open and sends nothing."""
+    program = subprocess.Popen([binary, "replay"], stdin=subprocess.PIPE, stdout=subprocess.PIPE)
+    program.stdin.write(b"board 1 1 0\ntake 0\ntake x\n")
+    program.stdin.flush()
+    written = b"".join(program.stdout.readline() for _ in range(2))
+    status = program.wait(SECONDS)
+    program.stdin.close()
+    program.stdout.close()
+    wanted = (1, b"= taken none\n! 3 form\n")
+    return [] if (status, written) == wanted else ["%r, expected %r" % ((status, written), wanted)]
