@@ -1,5 +1,5 @@
 -- How much is read at most.
-use Rattle.std.proofs.Common.{◌≡◌, ℕ, ◌×◌, List, Option, refl, sym, subst}
+use Rattle.std.proofs.Common.{◌≡◌, ℕ, List, Option, refl, sym, subst}
 use Rattle.board_text.specs.Streams.{ReadsUpTo}
 use Rattle.board_lines.specs.declared.fault.ScriptFault.{ScriptFault}
 use Rattle.board_script.specs.Streams.{Finishes, most_read}

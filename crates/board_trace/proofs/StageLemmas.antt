@@ -80,7 +80,7 @@ first_line (x ∷ xs) ys (x' ∷ xs') ys' h k e =
     let m = first_line xs ys xs' ys' h.1 k.1 t in
     (rw (is, m.0) refl, m.1)
 
-text-line : (fields : List (List ℕ)) (lines : List (List (List ℕ))) → text_of (fields ∷ lines) ≡ words fields ++ 10 ∷ text_of lines
+pub text-line : (fields : List (List ℕ)) (lines : List (List (List ℕ))) → text_of (fields ∷ lines) ≡ words fields ++ 10 ∷ text_of lines
 text-line fields lines = append_assoc (words fields) (10 ∷ []) (text_of lines)
 
 -- where the line leads, and how it goes on from there

@@ -17,7 +17,14 @@ pub fn one_count()
     ensures { (text : List ℕ) (m n : ℕ) → IsTrace text m → IsTrace text n → m ≡ n }
 {}
 
-/// What is written of a legal history is its trace, which is read as one.
+/// A text is the trace of one history at most, from one opening: what is written of a legal history is
+/// read as that history.
+pub fn one_history()
+    ensures { (text : List ℕ) (m n : ℕ) (a : IsTrace text m) (b : IsTrace text n)
+        → (a.processors ≡ b.processors) × (a.pages ≡ b.pages) × (a.ticket ≡ b.ticket) × (a.history ≡ b.history) }
+{}
+
+/// What is written of a legal history is its trace.
 pub fn written_is_legal()
     ensures { (processors pages ticket : ℕ) (history : List Entry) → AreSizes processors pages → ticket < 2 ^ 64 → All IsEntry history
         → IsLegal (opened processors pages ticket) history → IsTrace (trace processors pages ticket history) (length history) }
