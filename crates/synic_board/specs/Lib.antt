@@ -14,6 +14,7 @@ pub mod Timers
 pub mod Registers
 pub mod Step
 pub mod Replies
+pub mod Refusals
 pub mod Places
 pub mod Run
 pub mod History
