@@ -15,6 +15,7 @@ pub mod Registers
 pub mod Step
 pub mod Replies
 pub mod Refusals
+pub mod Timely
 pub mod Places
 pub mod Run
 pub mod History
