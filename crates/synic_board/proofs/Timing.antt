@@ -25,8 +25,8 @@ use Rattle.gpa_space.specs.Space.{is_pending, after_pending, refusal_of, owner_o
 use Rattle.stimer_bank.specs.declared.timer.Timer.{Timer}
 use Rattle.stimer_bank.specs.declared.timer.Mode.{Mode}
 use Rattle.stimer_bank.specs.declared.timer.Mode.TheVariants.{Direct, Posted}
-use Rattle.stimer_bank.specs.Timer.{Expired, is_due, is_periodic, is_lazy, once, catching_up, lazily, late, expired, after_expiry}
-use Rattle.stimer_bank.specs.Bank.{Bank, timer_in, with_config, with_count, dues, due_list, after_expiry_of}
+use Rattle.stimer_bank.specs.Timer.{Expired, is_due, is_periodic, is_lazy, once, catching_up, lazily, late, expired}
+use Rattle.stimer_bank.specs.Bank.{Bank, timer_in, with_config, with_count, dues, due_list}
 use Rattle.synic_board.specs.declared.event.Event.{Event}
 use Rattle.synic_board.specs.declared.event.Event.TheVariants.{OpenPort, ClosePort, Write, Read, Post, Signal, Assert, Absorb, Store, Load, Tick, Take}
 use Rattle.synic_board.specs.declared.event.Reply.{Reply}
@@ -36,10 +36,10 @@ use Rattle.synic_board.specs.Effects.{Effect, Outcome, nothing, after, at_proces
 use Rattle.synic_board.specs.Interrupts.{requested, raised, taken}
 use Rattle.synic_board.specs.Absorbing.{is_posted, absorbed, absorbed_bit, absorbed_below}
 use Rattle.synic_board.specs.Delivery.{delivers, is_slot_empty, placed_state, placed_head, placed, marked, tried, tried_below, accepted, delivered}
-use Rattle.synic_board.specs.Posts.{with_port, without_port, withdrawn, closed_at, post_refusal, posted_at, with_flag, flagged, signalled_place, signalled_at}
+use Rattle.synic_board.specs.Posts.{with_port, closed_at, post_refusal, posted_at, with_flag, flagged, signalled_place, signalled_at}
 use Rattle.synic_board.specs.Registers.{stored, written_register, written, read}
 use Rattle.synic_board.specs.Stores.{consumed_ticket, consumed, consumed_below, consumed_in, with_bytes, read_bytes}
-use Rattle.synic_board.specs.Timers.{mode_at, is_ready_for, is_ready, expired_notices, skipped_notices, expiry_notices, told_by, signalled_by, expired_state, expiry_at, fired, attempted, attempted_all, at_moment, ticked}
+use Rattle.synic_board.specs.Timers.{mode_at, is_ready_for, is_ready, expired_notices, skipped_notices, expiry_notices, signalled_by, expired_state, expiry_at, fired, attempted, attempted_all, at_moment, ticked}
 use Rattle.synic_board.specs.Step.{step}
 use Rattle.synic_board.specs.Timely.{AreTimely}
 use Rattle.synic_board.proofs.keeping.Requests.{either}

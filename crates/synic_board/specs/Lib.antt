@@ -16,6 +16,7 @@ pub mod Step
 pub mod Replies
 pub mod Refusals
 pub mod Timely
+pub mod Requests
 pub mod Places
 pub mod Run
 pub mod History
