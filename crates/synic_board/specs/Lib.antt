@@ -14,6 +14,9 @@ pub mod Timers
 pub mod Registers
 pub mod Step
 pub mod Replies
+pub mod Refusals
+pub mod Timely
+pub mod Requests
 pub mod Places
 pub mod Run
 pub mod History

@@ -1,0 +1,24 @@
+-- Events that are refused, or raise #GP.
+use Rattle.std.specs.Prelude.{◌≡◌, List, [], ◌∷◌, ◌++◌, length, insert}
+use Rattle.synic_board.specs.declared.event.Event.{Event}
+use Rattle.synic_board.specs.declared.event.Reply.{Reply}
+use Rattle.synic_board.specs.declared.event.Reply.TheVariants.{GeneralProtection, Refused}
+use Rattle.synic_board.specs.State.{State}
+use Rattle.synic_board.specs.Step.{step}
+use Rattle.synic_board.specs.Run.{run_of}
+
+abbrev pub IsRefusal : Reply → Type 0
+IsRefusal (Refused r) = Unit {0}
+IsRefusal GeneralProtection = Unit {0}
+IsRefusal reply = ⊥
+
+-- an event changes nothing, and tells nothing
+pub record LeavesNoTrace (s : State) (event : Event) : Type 0 where
+  pub state : (step s event).0 ≡ s
+  pub notices : (step s event).2 ≡ []
+
+-- between others an event is answered, and they are answered as they are without it
+pub record AnswersAlike (s : State) (before : List Event) (event : Event) (behind : List Event) : Type 0 where
+  pub state : (run_of s (before ++ event ∷ behind)).0 ≡ (run_of s (before ++ behind)).0
+  pub replies : (run_of s (before ++ event ∷ behind)).1 ≡ insert (run_of s (before ++ behind)).1 (length before) (step (run_of s before).0 event).1
+  pub notices : (run_of s (before ++ event ∷ behind)).2 ≡ (run_of s (before ++ behind)).2
