@@ -1,7 +1,7 @@
 // Events of all kinds: none of them takes memory.
 use board_steps::{
-    EOM, SCONTROL, SIEFP, SIMP, SINT2, bytes, load, open, open_messages, post, start_timer, store,
-    write,
+    EOM, SCONTROL, SIEFP, SIMP, SINT2, are_done, bytes, load, open, open_messages, post,
+    start_timer, store, write,
 };
 use board_terms::{Notices, PortShape, Vector};
 use std::test::Fail;
@@ -17,6 +17,53 @@ fn prepared() -> [Event; 6] {
         write(0, SINT2, 0x50),
         open_messages(3, 0, 2),
         open(4, 0, flags),
+    ]
+}
+
+/// Of each kind of event one or more.
+fn events() -> [Event; 14] {
+    let vector = Vector::new(0x61).unwrap();
+    [
+        post(3, &[0x0a]),
+        post(3, &[0x0b]),
+        load(0x2210, 1),
+        store(0x2200, &[0, 0, 0, 0]),
+        write(0, EOM, 0),
+        load(0x2210, 1),
+        Event::Signal { port: 4, flag: 3 },
+        Event::Assert { vp: 0, vector },
+        Event::Absorb {
+            vp: 0,
+            part: 1,
+            bits: 1 << 40,
+        },
+        Event::Take { vp: 0 },
+        Event::Read {
+            vp: 0,
+            register: SINT2,
+        },
+        Event::Tick { moment: 100 },
+        Event::Tick { moment: 235 },
+        Event::ClosePort { port: 3 },
+    ]
+}
+
+fn replies_to_them() -> [Reply; 14] {
+    [
+        Reply::Accepted(0),
+        Reply::Accepted(1),
+        Reply::Bytes(bytes(&[0x0a])),
+        Reply::Done,
+        Reply::Done,
+        Reply::Bytes(bytes(&[0x0b])),
+        Reply::FlagWasClear,
+        Reply::Done,
+        Reply::Done,
+        Reply::Taken(Vector::new(0x68)),
+        Reply::Value(0x50),
+        Reply::Done,
+        Reply::Done,
+        Reply::Done,
     ]
 }
 
@@ -39,49 +86,10 @@ fn events_take_no_memory(rt: HostRuntime) -> Result<(), Fail> {
             Notices::open(rt.alloc())?
         }
     };
-    for event in prepared() {
-        assert_eq!(rt; board.perform(&event, &mut notices), Reply::Done);
-    }
-    let [count, config] = start_timer(0, 0, 0x1403, 10);
-    let rows = [
-        (post(3, &[0x0a]), Reply::Accepted(0)),
-        (post(3, &[0x0b]), Reply::Accepted(1)),
-        (load(0x2210, 1), Reply::Bytes(bytes(&[0x0a]))),
-        (store(0x2200, &[0, 0, 0, 0]), Reply::Done),
-        (write(0, EOM, 0), Reply::Done),
-        (load(0x2210, 1), Reply::Bytes(bytes(&[0x0b]))),
-        (Event::Signal { port: 4, flag: 3 }, Reply::FlagWasClear),
-        (
-            Event::Assert {
-                vp: 0,
-                vector: Vector::new(0x61).unwrap(),
-            },
-            Reply::Done,
-        ),
-        (
-            Event::Absorb {
-                vp: 0,
-                part: 1,
-                bits: 1 << 40,
-            },
-            Reply::Done,
-        ),
-        (Event::Take { vp: 0 }, Reply::Taken(Vector::new(0x68))),
-        (
-            Event::Read {
-                vp: 0,
-                register: SINT2,
-            },
-            Reply::Value(0x50),
-        ),
-        (Event::Tick { moment: 100 }, Reply::Done),
-        (count, Reply::Done),
-        (config, Reply::Done),
-        (Event::Tick { moment: 235 }, Reply::Done),
-        (Event::ClosePort { port: 3 }, Reply::Done),
-    ];
-    for (event, reply) in rows {
-        assert_eq!(rt; board.perform(&event, &mut notices), reply);
+    assert!(rt; are_done(&mut board, &mut notices, &prepared()));
+    assert!(rt; are_done(&mut board, &mut notices, &start_timer(0, 0, 0x1403, 10)));
+    for (event, reply) in events().iter().zip(replies_to_them().iter()) {
+        assert_eq!(rt; board.perform(event, &mut notices), *reply);
     }
     Ok(())
 }
