@@ -59,23 +59,19 @@ def closed_streams(binary):
     return complaints
 
 
-def of_length(binary, length):
+def of_length(binary, subcommand, length):
     """How a script of so many bytes ends: a board, and comments."""
-    program = subprocess.Popen([binary, "replay"], stdin=subprocess.PIPE, stdout=subprocess.PIPE,
+    program = subprocess.Popen([binary, subcommand], stdin=subprocess.PIPE, stdout=subprocess.PIPE,
                                stderr=subprocess.PIPE)
+    first = b"board 1 1 0\n#" + b"#" * 498 + b"\n"
     block = (b"#" * 511 + b"\n") * 2048
-    left = length
+    left = length - len(first)
     try:
-        for part in [b"board 1 1 0\n#" + b"#" * 498 + b"\n"]:
-            program.stdin.write(part)
-            left -= len(part)
+        program.stdin.write(first)
         while left:
             part = block[-left:] if left < len(block) else block
             program.stdin.write(part)
             left -= len(part)
-    except BrokenPipeError:
-        pass
-    try:
         program.stdin.close()
     except BrokenPipeError:
         pass
@@ -86,10 +82,11 @@ def of_length(binary, length):
 def bytes_at_the_limit(binary):
     """As many bytes as may be read, and one more."""
     complaints = []
-    for length, wanted in ((MOST, (0, b"", b"")), (MOST + 1, (5, b"", b"synicboard: read failed\n"))):
-        ended = of_length(binary, length)
+    failed = (5, b"", b"synicboard: read failed\n")
+    for subcommand, length, wanted in (("replay", MOST, (0, b"", b"")), ("replay", MOST + 1, failed), ("crew", MOST + 1, failed)):
+        ended = of_length(binary, subcommand, length)
         if ended != wanted:
-            complaints.append("%d bytes: %r, expected %r" % (length, ended, wanted))
+            complaints.append("%s of %d bytes: %r, expected %r" % (subcommand, length, ended, wanted))
     return complaints
 
 

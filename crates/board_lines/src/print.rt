@@ -5,7 +5,7 @@ mod reply;
 mod summary;
 
 ghost use Rattle.std.specs.Prelude.{◌≡◌, ◌++◌, Option, OnOk};
-ghost use Rattle.board_text.specs.Numbers.{two_digits, AreBytes};
+ghost use Rattle.board_text.specs.Numbers.{AreBytes};
 ghost use Rattle.board_lines.specs.Events.{bytes_text};
 ghost use Rattle.board_lines.specs.Printing.{vector_or_none};
 

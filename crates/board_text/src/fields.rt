@@ -1,6 +1,5 @@
 // The fields of a line, one by one.
-ghost use Rattle.std.specs.Prelude.{◌≡◌, ◌↔◌, ◌≤◌, ◌^◌, [], ◌∷◌, Option, IsTrue, IfSome};
-ghost use Rattle.std.specs.Borrow.{Bor};
+ghost use Rattle.std.specs.Prelude.{◌≡◌, ◌↔◌, ◌≤◌, ◌^◌, [], Option, IsTrue, IfSome};
 ghost use Rattle.std.specs.Str.{bytes_eq};
 ghost use Rattle.board_text.specs.Fields.{fields_of, fields_left, TakesField, ReadsField, ReadsShort};
 ghost use Rattle.board_text.specs.Numbers.{decimal_at, hex_at};

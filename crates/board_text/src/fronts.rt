@@ -1,6 +1,6 @@
 // Short texts that are written from their end to their front, so that a number needs no count of its
 // digits, and a line is formed in one place.
-ghost use Rattle.std.specs.Prelude.{◌≡◌, ℕ, ◌+◌, ◌≤◌, ◌<◌, ◌++◌, decimal, drop};
+ghost use Rattle.std.specs.Prelude.{◌≡◌, ◌+◌, ◌≤◌, ◌<◌, ◌++◌, decimal, drop};
 ghost use Rattle.board_text.specs.Numbers.{two_digits};
 
 use crate::numbers::glyph_of;

@@ -1,5 +1,5 @@
 // The lines of a reader.
-ghost use Rattle.std.specs.Prelude.{◌≡◌, ℕ, ◌+◌, ◌≤◌, ◌<◌, ◌++◌, List, [], MatchOption, IfOk, length, take, get_or, slice_range};
+ghost use Rattle.std.specs.Prelude.{◌≡◌, ℕ, ◌+◌, ◌≤◌, ◌<◌, List, [], MatchOption, IfOk, length, take, get_or, slice_range};
 ghost use Rattle.std.specs.Io.KnownBytes.{Consumes, Keeps, IsAtEnd};
 ghost use Rattle.board_text.specs.Lines.{IsOneLine};
 ghost use Rattle.board_text.specs.Held.{at_start};

@@ -1,5 +1,5 @@
 // Calls of the words at concrete values, by one thread and by several.
-ghost use Rattle.std.specs.Prelude.{◌≡◌, ◌*◌, ◌<◌, ◌≤◌, All, IfOk, IfSome, length};
+ghost use Rattle.std.specs.Prelude.{◌≡◌, ◌*◌, ◌<◌, ◌≤◌, All, IfSome, length};
 ghost use Rattle.posted_words.specs.Words.{IsOf};
 
 use crate::{GatherFault, Line, PostedFault, PostedWords, Raised, Standing, Sweeper};

@@ -10,6 +10,8 @@ mod crews;
 #[cfg(test)]
 mod events;
 #[cfg(test)]
+mod parts;
+#[cfg(test)]
 mod shared;
 #[cfg(test)]
 mod stopped;

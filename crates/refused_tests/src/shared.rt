@@ -9,7 +9,7 @@ use board_threads::{Actor, CallFault, Ended, Line, OpenFault, SharedBoard};
 use std::alloc::Global;
 use std::sync::Wait;
 use std::test::Fail;
-use synic_board::{Entry, Event};
+use synic_board::{Entry, Event, Reply};
 
 #[test]
 fn a_shared_board_is_opened(rt: HostRuntime) -> Result<(), Fail> {
@@ -146,7 +146,8 @@ fn absorbed_bits(history: &[Entry]) -> u64 {
     all
 }
 
-/// Whether each pair of entries is a tick and an absorb of the one vector that was raised before.
+/// Whether each pair of entries is a tick and an absorb of the one vector that was raised before, and
+/// both were done.
 fn are_turns(history: &[Entry]) -> bool {
     let mut turn = 0u8;
     for pair in history.chunks(2) {
@@ -162,6 +163,9 @@ fn are_turns(history: &[Entry]) -> bool {
             bits: 1 << (turn % 64),
         };
         if first.event != tick || second.event != absorb {
+            return false;
+        }
+        if first.reply != Reply::Done || second.reply != Reply::Done {
             return false;
         }
         turn = turn.wrapping_add(1);

@@ -1,11 +1,32 @@
 // Each call once, at values from worked scripts.
 use crate::{Mode, TimerBank};
-use board_terms::{TimerId, Vp};
+use board_terms::{Moment, Sint, TimerId, Vector, Vp};
 use std::test::Fail;
 
 fn timer(vp: u8, index: u8) -> Result<TimerId, Fail> {
     let vp = Vp::new(vp).ok_or("processor")?;
     Ok(TimerId::new(vp, index).ok_or("index")?)
+}
+
+/// What a timer that is due signals, and how many periods it skips.
+fn expired(bank: &mut TimerBank, timer: TimerId, moment: u64) -> Option<(Option<Moment>, u64)> {
+    if bank.is_due(timer, moment) {
+        let expiry = bank.expire(timer, moment);
+        Some((expiry.signal, expiry.skipped))
+    } else {
+        None
+    }
+}
+
+/// The vector or the source that a timer tells which is due.
+fn told(bank: &TimerBank, timer: TimerId, moment: u64) -> (Option<Vector>, Option<Sint>) {
+    if !bank.is_due(timer, moment) {
+        return (None, None);
+    }
+    match bank.mode(timer) {
+        Mode::Direct(vector) => (Some(vector), None),
+        Mode::Posted(sint) => (None, Some(sint)),
+    }
 }
 
 #[test]
@@ -17,14 +38,8 @@ fn a_late_periodic_timer_makes_up_eight_periods(rt: HostRuntime) -> Result<(), F
         bank.write_count(first, 10, 100);
         bank.write_config(first, 0x1403, 100);
         assert!(rt; bank.earliest() == Some((110, first)), "at {moment}");
-        assert!(rt; bank.is_due(first, moment), "at {moment}");
-        if bank.is_due(first, moment) {
-            let expiry = bank.expire(first, moment);
-            assert!(rt;
-                expiry.signal == Some(110) && expiry.skipped == skipped,
-                "at {moment}"
-            );
-        }
+        let expiry = expired(&mut bank, first, moment);
+        assert!(rt; expiry == Some((Some(110), skipped)), "at {moment}");
         assert!(rt; bank.earliest() == Some((next, first)), "at {moment}");
     }
     Ok(())
@@ -37,13 +52,8 @@ fn a_lazy_timer_tells_of_the_latest_period(rt: HostRuntime) -> Result<(), Fail> 
         let mut bank = TimerBank::new();
         bank.write_count(first, 10, 100);
         bank.write_config(first, 0x1407, 100);
-        if bank.is_due(first, moment) {
-            let expiry = bank.expire(first, moment);
-            assert!(rt;
-                expiry.signal == signal && expiry.skipped == skipped,
-                "at {moment}"
-            );
-        }
+        let expiry = expired(&mut bank, first, moment);
+        assert!(rt; expiry == Some((signal, skipped)), "at {moment}");
         assert!(rt; bank.earliest() == Some((240, first)), "at {moment}");
     }
     Ok(())
@@ -83,14 +93,9 @@ fn whom_a_timer_tells(rt: HostRuntime) -> Result<(), Fail> {
     let mut bank = TimerBank::new();
     bank.write_count(first, 7, 0);
     bank.write_config(first, 0x1401, 0);
-    if bank.is_due(first, 7) {
-        let is_direct = matches!(bank.mode(first), Mode::Direct(_));
-        assert!(rt; is_direct);
-    }
+    assert_eq!(rt; told(&bank, first, 6), (None, None));
+    assert_eq!(rt; told(&bank, first, 7), (Vector::new(64), None));
     bank.write_config(first, 0x2_0001, 0);
-    if bank.is_due(first, 7) {
-        let is_direct = matches!(bank.mode(first), Mode::Direct(_));
-        assert!(rt; !is_direct);
-    }
+    assert_eq!(rt; told(&bank, first, 7), (None, Sint::new(2)));
     Ok(())
 }

@@ -1,6 +1,6 @@
 // One timer: its registers, when it is due, and how it expires.
-ghost use Rattle.std.specs.Prelude.{◌≡◌, ℕ, true, false, ◌+◌, ◌*◌, ◌^◌, ◌-◌, ◌<◌, ◌≤◌, Option, Some, None, IsSome, IsTrue};
-ghost use Rattle.stimer_bank.specs.Timer.{has_bit, is_periodic, vector_of, sint_of, is_direct, is_mute, disabled, ruled, written_config, written_count, started, after_config, after_count, is_due, IsSound, IsRuled, mode_of, expired, once, catching_up, lazily, late, expiry_of, after_expiry};
+ghost use Rattle.std.specs.Prelude.{◌≡◌, true, false, ◌+◌, ◌*◌, ◌^◌, ◌-◌, ◌<◌, ◌≤◌, Option, Some, None, IsSome, IsTrue};
+ghost use Rattle.stimer_bank.specs.Timer.{has_bit, is_periodic, vector_of, sint_of, is_direct, is_mute, disabled, ruled, written_count, started, after_config, after_count, is_due, IsSound, IsRuled, mode_of, expired, once, catching_up, lazily, late, expiry_of, after_expiry};
 
 use board_terms::{Moment, Sint, Vector};
 

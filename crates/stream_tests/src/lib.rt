@@ -1,7 +1,11 @@
-//! Tests of texts and their streams: numbers, lines of a reader, scripts and traces. There is nothing
-//! else here.
+//! Tests of texts and their streams: numbers, lines of a reader, scripts, crews and traces. There is
+//! nothing else here.
 #![tactic(auto)]
 
+#[cfg(test)]
+mod crews;
+#[cfg(test)]
+mod gates;
 #[cfg(test)]
 mod peers;
 #[cfg(test)]

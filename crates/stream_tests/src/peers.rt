@@ -14,7 +14,8 @@ pub(crate) fn append(text: &mut Text, bytes: &[u8]) {
     }
 }
 
-/// Gives one byte a read. It fails at one read, and where the writer holds something back.
+/// Gives one byte a read. One read fails, and whoever reads again gets the byte; each read fails while
+/// the writer holds something back.
 #[derive(Drop)]
 pub(crate) struct Trickle<'a> {
     pub(crate) bytes: &'a [u8],
@@ -35,7 +36,11 @@ pub(crate) fn gives<'a>(bytes: &'a [u8], held_back: &'a Cell<usize>) -> Trickle<
 
 impl Read for Trickle<'_> {
     fn read(&mut self, buf: &mut [u8]) -> io::Result<usize> {
-        if self.reads == self.fails_at || self.held_back.get() > 0 || buf.is_empty() {
+        if self.reads == self.fails_at {
+            self.fails_at = usize::MAX;
+            return Err(io::Error::from(ErrorKind::Interrupted));
+        }
+        if self.held_back.get() > 0 || buf.is_empty() {
             return Err(io::Error::from(ErrorKind::Interrupted));
         }
         let Some(byte) = self.bytes.get(self.reads) else {
@@ -66,24 +71,6 @@ impl Read for Endless<'_> {
     }
 }
 
-/// Gives that many bytes, a line of 512 bytes a read while they last. It leaves the others of them
-/// as they stand.
-#[derive(Drop)]
-pub(crate) struct Lines {
-    pub(crate) left: u64,
-}
-
-impl Read for Lines {
-    fn read(&mut self, buf: &mut [u8]) -> io::Result<usize> {
-        let most = self.left.min(buf.len().min(512) as u64) as usize;
-        self.left -= most as u64;
-        if most == 512 {
-            buf[511] = b'\n';
-        }
-        Ok(most)
-    }
-}
-
 /// How a writer refuses.
 #[derive(Clone, Copy, PartialEq)]
 pub(crate) enum Refuses {
@@ -92,7 +79,8 @@ pub(crate) enum Refuses {
     Flushes,
 }
 
-/// Takes one byte a write, and holds it back until it is flushed. It refuses from some call on.
+/// Takes one byte a write, and holds it back until it is flushed. It refuses one call, and goes on
+/// behind it.
 #[derive(Drop)]
 pub(crate) struct Narrow<'a> {
     pub(crate) text: Text,
@@ -124,6 +112,7 @@ impl Write for Narrow<'_> {
     fn write(&mut self, buf: &[u8]) -> io::Result<usize> {
         if self.refuses != Refuses::Flushes {
             if self.room == 0 {
+                self.room = usize::MAX;
                 return if self.refuses == Refuses::Bytes {
                     Ok(0)
                 } else {
@@ -143,6 +132,7 @@ impl Write for Narrow<'_> {
     fn flush(&mut self) -> io::Result<()> {
         if self.refuses == Refuses::Flushes {
             if self.room == 0 {
+                self.room = usize::MAX;
                 return Err(io::Error::from(ErrorKind::StorageFull));
             }
             self.room -= 1;

@@ -1,6 +1,6 @@
 // The lines of a reader, and sending.
-use crate::peers::{Lines, Narrow, Refuses, gives, takes};
-use board_text::{LIMIT, NextLine, Source, send};
+use crate::peers::{Narrow, Refuses, gives, takes};
+use board_text::{NextLine, Source, send};
 use std::alloc::AllocError;
 use std::cell::Cell;
 use std::io;
@@ -68,20 +68,6 @@ fn a_line_is_long_at_its_641st_byte(rt: HostRuntime) -> Result<(), AllocError> {
         }
         let mut reader = text.as_slice();
         let mut source = Source::open(rt.alloc())?;
-        assert_eq!(rt; source.next_line(&mut reader, &mut writer), ends);
-    }
-    Ok(())
-}
-
-#[test]
-fn one_byte_above_the_limit_is_a_failed_read(rt: HostRuntime) -> Result<(), AllocError> {
-    for (bytes, ends) in [(LIMIT, NextLine::Last), (LIMIT + 1, NextLine::ReadFailed)] {
-        let mut reader = Lines { left: bytes };
-        let mut writer = io::sink();
-        let mut source = Source::open(rt.alloc())?;
-        for _ in 0..LIMIT / 512 {
-            assert_eq!(rt; source.next_line(&mut reader, &mut writer), NextLine::Whole);
-        }
         assert_eq!(rt; source.next_line(&mut reader, &mut writer), ends);
     }
     Ok(())

@@ -55,16 +55,3 @@ pub(crate) fn posts_and_raises(alloc: Global) -> Result<Scripts, AllocError> {
         lines: Vec::from_array(alloc, [twice, once])?,
     })
 }
-
-/// Two actors and two lines of two steps each.
-pub(crate) fn two_steps_each(alloc: Global) -> Result<Scripts, AllocError> {
-    let one = Vec::from_array(alloc, [say(0x0a), say(0x0b)])?;
-    let take = Step::Act(Event::Take { vp: 0 });
-    let other = Vec::from_array(alloc, [take, Step::Sweep { vp: 0, part: 1 }])?;
-    let raises = Vec::from_array(alloc, [raise_60(), raise_61()])?;
-    let same = Vec::from_array(alloc, [raise_60(), raise_61()])?;
-    Ok(Scripts {
-        actors: Vec::from_array(alloc, [one, other])?,
-        lines: Vec::from_array(alloc, [raises, same])?,
-    })
-}

@@ -1,5 +1,5 @@
 // The timers that are due some time, the earliest at hand.
-ghost use Rattle.std.specs.Prelude.{◌≡◌, ℕ, ◌+◌, ◌*◌, ◌<◌, ◌≤◌, Option, None, Some, slice_set};
+ghost use Rattle.std.specs.Prelude.{◌≡◌, ◌+◌, ◌*◌, ◌<◌, ◌≤◌, Option, None, Some, slice_set};
 ghost use Rattle.board_terms.specs.Dues.{number_of, due_of, least};
 ghost use Rattle.timer_heap.specs.Heap.{no_dues, NoOther, Other, FirstOfThree, MarksDue};
 
@@ -15,7 +15,6 @@ pub struct TimerHeap {
 }
 
 impl Model for TimerHeap {
-    ghost use Rattle.std.specs.Prelude.{ℕ};
     ghost use Rattle.std.specs.Coded.{coded_list, coded_option, coded_ℕ};
     ghost use Rattle.board_terms.specs.Dues.{Dues};
 

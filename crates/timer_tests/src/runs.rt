@@ -1,4 +1,4 @@
-// Lists of events, and runs that stop for want of memory and go on.
+// Lists of events.
 use board_steps::{EOM, SCONTROL, SIMP, SINT2, bytes, load, open_messages, post, store, write};
 use board_terms::{Notice, Refusal, Sint, Vector, Vp};
 use std::test::Fail;
@@ -87,24 +87,11 @@ fn notices_of_it() -> [Notice; 9] {
 }
 
 #[test]
-fn a_run_goes_on_where_it_stopped(rt: HostRuntime) -> Result<(), Fail> {
-    let Ok(mut board) = Board::open(rt.alloc(), 1, 4, 0) else {
-        return Ok(());
-    };
-    let (events, expected) = (end_of_message(), replies_to_it());
-    let (events, expected) = (events.as_slice(), expected.as_slice());
+fn a_run_answers_and_tells_in_order(rt: HostRuntime) -> Result<(), Fail> {
+    let mut board = Board::open(rt.alloc(), 1, 4, 0)?;
     let mut notices = Vec::new(rt.alloc());
-    match run(rt.alloc(), &mut board, events, &mut notices) {
-        Ok(replies) => assert_eq!(rt; replies.as_slice(), expected),
-        // Each request for memory can be refused in turn: then it stops once, before some event.
-        Err(stopped) => {
-            let done = stopped.done;
-            let (first, last) = expected.split_at(done);
-            assert_eq!(rt; stopped.replies.as_slice(), first);
-            let rest = run(rt.alloc(), &mut board, &events[done..], &mut notices)?;
-            assert_eq!(rt; rest.as_slice(), last);
-        }
-    }
+    let replies = run(rt.alloc(), &mut board, &end_of_message(), &mut notices)?;
+    assert_eq!(rt; replies.as_slice(), replies_to_it().as_slice());
     assert_eq!(rt; notices.as_slice(), notices_of_it().as_slice());
     assert_eq!(rt; board.next_ticket(), 3);
     Ok(())
@@ -142,11 +129,23 @@ fn taken(time: u8, vector: Vector) -> Reply {
 
 #[test]
 fn no_events_need_no_memory(rt: HostRuntime) -> Result<(), Fail> {
-    let Ok(mut board) = Board::open(rt.alloc(), 1, 1, 0) else {
-        return Ok(());
-    };
+    let mut board = Board::open(rt.alloc(), 1, 1, 0)?;
     let mut notices = Vec::new(rt.alloc());
     assert!(rt; run(rt.alloc(), &mut board, &[], &mut notices)?.is_empty());
+    assert!(rt; notices.is_empty());
+    Ok(())
+}
+
+#[test]
+fn a_run_of_many_events_comes_to_its_end(rt: HostRuntime) -> Result<(), Fail> {
+    let mut board = Board::open(rt.alloc(), 1, 1, 0)?;
+    let mut events = Vec::new(rt.alloc());
+    for moment in 0..3000 {
+        events.push(Event::Tick { moment })?;
+    }
+    let mut notices = Vec::new(rt.alloc());
+    let replies = run(rt.alloc(), &mut board, events.as_slice(), &mut notices)?;
+    assert_eq!(rt; (replies.len(), board.moment()), (3000, 2999));
     assert!(rt; notices.is_empty());
     Ok(())
 }

@@ -1,5 +1,5 @@
 // The line of an event.
-ghost use Rattle.std.specs.Prelude.{◌≡◌, ◌++◌, ◌∷◌, [], OnOk, codes, decimal};
+ghost use Rattle.std.specs.Prelude.{◌≡◌, ◌++◌, ◌∷◌, [], OnOk, decimal};
 ghost use Rattle.board_text.specs.Numbers.{hex};
 ghost use Rattle.board_text.specs.Fields.{words};
 ghost use Rattle.synic_board.specs.declared.event.Event.TheVariants.{OpenPort, Write, Read, Post, Signal, Assert, Absorb, Store, Load};

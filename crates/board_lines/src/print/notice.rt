@@ -1,10 +1,10 @@
 // The lines of notices.
-ghost use Rattle.std.specs.Prelude.{◌≡◌, ◌≤◌, ◌++◌, ◌∷◌, [], ℕ, OnOk, map, decimal};
+ghost use Rattle.std.specs.Prelude.{◌≡◌, ◌≤◌, ◌++◌, ◌∷◌, [], OnOk, map, decimal};
 ghost use Rattle.board_text.specs.Fields.{line_of};
 ghost use Rattle.board_text.specs.Numbers.{two_digits};
 ghost use Rattle.board_lines.specs.Printing.{notice_fields, text_of};
 
-use board_terms::{Notice, Sint, Ticket, Vector, Vp};
+use board_terms::{Notice, Sint, Ticket, Vp};
 use board_text::{ROOM, byte_before, decimal_before, text_before};
 use std::alloc::AllocError;
 
