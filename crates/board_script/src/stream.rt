@@ -1,6 +1,6 @@
 // A script from a reader, its text to a writer.
 ghost use Rattle.board_text.specs.Streams.{ReadsUpTo};
-ghost use Rattle.board_script.specs.Streams.{Replays, most_read, Finishes};
+ghost use Rattle.board_script.specs.Streams.{Replays, most_read, StopsNear, Finishes};
 
 use crate::judge::ScriptJudge;
 use board_lines::{ScriptFault, put_fault};
@@ -31,8 +31,8 @@ pub enum ReplayEnd {
 /// the script's length.
 pub fn replay<R: Read, W: Write>(alloc: Global, reader: &mut R, writer: &mut W) -> ReplayEnd
     ensures text { Replays result (R.remaining reader.old) (R.remaining reader.new) (W.contents writer.old) (W.contents writer.new) }
-
     ensures limit { ReadsUpTo (most_read result) (R.remaining reader.old) (R.remaining reader.new) }
+    ensures near { StopsNear result (R.remaining reader.old) (R.remaining reader.new) }
 {
     let Ok(notices) = Notices::open(alloc) else {
         return ReplayEnd::Memory;

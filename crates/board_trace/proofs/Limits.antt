@@ -1,11 +1,12 @@
 -- How much is read at most.
 use Rattle.std.proofs.Common.{◌≡◌, ℕ, List, Option, refl, sym, ◌∙◌, subst}
 use Rattle.board_text.specs.Streams.{ReadsUpTo}
-use Rattle.line_driver.specs.Driving.{most_of}
+use Rattle.line_driver.specs.Driving.{most_of, StopsAt}
 use Rattle.line_driver.specs.declared.driving.End.{End}
 use Rattle.line_driver.specs.declared.driving.End.TheVariants as ends
-use Rattle.board_trace.specs.Verdicts.{Says, most_read}
+use Rattle.board_trace.specs.Verdicts.{Says, most_read, StopsNear}
 use Rattle.board_trace.specs.declared.check.Verdict.{Verdict}
+use Rattle.board_trace.specs.declared.check.Verdict.TheVariants as verdicts
 use Rattle.board_trace.specs.declared.check.CheckEnd.{CheckEnd}
 use Rattle.board_trace.specs.declared.check.CheckEnd.TheVariants.{Legal, Refused, Memory, Reading, Writing}
 use Rattle.board_trace.proofs.Judged.{IsAt}
@@ -26,3 +27,13 @@ said-within Writing verdict w0 w1 says = refl
 -- Where a line is wrong, the limit is not passed.
 pub refused-within : (end : End (Unit {0})) (k : ℕ) (result : CheckEnd) (verdict : Verdict) (r0 r1 w0 w1 : Option (List ℕ)) → IsAt end k → Says result verdict w0 w1 → ReadsUpTo (most_of end) r0 r1 → ReadsUpTo (most_read result) r0 r1
 refused-within end k result verdict r0 r1 w0 w1 is says = subst (λ n. ReadsUpTo n r0 r1) (at-within end k is ∙ sym (said-within result verdict w0 w1 says))
+
+-- No wrong line is said where the trace is legal.
+pub legal-near : (result : CheckEnd) (n : ℕ) (r0 r1 w0 w1 : Option (List ℕ)) → Says result (verdicts.Legal n) w0 w1 → StopsNear result r0 r1
+legal-near (Refused k) n r0 r1 w0 w1 says = let off = says.0 in cc
+legal-near result n r0 r1 w0 w1 says = tt
+
+-- The line that is said is the one near which reading stopped.
+pub refused-near : (result : CheckEnd) (k : ℕ) (r0 r1 w0 w1 : Option (List ℕ)) → Says result (verdicts.Refused k) w0 w1 → StopsAt k r0 r1 → StopsNear result r0 r1
+refused-near (Refused j) k r0 r1 w0 w1 says near = let is = says.0 in let same : k ≡ j = cc in subst (λ n. StopsAt n r0 r1) same near
+refused-near result k r0 r1 w0 w1 says near = tt

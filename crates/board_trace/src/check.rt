@@ -1,7 +1,7 @@
 // The check of a trace.
 ghost use Rattle.std.specs.Prelude.{◌≡◌, ◌++◌, [], OnOk};
 ghost use Rattle.board_text.specs.Streams.{ReadsUpTo};
-ghost use Rattle.board_trace.specs.Verdicts.{Checks, Says, most_read, verdict_text};
+ghost use Rattle.board_trace.specs.Verdicts.{Checks, Says, most_read, StopsNear, verdict_text};
 
 use crate::judge::TraceJudge;
 use crate::stage::{Stage, entries_of};
@@ -38,8 +38,8 @@ enum Verdict {
 /// The memory that this takes does not depend on the trace's length.
 pub fn check_trace<R: Read, W: Write>(alloc: Global, reader: &mut R, writer: &mut W) -> CheckEnd
     ensures verdict { Checks result (R.remaining reader.old) (W.contents writer.old) (W.contents writer.new) }
-
     ensures limit { ReadsUpTo (most_read result) (R.remaining reader.old) (R.remaining reader.new) }
+    ensures near { StopsNear result (R.remaining reader.old) (R.remaining reader.new) }
 {
     let Ok(notices) = Notices::open(alloc) else {
         return CheckEnd::Memory;

@@ -12,7 +12,7 @@ use Rattle.crew_script.specs.declared.held.CrewScript.{CrewScript}
 use Rattle.crew_script.specs.declared.held.Section.{Section}
 use Rattle.crew_script.specs.declared.held.Section.TheVariants as held
 
-lengths : (scripts : List (Vec Step Global)) → sum_by (λ (s : List Step). length s) (lists scripts) ≡ sum_by (λ (s : Vec Step Global). vec_len s) scripts
+pub lengths : (scripts : List (Vec Step Global)) → sum_by (λ (s : List Step). length s) (lists scripts) ≡ sum_by (λ (s : Vec Step Global). vec_len s) scripts
 lengths [] = refl
 lengths (s ∷ scripts) = omega (arith, s.ok.0, lengths scripts, sum_by-cons (λ (x : List Step). length x) s.items (lists scripts), sum_by-cons (λ (x : Vec Step Global). vec_len x) s scripts)
 

@@ -13,7 +13,7 @@ use Rattle.crew_script.specs.Crew.{Crew}
 use Rattle.crew_script.specs.Reading.{Read, line_adds, at_rest, is_open, go_on, lines_ask, script_asks}
 
 module _ {J : Type 0} (seen : J → Option Crew) where
-  abbrev Good : J → List ℕ → List ℕ → J → Type 0
+  abbrev pub Good : J → List ℕ → List ℕ → J → Type 0
   Good old line answer new = (answer ≡ []) × (line_adds (seen old) line ≡ Ok (seen new))
 
   abbrev Wrong : J → List ℕ → ScriptFault → Type 0

@@ -1,9 +1,9 @@
 // A crew script from a reader, the trace of its crew to a writer.
 ghost use Rattle.board_text.specs.Streams.{ReadsUpTo};
 ghost use Rattle.crew_script.specs.View.{crew_of};
-ghost use Rattle.crew_script.specs.Crew.{closed};
-ghost use Rattle.crew_script.specs.Running.{Crews, most_read, Refuses, Runs, Prepares};
-ghost use Rattle.std.specs.Prelude.{◌≡◌, []};
+ghost use Rattle.crew_script.specs.Crew.{closed, IsGood};
+ghost use Rattle.crew_script.specs.Running.{Crews, most_read, StopsNear, Refuses, Runs, Prepares};
+ghost use Rattle.std.specs.Prelude.{◌≡◌, ◌≢◌, []};
 
 use crate::held::CrewScript;
 use crate::judge::CrewJudge;
@@ -46,8 +46,8 @@ pub fn crew<T: Threads + Wait + Sync, R: Read, W: Write, G: Gate + Sync>(
     gate: &G,
 ) -> CrewRun
     ensures text { Crews result (R.remaining reader.old) (W.contents writer.old) (W.contents writer.new) }
-
     ensures limit { ReadsUpTo (most_read result) (R.remaining reader.old) (R.remaining reader.new) }
+    ensures near { StopsNear result (R.remaining reader.old) (R.remaining reader.new) }
 {
     let mut judge = CrewJudge {
         alloc,
@@ -91,6 +91,7 @@ fn run<T: Threads + Wait + Sync, W: Write, G: Gate + Sync>(
     writer: &mut W,
     gate: &G,
 ) -> CrewRun
+    requires good { IsGood (closed (crew_of script)) }
     ensures { Runs result (crew_of script) (W.contents writer.old) (W.contents writer.new) }
 {
     let mut out = Vec::new(alloc);
@@ -129,7 +130,8 @@ fn prepare<T: Threads + Wait + Sync, G: Gate + Sync>(
     gate: &G,
     out: &mut Vec<u8>,
 ) -> Outcome
-    requires { out.old.items ≡ [] }
+    requires empty { out.old.items ≡ [] }
+    requires good { IsGood (closed (crew_of script)) }
     ensures { Prepares result (closed (crew_of script)) out.new.items }
 {
     if script.close().is_err() {
@@ -138,12 +140,7 @@ fn prepare<T: Threads + Wait + Sync, G: Gate + Sync>(
     let setup = &script.setup;
     let end = match run_crew(rt, alloc, setup, &script.scripts, gate) {
         Ok(end) => end,
-        Err(CrewFault::Memory) => return Outcome::Memory,
-        Err(CrewFault::NoThread) => return Outcome::NoThread,
-        // The sizes and the steps were judged line by line.
-        Err(CrewFault::Unsettled | CrewFault::BadSize | CrewFault::BadStep) => {
-            return Outcome::Unsettled;
-        }
+        Err(fault) => return outcome_of(fault),
     };
     match put_trace(
         out,
@@ -154,5 +151,19 @@ fn prepare<T: Threads + Wait + Sync, G: Gate + Sync>(
     ) {
         Ok(()) => Outcome::Done,
         Err(_) => Outcome::Memory,
+    }
+}
+
+/// What a fault of a crew comes to. Its sizes and its steps were judged line by line.
+fn outcome_of(fault: CrewFault) -> Outcome
+    requires size { fault ≢ CrewFault.BadSize }
+    requires step { fault ≢ CrewFault.BadStep }
+    ensures { result ≢ Outcome.Done }
+{
+    match fault {
+        CrewFault::BadSize | CrewFault::BadStep => unreachable!(),
+        CrewFault::Memory => Outcome::Memory,
+        CrewFault::NoThread => Outcome::NoThread,
+        CrewFault::Unsettled => Outcome::Unsettled,
     }
 }

@@ -2,18 +2,26 @@ use Rattle.std.proofs.Common.{rules, ◌≡◌, [], Option, None, Some, refl, sy
 use Rattle.std.specs.Io.KnownBytes.{Appends}
 use Rattle.line_driver.specs.declared.driving.End.TheVariants as ends
 use Rattle.board_lines.specs.declared.fault.ScriptFault.TheVariants as faults
-use Rattle.crew_script.specs.Crew.{Crew, closed}
+use Rattle.crew_script.specs.Crew.{Crew, closed, IsGood}
 use Rattle.crew_script.specs.View.{crew_of, asked}
 use Rattle.crew_script.specs.Running.{Refusal, Report, Runs}
 use Rattle.crew_script.specs.declared.judge.CrewJudge.{CrewJudge}
 use Rattle.crew_script.specs.declared.running.CrewRun.TheVariants.{Memory}
-use Rattle.crew_script.proofs.Limits.{within}
+use Rattle.line_driver.proofs.Near.{stops-at}
+use Rattle.crew_script.proofs.Limits.{within, run-near, fault-near}
+use Rattle.crew_script.proofs.Good.{AllGood, all-good}
 use Rattle.crew_script.proofs.Reading.{nothing-sent, asked-for, no-board, wrong, long, cut}
 use Rattle.crew_script.proofs.Telling.{known, spoken, tells-refusal, tells-report, none-sent}
 use Rattle.crew_script.proofs.running.crew.Goals as goal
 
 abbrev seen : CrewJudge → Option Crew
 seen judge = asked judge.script
+
+pub run-requires-clause-good : goal.run-requires-clause-good
+run-requires-clause-good g c =
+    let d = c.in-Last.ensures.lines.read in
+    let good : IsGood (closed (crew_of c.in-Some.script)) = subst AllGood (ap seen (sym d.ends.1) ∙ ap asked c.in-Some.is) (all-good seen _ d.state d.lines _ tt d.follows) in
+    search (rules, good)
 
 pub returns-in-Some-clause-text : goal.returns-in-Some-clause-text
 returns-in-Some-clause-text g c =
@@ -44,17 +52,34 @@ returns-in-Some-clause-limit g c =
     let ran : Runs c.run.result (crew_of c.in-Some.script) (g.W.Write.contents c.drive.new.writer) (g.W.Write.contents c.run.new.writer) = search rules in
     within c.run.result (Report (closed (crew_of c.in-Some.script))) _ _ _ _ (λ _ none. none) ran c.in-Last.ensures.limit
 
+pub returns-in-Some-clause-near : goal.returns-in-Some-clause-near
+returns-in-Some-clause-near g c =
+    let ran : Runs c.run.result (crew_of c.in-Some.script) (g.W.Write.contents c.drive.new.writer) (g.W.Write.contents c.run.new.writer) = search rules in
+    run-near c.run.result (crew_of c.in-Some.script) _ _ _ _ ran
+
 pub returns-in-Last-clause-limit : goal.returns-in-Last-clause-limit
 returns-in-Last-clause-limit g c = within _ (Refusal c.in-Last.line faults.First) _ _ _ _ (λ _ none. none) c.refuse.ensures c.in-Last.ensures.limit
+
+pub returns-in-Last-clause-near : goal.returns-in-Last-clause-near
+returns-in-Last-clause-near g c = fault-near _ _ _ _ _ _ _ c.refuse.ensures (stops-at (ends.Last c.in-Last.line) _ _ _ _ _ refl c.in-Last.ensures.lines c.in-Last.ensures.near)
 
 pub returns-in-Wrong-clause-limit : goal.returns-in-Wrong-clause-limit
 returns-in-Wrong-clause-limit g c = within _ (Refusal c.in-Wrong.line c.in-Wrong.fault) _ _ _ _ (λ _ none. none) c.refuse-in-Wrong.ensures c.in-Wrong.ensures.limit
 
+pub returns-in-Wrong-clause-near : goal.returns-in-Wrong-clause-near
+returns-in-Wrong-clause-near g c = fault-near _ _ _ _ _ _ _ c.refuse-in-Wrong.ensures (stops-at (ends.Wrong c.in-Wrong.line c.in-Wrong.fault) _ _ _ _ _ refl c.in-Wrong.ensures.lines c.in-Wrong.ensures.near)
+
 pub returns-in-Long-clause-limit : goal.returns-in-Long-clause-limit
 returns-in-Long-clause-limit g c = within _ (Refusal c.in-Long.line faults.Long) _ _ _ _ (λ _ none. none) c.refuse-in-Long.ensures c.in-Long.ensures.limit
 
+pub returns-in-Long-clause-near : goal.returns-in-Long-clause-near
+returns-in-Long-clause-near g c = fault-near _ _ _ _ _ _ _ c.refuse-in-Long.ensures (stops-at (ends.Long c.in-Long.line) _ _ _ _ _ refl c.in-Long.ensures.lines c.in-Long.ensures.near)
+
 pub returns-in-Cut-clause-limit : goal.returns-in-Cut-clause-limit
 returns-in-Cut-clause-limit g c = within _ (Refusal c.in-Cut.line faults.Cut) _ _ _ _ (λ _ none. none) c.refuse-in-Cut.ensures c.in-Cut.ensures.limit
+
+pub returns-in-Cut-clause-near : goal.returns-in-Cut-clause-near
+returns-in-Cut-clause-near g c = fault-near _ _ _ _ _ _ _ c.refuse-in-Cut.ensures (stops-at (ends.Cut c.in-Cut.line) _ _ _ _ _ refl c.in-Cut.ensures.lines c.in-Cut.ensures.near)
 
 pub returns-in-Long-clause-text : goal.returns-in-Long-clause-text
 returns-in-Long-clause-text g c =

@@ -1,11 +1,26 @@
-use Rattle.std.proofs.Common.{rules, ◌≡◌, subst}
+use Rattle.std.proofs.Common.{rules, ◌≡◌, Err, ap, sym, ◌∙◌, subst}
+use Rattle.std.proofs.lemmas.Bool.{both_ways}
 use Rattle.board_threads.specs.Crew.{lists}
+use Rattle.board_threads.specs.Judging.{has_bad_step}
 use Rattle.board_trace.specs.Trace.{trace}
-use Rattle.crew_script.specs.Crew.{Crew, closed}
+use Rattle.crew_script.specs.Crew.{Crew, closed, IsGood}
 use Rattle.crew_script.specs.View.{crew_of}
 use Rattle.crew_script.specs.Running.{IsHistory, Report}
 use Rattle.crew_script.specs.declared.running.CrewRun.TheVariants.{Done}
+use Rattle.crew_script.proofs.Judged.{sized, none-bad}
 use Rattle.crew_script.proofs.running.prepare.Goals as goal
+
+pub outcome_of-requires-clause-size : goal.outcome_of-requires-clause-size
+outcome_of-requires-clause-size g c =
+    let s = c.close.new.self in
+    let over : crew_of s ≡ closed (crew_of c.args.script) = search rules in
+    λ bad. c.run_crew.ensures.size.0 (c.in-Err.is ∙ ap Err bad) (sized s (subst IsGood (sym over) c.requires.good))
+
+pub outcome_of-requires-clause-step : goal.outcome_of-requires-clause-step
+outcome_of-requires-clause-step g c =
+    let s = c.close.new.self in
+    let over : crew_of s ≡ closed (crew_of c.args.script) = search rules in
+    λ bad. both_ways (has_bad_step s.setup s.scripts) (none-bad s (subst IsGood (sym over) c.requires.good)) (c.run_crew.ensures.step.0 (c.in-Err.is ∙ ap Err bad)).1
 
 pub returns-in-Ok-put_trace : goal.returns-in-Ok-put_trace
 returns-in-Ok-put_trace g c =
