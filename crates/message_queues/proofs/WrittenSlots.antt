@@ -17,14 +17,14 @@ length-image (FromTimer ticket timer expiration) pending moment fits = refl
 abbrev pub written : List ℕ → ℕ → List ℕ → List ℕ
 written page s bytes = take (256 * s) page ++ bytes ++ drop (256 * s + 256) page
 
-inside : (page bytes : List ℕ) (s k : ℕ) → 256 * s + 256 ≤ length page → k < length bytes → get_or (written page s bytes) (256 * s + k) 0 ≡ get_or bytes k 0
+pub inside : (page bytes : List ℕ) (s k : ℕ) → 256 * s + 256 ≤ length page → k < length bytes → get_or (written page s bytes) (256 * s + k) 0 ≡ get_or bytes k 0
 inside page bytes s k fits below =
     let front : length (take (256 * s) page) ≡ 256 * s = omega (arith, length-take (256 * s) page) in
     let whole : 256 * s + k < length (take (256 * s) page ++ bytes) = omega (arith, front, length-append (take (256 * s) page) bytes) in
     let e : 256 * s + k - 256 * s ≡ k = omega arith in
     get_or_append_left (take (256 * s) page ++ bytes) (drop (256 * s + 256) page) 0 (256 * s + k) whole ∙ get_or-append_right (take (256 * s) page) bytes (256 * s) (256 * s + k) 0 front (omega arith) ∙ ap (λ j. get_or bytes j 0) e
 
-outside : (page bytes : List ℕ) (s k : ℕ) → 256 * s + 256 ≤ length page → length bytes ≡ 256 → (k < 256 * s) ⊎ (256 * s + 256 ≤ k) → get_or (written page s bytes) k 0 ≡ get_or page k 0
+pub outside : (page bytes : List ℕ) (s k : ℕ) → 256 * s + 256 ≤ length page → length bytes ≡ 256 → (k < 256 * s) ⊎ (256 * s + 256 ≤ k) → get_or (written page s bytes) k 0 ≡ get_or page k 0
 outside page bytes s k fits l (inl below) =
     let front : k < length (take (256 * s) page) = omega (arith, length-take (256 * s) page) in
     let whole : k < length (take (256 * s) page ++ bytes) = omega (arith, length-append (take (256 * s) page) bytes) in

@@ -8,6 +8,7 @@ pub mod Effected
 pub mod Interrupts
 pub mod Absorbing
 pub mod Delivery
+pub mod Seen
 pub mod Stores
 pub mod Posts
 pub mod Timers

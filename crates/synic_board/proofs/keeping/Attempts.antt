@@ -44,7 +44,7 @@ marked-whole n s p i h below = record {
   messages = h.messages;
 }
 
-marked-type : (n : ℕ) (s : State) (p i q j : ℕ) → IsWhole n s → p < n → slot_type (page_of (marked s p i).0 q) j ≡ slot_type (page_of s q) j
+pub marked-type : (n : ℕ) (s : State) (p i q j : ℕ) → IsWhole n s → p < n → slot_type (page_of (marked s p i).0 q) j ≡ slot_type (page_of s q) j
 marked-type n s p i q j h below = split (cases_eq q p)
   where
     split : (q ≡ p) ⊎ (q ≡ p → ⊥) → slot_type (page_of (marked s p i).0 q) j ≡ slot_type (page_of s q) j

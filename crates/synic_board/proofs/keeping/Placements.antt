@@ -33,11 +33,11 @@ page-long n s p h below = h.pages (2 * p) [] (omega (arith, h.own))
 pub queue-good : (n : ℕ) (s : State) (p i : ℕ) → IsWhole n s → p < n → i < 16 → All IsMessage (queue_of s.queues p i)
 queue-good n s p i h below under = h.messages (place_of p i) [] (omega (arith, h.queues))
 
-tail-good : (m : Message) (rest : List Message) → All IsMessage (m ∷ rest) → IsMessage m × All IsMessage rest
+pub tail-good : (m : Message) (rest : List Message) → All IsMessage (m ∷ rest) → IsMessage m × All IsMessage rest
 tail-good m rest h = (h 0 m (omega arith), λ k d below. h (suc k) d (omega arith))
 
 -- the image that is written
-abbrev image_of : State → Message → List Message → List ℕ
+abbrev pub image_of : State → Message → List Message → List ℕ
 image_of s m rest = image m (nat_lt 0 (length rest)) s.moment
 
 placed-whole : (n : ℕ) (s : State) (p i : ℕ) (m : Message) (rest : List Message) → IsWhole n s → p < n → i < 16 → IsMessage m → All IsMessage rest → IsWhole n (placed_state s p i m rest)
@@ -66,7 +66,7 @@ free-other n s p i q j m rest h below under within inside good apart e =
         ∙ ap (λ k. slot_type (page_of s k) j) (sym same)
     same_type (inr ne) = ap (λ page. slot_type page j) (get_or-set_other s.own (2 * p) (2 * q) (with_slot (page_of s p) i (image_of s m rest)) [] (λ e. ne (omega (arith, e))))
 
-occupied : (n : ℕ) (s : State) (p i : ℕ) (m : Message) (rest : List Message) → IsIntact n s → p < n → i < 16 → IsMessage m → slot_type (page_of (placed_state s p i m rest) p) i ≢ 0
+pub occupied : (n : ℕ) (s : State) (p i : ℕ) (m : Message) (rest : List Message) → IsIntact n s → p < n → i < 16 → IsMessage m → slot_type (page_of (placed_state s p i m rest) p) i ≢ 0
 occupied n s p i m rest h below under good e =
     good.0
     (sym (slot_type-written (page_of s p) i m (nat_lt 0 (length rest)) s.moment (page-long n s p h.whole below) under good.2 good.1)
