@@ -1,28 +1,35 @@
 -- A vector is told of exactly when its request bit goes from clear to set.
 use Rattle.std.proofs.Common.{◌≡◌, ◌≢◌, ◌⊎◌, inl, inr, ℕ, ◌<◌, ◌&&◌, ◌||◌, get_or, set as set_list, List, [], ◌∷◌, ◌++◌, length, map, refl, sym, ap, subst, ◌∙◌, arith, nat_lt, not, Bool, true, false}
-use Rattle.std.specs.Prelude.{Option, None, Some, ◌==◌}
+use Rattle.std.specs.Prelude.{Option, None, Some, ◌==◌, if◌then◌else◌}
+use Rattle.std.specs.Option.{option_map_or}
+use Rattle.std.specs.Ordering.{nat_cmp, eq_by_cmp}
 use Rattle.std.specs.FinSet as set
 use Rattle.std.proofs.lemmas.Bool.Decides.{nat_tests}
-use Rattle.std.specs.FinSet.{contains-insert}
+use Rattle.std.specs.FinSet.{contains-insert, contains-remove, nat_cmp-IsAntisymmetric}
 use Rattle.std.proofs.lemmas.Cmp.{nat_cmp_total}
 use Rattle.std.proofs.lemmas.Bool.{cases_eq}
 use Rattle.std.proofs.lemmas.List.{length-set, get_or-set_same, get_or-set_other}
-use Rattle.lapic_core.specs.Apic.{Apic, empty_apic, request}
+use Rattle.lapic_core.specs.Apic.{Apic, empty_apic, request, next, class, priority, deliverable}
+use Rattle.lapic_core.proofs.Members.{IsGreatest, Tells as Greatest, greatest_tells}
+use Rattle.board_terms.specs.declared.refusal.Refusal.TheVariants.{NoSuchProcessor}
 use Rattle.board_terms.specs.Messages.{ticket_of}
 use Rattle.board_terms.specs.declared.notices.Notice.{Notice}
 use Rattle.board_terms.specs.declared.notices.Notice.TheVariants.{Placed, Withdrawn}
 use Rattle.message_queues.specs.Queues.{queue_of, withdrawn_of}
 use Rattle.gpa_space.specs.Space.{is_pending, after_pending}
 use Rattle.synic_board.specs.declared.event.Event.{Event}
+use Rattle.synic_board.specs.declared.event.Event.TheVariants.{Take}
 use Rattle.synic_board.specs.declared.event.Reply.{Reply}
+use Rattle.synic_board.specs.declared.event.Reply.TheVariants.{Taken}
 use Rattle.synic_board.specs.State.{State, processors, apic_of, space_of, with_apic, with_space}
-use Rattle.synic_board.specs.Effects.{Effect, Outcome, nothing, after, answered, unchanged}
-use Rattle.synic_board.specs.Interrupts.{raised}
+use Rattle.synic_board.specs.Effects.{Effect, Outcome, nothing, after, answered, unchanged, refused}
+use Rattle.synic_board.specs.Interrupts.{raised, taken_at, taken}
 use Rattle.synic_board.specs.Delivery.{placed_state}
 use Rattle.synic_board.specs.Posts.{with_flag, flagged}
 use Rattle.synic_board.specs.Timers.{expired_notices, skipped_notices, expiry_notices, expiry_at}
 use Rattle.synic_board.specs.Step.{step}
-use Rattle.synic_board.specs.Requests.{is_requested, tells_of, is_told}
+use Rattle.synic_board.specs.Run.{run_of}
+use Rattle.synic_board.specs.Requests.{is_requested, tells_of, is_told, Takes}
 use Rattle.synic_board.proofs.keeping.Requests.{either}
 use Rattle.synic_board.proofs.Throughout.{OfEffects, throughout, request_made}
 
@@ -121,6 +128,7 @@ told = record {
 
 -- what an outcome tells of is what came to be requested
 record IsTold (s : State) (event : Event) (outcome : Outcome) : Type 0 where
+  pub many : processors outcome.0 ≡ processors s
   pub told : (p v : ℕ) → p < processors s → is_told p v outcome.2 ≡ (not (is_requested s p v) && is_requested outcome.0 p v)
 
 came : (was told is : Bool) → is ≡ (was || told) → (told ≡ true → was ≡ false) → told ≡ (not was && is)
@@ -136,6 +144,7 @@ stayed false false f = refl
 -- an effect from a state in which the same is requested
 tells : (s t : State) (event : Event) (reply : Reply) (e : Effect) → t.apics ≡ s.apics → Tells t e → IsTold s event (answered reply e)
 tells s t event reply e same h = record {
+  many = h.many ∙ ap (λ (l : List Apic). length l) same;
   told = λ p v on.
       let was : is_requested t p v ≡ is_requested s p v = ap (λ (l : List Apic). set.contains (get_or l p empty_apic).requested v) same in
       let within : p < processors t = subst (λ n. p < n) (sym (ap (λ (l : List Apic). length l) same)) on in
@@ -143,11 +152,11 @@ tells s t event reply e same h = record {
 }
 
 -- what tells of nothing, and leaves no more requested
-quiet : (s t : State) (event : Event) (reply : Reply) → ((p v : ℕ) → p < processors s → is_requested t p v ≡ true → is_requested s p v ≡ true) → IsTold s event (unchanged t reply)
-quiet s t event reply fewer = record { told = λ p v on. stayed (is_requested s p v) (is_requested t p v) (fewer p v on) }
+quiet : (s t : State) (event : Event) (reply : Reply) → processors t ≡ processors s → ((p v : ℕ) → p < processors s → is_requested t p v ≡ true → is_requested s p v ≡ true) → IsTold s event (unchanged t reply)
+quiet s t event reply many fewer = record { many = many; told = λ p v on. stayed (is_requested s p v) (is_requested t p v) (fewer p v on) }
 
 silent : (s : State) (event : Event) (reply : Reply) → IsTold s event (unchanged s reply)
-silent s event reply = quiet s s event reply (λ _ _ _ e. e)
+silent s event reply = quiet s s event reply refl (λ _ _ _ e. e)
 
 -- an APIC in which no more is requested
 fewer : (s : State) (p : ℕ) (apic : Apic) → ((v : ℕ) → set.contains apic.requested v ≡ true → is_requested s p v ≡ true) → (q v : ℕ) → q < processors s → is_requested (with_apic s p apic) q v ≡ true → is_requested s q v ≡ true
@@ -159,17 +168,81 @@ fewer s p apic less q v on is = by (cases_eq q p)
         ap (λ i. is_requested s i v) here ∙ less v (sym (ap (λ (a : Apic). set.contains a.requested v) stands) ∙ is)
     by (inr away) = sym (ap (λ (a : Apic). set.contains a.requested v) (get_or-set_other s.apics p q apic empty_apic away)) ∙ is
 
-pub told-of : (s : State) (event : Event) (p v : ℕ) → p < processors s → is_told p v (step s event).2 ≡ (not (is_requested s p v) && is_requested (step s event).0 p v)
-told-of s event = (throughout Tells IsTold told (record {
+steps : (s : State) (event : Event) → IsTold s event (step s event)
+steps s event = throughout Tells IsTold told (record {
   refuses = λ s event r. silent s event _;
   faults = λ s event. silent s event _;
   reads = λ s p number. silent s _ _;
   loads = λ s address count. silent s _ _;
   acts = λ s event reply moment ports regs e _ h. tells s _ event reply e refl h;
-  eases = λ s event reply p a _ less. quiet s (with_apic s p a) event reply (fewer s p a less);
+  eases = λ s event reply p a _ less. quiet s (with_apic s p a) event reply (length-set s.apics p a) (fewer s p a less);
   stores = λ s address bytes e h. tells s _ _ _ e refl h;
   configures = λ s p n number value e _ h. tells s _ _ _ e refl h;
   counts = λ s p n number value e _ h. tells s _ _ _ e refl h;
-  repeats = λ s port flag p i f. quiet s (with_flag s p i f) _ _ (λ _ _ _ e. e);
+  repeats = λ s port flag p i f. quiet s (with_flag s p i f) _ _ refl (λ _ _ _ e. e);
   signals = λ s port flag p i f _ _ h. let lit : State = with_flag s p i f in tells s s _ _ (after (flagged s p i f) (raised lit p i)) refl (tells-after s (flagged s p i f) (raised lit p i) (mute s _ refl (λ _ _. refl)) h);
-}) s event).told
+}) s event
+
+pub told-of : (s : State) (event : Event) (p v : ℕ) → p < processors s → is_told p v (step s event).2 ≡ (not (is_requested s p v) && is_requested (step s event).0 p v)
+told-of s event = (steps s event).told
+
+or-first : (a b : Bool) → a ≡ true → (a || b) ≡ true
+or-first true b h = refl
+or-first false b h = absurd (cc)
+
+or-second : (a b : Bool) → b ≡ true → (a || b) ≡ true
+or-second true b h = refl
+or-second false b h = h
+
+-- what comes to be requested over a run is told of
+told-over : (s : State) (events : List Event) (p v : ℕ) → p < processors s → is_requested s p v ≡ false → is_requested (run_of s events).0 p v ≡ true → is_told p v (run_of s events).2 ≡ true
+unfolding run_of
+told-over s [] p v on clear stands = absurd (cc)
+told-over s (event ∷ events) p v on clear stands = told-joined p v (step s event).2 (run_of now events).2 ∙ by (is_requested (step s event).0 p v) refl (told-over (step s event).0 events p v (subst (λ n. p < n) (sym (steps s event).many) on))
+  where
+    now : State
+    now = (step s event).0
+
+    by : (b : Bool) → is_requested now p v ≡ b → (is_requested now p v ≡ false → is_requested (run_of now events).0 p v ≡ true → is_told p v (run_of now events).2 ≡ true) → (is_told p v (step s event).2 || is_told p v (run_of now events).2) ≡ true
+    by true e rest = or-first (is_told p v (step s event).2) (is_told p v (run_of now events).2) (told-of s event p v on ∙ ap (λ b. not b && is_requested now p v) clear ∙ e)
+    by false e rest = or-second (is_told p v (step s event).2) (is_told p v (run_of now events).2) (rest e stands)
+
+-- a take
+abbrev taken_vector : Reply → Option ℕ
+taken_vector (Taken vector) = vector
+taken_vector reply = None
+
+taken-next : (s : State) (p v : ℕ) → Takes s p v → (p < processors s) × (next (apic_of s p) ≡ Some v)
+unfolding step
+taken-next s p v takes = by (nat_lt p (processors s)) refl takes
+  where
+    by : (b : Bool) → nat_lt p (processors s) ≡ b → (if b then taken s p else refused s NoSuchProcessor).1 ≡ Taken (Some v) → (p < processors s) × (next (apic_of s p) ≡ Some v)
+    by true on e = (grind (arith, nat_tests), ap taken_vector e)
+    by false on e = absurd (cc)
+
+both-hold : (a b : Bool) → (a && b) ≡ true → a ≡ true
+both-hold true b h = refl
+both-hold false b h = h
+
+next-requested : (a : Apic) (v : ℕ) → next a ≡ Some v → set.contains a.requested v ≡ true
+next-requested a v is =
+    let greatest_one : IsGreatest (deliverable a) v = subst (Greatest (deliverable a)) is (greatest_tells (deliverable a)) in
+    both-hold (set.contains a.requested v) (nat_lt (priority a) (class v))
+    (sym (set.contains-retain a.requested (λ w. nat_lt (priority a) (class w)) v (λ x t. ap (λ w. nat_lt (priority a) (class w)) (sym (nat_cmp-IsAntisymmetric v x t)))) ∙ greatest_one.member)
+
+-- what was taken is not requested
+taken-clear : (s : State) (p v : ℕ) → p < processors s → next (apic_of s p) ≡ Some v → is_requested (step s (Take p)).0 p v ≡ false
+unfolding step
+taken-clear s p v on is =
+    let apic : Apic = taken_at s p v in
+    let below : nat_lt p (processors s) ≡ true = grind (arith, nat_tests) in
+    let now : (step s (Take p)).0 ≡ with_apic s p apic = ap (λ (b : Bool). (if b then taken s p else refused s NoSuchProcessor).0) below ∙ ap (λ (o : Option ℕ). option_map_or (λ w. with_apic s p (taken_at s p w)) o s) is in
+    let member : set.contains apic.requested v ≡ (not (eq_by_cmp nat_cmp v v) && is_requested s p v) = contains-remove nat_cmp_total (apic_of s p).requested v v in
+    ap (λ (t : State). is_requested t p v) now ∙ ap (λ (a : Apic). set.contains a.requested v) (get_or-set_same s.apics p apic empty_apic on) ∙ grind (arith, nat_tests)
+
+pub told-between : (s : State) (events : List Event) (p v : ℕ) → Takes s p v → Takes (run_of (step s (Take p)).0 events).0 p v → is_told p v (run_of (step s (Take p)).0 events).2 ≡ true
+told-between s events p v first second =
+    let now : State = (step s (Take p)).0 in
+    let taken_first = taken-next s p v first in
+    let taken_second = taken-next (run_of now events).0 p v second in
+    told-over now events p v (subst (λ n. p < n) (sym (steps s (Take p)).many) taken_first.0) (taken-clear s p v taken_first.0 taken_first.1) (next-requested (apic_of (run_of now events).0 p) v taken_second.1)
