@@ -198,7 +198,7 @@ in-order p i s event = (throughout (Ordered p i) (IsOrdered p i) (ordered p i) (
   stores = λ s address bytes e h. record { keeps = h };
   configures = λ s q n number value e _ h. record { keeps = h };
   counts = λ s q n number value e _ h. record { keeps = h };
-  repeats = λ s port flag q j f. silent p i s (with_flag s q j f) _ _ refl;
+  repeats = λ s port flag q j f _ _. silent p i s (with_flag s q j f) _ _ refl;
   signals = λ s port flag q j f _ _ h. let lit : State = with_flag s q j f in record { keeps = joined p i s (flagged s q j f) (raised lit q j) (mute p i s (flagged s q j f) refl refl refl) h };
 }) s event).keeps
 

@@ -33,7 +33,7 @@ quiet = throughout Any IsQuiet any (record {
   stores = λ s address bytes e _. acts s _ _ (λ never. never);
   configures = λ s p n number value e _ _. acts s _ _ (λ never. never);
   counts = λ s p n number value e _ _. acts s _ _ (λ never. never);
-  repeats = λ s port flag p i f. acts s _ _ (λ never. never);
+  repeats = λ s port flag p i f _ _. acts s _ _ (λ never. never);
   signals = λ s port flag p i f _ _ _. acts s _ _ (λ never. never);
 })
 

@@ -179,7 +179,7 @@ steps s event = throughout Tells IsTold told (record {
   stores = λ s address bytes e h. tells s _ _ _ e refl h;
   configures = λ s p n number value e _ h. tells s _ _ _ e refl h;
   counts = λ s p n number value e _ h. tells s _ _ _ e refl h;
-  repeats = λ s port flag p i f. quiet s (with_flag s p i f) _ _ refl (λ _ _ _ e. e);
+  repeats = λ s port flag p i f _ _. quiet s (with_flag s p i f) _ _ refl (λ _ _ _ e. e);
   signals = λ s port flag p i f _ _ h. let lit : State = with_flag s p i f in tells s s _ _ (after (flagged s p i f) (raised lit p i)) refl (tells-after s (flagged s p i f) (raised lit p i) (mute s _ refl (λ _ _. refl)) h);
 }) s event
 

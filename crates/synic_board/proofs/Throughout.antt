@@ -1,5 +1,5 @@
 -- One walk through all that the machine does: a property that holds of each part of its effects holds of every effect, and one that holds of each way to answer, of every event.
-use Rattle.std.proofs.Common.{◌≡◌, ◌≢◌, ℕ, zero, suc, ◌+◌, ◌*◌, ◌/◌, ◌%◌, ◌&&◌, List, [], ◌∷◌, length, refl, sym, ap, ◌∙◌, nat_lt, nat_le, not, Bool, true, false, cond, Result, Ok, Err}
+use Rattle.std.proofs.Common.{◌≡◌, ℕ, zero, suc, ◌+◌, ◌*◌, ◌/◌, ◌%◌, ◌&&◌, List, [], ◌∷◌, length, refl, sym, ap, ◌∙◌, nat_lt, nat_le, not, Bool, true, false, cond, Result, Ok, Err}
 use Rattle.std.specs.Prelude.{Option, None, Some, ◌==◌}
 use Rattle.std.specs.Option.{option_map_or}
 use Rattle.std.specs.FinSet as set
@@ -174,9 +174,14 @@ of-attempted_all P h s (t ∷ ts) = let e : Effect = attempted s t in h.joins s 
 abbrev pub with_settings : State → ℕ → List (Option Port) → List Regs → State
 with_settings s moment ports regs = record s { moment = moment; ports = ports; regs = regs }
 
--- what an effect is answered with
-abbrev pub IsAnswer : Reply → Type 0
-IsAnswer reply = (IsRefusal reply → ⊥) × IsReply reply × (reply ≢ replies.FlagWasClear)
+-- an event that is no signal
+abbrev pub IsNoSignal : Event → Type 0
+IsNoSignal (Signal port flag) = ⊥
+IsNoSignal event = Unit {0}
+
+-- such an event is performed, with this reply
+abbrev pub IsAnswer : Event → Reply → Type 0
+IsAnswer event reply = (IsRefusal reply → ⊥) × IsReply reply × IsNoSignal event
 
 -- a property that holds of each way to answer an event, where P holds of the effects
 pub record OfAnswers (P : State → Effect → Type 0) (Q : State → Event → Outcome → Type 0) : Type 0 where
@@ -184,19 +189,16 @@ pub record OfAnswers (P : State → Effect → Type 0) (Q : State → Event → 
   pub faults : (s : State) (event : Event) → Q s event (unchanged s replies.GeneralProtection)
   pub reads : (s : State) (p number : ℕ) → Q s (Read p number) (unchanged s (read s p number))
   pub loads : (s : State) (address count : ℕ) → Q s (Load address count) (unchanged s (read_bytes s address count))
-  pub acts : (s : State) (event : Event) (reply : Reply) (moment : ℕ) (ports : List (Option Port)) (regs : List Regs) (e : Effect) → IsAnswer reply → P (with_settings s moment ports regs) e → Q s event (answered reply e)
+  pub acts : (s : State) (event : Event) (reply : Reply) (moment : ℕ) (ports : List (Option Port)) (regs : List Regs) (e : Effect) → IsAnswer event reply → P (with_settings s moment ports regs) e → Q s event (answered reply e)
   -- an APIC in which no more vectors are requested
-  pub eases : (s : State) (event : Event) (reply : Reply) (p : ℕ) (a : Apic) → IsAnswer reply → ((v : ℕ) → set.contains a.requested v ≡ true → is_requested s p v ≡ true) → Q s event (unchanged (with_apic s p a) reply)
+  pub eases : (s : State) (event : Event) (reply : Reply) (p : ℕ) (a : Apic) → IsAnswer event reply → ((v : ℕ) → set.contains a.requested v ≡ true → is_requested s p v ≡ true) → Q s event (unchanged (with_apic s p a) reply)
   pub stores : (s : State) (address : ℕ) (bytes : ArrayVec ℕ) (e : Effect) → P (with_bytes s address bytes.items) e → Q s (Store address bytes) (answered replies.Done e)
   pub configures : (s : State) (p n number value : ℕ) (e : Effect) → register_of number ≡ Some (TimerConfig n) → P (with_bank s (with_config (bank_of s) (p, n) value s.moment)) e → Q s (Write p number value) (answered replies.Done e)
   pub counts : (s : State) (p n number value : ℕ) (e : Effect) → register_of number ≡ Some (TimerCount n) → P (with_bank s (with_count (bank_of s) (p, n) value s.moment)) e → Q s (Write p number value) (answered replies.Done e)
   -- a signal finds its flag set, or clear
-  pub repeats : (s : State) (port flag p i f : ℕ) → Q s (Signal port flag) (unchanged (with_flag s p i f) replies.FlagWasSet)
+  pub repeats : (s : State) (port flag p i f : ℕ) → flag_place_of (ports_of s) port flag ≡ Ok (p, i, f) → is_flag_set (space_of s) p i f ≡ true → Q s (Signal port flag) (unchanged (with_flag s p i f) replies.FlagWasSet)
   pub signals : (s : State) (port flag p i f : ℕ) → flag_place_of (ports_of s) port flag ≡ Ok (p, i, f) → is_flag_set (space_of s) p i f ≡ false → P (with_flag s p i f) (raised (with_flag s p i f) p i)
       → Q s (Signal port flag) (answered replies.FlagWasClear (after (flagged s p i f) (raised (with_flag s p i f) p i)))
-
-done : IsAnswer replies.Done
-done = (λ never. never, tt, λ e. cc)
 
 -- of an event at a state
 on_board : (R : Outcome → Type 0) (s : State) (p : ℕ) (outcome : Outcome) → ((r : Refusal) → R (refused s r)) → R outcome → R (at_processor s p outcome)
@@ -206,14 +208,14 @@ judged : (R : Outcome → Type 0) (s : State) (refusal : Option Refusal) (outcom
 judged R s None outcome refuses h = h
 judged R s (Some r) outcome refuses h = refuses r
 
-of-stored : (P : State → Effect → Type 0) (Q : State → Event → Outcome → Type 0) → OfEffects P → OfAnswers P Q → (s : State) (event : Event) (p : ℕ) (r : Register) (value : ℕ) → Q s event (stored s p r value)
-of-stored P Q h k s event p r value =
+of-stored : (P : State → Effect → Type 0) (Q : State → Event → Outcome → Type 0) → OfEffects P → OfAnswers P Q → (s : State) (p number : ℕ) (r : Register) (value : ℕ) → Q s (Write p number value) (stored s p r value)
+of-stored P Q h k s p number r value =
     let regs : List Regs = (with_regs s p (with_value (regs_of s p) r value)).regs in
-    either (Q s event) (is_refused r value) (unchanged s replies.GeneralProtection) (unchanged (with_regs s p (with_value (regs_of s p) r value)) replies.Done) (λ _. k.faults s event)
-    (λ _. k.acts s event replies.Done s.moment s.ports regs (nothing (with_settings s s.moment s.ports regs)) done (h.stays (with_settings s s.moment s.ports regs)))
+    either (Q s (Write p number value)) (is_refused r value) (unchanged s replies.GeneralProtection) (unchanged (with_regs s p (with_value (regs_of s p) r value)) replies.Done) (λ _. k.faults s (Write p number value))
+    (λ _. k.acts s (Write p number value) replies.Done s.moment s.ports regs (nothing (with_settings s s.moment s.ports regs)) (λ never. never, tt, tt) (h.stays (with_settings s s.moment s.ports regs)))
 
 -- with an effect from where the state is
-of-effect : (P : State → Effect → Type 0) (Q : State → Event → Outcome → Type 0) → OfAnswers P Q → (s : State) (event : Event) (reply : Reply) (e : Effect) → IsAnswer reply → P s e → Q s event (answered reply e)
+of-effect : (P : State → Effect → Type 0) (Q : State → Event → Outcome → Type 0) → OfAnswers P Q → (s : State) (event : Event) (reply : Reply) (e : Effect) → IsAnswer event reply → P s e → Q s event (answered reply e)
 of-effect P Q k s event reply e is h = k.acts s event reply s.moment s.ports s.regs e is h
 
 same-ended : (a : Apic) → (after_end a).requested ≡ a.requested
@@ -221,14 +223,14 @@ same-ended a = elim (greatest a.in_service) as (λ o. (option_map_or (λ v. end_
 
 of-written_register : (P : State → Effect → Type 0) (Q : State → Event → Outcome → Type 0) → OfEffects P → OfAnswers P Q → (s : State) (p number : ℕ) (r : Register) (value : ℕ) → register_of number ≡ Some r → Q s (Write p number value) (written_register s p r value)
 of-written_register P Q h k s p number ReferenceCounter value is = k.faults s _
-of-written_register P Q h k s p number Eoi value is = k.eases s _ replies.Done p (after_end (apic_of s p)) done (λ v is. sym (ap (λ (r : Vectors). set.contains r v) (same-ended (apic_of s p))) ∙ is)
-of-written_register P Q h k s p number Tpr value is = k.eases s _ replies.Done p (with_task_priority (apic_of s p) (value % 256)) done (λ v is. is)
-of-written_register P Q h k s p number Control value is = of-stored P Q h k s _ p Control value
+of-written_register P Q h k s p number Eoi value is = k.eases s (Write p number value) replies.Done p (after_end (apic_of s p)) (λ never. never, tt, tt) (λ v is. sym (ap (λ (r : Vectors). set.contains r v) (same-ended (apic_of s p))) ∙ is)
+of-written_register P Q h k s p number Tpr value is = k.eases s (Write p number value) replies.Done p (with_task_priority (apic_of s p) (value % 256)) (λ never. never, tt, tt) (λ v is. is)
+of-written_register P Q h k s p number Control value is = of-stored P Q h k s p number Control value
 of-written_register P Q h k s p number Version value is = k.faults s _
-of-written_register P Q h k s p number SiefRegister value is = of-stored P Q h k s _ p SiefRegister value
-of-written_register P Q h k s p number SimRegister value is = of-stored P Q h k s _ p SimRegister value
-of-written_register P Q h k s p number Eom value is = of-effect P Q k s _ replies.Done (tried_below s p 16) done (of-tried_below P h s p 16)
-of-written_register P Q h k s p number (Source n) value is = of-stored P Q h k s _ p (Source n) value
+of-written_register P Q h k s p number SiefRegister value is = of-stored P Q h k s p number SiefRegister value
+of-written_register P Q h k s p number SimRegister value is = of-stored P Q h k s p number SimRegister value
+of-written_register P Q h k s p number Eom value is = of-effect P Q k s (Write p number value) replies.Done (tried_below s p 16) (λ never. never, tt, tt) (of-tried_below P h s p 16)
+of-written_register P Q h k s p number (Source n) value is = of-stored P Q h k s p number (Source n) value
 of-written_register P Q h k s p number (TimerConfig n) value is = let now : State = with_bank s (with_config (bank_of s) (p, n) value s.moment) in k.configures s p n number value (attempted now (p, n)) is (of-attempted P h now (p, n))
 of-written_register P Q h k s p number (TimerCount n) value is = let now : State = with_bank s (with_count (bank_of s) (p, n) value s.moment) in k.counts s p n number value (attempted now (p, n)) is (of-attempted P h now (p, n))
 
@@ -245,12 +247,12 @@ of-place P Q h k s port flag (p, i, f) is =
     let found : Outcome = unchanged lit replies.FlagWasSet in
     let sets : Outcome = answered replies.FlagWasClear (after (flagged s p i f) (raised lit p i)) in
     either (Q s (Signal port flag)) (not (has (regs_of s p).control enable && has (regs_of s p).sief enable)) (refused s SynicOff) (cond (is_flag_set (space_of s) p i f) found sets) (λ _. k.refuses s _ SynicOff)
-    (λ _. either (Q s (Signal port flag)) (is_flag_set (space_of s) p i f) found sets (λ _. k.repeats s port flag p i f) (λ clear. k.signals s port flag p i f is clear (of-raised P h lit p i)))
+    (λ _. either (Q s (Signal port flag)) (is_flag_set (space_of s) p i f) found sets (λ lit_already. k.repeats s port flag p i f is lit_already) (λ clear. k.signals s port flag p i f is clear (of-raised P h lit p i)))
 
 of-taken : (P : State → Effect → Type 0) (Q : State → Event → Outcome → Type 0) → OfEffects P → OfAnswers P Q → (s : State) (p : ℕ) → Q s (Take p) (taken s p)
 of-taken P Q h k s p = elim (next (apic_of s p)) as (λ o. Q s (Take p) (option_map_or (λ v. with_apic s p (taken_at s p v)) o s, replies.Taken o, [])) [
-  | None ↦ of-effect P Q k s (Take p) (replies.Taken None) (nothing s) (λ never. never, tt, λ e. cc) (h.stays s)
-  | Some v ↦ k.eases s (Take p) (replies.Taken (Some v)) p (taken_at s p v) (λ never. never, tt, λ e. cc) (λ w is. second-holds _ (is_requested s p w) (sym (contains-remove nat_cmp_total (apic_of s p).requested v w) ∙ is))
+  | None ↦ of-effect P Q k s (Take p) (replies.Taken None) (nothing s) (λ never. never, tt, tt) (h.stays s)
+  | Some v ↦ k.eases s (Take p) (replies.Taken (Some v)) p (taken_at s p v) (λ never. never, tt, tt) (λ w is. second-holds _ (is_requested s p w) (sym (contains-remove nat_cmp_total (apic_of s p).requested v w) ∙ is))
 ]
 
 of-ticked : (P : State → Effect → Type 0) (Q : State → Event → Outcome → Type 0) → OfEffects P → OfAnswers P Q → (s : State) (moment : ℕ) → Q s (Tick moment) (ticked s moment)
@@ -259,19 +261,19 @@ of-ticked P Q h k s moment =
     let all : Effect = attempted_all later (due_list (dues (bank_of s)) moment) in
     let rest : Outcome = unchanged s replies.Done in
     either (Q s (Tick moment)) (nat_lt moment s.moment) (refused s ClockBack) (cond (moment == s.moment) rest (answered replies.Done all)) (λ _. k.refuses s _ ClockBack)
-    (λ _. either (Q s (Tick moment)) (moment == s.moment) rest (answered replies.Done all) (λ _. of-effect P Q k s (Tick moment) replies.Done (nothing s) done (h.stays s))
-    (λ _. k.acts s (Tick moment) replies.Done moment s.ports s.regs all done (of-attempted_all P h later (due_list (dues (bank_of s)) moment))))
+    (λ _. either (Q s (Tick moment)) (moment == s.moment) rest (answered replies.Done all) (λ _. of-effect P Q k s (Tick moment) replies.Done (nothing s) (λ never. never, tt, tt) (h.stays s))
+    (λ _. k.acts s (Tick moment) replies.Done moment s.ports s.regs all (λ never. never, tt, tt) (of-attempted_all P h later (due_list (dues (bank_of s)) moment))))
 
 -- it holds of every event
 pub throughout : (P : State → Effect → Type 0) (Q : State → Event → Outcome → Type 0) → OfEffects P → OfAnswers P Q → (s : State) (event : Event) → Q s event (step s event)
 unfolding step
 throughout P Q h k s (OpenPort port p i shape) =
     let now : State = with_port s port (record { vp = p; sint = i; shape = shape }) in
-    judged (Q s (OpenPort port p i shape)) s (open_refusal (ports_of s) port p i shape) (unchanged now replies.Done) (k.refuses s _) (k.acts s _ replies.Done s.moment now.ports s.regs (nothing now) done (h.stays now))
+    judged (Q s (OpenPort port p i shape)) s (open_refusal (ports_of s) port p i shape) (unchanged now replies.Done) (k.refuses s _) (k.acts s (OpenPort port p i shape) replies.Done s.moment now.ports s.regs (nothing now) (λ never. never, tt, tt) (h.stays now))
 throughout P Q h k s (ClosePort port) = by (target_of (ports_of s) port)
   where
     by : (target : Result Port Refusal) → Q s (ClosePort port) (closed_at s port target)
-    by (Ok p) = let now : State = without_port s port in k.acts s _ replies.Done s.moment now.ports s.regs (withdrawn now p.vp p.sint port) done (h.withdraws now p.vp p.sint port)
+    by (Ok p) = let now : State = without_port s port in k.acts s (ClosePort port) replies.Done s.moment now.ports s.regs (withdrawn now p.vp p.sint port) (λ never. never, tt, tt) (h.withdraws now p.vp p.sint port)
     by (Err r) = k.refuses s _ r
 throughout P Q h k s (Write p number value) = on_board (Q s (Write p number value)) s p (written s p number value) (k.refuses s _) (of-written P Q h k s p number value)
 throughout P Q h k s (Read p number) = on_board (Q s (Read p number)) s p (unchanged s (read s p number)) (k.refuses s _) (k.reads s p number)
@@ -281,17 +283,17 @@ throughout P Q h k s (Post port kind payload) = by (message_target_of (ports_of 
     by (Ok p) =
         let e : Effect = delivered s p.vp p.sint (FromPort s.next_ticket port kind payload) in
         judged (Q s (Post port kind payload)) s (post_refusal s port p.vp p.shape) (answered (replies.Accepted s.next_ticket) e) (k.refuses s _)
-        (of-effect P Q k s _ (replies.Accepted s.next_ticket) e (λ never. never, tt, λ e. cc) (of-delivered P h s p.vp p.sint (FromPort s.next_ticket port kind payload)))
+        (of-effect P Q k s (Post port kind payload) (replies.Accepted s.next_ticket) e (λ never. never, tt, tt) (of-delivered P h s p.vp p.sint (FromPort s.next_ticket port kind payload)))
     by (Err r) = k.refuses s _ r
 throughout P Q h k s (Signal port flag) = by (flag_place_of (ports_of s) port flag) refl
   where
     by : (target : Result (ℕ × ℕ × ℕ) Refusal) → flag_place_of (ports_of s) port flag ≡ target → Q s (Signal port flag) (signalled_at s target)
     by (Ok place) is = of-place P Q h k s port flag place is
     by (Err r) is = k.refuses s _ r
-throughout P Q h k s (Assert p v) = on_board (Q s (Assert p v)) s p (answered replies.Done (requested s p v)) (k.refuses s _) (of-effect P Q k s _ replies.Done (requested s p v) done (of-requested P h s p v))
+throughout P Q h k s (Assert p v) = on_board (Q s (Assert p v)) s p (answered replies.Done (requested s p v)) (k.refuses s _) (of-effect P Q k s (Assert p v) replies.Done (requested s p v) (λ never. never, tt, tt) (of-requested P h s p v))
 throughout P Q h k s (Absorb p part bits) = on_board (Q s (Absorb p part bits)) s p (absorbed s p part bits) (k.refuses s _)
     (either (Q s (Absorb p part bits)) (nat_le part 3) (answered replies.Done (absorbed_below s p part bits 64)) (refused s BadTarget)
-    (λ _. of-effect P Q k s _ replies.Done (absorbed_below s p part bits 64) done (of-absorbed_below P h s p part bits 64)) (λ _. k.refuses s _ BadTarget))
+    (λ _. of-effect P Q k s (Absorb p part bits) replies.Done (absorbed_below s p part bits 64) (λ never. never, tt, tt) (of-absorbed_below P h s p part bits 64)) (λ _. k.refuses s _ BadTarget))
 throughout P Q h k s (Store address bytes) =
     let now : State = with_bytes s address bytes.items in
     let owner : Owner = owner_of (space_of s) (address / 4096) in

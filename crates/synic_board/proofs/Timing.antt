@@ -113,6 +113,6 @@ on-time s event = (throughout Timely IsOnTime timely (record {
   stores = λ s address bytes e h. tells s _ _ _ e h;
   configures = λ s p n number value e _ h. tells s _ _ _ e h;
   counts = λ s p n number value e _ h. tells s _ _ _ e h;
-  repeats = λ s port flag p i f. silent s _ _ _;
+  repeats = λ s port flag p i f _ _. silent s _ _ _;
   signals = λ s port flag p i f _ _ h. let lit : State = with_flag s p i f in tells s s _ _ (after (flagged s p i f) (raised lit p i)) (timely-after s (flagged s p i f) (raised lit p i) (record { same = refl; told = (tt, tt) }) h);
 }) s event).told

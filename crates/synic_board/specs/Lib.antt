@@ -17,6 +17,7 @@ pub mod Replies
 pub mod Refusals
 pub mod Timely
 pub mod Requests
+pub mod Flags
 pub mod Order
 pub mod Places
 pub mod Run

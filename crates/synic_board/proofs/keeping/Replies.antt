@@ -77,6 +77,6 @@ step-fits s event = (throughout Any Fits any (record {
   stores = λ s address bytes e _. record { reply = tt };
   configures = λ s p n number value e _ _. record { reply = tt };
   counts = λ s p n number value e _ _. record { reply = tt };
-  repeats = λ s port flag p i f. record { reply = tt };
+  repeats = λ s port flag p i f _ _. record { reply = tt };
   signals = λ s port flag p i f _ _ _. record { reply = tt };
 }) s event).reply
