@@ -18,6 +18,9 @@ pub mod Replies
 pub mod Refusals
 pub mod Timely
 pub mod Requests
+pub mod Flags
+pub mod OneShots
+pub mod Order
 pub mod Places
 pub mod Run
 pub mod History

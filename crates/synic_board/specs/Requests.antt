@@ -1,9 +1,12 @@
 -- Which requests of vectors an event tells of (SDM volume 3, "Interrupt Acceptance for Fixed Interrupts").
-use Rattle.std.specs.Prelude.{ℕ, Bool, false, ◌==◌, ◌&&◌, ◌||◌, List, [], ◌∷◌}
+use Rattle.std.specs.Prelude.{◌≡◌, ℕ, Bool, false, ◌==◌, ◌&&◌, ◌||◌, List, [], ◌∷◌, Some}
 use Rattle.std.specs.FinSet as set
 use Rattle.board_terms.specs.declared.notices.Notice.{Notice}
 use Rattle.board_terms.specs.declared.notices.Notice.TheVariants.{Requested}
+use Rattle.synic_board.specs.declared.event.Event.TheVariants.{Take}
+use Rattle.synic_board.specs.declared.event.Reply.TheVariants.{Taken}
 use Rattle.synic_board.specs.State.{State, apic_of}
+use Rattle.synic_board.specs.Step.{step}
 
 -- a vector is requested at a processor
 abbrev pub is_requested : State → ℕ → ℕ → Bool
@@ -17,3 +20,7 @@ tells_of p v notice = false
 abbrev pub is_told : ℕ → ℕ → List Notice → Bool
 is_told p v [] = false
 is_told p v (notice ∷ notices) = tells_of p v notice || is_told p v notices
+
+-- a processor that asks for its next vector takes v
+abbrev pub Takes : State → ℕ → ℕ → Type 0
+Takes s p v = (step s (Take p)).1 ≡ Taken (Some v)

@@ -1,0 +1,41 @@
+-- Which event flags an event tells of (TLFS, "Event Flags").
+use Rattle.std.specs.Prelude.{ℕ, Bool, true, false, not, ◌==◌, ◌&&◌, ◌||◌, List, [], ◌∷◌, Result, Ok, Err}
+use Rattle.board_terms.specs.declared.notices.Notice.{Notice}
+use Rattle.board_terms.specs.declared.notices.Notice.TheVariants.{FlagSet}
+use Rattle.board_terms.specs.declared.refusal.Refusal.{Refusal}
+use Rattle.event_ports.specs.Ports.{flag_place_of}
+use Rattle.gpa_space.specs.Space.{is_flag_set}
+use Rattle.synic_board.specs.declared.event.Event.{Event}
+use Rattle.synic_board.specs.declared.event.Event.TheVariants.{Signal}
+use Rattle.synic_board.specs.declared.event.Reply.{Reply}
+use Rattle.synic_board.specs.declared.event.Reply.TheVariants.{GeneralProtection, Refused}
+use Rattle.synic_board.specs.State.{State, space_of, ports_of}
+
+abbrev pub tells_of_flag : ℕ → ℕ → ℕ → Notice → Bool
+tells_of_flag p i flag (FlagSet q j other) = p == q && i == j && flag == other
+tells_of_flag p i flag notice = false
+
+-- one of the notices tells that the flag was set
+abbrev pub is_flag_told : ℕ → ℕ → ℕ → List Notice → Bool
+is_flag_told p i flag [] = false
+is_flag_told p i flag (notice ∷ notices) = tells_of_flag p i flag notice || is_flag_told p i flag notices
+
+-- where a signal through a port leads
+abbrev pub is_place : ℕ → ℕ → ℕ → Result (ℕ × ℕ × ℕ) Refusal → Bool
+is_place p i flag (Ok (q, j, other)) = p == q && i == j && flag == other
+is_place p i flag (Err r) = false
+
+-- the event is a signal of that flag
+abbrev pub signals_flag : State → ℕ → ℕ → ℕ → Event → Bool
+signals_flag s p i flag (Signal port number) = is_place p i flag (flag_place_of (ports_of s) port number)
+signals_flag s p i flag event = false
+
+-- the event was performed
+abbrev pub is_performed : Reply → Bool
+is_performed (Refused r) = false
+is_performed GeneralProtection = false
+is_performed reply = true
+
+-- a signal that was performed found the flag clear
+abbrev pub found_clear : State → ℕ → ℕ → ℕ → Event → Reply → Bool
+found_clear s p i flag event reply = signals_flag s p i flag event && is_performed reply && not (is_flag_set (space_of s) p i flag)
