@@ -1,10 +1,10 @@
 -- A store consumes no message but that of the slot whose type it touches.
-use Rattle.std.proofs.Common.{◌≡◌, ◌≢◌, ◌⊎◌, inl, inr, ⊎_elim, ℕ, suc, ◌+◌, ◌-◌, ◌*◌, ◌/◌, ◌%◌, ◌<◌, ◌≤◌, Bool, true, false, List, [], ◌++◌, length, take, drop, get_or, set, refl, ap, sym, subst, ◌∙◌, arith, nat_lt, length-append, length-take, zero-add}
+use Rattle.std.proofs.Common.{◌≡◌, ◌≢◌, ◌⊎◌, inl, inr, ⊎_elim, ℕ, suc, ◌+◌, ◌-◌, ◌*◌, ◌/◌, ◌%◌, ◌<◌, ◌≤◌, Bool, true, false, List, [], length, get_or, set, refl, ap, sym, subst, ◌∙◌, arith, nat_lt, zero-add}
 use Rattle.std.specs.Prelude.{Option, None, Some, Ok, ◌==◌}
 use Rattle.std.specs.Option.{option_map_or}
 use Rattle.std.proofs.lemmas.Bool.{cases_lt, cases_eq}
 use Rattle.std.proofs.lemmas.Bool.Decides.{nat_tests}
-use Rattle.std.proofs.lemmas.List.{get_or-set_same, get_or-set_other, get_or_append_left, get_or-append_right, get_or-take, get_or-drop}
+use Rattle.std.proofs.lemmas.List.{get_or-set_same, get_or-set_other}
 use Rattle.std.proofs.lemmas.List.Quantifiers.{position-Some}
 use Rattle.board_terms.specs.declared.refusal.Refusal.{Refusal}
 use Rattle.board_terms.specs.declared.pages.Owner.{Owner}
@@ -22,17 +22,7 @@ use Rattle.synic_board.proofs.Folds.{fold_skip, consumes}
 use Rattle.synic_board.proofs.Storing.{store_is_good}
 use Rattle.synic_board.proofs.Overlays.{length-overlays}
 use Rattle.synic_board.proofs.keeping.Requests.{either}
-
--- the bytes of a page that are not written stay
-overwritten-other : (page bytes : List ℕ) (at k : ℕ) → at + length bytes ≤ length page → (k < at) ⊎ (at + length bytes ≤ k) → get_or (overwritten page at bytes) k 0 ≡ get_or page k 0
-overwritten-other page bytes at k fits (inl below) =
-    let front : k < length (take at page) = omega (arith, length-take at page) in
-    let whole : k < length (take at page ++ bytes) = omega (arith, length-append (take at page) bytes) in
-    get_or_append_left (take at page ++ bytes) (drop (at + length bytes) page) 0 k whole ∙ get_or_append_left (take at page) bytes 0 k front ∙ get_or-take at page k 0 below
-overwritten-other page bytes at k fits (inr above) =
-    let n : length (take at page ++ bytes) ≡ at + length bytes = omega (arith, length-append (take at page) bytes, length-take at page) in
-    let e : at + length bytes + (k - (at + length bytes)) ≡ k = omega arith in
-    get_or-append_right (take at page ++ bytes) (drop (at + length bytes) page) (at + length bytes) k 0 n above ∙ get_or-drop (at + length bytes) page (k - (at + length bytes)) 0 ∙ ap (λ j. get_or page j 0) e
+use Rattle.synic_board.proofs.keeping.Slots.{overwritten-other}
 
 -- a slot that is not the one touched is another one, or its type stands before what is written
 apart : (at count i : ℕ) → touched at count ≢ Some i → (i ≢ (at + count - 1) / 256) ⊎ (256 * ((at + count - 1) / 256) + 4 ≤ at)

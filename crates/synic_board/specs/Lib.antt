@@ -18,6 +18,7 @@ pub mod Replies
 pub mod Refusals
 pub mod Timely
 pub mod Requests
+pub mod Slots
 pub mod Flags
 pub mod OneShots
 pub mod Order

@@ -22,6 +22,7 @@ use Rattle.synic_board.specs.Posts.{withdrawn}
 use Rattle.synic_board.specs.Places.{times, tells_end, ended}
 use Rattle.synic_board.specs.Sound.{IsWhole, IsMessage}
 use Rattle.synic_board.proofs.keeping.Counts.{in_queue, one, times-places, in_queue-cons, in_queue-push, given-none, given-one}
+use Rattle.synic_board.proofs.keeping.Left.{leaves-same, leaves-marked}
 use Rattle.synic_board.proofs.keeping.Wholes.{IsIntact, Keeps, EndsNone, keeps-still, keeps-nothing, keeps-after}
 use Rattle.synic_board.proofs.keeping.Requests.{either, keeps-raised}
 use Rattle.synic_board.proofs.keeping.Slots.{slot_type-pending}
@@ -62,7 +63,7 @@ marked-ends false p i t = refl
 keeps-marked : (n : ℕ) (s : State) (p i : ℕ) → IsIntact n s → p < n → Keeps n s (marked s p i)
 keeps-marked n s p i h below =
     keeps-still n s (marked s p i) (record { count = h.count; whole = marked-whole n s p i h.whole below; empty = λ q j within inside z. h.empty q j within inside (sym (marked-type n s p i q j h.whole below) ∙ z) })
-    (record { queues = refl; slots = refl; next = refl }) (marked-ends (is_pending (space_of s) p i) p i)
+    (record { queues = refl; slots = refl; next = refl }) (leaves-marked n s p i h.whole.own below) (marked-ends (is_pending (space_of s) p i) p i)
 
 both : (a b : Bool) → (a && b) ≡ true → b ≡ true
 both true b e = e
@@ -107,6 +108,7 @@ keeps-accepted n s p i m h below under good next =
       };
       later = omega arith;
       conserves = λ t. omega (arith, times-places t s, times-places t (accepted s p i m).0, sum_by-set (in_queue t) s.queues (place_of p i) q [] (omega (arith, h.whole.queues)), in_queue-push t (queue_of s.queues p i) m, ap (λ x. one x t) next, given-one t s (accepted s p i m).0 refl, accepted-ends t);
+      leaves = leaves-same n s (accepted s p i m).0 refl refl;
     }
   where
     accepted-ends : EndsNone (Accepted (ticket_of m) p i ∷ [])
@@ -153,4 +155,5 @@ keeps-withdrawn n s p i port h below under =
       };
       later = omega arith;
       conserves = λ t. omega (arith, times-places t s, times-places t (withdrawn s p i port).0, sum_by-set (in_queue t) s.queues (place_of p i) q [] (omega (arith, h.whole.queues)), parted t port (queue_of s.queues p i), ends-each t p i (withdrawn_of port (queue_of s.queues p i)), given-none t s (withdrawn s p i port).0 refl);
+      leaves = leaves-same n s (withdrawn s p i port).0 refl refl;
     }

@@ -16,6 +16,7 @@ use Rattle.synic_board.specs.declared.event.Reply.TheVariants.{Done, Refused}
 use Rattle.synic_board.specs.Timers.{mode_at, is_ready_for, is_ready, expired_notices, skipped_notices, expiry_notices, told_by, signalled_by, expired_state, expiry_at, fired, attempted, attempted_all, written_timer, at_moment, ticked}
 use Rattle.synic_board.specs.Places.{ended}
 use Rattle.synic_board.proofs.keeping.Counts.{ended-append}
+use Rattle.synic_board.proofs.keeping.Left.{leaves-same}
 use Rattle.synic_board.proofs.keeping.Wholes.{IsIntact, Keeps, KeepsOutcome, EndsNone, keeps-still, keeps-nothing, keeps-unchanged, keeps-after}
 use Rattle.synic_board.proofs.keeping.Requests.{either, keeps-requested}
 use Rattle.synic_board.proofs.keeping.Attempts.{keeps-delivered}
@@ -67,7 +68,7 @@ keeps-fired : (n : ℕ) (s : State) (t : ℕ × ℕ) (mode : Mode) → IsIntact 
 keeps-fired n s t mode h low names =
     let now : State = expired_state s t in
     let told = expiry_notices t (expiry_at s t).signal (expiry_at s t).skipped in
-    let first = keeps-still n s (now, told) (kept-timer n s t ((after_expiry (timer_in (bank_of s) t) s.moment).0) low h) (record { queues = refl; slots = refl; next = refl }) (expiry-ends t (expiry_at s t).signal (expiry_at s t).skipped) in
+    let first = keeps-still n s (now, told) (kept-timer n s t ((after_expiry (timer_in (bank_of s) t) s.moment).0) low h) (record { queues = refl; slots = refl; next = refl }) (leaves-same n s now refl refl) (expiry-ends t (expiry_at s t).signal (expiry_at s t).skipped) in
     keeps-after n s (now, told) (signalled_by now t mode (expiry_at s t).signal) first (keeps-signal n now t mode (expiry_at s t).signal first.kept (omega (arith, low)) names)
 
 first-of : (a b : Bool) → (a && b) ≡ true → a ≡ true
@@ -91,7 +92,7 @@ keeps-attempted_all n s (t ∷ ts) h =
 keeps-written : (n : ℕ) (s : State) (t : ℕ × ℕ) (x : Timer) → number_of t < 4 * n → IsIntact n s → KeepsOutcome n s (written_timer s (with_timer (bank_of s) t x) t)
 keeps-written n s t x low h =
     let now : State = with_bank s (with_timer (bank_of s) t x) in
-    let first = keeps-still n s (now, []) (kept-timer n s t x low h) (record { queues = refl; slots = refl; next = refl }) (λ _. refl) in
+    let first = keeps-still n s (now, []) (kept-timer n s t x low h) (record { queues = refl; slots = refl; next = refl }) (leaves-same n s now refl refl) (λ _. refl) in
     keeps-after n s (now, []) (attempted now t) first (keeps-attempted n now t first.kept)
 
 pub keeps-written_config : (n : ℕ) (s : State) (t : ℕ × ℕ) (value : ℕ) → number_of t < 4 * n → IsIntact n s → KeepsOutcome n s (written_timer s (with_config (bank_of s) t value s.moment) t)
@@ -108,5 +109,5 @@ keeps-ticked n s moment h =
     (λ _. keeps-unchanged n s (Refused ClockBack) h)
     (λ _. either (KeepsOutcome n s) (moment == s.moment) _ _
     (λ _. keeps-unchanged n s Done h)
-    (λ _. let first = keeps-still n s (now, []) (kept-moment n s moment h) (record { queues = refl; slots = refl; next = refl }) (λ _. refl) in
+    (λ _. let first = keeps-still n s (now, []) (kept-moment n s moment h) (record { queues = refl; slots = refl; next = refl }) (leaves-same n s now refl refl) (λ _. refl) in
     keeps-after n s (now, []) (attempted_all now ts) first (keeps-attempted_all n now ts first.kept)))

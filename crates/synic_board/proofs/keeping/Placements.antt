@@ -2,7 +2,9 @@
 use Rattle.std.proofs.Common.{◌≡◌, ◌≢◌, ◌⊎◌, inl, inr, ℕ, ◌+◌, ◌*◌, ◌<◌, Bool, true, false, List, [], ◌∷◌, length, refl, ap, sym, subst, ◌∙◌, arith, nat_lt, suc, length-set}
 use Rattle.std.specs.Prelude.{None, Some, slice_index_or, slice_set}
 use Rattle.std.specs.List.{All}
+use Rattle.std.specs.Int.{bit_at}
 use Rattle.std.proofs.lemmas.Bool.{cases_eq}
+use Rattle.std.proofs.lemmas.Bool.Decides.{nat_tests}
 use Rattle.std.proofs.lemmas.List.{get_or-set_same, get_or-set_other}
 use Rattle.std.proofs.lemmas.List.Elements.{All-set}
 use Rattle.std.proofs.lemmas.List.Sums.{sum_by-set}
@@ -16,9 +18,11 @@ use Rattle.gpa_space.specs.Page.{with_slot}
 use Rattle.gpa_space.specs.Space.{own_page}
 use Rattle.synic_board.specs.State.{State, space_of, slot_of}
 use Rattle.synic_board.specs.Delivery.{placed_state, placed_head, placed_notices, placed}
+use Rattle.synic_board.specs.Slots.{slot_byte, LeavesSlot}
 use Rattle.synic_board.specs.Places.{times, places}
 use Rattle.synic_board.specs.Sound.{IsWhole, IsFree, IsMessage}
 use Rattle.synic_board.proofs.keeping.Counts.{in_queue, in_slot, one, times-places, in_queue-cons, given-none}
+use Rattle.synic_board.proofs.keeping.Left.{Leaves, leaves-page, slot-other}
 use Rattle.synic_board.proofs.keeping.Wholes.{IsIntact, Keeps, EndsNone}
 use Rattle.synic_board.proofs.keeping.Slots.{length-with_slot, other_place}
 
@@ -95,13 +99,44 @@ no-ends : (ticket p i : ℕ) (pending : Bool) → EndsNone (placed_notices ticke
 no-ends ticket p i true t = refl
 no-ends ticket p i false t = refl
 
-keeps-head : (n : ℕ) (s : State) (p i : ℕ) (m : Message) (rest : List Message) → IsIntact n s → p < n → i < 16 → queue_of s.queues p i ≡ m ∷ rest → slot_of s p i ≡ None → Keeps n s (placed_head s p i (m ∷ rest))
-keeps-head n s p i m rest h below under is free =
+-- a message is placed in an empty slot, so that each occupied one is left
+leaves-placed : (n : ℕ) (s : State) (p i : ℕ) (m : Message) (rest : List Message) → IsIntact n s → p < n → i < 16 → IsMessage m → slot_type (page_of s p) i ≡ 0 → Leaves n s (placed_state s p i m rest)
+leaves-placed n s p i m rest h below under good empty q j within inside full = by (cases_eq q p)
+  where
+    bytes : List ℕ
+    bytes = image_of s m rest
+
+    new : List ℕ
+    new = with_slot (page_of s p) i bytes
+
+    now : State
+    now = placed_state s p i m rest
+
+    apart : p ≡ q → i ≢ j
+    apart same e = let filled : slot_type (page_of s q) j ≡ 0 = (λ k. slot_type (page_of s (sym same k)) (sym e k)) ∙ empty in absurd (grind (arith, nat_tests))
+
+    ticket : slot_of now q j ≡ slot_of s q j
+    ticket = get_or-set_other s.slots (place_of p i) (place_of q j) (Some (ticket_of m)) None (λ same. other_place p i q j under inside apart (sym same))
+
+    by : (q ≡ p) ⊎ (q ≢ p) → LeavesSlot s now q j
+    by (inr ne) = leaves-page s now q j (get_or-set_other s.own (2 * p) (2 * q) new [] (λ e. ne (omega (arith, e)))) ticket
+    by (inl same) = record { ticket = ticket; bytes = λ k few _. byte k few; flags = λ bit _. ap (λ b. bit_at b bit) (byte 5 (omega arith)) }
+      where
+        byte : (k : ℕ) → k < 256 → slot_byte now q j k ≡ slot_byte s q j k
+        byte k few =
+            ap (λ l. slice_index_or (slice_index_or (slice_set s.own (2 * p) new) (2 * l) []) (256 * j + k) 0) same
+            ∙ ap (λ page. slice_index_or page (256 * j + k) 0) (get_or-set_same s.own (2 * p) new [] (omega (arith, h.whole.own)))
+            ∙ slot-other (page_of s p) bytes i j k (page-long n s p h.whole below) (length-image m (nat_lt 0 (length rest)) s.moment good.2) under inside (λ e. apart (sym same) (sym e)) few
+            ∙ ap (λ l. slice_index_or (page_of s l) (256 * j + k) 0) (sym same)
+
+keeps-head : (n : ℕ) (s : State) (p i : ℕ) (m : Message) (rest : List Message) → IsIntact n s → p < n → i < 16 → queue_of s.queues p i ≡ m ∷ rest → slot_type (page_of s p) i ≡ 0 → slot_of s p i ≡ None → Keeps n s (placed_head s p i (m ∷ rest))
+keeps-head n s p i m rest h below under is empty free =
     let good = tail-good m rest (subst (All IsMessage) is (queue-good n s p i h.whole below under)) in
     record {
       kept = record { count = h.count; whole = placed-whole n s p i m rest h.whole below under good.0 good.1; empty = placed-empty n s p i m rest h below under good.0 };
       later = omega arith;
       conserves = λ t. omega (arith, placed-moves n s p i m rest h.whole below under is free t, no-ends (ticket_of m) p i (nat_lt 0 (length rest)) t, given-none t s (placed_state s p i m rest) refl);
+      leaves = leaves-placed n s p i m rest h below under good.0 empty;
     }
 
 -- a message of a queue that is not empty is placed in an empty slot
@@ -110,4 +145,4 @@ keeps-placed n s p i h below under some empty = go (queue_of s.queues p i) refl 
   where
     go : (q : List Message) → queue_of s.queues p i ≡ q → nat_lt 0 (length q) ≡ true → Keeps n s (placed s p i)
     go [] is some = absurd (cc)
-    go (m ∷ rest) is some = subst (λ q. Keeps n s (placed_head s p i q)) (sym is) (keeps-head n s p i m rest h below under is (h.empty p i below under empty))
+    go (m ∷ rest) is some = subst (λ q. Keeps n s (placed_head s p i q)) (sym is) (keeps-head n s p i m rest h below under is empty (h.empty p i below under empty))

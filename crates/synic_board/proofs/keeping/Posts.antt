@@ -21,6 +21,7 @@ use Rattle.synic_board.specs.declared.event.Reply.TheVariants.{Done, Accepted, R
 use Rattle.synic_board.specs.Interrupts.{raised}
 use Rattle.synic_board.specs.Delivery.{delivered}
 use Rattle.synic_board.specs.Posts.{with_port, opened_port, withdrawn, without_port, closed_at, closed, post_refusal, posted_at, posted, with_flag, flagged, signalled_place, signalled_at, signalled}
+use Rattle.synic_board.proofs.keeping.Left.{leaves-same, leaves-flag}
 use Rattle.synic_board.proofs.keeping.Wholes.{IsIntact, KeepsOutcome, AreStill, keeps-still, keeps-unchanged, keeps-after}
 use Rattle.synic_board.proofs.keeping.Requests.{either, keeps-raised}
 use Rattle.synic_board.proofs.keeping.Attempts.{keeps-delivered, keeps-withdrawn}
@@ -42,7 +43,7 @@ keeps-opened_port n s port p i shape h = judged (open_refusal (ports_of s) port 
         let good : (nat_lt p (processors s) && nat_lt i 16) ≡ true = not-refused (nat_lt 15 port) (is_some (port_at (ports_of s) port)) (is_target (ports_of s) p i) (fits shape) UnknownPort PortOpen BadTarget is in
         let below : p < n = (let c = h.count in grind (arith, nat_tests)) in
         let under : i < 16 = grind (arith, nat_tests) in
-        keeps-still n s (with_port s port (record { vp = p; sint = i; shape = shape }), []) (kept-port n s port (record { vp = p; sint = i; shape = shape }) below under h) (record { queues = refl; slots = refl; next = refl }) (λ t. refl)
+        keeps-still n s (with_port s port (record { vp = p; sint = i; shape = shape }), []) (kept-port n s port (record { vp = p; sint = i; shape = shape }) below under h) (record { queues = refl; slots = refl; next = refl }) (leaves-same n s (with_port s port (record { vp = p; sint = i; shape = shape })) refl refl) (λ t. refl)
 
 pub keeps-closed : (n : ℕ) (s : State) (port : ℕ) → IsIntact n s → KeepsOutcome n s (closed s port)
 keeps-closed n s port h = found (port_at (ports_of s) port) refl
@@ -51,7 +52,7 @@ keeps-closed n s port h = found (port_at (ports_of s) port) refl
     found None is = keeps-unchanged n s (Refused UnknownPort) h
     found (Some p) is =
         let reached = h.whole.ports port p is in
-        let first = keeps-still n s (without_port s port, []) (kept-without_port n s port h) (record { queues = refl; slots = refl; next = refl }) (λ t. refl) in
+        let first = keeps-still n s (without_port s port, []) (kept-without_port n s port h) (record { queues = refl; slots = refl; next = refl }) (leaves-same n s (without_port s port) refl refl) (λ t. refl) in
         keeps-after n s (without_port s port, []) (withdrawn (without_port s port) p.vp p.sint port) first (keeps-withdrawn n (without_port s port) p.vp p.sint port first.kept reached.0 reached.1)
 
 -- a type that a post may have
@@ -84,8 +85,8 @@ keeps-signalled_place n s p i flag h below =
     either (KeepsOutcome n s) (not (has (regs_of s p).control enable && has (regs_of s p).sief enable)) _ _
     (λ _. keeps-unchanged n s (Refused SynicOff) h)
     (λ _. either (KeepsOutcome n s) (is_flag_set (space_of s) p i flag) _ _
-    (λ _. keeps-still n s (with_flag s p i flag, []) (kept-flag n s p i flag below h) quiet (λ t. refl))
-    (λ _. let first = keeps-still n s (with_flag s p i flag, FlagSet p i flag ∷ []) (kept-flag n s p i flag below h) quiet (λ t. refl) in
+    (λ _. keeps-still n s (with_flag s p i flag, []) (kept-flag n s p i flag below h) quiet (leaves-flag n s p i flag) (λ t. refl))
+    (λ _. let first = keeps-still n s (with_flag s p i flag, FlagSet p i flag ∷ []) (kept-flag n s p i flag below h) quiet (leaves-flag n s p i flag) (λ t. refl) in
     keeps-after n s (flagged s p i flag) (raised (with_flag s p i flag) p i) first (keeps-raised n (with_flag s p i flag) p i first.kept)))
 
 pub keeps-signalled : (n : ℕ) (s : State) (port flag : ℕ) → IsIntact n s → KeepsOutcome n s (signalled s port flag)

@@ -10,6 +10,7 @@ use Rattle.synic_board.specs.State.{State, apic_of, regs_of, with_apic}
 use Rattle.synic_board.specs.Effects.{nothing}
 use Rattle.synic_board.specs.Interrupts.{requested, raised}
 use Rattle.synic_board.specs.Absorbing.{is_posted, absorbed_bit, absorbed_below}
+use Rattle.synic_board.proofs.keeping.Left.{Leaves, leaves-same}
 use Rattle.synic_board.proofs.keeping.Wholes.{IsIntact, Keeps, AreStill, keeps-still, keeps-nothing, keeps-after, kept-apic}
 
 -- a choice, from both sides
@@ -20,11 +21,14 @@ either P false x y p q = q refl
 pub still-apic : (s : State) (p : ℕ) (a : Apic) → AreStill s (with_apic s p a)
 still-apic s p a = record { queues = refl; slots = refl; next = refl }
 
+pub leaves-apic : (n : ℕ) (s : State) (p : ℕ) (a : Apic) → Leaves n s (with_apic s p a)
+leaves-apic n s p a = leaves-same n s (with_apic s p a) refl refl
+
 pub keeps-requested : (n : ℕ) (s : State) (p v : ℕ) → IsIntact n s → Keeps n s (requested s p v)
 keeps-requested n s p v h =
     either (Keeps n s) (set.contains (apic_of s p).requested v) _ _
     (λ _. keeps-nothing n s h)
-    (λ _. keeps-still n s (with_apic s p (request (apic_of s p) v), Requested p v ∷ []) (kept-apic n s p (request (apic_of s p) v) h) (still-apic s p (request (apic_of s p) v)) (λ t. refl))
+    (λ _. keeps-still n s (with_apic s p (request (apic_of s p) v), Requested p v ∷ []) (kept-apic n s p (request (apic_of s p) v) h) (still-apic s p (request (apic_of s p) v)) (leaves-apic n s p (request (apic_of s p) v)) (λ t. refl))
 
 pub keeps-raised : (n : ℕ) (s : State) (p i : ℕ) → IsIntact n s → Keeps n s (raised s p i)
 keeps-raised n s p i h = elim (raised_by (regs_of s p) i) as (λ o. Keeps n s (option_map_or (requested s p) o (nothing s))) [ None ↦ keeps-nothing n s h | Some v ↦ keeps-requested n s p v h ]

@@ -7,17 +7,17 @@ use Rattle.synic_board.specs.State.{State, processors, opened}
 use Rattle.synic_board.specs.Step.{step}
 use Rattle.synic_board.specs.Sound.{PayloadFits}
 use Rattle.synic_board.specs.Run.{Run, run_of, Accounts}
-use Rattle.synic_board.proofs.keeping.Wholes.{IsIntact, Keeps, kept_from_sound, tickets-conserved, keeps-nothing, keeps-after}
+use Rattle.synic_board.proofs.keeping.Wholes.{IsIntact, KeepsMessages, kept_from_sound, tickets-conserved, messages-kept, keeps-nothing, messages-after}
 use Rattle.synic_board.proofs.keeping.Opened.{no-places, sound-opened}
 use Rattle.synic_board.proofs.keeping.Steps.{keeps-step}
 
-keeps-run : (n : ℕ) (s : State) (es : List Event) → All PayloadFits es → IsIntact n s → Keeps n s ((run_of s es).0, (run_of s es).2)
+keeps-run : (n : ℕ) (s : State) (es : List Event) → All PayloadFits es → IsIntact n s → KeepsMessages n s ((run_of s es).0, (run_of s es).2)
 unfolding run_of
-keeps-run n s [] fit h = keeps-nothing n s h
+keeps-run n s [] fit h = messages-kept n s ((run_of s []).0, (run_of s []).2) (keeps-nothing n s h)
 keeps-run n s (e ∷ es) fit h =
     let now : State = (step s e).0 in
     let first = keeps-step n s e (All-head PayloadFits e es fit) h in
-    keeps-after n s (now, (step s e).2) ((run_of now es).0, (run_of now es).2) first (keeps-run n now es (All-tail PayloadFits e es fit) first.kept)
+    messages-after n s (now, (step s e).2) ((run_of now es).0, (run_of now es).2) first (keeps-run n now es (All-tail PayloadFits e es fit) first.kept)
 
 pub accounts : (n pages first : ℕ) (es : List Event) → All PayloadFits es → Accounts (opened n pages first) (run_of (opened n pages first) es)
 accounts n pages first es fit =

@@ -1,10 +1,10 @@
 -- Own pages whose slots are written.
-use Rattle.std.proofs.Common.{◌≡◌, ◌≢◌, ℕ, ◌+◌, ◌*◌, ◌^◌, ◌<◌, List, ◌++◌, length, take, drop, refl, sym, arith, length-append, length-take, length-drop}
+use Rattle.std.proofs.Common.{◌≡◌, ◌≢◌, ◌⊎◌, inl, inr, ℕ, ◌+◌, ◌-◌, ◌*◌, ◌^◌, ◌<◌, ◌≤◌, get_or, ap, ◌∙◌, List, ◌++◌, length, take, drop, refl, sym, arith, length-append, length-take, length-drop}
 use Rattle.std.specs.Prelude.{slice_index_or, bit_or}
-use Rattle.std.proofs.lemmas.List.{get_or-set_other}
+use Rattle.std.proofs.lemmas.List.{get_or-set_other, get_or_append_left, get_or-append_right, get_or-take, get_or-drop}
 use Rattle.message_queues.specs.Queues.{place_of}
 use Rattle.message_queues.specs.Image.{slot_type}
-use Rattle.gpa_space.specs.Page.{with_slot, with_bit, pending_place}
+use Rattle.gpa_space.specs.Page.{overwritten, with_slot, with_bit, pending_place}
 
 pub length-with_slot : (page bytes : List ℕ) (i : ℕ) → length page ≡ 4096 → length bytes ≡ 256 → i < 16 → length (with_slot page i bytes) ≡ 4096
 length-with_slot page bytes i l size below =
@@ -23,3 +23,14 @@ slot_type-pending page j i = slot_type-bit page (256 * j + 5) 0 i ((λ e. omega 
 -- sources have slots of their own
 pub other_place : (p i q j : ℕ) → i < 16 → j < 16 → (p ≡ q → i ≢ j) → place_of p i ≢ place_of q j
 other_place p i q j below under apart e = let same : p ≡ q = omega (arith, e) in apart same (omega (arith, e, same))
+
+-- the bytes of a page that are not written stay
+pub overwritten-other : (page bytes : List ℕ) (at k : ℕ) → at + length bytes ≤ length page → (k < at) ⊎ (at + length bytes ≤ k) → get_or (overwritten page at bytes) k 0 ≡ get_or page k 0
+overwritten-other page bytes at k fits (inl below) =
+    let front : k < length (take at page) = omega (arith, length-take at page) in
+    let whole : k < length (take at page ++ bytes) = omega (arith, length-append (take at page) bytes) in
+    get_or_append_left (take at page ++ bytes) (drop (at + length bytes) page) 0 k whole ∙ get_or_append_left (take at page) bytes 0 k front ∙ get_or-take at page k 0 below
+overwritten-other page bytes at k fits (inr above) =
+    let n : length (take at page ++ bytes) ≡ at + length bytes = omega (arith, length-append (take at page) bytes, length-take at page) in
+    let e : at + length bytes + (k - (at + length bytes)) ≡ k = omega arith in
+    get_or-append_right (take at page ++ bytes) (drop (at + length bytes) page) (at + length bytes) k 0 n above ∙ get_or-drop (at + length bytes) page (k - (at + length bytes)) 0 ∙ ap (λ j. get_or page j 0) e

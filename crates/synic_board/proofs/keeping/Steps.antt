@@ -1,5 +1,5 @@
 -- What every event keeps.
-use Rattle.std.proofs.Common.{◌≡◌, ℕ, ◌%◌, ◌<◌, ◌≤◌, List, [], refl, sym, subst, arith, nat_lt}
+use Rattle.std.proofs.Common.{◌≡◌, ◌∙◌, Bool, true, false, ℕ, ◌%◌, ◌<◌, ◌≤◌, List, [], refl, sym, subst, arith, nat_lt}
 use Rattle.std.specs.Prelude.{Option, None, Some, nat_le}
 use Rattle.std.specs.Option.{option_map_or}
 use Rattle.std.proofs.lemmas.Bool.Decides.{nat_tests}
@@ -15,7 +15,7 @@ use Rattle.synic_board.specs.declared.event.Event.{Event}
 use Rattle.synic_board.specs.declared.event.Event.TheVariants.{OpenPort, ClosePort, Write, Read, Post, Signal, Assert, Absorb, Store, Load, Tick, Take}
 use Rattle.synic_board.specs.declared.event.Reply.{Reply}
 use Rattle.synic_board.specs.declared.event.Reply.TheVariants.{Done, GeneralProtection, Refused}
-use Rattle.synic_board.specs.State.{State, processors, apic_of, regs_of, with_apic, with_regs}
+use Rattle.synic_board.specs.State.{State, processors, slot_of, apic_of, regs_of, with_apic, with_regs}
 use Rattle.synic_board.specs.Effects.{Outcome, at_processor, answered, unchanged}
 use Rattle.synic_board.specs.Interrupts.{requested, taken_at, taken, ended, with_priority}
 use Rattle.synic_board.specs.Absorbing.{absorbed}
@@ -23,9 +23,12 @@ use Rattle.synic_board.specs.Registers.{stored, written_register, written, read}
 use Rattle.synic_board.specs.Stores.{read_bytes}
 use Rattle.synic_board.specs.Step.{step}
 use Rattle.synic_board.specs.Places.{Conserves}
+use Rattle.synic_board.specs.Slots.{IsNoStore, LeavesSlot}
+use Rattle.synic_board.specs.Delivery.{is_slot_empty}
 use Rattle.synic_board.specs.Sound.{IsSound, PayloadFits}
-use Rattle.synic_board.proofs.keeping.Wholes.{IsIntact, Keeps, KeepsOutcome, kept_from_sound, sound_from_kept, tickets-conserved, kept-apic, keeps-still, keeps-nothing, keeps-unchanged}
-use Rattle.synic_board.proofs.keeping.Requests.{either, still-apic, keeps-requested, keeps-absorbed_below}
+use Rattle.synic_board.proofs.keeping.Left.{leaves-same}
+use Rattle.synic_board.proofs.keeping.Wholes.{IsIntact, Keeps, KeepsOutcome, KeepsMessagesOf, messages-kept, kept_from_sound, sound_from_kept, tickets-conserved, kept-apic, keeps-still, keeps-nothing, keeps-unchanged}
+use Rattle.synic_board.proofs.keeping.Requests.{either, still-apic, leaves-apic, keeps-requested, keeps-absorbed_below}
 use Rattle.synic_board.proofs.keeping.Attempts.{keeps-tried_below}
 use Rattle.synic_board.proofs.keeping.Changes.{kept-regs}
 use Rattle.synic_board.proofs.keeping.Posts.{keeps-opened_port, keeps-closed, keeps-posted, keeps-signalled}
@@ -36,12 +39,12 @@ keeps-stored : (n : ℕ) (s : State) (p : ℕ) (r : Register) (value : ℕ) → 
 keeps-stored n s p r value h =
     either (KeepsOutcome n s) (is_refused r value) _ _
     (λ _. keeps-unchanged n s GeneralProtection h)
-    (λ _. keeps-still n s (with_regs s p (with_value (regs_of s p) r value), []) (kept-regs n s p (with_value (regs_of s p) r value) h) (record { queues = refl; slots = refl; next = refl }) (λ t. refl))
+    (λ _. keeps-still n s (with_regs s p (with_value (regs_of s p) r value), []) (kept-regs n s p (with_value (regs_of s p) r value) h) (record { queues = refl; slots = refl; next = refl }) (leaves-same n s (with_regs s p (with_value (regs_of s p) r value)) refl refl) (λ t. refl))
 
 keeps-written_register : (n : ℕ) (s : State) (p : ℕ) (r : Register) (value : ℕ) → IsIntact n s → p < n → Exists r → KeepsOutcome n s (written_register s p r value)
 keeps-written_register n s p ReferenceCounter value h below exists = keeps-unchanged n s GeneralProtection h
-keeps-written_register n s p Eoi value h below exists = keeps-still n s (ended s p, []) (kept-apic n s p (after_end (apic_of s p)) h) (still-apic s p (after_end (apic_of s p))) (λ t. refl)
-keeps-written_register n s p Tpr value h below exists = keeps-still n s (with_priority s p value, []) (kept-apic n s p (with_task_priority (apic_of s p) (value % 256)) h) (still-apic s p (with_task_priority (apic_of s p) (value % 256))) (λ t. refl)
+keeps-written_register n s p Eoi value h below exists = keeps-still n s (ended s p, []) (kept-apic n s p (after_end (apic_of s p)) h) (still-apic s p (after_end (apic_of s p))) (leaves-apic n s p (after_end (apic_of s p))) (λ t. refl)
+keeps-written_register n s p Tpr value h below exists = keeps-still n s (with_priority s p value, []) (kept-apic n s p (with_task_priority (apic_of s p) (value % 256)) h) (still-apic s p (with_task_priority (apic_of s p) (value % 256))) (leaves-apic n s p (with_task_priority (apic_of s p) (value % 256))) (λ t. refl)
 keeps-written_register n s p Control value h below exists = keeps-stored n s p Control value h
 keeps-written_register n s p Version value h below exists = keeps-unchanged n s GeneralProtection h
 keeps-written_register n s p Sief value h below exists = keeps-stored n s p Sief value h
@@ -64,26 +67,45 @@ keeps-absorbed n s p part bits h = either (KeepsOutcome n s) (nat_le part 3) _ _
 keeps-taken : (n : ℕ) (s : State) (p : ℕ) → IsIntact n s → KeepsOutcome n s (taken s p)
 keeps-taken n s p h = elim (next (apic_of s p)) as (λ o. Keeps n s (option_map_or (λ v. with_apic s p (taken_at s p v)) o s, [])) [
   | None ↦ keeps-nothing n s h
-  | Some v ↦ keeps-still n s (with_apic s p (taken_at s p v), []) (kept-apic n s p (taken_at s p v) h) (still-apic s p (taken_at s p v)) (λ t. refl)
+  | Some v ↦ keeps-still n s (with_apic s p (taken_at s p v), []) (kept-apic n s p (taken_at s p v) h) (still-apic s p (taken_at s p v)) (leaves-apic n s p (taken_at s p v)) (λ t. refl)
 ]
 
 on-board : (n : ℕ) (s : State) (p : ℕ) (o : Outcome) → IsIntact n s → (p < n → KeepsOutcome n s o) → KeepsOutcome n s (at_processor s p o)
 on-board n s p o h there = either (KeepsOutcome n s) (nat_lt p (processors s)) _ _ (λ on. there (let c = h.count in grind (arith, nat_tests))) (λ _. keeps-unchanged n s (Refused NoSuchProcessor) h)
 
-pub keeps-step : (n : ℕ) (s : State) (e : Event) → PayloadFits e → IsIntact n s → KeepsOutcome n s (step s e)
+-- an event that is no store
+keeps-other : (n : ℕ) (s : State) (e : Event) → IsNoStore e → PayloadFits e → IsIntact n s → KeepsOutcome n s (step s e)
 unfolding step
-keeps-step n s (OpenPort port p i shape) fits h = keeps-opened_port n s port p i shape h
-keeps-step n s (ClosePort port) fits h = keeps-closed n s port h
-keeps-step n s (Write p number value) fits h = on-board n s p (written s p number value) h (λ below. keeps-written n s p number value h below)
-keeps-step n s (Read p number) fits h = on-board n s p (unchanged s (read s p number)) h (λ _. keeps-unchanged n s (read s p number) h)
-keeps-step n s (Post port kind payload) fits h = keeps-posted n s port kind payload fits h
-keeps-step n s (Signal port flag) fits h = keeps-signalled n s port flag h
-keeps-step n s (Assert p v) fits h = on-board n s p (answered Done (requested s p v)) h (λ _. keeps-requested n s p v h)
-keeps-step n s (Absorb p part bits) fits h = on-board n s p (absorbed s p part bits) h (λ _. keeps-absorbed n s p part bits h)
+keeps-other n s (OpenPort port p i shape) other fits h = keeps-opened_port n s port p i shape h
+keeps-other n s (ClosePort port) other fits h = keeps-closed n s port h
+keeps-other n s (Write p number value) other fits h = on-board n s p (written s p number value) h (λ below. keeps-written n s p number value h below)
+keeps-other n s (Read p number) other fits h = on-board n s p (unchanged s (read s p number)) h (λ _. keeps-unchanged n s (read s p number) h)
+keeps-other n s (Post port kind payload) other fits h = keeps-posted n s port kind payload fits h
+keeps-other n s (Signal port flag) other fits h = keeps-signalled n s port flag h
+keeps-other n s (Assert p v) other fits h = on-board n s p (answered Done (requested s p v)) h (λ _. keeps-requested n s p v h)
+keeps-other n s (Absorb p part bits) other fits h = on-board n s p (absorbed s p part bits) h (λ _. keeps-absorbed n s p part bits h)
+keeps-other n s (Store address bytes) other fits h = absurd other
+keeps-other n s (Load address count) other fits h = keeps-unchanged n s (read_bytes s address count) h
+keeps-other n s (Tick moment) other fits h = keeps-ticked n s moment h
+keeps-other n s (Take p) other fits h = on-board n s p (taken s p) h (λ _. keeps-taken n s p h)
+
+other-kept : (n : ℕ) (s : State) (e : Event) → IsNoStore e → PayloadFits e → IsIntact n s → KeepsMessagesOf n s (step s e)
+other-kept n s e other fits h = messages-kept n s ((step s e).0, (step s e).2) (keeps-other n s e other fits h)
+
+pub keeps-step : (n : ℕ) (s : State) (e : Event) → PayloadFits e → IsIntact n s → KeepsMessagesOf n s (step s e)
+unfolding step
 keeps-step n s (Store address bytes) fits h = keeps-stored_bytes n s address bytes.items h
-keeps-step n s (Load address count) fits h = keeps-unchanged n s (read_bytes s address count) h
-keeps-step n s (Tick moment) fits h = keeps-ticked n s moment h
-keeps-step n s (Take p) fits h = on-board n s p (taken s p) h (λ _. keeps-taken n s p h)
+keeps-step n s (OpenPort port p i shape) fits h = other-kept n s (OpenPort port p i shape) tt fits h
+keeps-step n s (ClosePort port) fits h = other-kept n s (ClosePort port) tt fits h
+keeps-step n s (Write p number value) fits h = other-kept n s (Write p number value) tt fits h
+keeps-step n s (Read p number) fits h = other-kept n s (Read p number) tt fits h
+keeps-step n s (Post port kind payload) fits h = other-kept n s (Post port kind payload) tt fits h
+keeps-step n s (Signal port flag) fits h = other-kept n s (Signal port flag) tt fits h
+keeps-step n s (Assert p v) fits h = other-kept n s (Assert p v) tt fits h
+keeps-step n s (Absorb p part bits) fits h = other-kept n s (Absorb p part bits) tt fits h
+keeps-step n s (Load address count) fits h = other-kept n s (Load address count) tt fits h
+keeps-step n s (Tick moment) fits h = other-kept n s (Tick moment) tt fits h
+keeps-step n s (Take p) fits h = other-kept n s (Take p) tt fits h
 
 -- each accepted message stays in one place, or ends once
 pub conserves : (s now : State) (e : Event) (reply : Reply) (notices : List Notice) → PayloadFits e → (now, reply, notices) ≡ step s e → IsSound s → Conserves s now notices
@@ -98,3 +120,14 @@ pub sound : (s now : State) (e : Event) (reply : Reply) (notices : List Notice) 
 sound s now e reply notices fits is before =
     let k = keeps-step (processors s) s e fits (kept_from_sound s before) in
     subst (λ (o : Outcome). IsSound o.0) (sym is) (sound_from_kept (processors s) (step s e).0 k.kept (tickets-conserved s (step s e).0 (step s e).2 k.later k.conserves before.tickets))
+
+-- an occupied slot is left, and one that holds a ticket is occupied
+pub slot-left : (s : State) (e : Event) (p i : ℕ) → IsSound s → PayloadFits e → IsNoStore e → p < processors s → i < 16 → is_slot_empty s p i ≡ false → LeavesSlot s (step s e).0 p i
+slot-left s e p i sound fits other below under full = (keeps-other (processors s) s e other fits (kept_from_sound s sound)).leaves p i below under full
+
+pub ticket-left : (s : State) (e : Event) (p i ticket : ℕ) → IsSound s → PayloadFits e → IsNoStore e → p < processors s → i < 16 → slot_of s p i ≡ Some ticket → LeavesSlot s (step s e).0 p i
+ticket-left s e p i ticket sound fits other below under held = slot-left s e p i sound fits other below under (by (is_slot_empty s p i) refl)
+  where
+    by : (b : Bool) → is_slot_empty s p i ≡ b → b ≡ false
+    by false is = refl
+    by true is = let free : slot_of s p i ≡ None = sound.empty p i below under (grind (arith, nat_tests)) in let no : None ≡ Some ticket = sym free ∙ held in absurd (cc)

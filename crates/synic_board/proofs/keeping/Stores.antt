@@ -24,7 +24,7 @@ use Rattle.synic_board.specs.Places.{ended, Conserves}
 use Rattle.synic_board.proofs.Overlays.{length-overlays}
 use Rattle.synic_board.proofs.keeping.Counts.{in_slot, one, times-places, given-none}
 use Rattle.synic_board.specs.Sound.{IsWhole, IsFree}
-use Rattle.synic_board.proofs.keeping.Wholes.{IsIntact, Keeps, AreStill, KeepsOutcome, keeps-unchanged, still, conserves-after}
+use Rattle.synic_board.proofs.keeping.Wholes.{IsIntact, KeepsMessages, KeepsMessagesOf, messages-kept, AreStill, keeps-unchanged, still, conserves-after}
 use Rattle.synic_board.proofs.keeping.Requests.{either}
 use Rattle.synic_board.proofs.keeping.Placements.{page_of}
 
@@ -106,7 +106,7 @@ consumes-below n s p (suc i) h below few =
       conserves = conserves-after s e (consumed e.0 p i) (omega (arith, first.next)) (omega (arith, second.next)) first.conserves second.conserves;
     }
 
-keeps-consumed : (n : ℕ) (s now : State) (p : ℕ) → AreStill s now → IsPartly n p 0 now → p < n → Keeps n s (consumed_below now p 16)
+keeps-consumed : (n : ℕ) (s now : State) (p : ℕ) → AreStill s now → IsPartly n p 0 now → p < n → KeepsMessages n s (consumed_below now p 16)
 keeps-consumed n s now p same h below =
     let all = consumes-below n now p 16 h below (omega arith) in
     record {
@@ -140,9 +140,9 @@ own-whole n s k page h l = record {
 own-other : (n : ℕ) (s : State) (k q j : ℕ) (page : List ℕ) → IsIntact n s → q < n → j < 16 → 2 * q ≢ k → IsFree (with_own s k page) q j
 own-other n s k q j page h within inside ne z = h.empty q j within inside (sym (ap (λ x. slot_type x j) (get_or-set_other s.own k (2 * q) page [] ne)) ∙ z)
 
-keeps-own : (n : ℕ) (s : State) (k : ℕ) (page : List ℕ) → IsIntact n s → k < 2 * n → length page ≡ 4096 → Keeps n s (consumed_in (with_own s k page) (overlay_owner k))
+keeps-own : (n : ℕ) (s : State) (k : ℕ) (page : List ℕ) → IsIntact n s → k < 2 * n → length page ≡ 4096 → KeepsMessages n s (consumed_in (with_own s k page) (overlay_owner k))
 keeps-own n s k page h low l =
-    either (λ o. Keeps n s (consumed_in (with_own s k page) o)) (k % 2 == 0) _ _
+    either (λ o. KeepsMessages n s (consumed_in (with_own s k page) o)) (k % 2 == 0) _ _
     (λ e. keeps-consumed n s (with_own s k page) (k / 2) (record { queues = refl; slots = refl; next = refl })
     (record { count = h.count; whole = own-whole n s k page h.whole l; empty = λ q j within inside off. own-other n s k q j page h within inside (λ f. let same : q ≡ k / 2 = omega arith in absurd (omega (arith, off same))) })
     (omega arith))
@@ -175,10 +175,10 @@ store_at s page at bytes o =
     option_map_or (λ overlay. record (space_of s) { own = slice_set s.own overlay stored }) o (record (space_of s) { pages = slice_set s.pages page stored })
 
 keeps-store_at : (n : ℕ) (s : State) (page at : ℕ) (bytes : List ℕ) → IsIntact n s → at + length bytes ≤ 4096 → nat_lt page (length s.pages) ≡ true → (o : Option ℕ) → visible (space_of s) page ≡ o →
-    Keeps n s (consumed_in (with_space s (store_at s page at bytes o)) (if nat_lt page (length s.pages) then option_map_or overlay_owner o Guest else Nothing))
+    KeepsMessages n s (consumed_in (with_space s (store_at s page at bytes o)) (if nat_lt page (length s.pages) then option_map_or overlay_owner o Guest else Nothing))
 keeps-store_at n s page at bytes h fits inside o is = rw inside (seen o is)
   where
-    seen : (o : Option ℕ) → visible (space_of s) page ≡ o → Keeps n s (consumed_in (with_space s (store_at s page at bytes o)) (option_map_or overlay_owner o Guest))
+    seen : (o : Option ℕ) → visible (space_of s) page ≡ o → KeepsMessages n s (consumed_in (with_space s (store_at s page at bytes o)) (option_map_or overlay_owner o Guest))
     seen None is = record {
       kept = guest-kept n s (slice_set s.pages page (overwritten (slice_index_or s.pages page []) at bytes)) h;
       later = omega arith;
@@ -194,9 +194,9 @@ fits-page s address count none = grind (arith, nat_tests)
 in-space : (s : Space) (address count : ℕ) → refusal_of s address count ≡ None → nat_lt (address / 4096) (length s.pages) ≡ true
 in-space s address count none = grind (arith, nat_tests)
 
-pub keeps-stored_bytes : (n : ℕ) (s : State) (address : ℕ) (bytes : List ℕ) → IsIntact n s → KeepsOutcome n s (stored_bytes s address bytes)
+pub keeps-stored_bytes : (n : ℕ) (s : State) (address : ℕ) (bytes : List ℕ) → IsIntact n s → KeepsMessagesOf n s (stored_bytes s address bytes)
 keeps-stored_bytes n s address bytes h = judged (refusal_of (space_of s) address (length bytes)) refl
   where
-    judged : (o : Option Refusal) → refusal_of (space_of s) address (length bytes) ≡ o → KeepsOutcome n s (stored_bytes s address bytes)
-    judged (Some r) is = rw is (keeps-unchanged n s (Refused r) h)
+    judged : (o : Option Refusal) → refusal_of (space_of s) address (length bytes) ≡ o → KeepsMessagesOf n s (stored_bytes s address bytes)
+    judged (Some r) is = rw is (messages-kept n s (nothing s) (keeps-unchanged n s (Refused r) h))
     judged None is = rw is (keeps-store_at n s (address / 4096) (address % 4096) bytes h (fits-page (space_of s) address (length bytes) is) (in-space (space_of s) address (length bytes) is) (visible (space_of s) (address / 4096)) refl)

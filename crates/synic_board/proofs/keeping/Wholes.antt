@@ -8,6 +8,7 @@ use Rattle.synic_board.specs.declared.event.Reply.{Reply}
 use Rattle.synic_board.specs.Effects.{Effect, Outcome, nothing, after, unchanged}
 use Rattle.synic_board.specs.Places.{places, times, ended, Conserves, AreTickets}
 use Rattle.synic_board.specs.Sound.{IsWhole, IsFree, IsSound}
+use Rattle.synic_board.proofs.keeping.Left.{Leaves, leaves-after, leaves-same}
 use Rattle.synic_board.proofs.keeping.Counts.{in_queues, in_slots, times-places, ended-append, given-after, given-none, given-low, given-high, given-le}
 
 -- a state with n processors is sound, apart from its tickets
@@ -23,10 +24,20 @@ pub sound_from_kept : (n : ℕ) (s : State) → IsIntact n s → AreTickets s �
 sound_from_kept n s kept tickets = let h = subst (λ k. IsIntact k s) (sym kept.count) kept in record { whole = h.whole; empty = h.empty; tickets = tickets }
 
 -- an effect conserves the messages and keeps the rest
+pub record KeepsMessages (n : ℕ) (s : State) (e : Effect) : Type 0 where
+  pub kept : IsIntact n e.0
+  pub later : s.next_ticket ≤ e.0.next_ticket
+  pub conserves : Conserves s e.0 e.1
+
+-- and it leaves the slots that are occupied
 pub record Keeps (n : ℕ) (s : State) (e : Effect) : Type 0 where
   pub kept : IsIntact n e.0
   pub later : s.next_ticket ≤ e.0.next_ticket
   pub conserves : Conserves s e.0 e.1
+  pub leaves : Leaves n s e.0
+
+pub messages-kept : (n : ℕ) (s : State) (e : Effect) → Keeps n s e → KeepsMessages n s e
+messages-kept n s e h = record { kept = h.kept; later = h.later; conserves = h.conserves }
 
 -- no message ends
 abbrev pub EndsNone : List Notice → Type 0
@@ -42,15 +53,18 @@ pub still : (s now : State) (notices : List Notice) → AreStill s now → EndsN
 still s now notices same none t =
     omega (arith, times-places t s, times-places t now, none t, given-none t s now same.next, ap (in_queues t) same.queues, ap (in_slots t) same.slots)
 
-pub keeps-still : (n : ℕ) (s : State) (e : Effect) → IsIntact n e.0 → AreStill s e.0 → EndsNone e.1 → Keeps n s e
-keeps-still n s e h same none = record { kept = h; later = omega (arith, same.next); conserves = still s e.0 e.1 same none }
+pub keeps-still : (n : ℕ) (s : State) (e : Effect) → IsIntact n e.0 → AreStill s e.0 → Leaves n s e.0 → EndsNone e.1 → Keeps n s e
+keeps-still n s e h same left none = record { kept = h; later = omega (arith, same.next); conserves = still s e.0 e.1 same none; leaves = left }
 
 pub keeps-nothing : (n : ℕ) (s : State) → IsIntact n s → Keeps n s (nothing s)
-keeps-nothing n s h = keeps-still n s (nothing s) h (record { queues = refl; slots = refl; next = refl }) (λ t. refl)
+keeps-nothing n s h = keeps-still n s (nothing s) h (record { queues = refl; slots = refl; next = refl }) (leaves-same n s s refl refl) (λ t. refl)
 
 -- an outcome, apart from its reply
 abbrev pub KeepsOutcome : ℕ → State → Outcome → Type 0
 KeepsOutcome n s o = Keeps n s (o.0, o.2)
+
+abbrev pub KeepsMessagesOf : ℕ → State → Outcome → Type 0
+KeepsMessagesOf n s o = KeepsMessages n s (o.0, o.2)
 
 pub keeps-unchanged : (n : ℕ) (s : State) (reply : Reply) → IsIntact n s → KeepsOutcome n s (unchanged s reply)
 keeps-unchanged n s reply h = keeps-nothing n s h
@@ -59,8 +73,16 @@ keeps-unchanged n s reply h = keeps-nothing n s h
 pub conserves-after : (s : State) (e f : Effect) → s.next_ticket ≤ e.0.next_ticket → e.0.next_ticket ≤ f.0.next_ticket → Conserves s e.0 e.1 → Conserves e.0 f.0 f.1 → Conserves s f.0 (e.1 ++ f.1)
 conserves-after s e f h k first second t = omega (arith, first t, second t, ended-append t e.1 f.1, given-after t s e.0 f.0 h k)
 
+pub messages-after : (n : ℕ) (s : State) (e f : Effect) → KeepsMessages n s e → KeepsMessages n e.0 f → KeepsMessages n s (after e f)
+messages-after n s e f first second = record { kept = second.kept; later = omega (arith, first.later, second.later); conserves = conserves-after s e f first.later second.later first.conserves second.conserves }
+
 pub keeps-after : (n : ℕ) (s : State) (e f : Effect) → Keeps n s e → Keeps n e.0 f → Keeps n s (after e f)
-keeps-after n s e f first second = record { kept = second.kept; later = omega (arith, first.later, second.later); conserves = conserves-after s e f first.later second.later first.conserves second.conserves }
+keeps-after n s e f first second = record {
+  kept = second.kept;
+  later = omega (arith, first.later, second.later);
+  conserves = conserves-after s e f first.later second.later first.conserves second.conserves;
+  leaves = leaves-after n s e.0 f.0 first.leaves second.leaves;
+}
 
 -- what conserves the messages keeps each ticket in one place
 pub tickets-conserved : (s now : State) (notices : List Notice) → s.next_ticket ≤ now.next_ticket → Conserves s now notices → AreTickets s → AreTickets now
