@@ -5,9 +5,9 @@ use Rattle.std.proofs.lemmas.List.Elements.{All-head, All-tail}
 use Rattle.synic_board.specs.declared.event.Event.{Event}
 use Rattle.synic_board.specs.State.{State, processors, opened}
 use Rattle.synic_board.specs.Step.{step}
-use Rattle.synic_board.specs.Sound.{PayloadFits}
+use Rattle.synic_board.specs.Sound.{PayloadFits, IsSound}
 use Rattle.synic_board.specs.Run.{Run, run_of, Accounts}
-use Rattle.synic_board.proofs.keeping.Wholes.{IsIntact, KeepsMessages, kept_from_sound, tickets-conserved, messages-kept, keeps-nothing, messages-after}
+use Rattle.synic_board.proofs.keeping.Wholes.{IsIntact, KeepsMessages, kept_from_sound, sound_from_kept, tickets-conserved, messages-kept, keeps-nothing, messages-after}
 use Rattle.synic_board.proofs.keeping.Opened.{no-places, sound-opened}
 use Rattle.synic_board.proofs.keeping.Steps.{keeps-step}
 
@@ -19,13 +19,20 @@ keeps-run n s (e ∷ es) fit h =
     let first = keeps-step n s e (All-head PayloadFits e es fit) h in
     messages-after n s (now, (step s e).2) ((run_of now es).0, (run_of now es).2) first (keeps-run n now es (All-tail PayloadFits e es fit) first.kept)
 
-pub accounts : (n pages first : ℕ) (es : List Event) → All PayloadFits es → Accounts (opened n pages first) (run_of (opened n pages first) es)
-accounts n pages first es fit =
+-- every state that a board may come to is sound
+pub sound-run : (n pages first : ℕ) (es : List Event) → All PayloadFits es → IsSound (run_of (opened n pages first) es).0
+sound-run n pages first es fit =
     let s : State = opened n pages first in
     let r : Run = run_of s es in
     let sound = sound-opened n pages first in
     let k = keeps-run (processors s) s es fit (kept_from_sound s sound) in
+    sound_from_kept (processors s) r.0 k.kept (tickets-conserved s r.0 r.2 k.later k.conserves sound.tickets)
+
+pub accounts : (n pages first : ℕ) (es : List Event) → All PayloadFits es → Accounts (opened n pages first) (run_of (opened n pages first) es)
+accounts n pages first es fit =
+    let s : State = opened n pages first in
+    let k = keeps-run (processors s) s es fit (kept_from_sound s (sound-opened n pages first)) in
     record {
-      once = (tickets-conserved s r.0 r.2 k.later k.conserves sound.tickets).once;
+      once = (sound-run n pages first es fit).tickets.once;
       account = λ t. omega (arith, k.conserves t, no-places n pages first t);
     }
