@@ -1,5 +1,6 @@
 -- Which event flags an event tells of (TLFS, "Event Flags").
-use Rattle.std.specs.Prelude.{ℕ, Bool, true, false, not, ◌==◌, ◌&&◌, ◌||◌, List, [], ◌∷◌, Result, Ok, Err}
+use Rattle.std.specs.Prelude.{ℕ, Bool, true, false, not, ◌==◌, ◌&&◌, List, Result, Ok, Err}
+use Rattle.std.specs.List.{list_any}
 use Rattle.board_terms.specs.declared.notices.Notice.{Notice}
 use Rattle.board_terms.specs.declared.notices.Notice.TheVariants.{FlagSet}
 use Rattle.board_terms.specs.declared.refusal.Refusal.{Refusal}
@@ -17,8 +18,7 @@ tells_of_flag p i flag notice = false
 
 -- one of the notices tells that the flag was set
 abbrev pub is_flag_told : ℕ → ℕ → ℕ → List Notice → Bool
-is_flag_told p i flag [] = false
-is_flag_told p i flag (notice ∷ notices) = tells_of_flag p i flag notice || is_flag_told p i flag notices
+is_flag_told p i flag notices = list_any (tells_of_flag p i flag) notices
 
 -- where a signal through a port leads
 abbrev pub is_place : ℕ → ℕ → ℕ → Result (ℕ × ℕ × ℕ) Refusal → Bool

@@ -1,5 +1,6 @@
 -- Which requests of vectors an event tells of (SDM volume 3, "Interrupt Acceptance for Fixed Interrupts").
-use Rattle.std.specs.Prelude.{◌≡◌, ℕ, Bool, false, ◌==◌, ◌&&◌, ◌||◌, List, [], ◌∷◌, Some}
+use Rattle.std.specs.Prelude.{◌≡◌, ℕ, Bool, false, ◌==◌, ◌&&◌, List, Some}
+use Rattle.std.specs.List.{list_any}
 use Rattle.std.specs.FinSet as set
 use Rattle.board_terms.specs.declared.notices.Notice.{Notice}
 use Rattle.board_terms.specs.declared.notices.Notice.TheVariants.{Requested}
@@ -18,8 +19,7 @@ tells_of p v notice = false
 
 -- one of the notices tells of its request
 abbrev pub is_told : ℕ → ℕ → List Notice → Bool
-is_told p v [] = false
-is_told p v (notice ∷ notices) = tells_of p v notice || is_told p v notices
+is_told p v notices = list_any (tells_of p v) notices
 
 -- a processor that asks for its next vector takes v
 abbrev pub Takes : State → ℕ → ℕ → Type 0
