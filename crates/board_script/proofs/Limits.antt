@@ -1,7 +1,7 @@
 -- How much is read at most.
 use Rattle.std.proofs.Common.{◌≡◌, ℕ, List, Option, None, Some, refl, sym, subst}
 use Rattle.board_text.specs.Streams.{ReadsUpTo}
-use Rattle.line_driver.specs.Driving.{StopsAt}
+use Rattle.line_driver.specs.Driving.{ReadsNear}
 use Rattle.board_lines.specs.declared.fault.ScriptFault.{ScriptFault}
 use Rattle.board_script.specs.Streams.{Finishes, most_read, StopsNear}
 use Rattle.board_script.specs.declared.stream.ReplayEnd.{ReplayEnd}
@@ -25,6 +25,6 @@ done-near (Script line fault) r0 r1 w0 w1 ends = let off = ends.0 in cc
 done-near result r0 r1 w0 w1 ends = tt
 
 -- The line that is said is the one near which reading stopped.
-pub fault-near : (result : ReplayEnd) (line : ℕ) (fault : ScriptFault) (r0 r1 w0 w1 : Option (List ℕ)) → Finishes result (Some (line, fault)) w0 w1 → StopsAt line r0 r1 → StopsNear result r0 r1
-fault-near (Script l f) line fault r0 r1 w0 w1 ends near = let is = ends.0 in let same : (line, fault) ≡ (l, f) = cc in subst (λ (p : ℕ × ScriptFault). StopsAt p.0 r0 r1) same near
+pub fault-near : (result : ReplayEnd) (line : ℕ) (fault : ScriptFault) (r0 r1 w0 w1 : Option (List ℕ)) → Finishes result (Some (line, fault)) w0 w1 → ReadsNear line r0 r1 → StopsNear result r0 r1
+fault-near (Script l f) line fault r0 r1 w0 w1 ends near = let is = ends.0 in let same : (line, fault) ≡ (l, f) = cc in subst (λ (p : ℕ × ScriptFault). ReadsNear p.0 r0 r1) same near
 fault-near result line fault r0 r1 w0 w1 ends near = tt

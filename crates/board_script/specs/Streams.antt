@@ -4,7 +4,7 @@ use Rattle.std.specs.Option.{option_map}
 use Rattle.std.specs.Io.KnownBytes.{Consumes, Appends}
 use Rattle.synic_board.specs.State.{Held}
 use Rattle.board_lines.specs.Items.{Item}
-use Rattle.line_driver.specs.Driving.{StopsAt}
+use Rattle.line_driver.specs.Driving.{ReadsNear}
 use Rattle.line_driver.specs.declared.judge.Taken.{Taken}
 use Rattle.line_driver.specs.declared.judge.Taken.TheVariants as taken
 use Rattle.board_script.specs.Script.{item_in, item_fault, line_fault}
@@ -37,7 +37,7 @@ most_read end = 1073741824
 
 -- behind the line of a fault at most one block was read
 abbrev pub StopsNear : ReplayEnd → Option (List ℕ) → Option (List ℕ) → Type 0
-StopsNear (Script line fault) r0 r1 = StopsAt line r0 r1
+StopsNear (Script line fault) r0 r1 = ReadsNear line r0 r1
 StopsNear end r0 r1 = Unit {0}
 
 -- the fault's line was written, if there is one, or a part of it

@@ -8,7 +8,6 @@ use Rattle.board_text.specs.Lines.{IsOneLine, lines_of, rest_of, joined}
 use Rattle.board_text.proofs.LineLemmas.{AreLines, lines-front, lines-behind, joined-append, joined-snoc, cut}
 use Rattle.line_driver.specs.Judging.{Follows}
 use Rattle.line_driver.specs.Driving.{next_of, Ends, Stops, Sends, Drives}
-use Rattle.line_driver.proofs.Near.{IsAt as AnyAt}
 use Rattle.line_driver.specs.declared.driving.End.{End}
 use Rattle.line_driver.specs.declared.driving.End.TheVariants as ends
 use Rattle.board_trace.specs.Trace.{IsTrace, Begins}
@@ -136,12 +135,6 @@ pub at-line : (end : End (Unit {0})) (k : ℕ) → ((fault : Unit {0}) × (end �
 at-line end k (inl is) = rw is.1 refl
 at-line end k (inr (inl is)) = rw is refl
 at-line end k (inr (inr is)) = rw is refl
-
-pub at-any : (end : End (Unit {0})) (k : ℕ) → IsAt end k → AnyAt end k
-at-any (ends.Wrong line fault) k is = is
-at-any (ends.Long line) k is = is
-at-any (ends.Cut line) k is = is
-at-any end k is = absurd is
 
 some-on : (r : Option (List ℕ)) (P Q : List ℕ → Type 0) → ((text : List ℕ) → P text → Q text) → IfSome r P → IfSome r Q
 some-on None P Q f h = tt

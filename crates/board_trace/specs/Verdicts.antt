@@ -3,7 +3,7 @@ use Rattle.std.specs.Prelude.{◌≡◌, ◌⊎◌, ℕ, ◌+◌, ◌≤◌, ◌
 use Rattle.std.specs.Io.KnownBytes.{Appends}
 use Rattle.board_text.specs.Lines.{lines_of, joined}
 use Rattle.board_text.specs.Fields.{line_of}
-use Rattle.line_driver.specs.Driving.{StopsAt}
+use Rattle.line_driver.specs.Driving.{ReadsNear}
 use Rattle.board_trace.specs.Trace.{IsTrace, Begins}
 use Rattle.board_trace.specs.declared.check.Verdict.{Verdict}
 use Rattle.board_trace.specs.declared.check.Verdict.TheVariants as verdicts
@@ -57,5 +57,5 @@ most_read end = 1073741824
 
 -- behind the first wrong line at most one block was read
 abbrev pub StopsNear : CheckEnd → Option (List ℕ) → Option (List ℕ) → Type 0
-StopsNear (Refused k) r0 r1 = StopsAt k r0 r1
+StopsNear (Refused k) r0 r1 = ReadsNear k r0 r1
 StopsNear end r0 r1 = Unit {0}

@@ -1,7 +1,7 @@
 -- How much is read at most.
 use Rattle.std.proofs.Common.{◌≡◌, ℕ, List, Option, refl, sym, subst}
 use Rattle.board_text.specs.Streams.{ReadsUpTo}
-use Rattle.line_driver.specs.Driving.{StopsAt}
+use Rattle.line_driver.specs.Driving.{ReadsNear}
 use Rattle.board_lines.specs.declared.fault.ScriptFault.{ScriptFault}
 use Rattle.crew_script.specs.Crew.{Crew}
 use Rattle.crew_script.specs.Running.{Says, most_read, StopsNear, Refuses, Runs}
@@ -28,6 +28,6 @@ run-near (Script line fault) crew r0 r1 w0 w1 runs = absurd runs.1
 run-near result crew r0 r1 w0 w1 runs = tt
 
 -- The line that is said is the one near which reading stopped.
-pub fault-near : (result : CrewRun) (line : ℕ) (fault : ScriptFault) (r0 r1 w0 w1 : Option (List ℕ)) → Refuses result line fault w0 w1 → StopsAt line r0 r1 → StopsNear result r0 r1
-fault-near (Script l f) line fault r0 r1 w0 w1 refuses near = subst (λ n. StopsAt n r0 r1) (sym refuses.1.0) near
+pub fault-near : (result : CrewRun) (line : ℕ) (fault : ScriptFault) (r0 r1 w0 w1 : Option (List ℕ)) → Refuses result line fault w0 w1 → ReadsNear line r0 r1 → StopsNear result r0 r1
+fault-near (Script l f) line fault r0 r1 w0 w1 refuses near = subst (λ n. ReadsNear n r0 r1) (sym refuses.1.0) near
 fault-near result line fault r0 r1 w0 w1 refuses near = tt

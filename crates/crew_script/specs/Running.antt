@@ -10,7 +10,7 @@ use Rattle.board_threads.specs.Crew.{IsCrewed, HasEach, logs_of}
 use Rattle.board_threads.specs.Settling.{AreAbsorbed}
 use Rattle.board_lines.specs.Faults.{fault_text}
 use Rattle.board_lines.specs.declared.fault.ScriptFault.{ScriptFault}
-use Rattle.line_driver.specs.Driving.{StopsAt}
+use Rattle.line_driver.specs.Driving.{ReadsNear}
 use Rattle.board_trace.specs.Trace.{trace}
 use Rattle.crew_script.specs.Crew.{Crew, closed}
 use Rattle.crew_script.specs.Reading.{script_asks}
@@ -85,5 +85,5 @@ most_read end = 1073741824
 
 -- behind the line of a fault at most one block was read
 abbrev pub StopsNear : CrewRun → Option (List ℕ) → Option (List ℕ) → Type 0
-StopsNear (Script line fault) r0 r1 = StopsAt line r0 r1
+StopsNear (Script line fault) r0 r1 = ReadsNear line r0 r1
 StopsNear end r0 r1 = Unit {0}

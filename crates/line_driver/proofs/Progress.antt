@@ -1,5 +1,5 @@
 -- How far a drive has come.
-use Rattle.std.proofs.Common.{◌≡◌, ℕ, ◌+◌, ◌<◌, ◌≤◌, List, [], ◌∷◌, ◌++◌, length, length-append, take, append_assoc, append-nil, Option, refl, sym, ap, subst, ◌∙◌, arith}
+use Rattle.std.proofs.Common.{◌≡◌, ℕ, ◌+◌, ◌<◌, ◌≤◌, zero, suc, List, [], ◌∷◌, ◌++◌, length, length-append, take, append_assoc, append-nil, Option, refl, sym, ap, subst, ◌∙◌, arith}
 use Rattle.std.proofs.Math.Seq.{take-append_seam}
 use Rattle.std.specs.Io.KnownBytes.{Consumes, Appends, IsAtEnd}
 use Rattle.std.proofs.KnownBytes.{Consumes-nil, Consumes-trans, Consumes-whole, Appends-nil}
@@ -9,7 +9,7 @@ use Rattle.board_text.specs.Streams.{ReadsUpTo}
 use Rattle.board_text.proofs.LineLemmas.{lines_of-line, lines_of-more, rest_of-more, lines_of-rest, rest_of-rest, before_lines, before_rest, AreLines, lines-append, joined-snoc, lines_of-joined, rest_of-joined}
 use Rattle.line_driver.proofs.Budgets.{less_left, on-input}
 use Rattle.line_driver.specs.Judging.{Follows}
-use Rattle.line_driver.specs.Driving.{next_of, Ends, Stops, Sends, Drives, StopsNear}
+use Rattle.line_driver.specs.Driving.{next_of, Ends, Stops, Sends, Drives, ReadsNear}
 use Rattle.line_driver.specs.declared.driving.End.{End}
 use Rattle.line_driver.specs.declared.driving.End.TheVariants as ends
 
@@ -131,12 +131,44 @@ ends-last wrong number now front rest split empty = rw (split, empty) (refl, ref
 pub ends-cut : {J F : Type 0} (wrong : J → List ℕ → F → Type 0) (number : ℕ) (now : J) (front rest : List ℕ) → front ≡ rest → IsOneLine rest → 0 < length rest → length rest ≤ 640 → Ends wrong (ends.Cut number) number now now (lines_of front) (rest_of front)
 ends-cut wrong number now front rest split one some short = rw (split, lines_of-rest rest one, rest_of-rest rest one) (refl, refl, refl, some, short)
 
+take-more : (n : ℕ) (lines : List (List ℕ)) → length (joined (take n lines)) ≤ length (joined (take (suc n) lines))
+take-more zero lines = omega arith
+take-more (suc n) [] = omega arith
+take-more (suc n) (l ∷ lines) = let h = take-more n lines in omega (arith, h, length-append l (10 ∷ joined (take n lines)), length-append l (10 ∷ joined (take (suc n) lines)))
+
+-- Of a line that is not whole, or too long, only what waits was read.
+pub stops-in : {J : Type 0} {good : J → List ℕ → List ℕ → J → Type 0} {r0 r : Option (List ℕ)} {source : Held} {old now : J} {number : ℕ} {answers : List ℕ} (r1 : Option (List ℕ)) (came : List ℕ) → Progress good r0 r source old now number answers → Consumes r r1 came → length (source.waiting ++ came) ≤ 65536 → ReadsNear (number + 1) r0 r1
+stops-in {source = source} {number = number} r1 came h reads few =
+    let front = source.waiting ++ came in
+    let taken = joined h.lines ++ front in
+    let lines : take number (lines_of taken) ≡ h.lines = ap (take number) (lines_of-joined h.lines front h.each) ∙ ap (λ (n : ℕ). take n (h.lines ++ lines_of front)) h.counted ∙ take-append_seam h.lines (lines_of front) in
+    let long = ap (λ (x : List (List ℕ)). length (joined x)) lines in
+    let next : suc number ≡ number + 1 = omega arith in
+    let more : length (joined (take number (lines_of taken))) ≤ length (joined (take (number + 1) (lines_of taken))) = subst (λ (n : ℕ). length (joined (take number (lines_of taken))) ≤ length (joined (take n (lines_of taken)))) next (take-more number (lines_of taken)) in
+    record {
+      taken = taken;
+      before = number;
+      reads = reads-on r1 came h reads;
+      number = refl;
+      behind_line = omega (arith, few, long, more, length-append (joined h.lines) front);
+      behind_part = omega (arith, few, long, length-append (joined h.lines) front);
+    }
+
 -- Behind the wrong line only what waits was read.
-pub stops-near : {J F : Type 0} {good : J → List ℕ → List ℕ → J → Type 0} {r0 r : Option (List ℕ)} {source : Held} {old now : J} {number : ℕ} {answers : List ℕ} (fault : F) (r1 : Option (List ℕ)) (left : Held) (came : List ℕ) → Progress good r0 r source old now number answers → Consumes r r1 came → source.waiting ++ came ≡ left.line ++ 10 ∷ left.waiting → IsOneLine left.line → length left.waiting ≤ 65536 → StopsNear (ends.Wrong (number + 1) fault) r0 r1
-stops-near {source = source} {number = number} fault r1 left came h reads split one few =
-    let taken = joined h.lines ++ (source.waiting ++ came) in
+pub stops-behind : {J : Type 0} {good : J → List ℕ → List ℕ → J → Type 0} {r0 r : Option (List ℕ)} {source : Held} {old now : J} {number : ℕ} {answers : List ℕ} (r1 : Option (List ℕ)) (left : Held) (came : List ℕ) → Progress good r0 r source old now number answers → Consumes r r1 came → source.waiting ++ came ≡ left.line ++ 10 ∷ left.waiting → IsOneLine left.line → length left.line ≤ 640 → length left.waiting ≤ 65536 → ReadsNear (number + 1) r0 r1
+stops-behind {source = source} {number = number} r1 left came h reads split one short few =
+    let front = source.waiting ++ came in
+    let taken = joined h.lines ++ front in
     let all = h.lines ++ left.line ∷ [] in
     let cut : taken ≡ joined all ++ left.waiting = ap (λ (x : List ℕ). joined h.lines ++ x) split ∙ sym (joined-snoc h.lines left.line left.waiting) in
     let count : number + 1 ≡ length all = omega (arith, h.counted, length-append h.lines (left.line ∷ [])) in
-    let front : take (number + 1) (lines_of taken) ≡ all = ap (λ (x : List ℕ). take (number + 1) (lines_of x)) cut ∙ ap (take (number + 1)) (lines_of-joined all left.waiting (lines-append h.lines (left.line ∷ []) h.each (one, tt))) ∙ ap (λ (n : ℕ). take n (all ++ lines_of left.waiting)) count ∙ take-append_seam all (lines_of left.waiting) in
-    (taken, reads-on r1 came h reads, rw front (omega (arith, few, ap length cut, length-append (joined all) left.waiting)))
+    let lines : take number (lines_of taken) ≡ h.lines = ap (take number) (lines_of-joined h.lines front h.each) ∙ ap (λ (n : ℕ). take n (h.lines ++ lines_of front)) h.counted ∙ take-append_seam h.lines (lines_of front) in
+    let whole : take (number + 1) (lines_of taken) ≡ all = ap (λ (x : List ℕ). take (number + 1) (lines_of x)) cut ∙ ap (take (number + 1)) (lines_of-joined all left.waiting (lines-append h.lines (left.line ∷ []) h.each (one, tt))) ∙ ap (λ (n : ℕ). take n (all ++ lines_of left.waiting)) count ∙ take-append_seam all (lines_of left.waiting) in
+    record {
+      taken = taken;
+      before = number;
+      reads = reads-on r1 came h reads;
+      number = refl;
+      behind_line = omega (arith, few, ap (λ (x : List (List ℕ)). length (joined x)) whole, ap length cut, length-append (joined all) left.waiting);
+      behind_part = omega (arith, few, short, ap (λ (x : List (List ℕ)). length (joined x)) lines, ap length split, length-append left.line (10 ∷ left.waiting), length-append (joined h.lines) front);
+    }

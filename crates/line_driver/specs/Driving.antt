@@ -1,5 +1,5 @@
 -- From the lines of an input to how a drive over them ends.
-use Rattle.std.specs.Prelude.{◌≡◌, ◌⊎◌, ℕ, ◌+◌, ◌≤◌, ◌<◌, List, [], ◌∷◌, ◌++◌, length, take, drop, Option, IfSome}
+use Rattle.std.specs.Prelude.{◌≡◌, ℕ, ◌+◌, ◌≤◌, ◌<◌, List, [], ◌∷◌, ◌++◌, length, take, Option, IfSome}
 use Rattle.std.specs.Io.KnownBytes.{Consumes, Appends}
 use Rattle.board_text.specs.Lines.{lines_of, rest_of, joined}
 use Rattle.line_driver.specs.Judging.{Follows}
@@ -51,19 +51,19 @@ abbrev pub most_of : {F : Type 0} → End F → ℕ
 most_of ends.Reading = 1073741825
 most_of end = 1073741824
 
--- At most one block, of 65,536 bytes, was read behind line k.
-abbrev pub ReadsNear : ℕ → Option (List ℕ) → Option (List ℕ) → Type 0
-ReadsNear k r0 r1 = (taken : List ℕ) × Consumes r0 r1 taken × (length taken ≤ length (joined (take k (lines_of taken))) + 65536)
+-- At most one block, of 65,536 bytes, was read behind line k, and behind its first 641 bytes.
+pub record ReadsNear (k : ℕ) (r0 r1 : Option (List ℕ)) : Type 0 where
+  pub taken : List ℕ
+  pub before : ℕ
+  pub reads : Consumes r0 r1 taken
+  pub number : k ≡ before + 1
+  pub behind_line : length taken ≤ length (joined (take k (lines_of taken))) + 65536
+  pub behind_part : length taken ≤ length (joined (take before (lines_of taken))) + 641 + 65536
 
--- so it was behind a wrong line
+-- so it was behind the line that a drive ends at
 abbrev pub StopsNear : {F : Type 0} → End F → Option (List ℕ) → Option (List ℕ) → Type 0
+StopsNear (ends.Last line) r0 r1 = ReadsNear line r0 r1
 StopsNear (ends.Wrong line fault) r0 r1 = ReadsNear line r0 r1
+StopsNear (ends.Long line) r0 r1 = ReadsNear line r0 r1
+StopsNear (ends.Cut line) r0 r1 = ReadsNear line r0 r1
 StopsNear end r0 r1 = Unit {0}
-
--- Line k of the text has more than 640 bytes, those behind the last line feed being a line too.
-abbrev pub IsLong : ℕ → List ℕ → Type 0
-IsLong k text = (before : ℕ) × (k ≡ before + 1) × (before ≤ length (lines_of text)) × (640 < length (next_of (drop before (lines_of text)) (rest_of text)))
-
--- Reading stopped near line k, unless that line of the input is too long.
-abbrev pub StopsAt : ℕ → Option (List ℕ) → Option (List ℕ) → Type 0
-StopsAt k r0 r1 = ReadsNear k r0 r1 ⊎ IfSome r0 (IsLong k)

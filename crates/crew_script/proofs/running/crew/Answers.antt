@@ -7,7 +7,6 @@ use Rattle.crew_script.specs.View.{crew_of, asked}
 use Rattle.crew_script.specs.Running.{Refusal, Report, Runs}
 use Rattle.crew_script.specs.declared.judge.CrewJudge.{CrewJudge}
 use Rattle.crew_script.specs.declared.running.CrewRun.TheVariants.{Memory}
-use Rattle.line_driver.proofs.Near.{stops-at}
 use Rattle.crew_script.proofs.Limits.{within, run-near, fault-near}
 use Rattle.crew_script.proofs.Good.{AllGood, all-good}
 use Rattle.crew_script.proofs.Reading.{nothing-sent, asked-for, no-board, wrong, long, cut}
@@ -61,25 +60,25 @@ pub returns-in-Last-clause-limit : goal.returns-in-Last-clause-limit
 returns-in-Last-clause-limit g c = within _ (Refusal c.in-Last.line faults.First) _ _ _ _ (λ _ none. none) c.refuse.ensures c.in-Last.ensures.limit
 
 pub returns-in-Last-clause-near : goal.returns-in-Last-clause-near
-returns-in-Last-clause-near g c = fault-near _ _ _ _ _ _ _ c.refuse.ensures (stops-at (ends.Last c.in-Last.line) _ _ _ _ _ refl c.in-Last.ensures.lines c.in-Last.ensures.near)
+returns-in-Last-clause-near g c = fault-near _ _ _ _ _ _ _ c.refuse.ensures c.in-Last.ensures.near
 
 pub returns-in-Wrong-clause-limit : goal.returns-in-Wrong-clause-limit
 returns-in-Wrong-clause-limit g c = within _ (Refusal c.in-Wrong.line c.in-Wrong.fault) _ _ _ _ (λ _ none. none) c.refuse-in-Wrong.ensures c.in-Wrong.ensures.limit
 
 pub returns-in-Wrong-clause-near : goal.returns-in-Wrong-clause-near
-returns-in-Wrong-clause-near g c = fault-near _ _ _ _ _ _ _ c.refuse-in-Wrong.ensures (stops-at (ends.Wrong c.in-Wrong.line c.in-Wrong.fault) _ _ _ _ _ refl c.in-Wrong.ensures.lines c.in-Wrong.ensures.near)
+returns-in-Wrong-clause-near g c = fault-near _ _ _ _ _ _ _ c.refuse-in-Wrong.ensures c.in-Wrong.ensures.near
 
 pub returns-in-Long-clause-limit : goal.returns-in-Long-clause-limit
 returns-in-Long-clause-limit g c = within _ (Refusal c.in-Long.line faults.Long) _ _ _ _ (λ _ none. none) c.refuse-in-Long.ensures c.in-Long.ensures.limit
 
 pub returns-in-Long-clause-near : goal.returns-in-Long-clause-near
-returns-in-Long-clause-near g c = fault-near _ _ _ _ _ _ _ c.refuse-in-Long.ensures (stops-at (ends.Long c.in-Long.line) _ _ _ _ _ refl c.in-Long.ensures.lines c.in-Long.ensures.near)
+returns-in-Long-clause-near g c = fault-near _ _ _ _ _ _ _ c.refuse-in-Long.ensures c.in-Long.ensures.near
 
 pub returns-in-Cut-clause-limit : goal.returns-in-Cut-clause-limit
 returns-in-Cut-clause-limit g c = within _ (Refusal c.in-Cut.line faults.Cut) _ _ _ _ (λ _ none. none) c.refuse-in-Cut.ensures c.in-Cut.ensures.limit
 
 pub returns-in-Cut-clause-near : goal.returns-in-Cut-clause-near
-returns-in-Cut-clause-near g c = fault-near _ _ _ _ _ _ _ c.refuse-in-Cut.ensures (stops-at (ends.Cut c.in-Cut.line) _ _ _ _ _ refl c.in-Cut.ensures.lines c.in-Cut.ensures.near)
+returns-in-Cut-clause-near g c = fault-near _ _ _ _ _ _ _ c.refuse-in-Cut.ensures c.in-Cut.ensures.near
 
 pub returns-in-Long-clause-text : goal.returns-in-Long-clause-text
 returns-in-Long-clause-text g c =

@@ -3,7 +3,7 @@ use Rattle.std.proofs.KnownBytes.{Consumes-nil, Appends-kept, Appends-trans}
 use Rattle.std.proofs.lemmas.Bool.Decides.{Decides-eqb, not_from_Decides}
 use Rattle.std.proofs.lemmas.List.{take-append-drop, length-take-le}
 use Rattle.line_driver.proofs.Budgets.{smaller}
-use Rattle.line_driver.proofs.Progress.{standing-start, few-lines, progress-line, within, drives-on, drives-end, ends-wrong, ends-long, ends-last, ends-cut, stops-near}
+use Rattle.line_driver.proofs.Progress.{standing-start, few-lines, progress-line, within, drives-on, drives-end, ends-wrong, ends-long, ends-last, ends-cut, stops-in, stops-behind}
 use Rattle.line_driver.proofs.driving.drive.Goals as goal
 
 empty_by : (xs : List ℕ) → length xs ≡ 0 → xs ≡ []
@@ -65,7 +65,7 @@ returns-in-Wrong g c =
     record {
       lines = drives-on t.0 h.answers h.progress t.1 (Appends-kept _ _ _ h.answers h.writes c.in-Whole.ensures.written) refl (λ ys. ends-wrong g.J.Judge.wrong (c.loop-out.line + 1) c.in-Wrong.fault c.loop-out.judge c.take.new.self (c.loop-out.source.waiting ++ t.0) line c.next_line-found.new.self.waiting ys t.2.0 t.2.1 t.2.2 a);
       limit = within _ t.0 1073741824 h.progress t.1 (omega (arith, t.2.3));
-      near = stops-near c.in-Wrong.fault _ c.next_line-found.new.self t.0 h.progress t.1 t.2.0 t.2.1 t.2.4;
+      near = stops-behind _ c.next_line-found.new.self t.0 h.progress t.1 t.2.0 t.2.1 t.2.2 t.2.4;
     }
 
 pub returns-in-Memory : goal.returns-in-Memory
@@ -87,7 +87,7 @@ returns-in-Long g c =
     record {
       lines = drives-on t.0 h.answers h.progress t.1 (Appends-kept _ _ _ h.answers h.writes c.in-Long.ensures.written) refl (λ ys. ends-long g.J.Judge.wrong (c.loop-out.line + 1) c.loop-out.judge (c.loop-out.source.waiting ++ t.0) (take 641 w) (drop 641 w) ys (sym t.2.0.0 ∙ sym (take-append-drop 641 w)) t.2.1 long);
       limit = within _ t.0 1073741824 h.progress t.1 (omega (arith, t.2.0.1));
-      near = tt;
+      near = stops-in _ t.0 h.progress t.1 (omega (arith, ap length t.2.0.0, t.2.3));
     }
 
 pub returns-then-is_empty : goal.returns-then-is_empty
@@ -100,7 +100,7 @@ returns-then-is_empty g c =
     record {
       lines = drives-end t.0 h.answers h.progress t.1 t.2.2 (Appends-kept _ _ _ h.answers h.writes c.in-Last.ensures.written) refl (ends-last g.J.Judge.wrong (c.loop-out.line + 1) c.loop-out.judge (c.loop-out.source.waiting ++ t.0) line t.2.0 empty);
       limit = within _ t.0 1073741824 h.progress t.1 (omega (arith, t.2.5));
-      near = tt;
+      near = stops-in _ t.0 h.progress t.1 (omega (arith, ap length t.2.0, t.2.4));
     }
 
 pub returns-in-Last : goal.returns-in-Last
@@ -113,7 +113,7 @@ returns-in-Last g c =
     record {
       lines = drives-end t.0 h.answers h.progress t.1 t.2.2 (Appends-kept _ _ _ h.answers h.writes c.in-Last.ensures.written) refl (ends-cut g.J.Judge.wrong (c.loop-out.line + 1) c.loop-out.judge (c.loop-out.source.waiting ++ t.0) line t.2.0 t.2.3 (omega (arith, not_empty)) t.2.4);
       limit = within _ t.0 1073741824 h.progress t.1 (omega (arith, t.2.5));
-      near = tt;
+      near = stops-in _ t.0 h.progress t.1 (omega (arith, ap length t.2.0, t.2.4));
     }
 
 pub returns-in-ReadFailed : goal.returns-in-ReadFailed

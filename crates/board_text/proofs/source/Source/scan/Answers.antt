@@ -1,4 +1,4 @@
-use Rattle.std.proofs.Common.{◌+◌, ◌-◌, drop, refl, sym, ap, ◌∙◌, arith}
+use Rattle.std.proofs.Common.{◌+◌, ◌-◌, drop, length, refl, sym, ap, ◌∙◌, arith}
 use Rattle.board_text.proofs.SourceLemmas.{near-line, near-all, near-long, take_short}
 use Rattle.board_text.proofs.source.Source.scan.Goals as goal
 
@@ -19,7 +19,8 @@ returns-then-near-gt-LONGEST c =
     let value = c.deref.ensures.value in
     let waiting = ap (λ h. h.waiting) c.self.view_is in
     let found = rw waiting at (near-long i.bytes.items i.at i.end c.min.result c.self.invariant.2 (rw value at c.min.ensures) (rw value at c.in_default.ensures) (rw value at c.if-near-gt-LONGEST.true)) in
-    (found.0, found.1, refl)
+    let few = take_short (i.end - i.at) (drop i.at i.bytes.items) in
+    (found.0, found.1, omega (arith, few, ap length waiting, c.self.invariant.3), refl)
 
 pub returns : goal.returns
 returns c =
