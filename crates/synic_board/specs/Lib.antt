@@ -21,6 +21,7 @@ pub mod Requests
 pub mod Slots
 pub mod Flags
 pub mod OneShots
+pub mod Periods
 pub mod Order
 pub mod Places
 pub mod Run
