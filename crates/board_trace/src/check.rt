@@ -1,5 +1,5 @@
 // The check of a trace.
-ghost use Rattle.std.specs.Prelude.{◌≡◌, ◌++◌, [], OnOk};
+ghost use Rattle.std.specs.Prelude.{◌≡◌, ◌++◌, OnOk};
 ghost use Rattle.board_text.specs.Streams.{ReadsUpTo};
 ghost use Rattle.board_trace.specs.Verdicts.{Checks, Says, most_read, StopsNear, verdict_text};
 

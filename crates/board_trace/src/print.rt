@@ -3,8 +3,8 @@ ghost use Rattle.std.specs.Prelude.{◌≡◌, ◌++◌, [], ◌∷◌, OnOk};
 ghost use Rattle.std.specs.List.{All};
 ghost use Rattle.board_text.specs.Fields.{words, line_of};
 ghost use Rattle.board_lines.specs.Items.{Opening, item_fields};
-ghost use Rattle.board_lines.specs.Printing.{text_of, reply_fields};
-ghost use Rattle.board_trace.specs.Trace.{IsEntry, entry_fields, end_fields, history_lines, trace};
+ghost use Rattle.board_lines.specs.Printing.{text_of};
+ghost use Rattle.board_trace.specs.Trace.{IsEntry, end_fields, history_lines, trace};
 
 use board_lines::{put_event, put_reply};
 use board_terms::Ticket;

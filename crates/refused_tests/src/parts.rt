@@ -13,7 +13,10 @@ fn a_space_is_opened(rt: HostRuntime) -> Result<(), Fail> {
             Space::open(rt.alloc(), 8, 64)?
         }
     };
-    assert_eq!(rt; (space.owner(63), space.owner(64)), (Owner::Guest, Owner::Nothing));
+    assert_eq!(rt;
+        (space.owner(63), space.owner(64)),
+        (Owner::Guest, Owner::Nothing)
+    );
     assert!(rt; space.sim(Vp::new(7).unwrap()).iter().all(|byte| *byte == 0));
     Ok(())
 }
@@ -27,7 +30,10 @@ fn queues_are_opened(rt: HostRuntime) -> Result<(), Fail> {
             Queues::open(rt.alloc(), 8)?
         }
     };
-    assert_eq!(rt; queues.count(Vp::new(7).unwrap(), Sint::new(15).unwrap()), 0);
+    assert_eq!(rt;
+        queues.count(Vp::new(7).unwrap(), Sint::new(15).unwrap()),
+        0
+    );
     assert_eq!(rt; queues.port_used(15), 0);
     Ok(())
 }
