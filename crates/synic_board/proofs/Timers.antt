@@ -16,7 +16,7 @@ use Rattle.synic_regs.specs.Registers.{register_of}
 use Rattle.synic_regs.specs.declared.register.Register.{Register}
 use Rattle.synic_regs.specs.declared.register.Register.TheVariants.{TimerConfig, TimerCount}
 use Rattle.stimer_bank.specs.declared.timer.Timer.{Timer}
-use Rattle.stimer_bank.specs.Timer.{is_due, after_expiry}
+use Rattle.stimer_bank.specs.Timer.{after_config, after_count, is_due, after_expiry}
 use Rattle.stimer_bank.specs.Bank.{idle_timer, timer_in, with_timer, with_config, with_count}
 use Rattle.synic_board.specs.declared.event.Event.{Event}
 use Rattle.synic_board.specs.declared.event.Event.TheVariants.{Write, Signal}
@@ -169,8 +169,8 @@ of-timer-answers t P Q h k = record {
   acts = λ s event reply moment ports regs e _ g. from s _ event reply e refl g;
   eases = λ s event reply p a _ _. silent s _ event reply refl;
   stores = λ s address bytes e g. from s _ _ _ e refl g;
-  configures = configures;
-  counts = counts;
+  configures = λ s p n number value e is g. writes s (Write p number value) (p, n) (after_config (timer_in (bank_of s) (p, n)) value s.moment) e g (λ same. k.configures s p n number value e is same g);
+  counts = λ s p n number value e is g. writes s (Write p number value) (p, n) (after_count (timer_in (bank_of s) (p, n)) value s.moment) e g (λ same. k.counts s p n number value e is same g);
   repeats = λ s port flag p i f _ _. silent s (with_flag s p i f) _ _ refl;
   signals = λ s port flag p i f _ _ g. let lit : State = with_flag s p i f in k.acts s (Signal port flag) FlagWasClear (after (flagged s p i f) (raised lit p i)) (h.joins s (flagged s p i f) (raised lit p i) (h.still s (flagged s p i f) refl refl refl) g);
 }
@@ -182,19 +182,13 @@ of-timer-answers t P Q h k = record {
     silent : (s now : State) (event : Event) (reply : Reply) → timer_in (bank_of now) t ≡ timer_in (bank_of s) t → Q s event (answered reply (nothing now))
     silent s now event reply same = k.acts s event reply (nothing now) (h.still s (nothing now) same refl refl)
 
-    configures : (s : State) (p n number value : ℕ) (e : Effect) → register_of number ≡ Some (TimerConfig n) → P (with_bank s (with_config (bank_of s) (p, n) value s.moment)) e → Q s (Write p number value) (answered Done e)
-    configures s p n number value e is g = by (cases_eq (number_of (p, n)) (number_of t))
+    -- an effect behind a write of a timer, of this one or another
+    writes : (s : State) (event : Event) (u : ℕ × ℕ) (x : Timer) (e : Effect) → P (replaced s u x) e → (number_of u ≡ number_of t → Q s event (answered Done e)) → Q s event (answered Done e)
+    writes s event u x e g here = by (cases_eq (number_of u) (number_of t))
       where
-        by : (number_of (p, n) ≡ number_of t) ⊎ (number_of (p, n) ≢ number_of t) → Q s (Write p number value) (answered Done e)
-        by (inl same) = k.configures s p n number value e is same g
-        by (inr ne) = from s (with_bank s (with_config (bank_of s) (p, n) value s.moment)) (Write p number value) Done e (replaced-other s t (p, n) _ ne) g
-
-    counts : (s : State) (p n number value : ℕ) (e : Effect) → register_of number ≡ Some (TimerCount n) → P (with_bank s (with_count (bank_of s) (p, n) value s.moment)) e → Q s (Write p number value) (answered Done e)
-    counts s p n number value e is g = by (cases_eq (number_of (p, n)) (number_of t))
-      where
-        by : (number_of (p, n) ≡ number_of t) ⊎ (number_of (p, n) ≢ number_of t) → Q s (Write p number value) (answered Done e)
-        by (inl same) = k.counts s p n number value e is same g
-        by (inr ne) = from s (with_bank s (with_count (bank_of s) (p, n) value s.moment)) (Write p number value) Done e (replaced-other s t (p, n) _ ne) g
+        by : (number_of u ≡ number_of t) ⊎ (number_of u ≢ number_of t) → Q s event (answered Done e)
+        by (inl same) = here same
+        by (inr ne) = from s (replaced s u x) event Done e (replaced-other s t u x ne) g
 
 -- and of every event
 pub throughout-timer : (t : ℕ × ℕ) (P : State → Effect → Type 0) (Q : State → Event → Outcome → Type 0) → OfTimer t P → OfTimerAnswers t P Q → (s : State) (event : Event) → Q s event (step s event)
