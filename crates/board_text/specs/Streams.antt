@@ -33,8 +33,9 @@ Scans scans.Long old new = IsOneLine (take 641 old.waiting) × (641 ≤ length o
 Scans scans.Short old new = IsOneLine old.waiting × (length old.waiting ≤ 640) × (new ≡ old)
 
 -- A line of at most 640 bytes and its line feed were taken, and what waits behind it fits the memory;
--- or 641 bytes without one wait, and what waits fits the memory; or the input is at its end, and what was left of it is the line; or
--- a read or a flush failed. One byte more than the budget may be read, to see that it is there.
+-- or 641 bytes without one wait, and what waits fits the memory; or the input is at its end, and what
+-- was left of it is the line; or a read or a flush failed. One byte more than the budget may be read,
+-- to see that it is there.
 abbrev pub Finds : NextLine → Type 0 → Held → Held → List ℕ → Type 0
 Finds ends.Whole at_end old new came = (old.waiting ++ came ≡ new.line ++ 10 ∷ new.waiting) × IsOneLine new.line × (length new.line ≤ 640) × (length came + new.budget ≡ old.budget) × (length new.waiting ≤ 65536)
 Finds ends.Long at_end old new came = Grows old new came × IsOneLine (take 641 new.waiting) × (641 ≤ length new.waiting) × (length new.waiting ≤ 65536)
