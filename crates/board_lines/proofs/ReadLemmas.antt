@@ -8,11 +8,11 @@ use Rattle.board_text.specs.Numbers.{hex, two_digits, byte_at}
 use Rattle.board_text.specs.Fields.{fields_of, words}
 use Rattle.board_text.proofs.NumberLemmas.{decimal_at-spelled, decimal_at-only, hex_at-spelled, hex_at-only, byte_at-spelled, byte_at-only}
 use Rattle.synic_board.specs.declared.event.Event.{Event}
-use Rattle.synic_board.specs.declared.event.Event.TheVariants.{OpenPort, ClosePort, Write, Read, Post, Signal, Assert, Absorb, Store, Load, Tick, Take}
+use Rattle.synic_board.specs.declared.event.Event.TheVariants.{OpenPort, ClosePort, Write, Read, Post, Signal, Assert, Absorb, Store, Load, Tick, Take, Suspend, Resume, Reset}
 use Rattle.board_terms.specs.declared.messages.PortShape.TheVariants.{Messages, Flags}
 use Rattle.board_lines.specs.Events.{event_fields, bytes_text, IsVector, IsEvent}
 use Rattle.board_lines.specs.Items.{Item, Opening, Performs, Summary, item_fields, IsItem, Means}
-use Rattle.board_lines.specs.Reading.{Fields, take_then, ended, u8_at, u16_at, bytes_at, u64_at, hex_u32_at, hex_u64_at, from_16, vector_at, messages_say, flags_say, shape_say, open_say, close_say, write_say, read_say, post_say, signal_say, assert_say, absorb_say, store_say, load_say, tick_say, take_say, opening_say, event_say, item_say, item_at}
+use Rattle.board_lines.specs.Reading.{Fields, take_then, ended, u8_at, u16_at, bytes_at, u64_at, hex_u32_at, hex_u64_at, from_16, vector_at, messages_say, flags_say, shape_say, open_say, close_say, write_say, read_say, post_say, signal_say, assert_say, absorb_say, store_say, load_say, tick_say, processor_say, take_say, suspend_say, resume_say, reset_say, opening_say, event_say, item_say, item_at}
 use Rattle.board_lines.proofs.ByteFields.{bytes_at-only, bytes_at-spelled}
 
 -- What was read tells what stood there.
@@ -102,12 +102,24 @@ absorb-says fs event =
     let h = u8-only a vp read in let h' = u8-only b part read' in let h'' = hex_u64-only c bits read'' in
     rw (at, at', at'', none, h.1, h'.1, h''.1, ← is) (record { same = refl; fits = (h.0, h'.0, h''.0) })))))
 
+processor-says : (fs : Fields) (vp : ℕ) → processor_say fs ≡ Some vp → (fs ≡ decimal vp ∷ []) × (vp < 256)
+processor-says fs vp =
+    then-some u8_at ended fs vp ((fs ≡ decimal vp ∷ []) × (vp < 256)) (λ a n more at read.
+    ended-some n more vp ((fs ≡ decimal vp ∷ []) × (vp < 256)) (λ none is.
+    let h = u8-only a n read in
+    rw (at, none, h.1, ← is) (refl, h.0)))
+
 take-says : (fs : Fields) (event : Event) → take_say fs ≡ Some event → Says (codes "take" ∷ fs) event
-take-says fs event =
-    then-some u8_at _ fs event (Says (codes "take" ∷ fs) event) (λ a vp more at read.
-    ended-some (Take vp) more event (Says (codes "take" ∷ fs) event) (λ none is.
-    let h = u8-only a vp read in
-    rw (at, none, h.1, ← is) (record { same = refl; fits = h.0 })))
+take-says fs event = mapped Take (processor_say fs) event (Says (codes "take" ∷ fs) event) (λ vp said same. let h = processor-says fs vp said in rw (h.0, ← same) (record { same = refl; fits = h.1 }))
+
+suspend-says : (fs : Fields) (event : Event) → suspend_say fs ≡ Some event → Says (codes "suspend" ∷ fs) event
+suspend-says fs event = mapped Suspend (processor_say fs) event (Says (codes "suspend" ∷ fs) event) (λ vp said same. let h = processor-says fs vp said in rw (h.0, ← same) (record { same = refl; fits = h.1 }))
+
+resume-says : (fs : Fields) (event : Event) → resume_say fs ≡ Some event → Says (codes "resume" ∷ fs) event
+resume-says fs event = mapped Resume (processor_say fs) event (Says (codes "resume" ∷ fs) event) (λ vp said same. let h = processor-says fs vp said in rw (h.0, ← same) (record { same = refl; fits = h.1 }))
+
+reset-says : (fs : Fields) (event : Event) → reset_say fs ≡ Some event → Says (codes "reset" ∷ fs) event
+reset-says fs event = mapped Reset (processor_say fs) event (Says (codes "reset" ∷ fs) event) (λ vp said same. let h = processor-says fs vp said in rw (h.0, ← same) (record { same = refl; fits = h.1 }))
 
 messages-says : (port : ℕ) → port < 256 → (fs : Fields) (event : Event) → messages_say port fs ≡ Some event → Says (codes "open" ∷ decimal port ∷ codes "message" ∷ fs) event
 messages-says port in_range fs event =
@@ -205,7 +217,10 @@ event-says (word ∷ fs) event e =
     (yes (bytes_eq word (codes "store")) (store_say fs) _ event (Says (word ∷ fs) event) (λ is e. worded (λ w. Says (w ∷ fs) event) word (codes "store") is (store-says fs event e))
     (yes (bytes_eq word (codes "load")) (load_say fs) _ event (Says (word ∷ fs) event) (λ is e. worded (λ w. Says (w ∷ fs) event) word (codes "load") is (load-says fs event e))
     (yes (bytes_eq word (codes "tick")) (tick_say fs) _ event (Says (word ∷ fs) event) (λ is e. worded (λ w. Says (w ∷ fs) event) word (codes "tick") is (tick-says fs event e))
-    (yes (bytes_eq word (codes "take")) (take_say fs) None event (Says (word ∷ fs) event) (λ is e. worded (λ w. Says (w ∷ fs) event) word (codes "take") is (take-says fs event e)) (λ e. cc)))))))))))) e
+    (yes (bytes_eq word (codes "take")) (take_say fs) _ event (Says (word ∷ fs) event) (λ is e. worded (λ w. Says (w ∷ fs) event) word (codes "take") is (take-says fs event e))
+    (yes (bytes_eq word (codes "suspend")) (suspend_say fs) _ event (Says (word ∷ fs) event) (λ is e. worded (λ w. Says (w ∷ fs) event) word (codes "suspend") is (suspend-says fs event e))
+    (yes (bytes_eq word (codes "resume")) (resume_say fs) _ event (Says (word ∷ fs) event) (λ is e. worded (λ w. Says (w ∷ fs) event) word (codes "resume") is (resume-says fs event e))
+    (yes (bytes_eq word (codes "reset")) (reset_say fs) None event (Says (word ∷ fs) event) (λ is e. worded (λ w. Says (w ∷ fs) event) word (codes "reset") is (reset-says fs event e)) (λ e. cc))))))))))))))) e
 
 -- What is written so is read so.
 pub u8-spelled : (n : ℕ) → n < 256 → u8_at (decimal n) ≡ Some n
@@ -229,6 +244,9 @@ vector-spelled v h = ap (option_and_then from_16) (byte_at-spelled v h.1) ∙ ap
 pub then-read : {A B : Type 0} (read : List ℕ → Option B) (next : B → Fields → Option A) (field : List ℕ) (n : B) (rest : Fields) → read field ≡ Some n → take_then read next (field ∷ rest) ≡ next n rest
 then-read {A} {B} read next field n rest e = ap (λ (r : Option B). option_and_then (λ (p : B × Fields). next p.0 p.1) (option_map (λ (m : B). (m, rest)) r)) e
 
+processor-spelled : (vp : ℕ) → vp < 256 → processor_say (decimal vp ∷ []) ≡ Some vp
+processor-spelled vp h = then-read u8_at ended (decimal vp) vp [] (u8-spelled vp h)
+
 pub says-event : (event : Event) → IsEvent event → event_say (event_fields event) ≡ Some event
 says-event (OpenPort port vp sint (Messages buffers)) h = then-read u8_at shape_say (decimal port) port _ (u8-spelled port h.0) ∙ then-read u8_at _ (decimal vp) vp _ (u8-spelled vp h.1) ∙ then-read u8_at _ (decimal sint) sint _ (u8-spelled sint h.2) ∙ then-read u8_at _ (decimal buffers) buffers [] (u8-spelled buffers h.3)
 says-event (OpenPort port vp sint (Flags base count)) h = then-read u8_at shape_say (decimal port) port _ (u8-spelled port h.0) ∙ then-read u8_at _ (decimal vp) vp _ (u8-spelled vp h.1) ∙ then-read u8_at _ (decimal sint) sint _ (u8-spelled sint h.2) ∙ then-read u16_at _ (decimal base) base _ (u16-spelled base h.3.0) ∙ then-read u16_at _ (decimal count) count [] (u16-spelled count h.3.1)
@@ -242,7 +260,10 @@ says-event (Write vp register value) h = then-read u8_at _ (decimal vp) vp _ (u8
 says-event (Read vp register) h = then-read u8_at _ (decimal vp) vp _ (u8-spelled vp h.0) ∙ then-read hex_u32_at _ (hex register) register [] (hex_u32-spelled register h.1)
 says-event (Assert vp vector) h = then-read u8_at _ (decimal vp) vp _ (u8-spelled vp h.0) ∙ then-read vector_at _ (two_digits vector) vector [] (vector-spelled vector h.1)
 says-event (Absorb vp part bits) h = then-read u8_at _ (decimal vp) vp _ (u8-spelled vp h.0) ∙ then-read u8_at _ (decimal part) part _ (u8-spelled part h.1) ∙ then-read hex_u64_at _ (hex bits) bits [] (hex_u64-spelled bits h.2)
-says-event (Take vp) h = then-read u8_at _ (decimal vp) vp [] (u8-spelled vp h)
+says-event (Take vp) h = ap (option_map Take) (processor-spelled vp h)
+says-event (Suspend vp) h = ap (option_map Suspend) (processor-spelled vp h)
+says-event (Resume vp) h = ap (option_map Resume) (processor-spelled vp h)
+says-event (Reset vp) h = ap (option_map Reset) (processor-spelled vp h)
 
 pub record SaysItem (fields : Fields) (item : Item) : Type 0 where
   pub same : fields ≡ item_fields item
@@ -282,6 +303,9 @@ says-item (Performs (Read vp register)) h = ap (option_map Performs) (says-event
 says-item (Performs (Assert vp vector)) h = ap (option_map Performs) (says-event (Assert vp vector) h)
 says-item (Performs (Absorb vp part bits)) h = ap (option_map Performs) (says-event (Absorb vp part bits) h)
 says-item (Performs (Take vp)) h = ap (option_map Performs) (says-event (Take vp) h)
+says-item (Performs (Suspend vp)) h = ap (option_map Performs) (says-event (Suspend vp) h)
+says-item (Performs (Resume vp)) h = ap (option_map Performs) (says-event (Resume vp) h)
+says-item (Performs (Reset vp)) h = ap (option_map Performs) (says-event (Reset vp) h)
 says-item Summary h = refl
 
 pub event-item : (fs : Fields) (event : Event) → event_say fs ≡ Some event → item_say fs ≡ Some (Performs event)

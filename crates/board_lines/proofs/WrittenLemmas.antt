@@ -4,7 +4,7 @@ use Rattle.board_text.specs.Fields.{words}
 use Rattle.board_text.proofs.PlainWords.{IsPlain, ArePlain, total, plain_by, digits-plain, digits-short, two_digits-plain, spelled-plain, spelled-length, IsWritten, written}
 use Rattle.board_terms.specs.declared.messages.PortShape.TheVariants.{Messages, Flags}
 use Rattle.synic_board.specs.declared.event.Event.{Event}
-use Rattle.synic_board.specs.declared.event.Event.TheVariants.{OpenPort, ClosePort, Write, Read, Post, Signal, Assert, Absorb, Store, Load, Tick, Take}
+use Rattle.synic_board.specs.declared.event.Event.TheVariants.{OpenPort, ClosePort, Write, Read, Post, Signal, Assert, Absorb, Store, Load, Tick, Take, Suspend, Resume, Reset}
 use Rattle.board_lines.specs.Events.{event_fields, bytes_text, IsEvent}
 use Rattle.board_lines.specs.Items.{Item, Opening, Performs, Summary, item_fields, IsItem, Means}
 use Rattle.board_lines.specs.Reading.{item_at}
@@ -41,6 +41,9 @@ event-plain (Store address bytes) h = few-plain _ _ (plain_by (codes "store") re
 event-plain (Load address count) h = few-plain _ _ (plain_by (codes "load") refl, (digits-plain 16 address, (digits-plain 10 count, tt))) (omega (arith, digits-short 16 address, digits-short 10 count))
 event-plain (Tick moment) h = few-plain _ _ (plain_by (codes "tick") refl, (digits-plain 10 moment, tt)) (omega (arith, digits-short 10 moment))
 event-plain (Take vp) h = few-plain _ _ (plain_by (codes "take") refl, (digits-plain 10 vp, tt)) (omega (arith, digits-short 10 vp))
+event-plain (Suspend vp) h = few-plain _ _ (plain_by (codes "suspend") refl, (digits-plain 10 vp, tt)) (omega (arith, digits-short 10 vp))
+event-plain (Resume vp) h = few-plain _ _ (plain_by (codes "resume") refl, (digits-plain 10 vp, tt)) (omega (arith, digits-short 10 vp))
+event-plain (Reset vp) h = few-plain _ _ (plain_by (codes "reset") refl, (digits-plain 10 vp, tt)) (omega (arith, digits-short 10 vp))
 
 plain-written : (fields : List (List ℕ)) → FewPlain fields → IsWritten fields
 plain-written [] h = absurd (omega (arith, h.some))

@@ -4,7 +4,7 @@ use Rattle.board_text.specs.Numbers.{hex, two_digits, spelled, AreBytes}
 use Rattle.board_terms.specs.declared.messages.PortShape.{PortShape}
 use Rattle.board_terms.specs.declared.messages.PortShape.TheVariants.{Messages, Flags}
 use Rattle.synic_board.specs.declared.event.Event.{Event}
-use Rattle.synic_board.specs.declared.event.Event.TheVariants.{OpenPort, ClosePort, Write, Read, Post, Signal, Assert, Absorb, Store, Load, Tick, Take}
+use Rattle.synic_board.specs.declared.event.Event.TheVariants.{OpenPort, ClosePort, Write, Read, Post, Signal, Assert, Absorb, Store, Load, Tick, Take, Suspend, Resume, Reset}
 
 -- bytes, two digits each, or `-` for none
 abbrev pub bytes_text : List ℕ → List ℕ
@@ -25,6 +25,9 @@ event_fields (Store address bytes) = codes "store" ∷ hex address ∷ bytes_tex
 event_fields (Load address count) = codes "load" ∷ hex address ∷ decimal count ∷ []
 event_fields (Tick moment) = codes "tick" ∷ decimal moment ∷ []
 event_fields (Take vp) = codes "take" ∷ decimal vp ∷ []
+event_fields (Suspend vp) = codes "suspend" ∷ decimal vp ∷ []
+event_fields (Resume vp) = codes "resume" ∷ decimal vp ∷ []
+event_fields (Reset vp) = codes "reset" ∷ decimal vp ∷ []
 
 abbrev pub IsVector : ℕ → Type 0
 IsVector v = (16 ≤ v) × (v < 256)
@@ -51,3 +54,6 @@ IsEvent (Store address bytes) = (address < 2 ^ 64) × FewBytes 8 bytes.items
 IsEvent (Load address count) = (address < 2 ^ 64) × (count < 256)
 IsEvent (Tick moment) = moment < 2 ^ 64
 IsEvent (Take vp) = vp < 256
+IsEvent (Suspend vp) = vp < 256
+IsEvent (Resume vp) = vp < 256
+IsEvent (Reset vp) = vp < 256

@@ -5,7 +5,7 @@ use Rattle.std.specs.Str.{bytes_eq}
 use Rattle.board_text.specs.Numbers.{decimal_at, hex_at, byte_at}
 use Rattle.board_text.specs.Fields.{fields_of}
 use Rattle.synic_board.specs.declared.event.Event.{Event}
-use Rattle.synic_board.specs.declared.event.Event.TheVariants.{OpenPort, ClosePort, Write, Read, Post, Signal, Assert, Absorb, Store, Load, Tick, Take}
+use Rattle.synic_board.specs.declared.event.Event.TheVariants.{OpenPort, ClosePort, Write, Read, Post, Signal, Assert, Absorb, Store, Load, Tick, Take, Suspend, Resume, Reset}
 use Rattle.board_terms.specs.declared.messages.PortShape.TheVariants.{Messages, Flags}
 use Rattle.arrayvec.specs.ArrayVec.{ArrayVec}
 use Rattle.board_lines.specs.Items.{Item, Opening, Performs, Summary}
@@ -122,8 +122,21 @@ assert_say = take_then u8_at (λ vp. take_then vector_at (λ vector. ended (Asse
 abbrev pub absorb_say : Fields → Option Event
 absorb_say = take_then u8_at (λ vp. take_then u8_at (λ part. take_then hex_u64_at (λ bits. ended (Absorb vp part bits))))
 
+-- a processor and nothing else
+abbrev pub processor_say : Fields → Option ℕ
+processor_say = take_then u8_at ended
+
 abbrev pub take_say : Fields → Option Event
-take_say = take_then u8_at (λ vp. ended (Take vp))
+take_say fields = option_map Take (processor_say fields)
+
+abbrev pub suspend_say : Fields → Option Event
+suspend_say fields = option_map Suspend (processor_say fields)
+
+abbrev pub resume_say : Fields → Option Event
+resume_say fields = option_map Resume (processor_say fields)
+
+abbrev pub reset_say : Fields → Option Event
+reset_say fields = option_map Reset (processor_say fields)
 
 abbrev pub opening_say : Fields → Option (ℕ × ℕ × ℕ)
 opening_say = take_then u8_at (λ processors. take_then u8_at (λ pages. take_then u64_at (λ ticket. ended (processors, pages, ticket))))
@@ -144,6 +157,9 @@ event_say (word ∷ fields) =
     else if bytes_eq word (codes "load") then load_say fields
     else if bytes_eq word (codes "tick") then tick_say fields
     else if bytes_eq word (codes "take") then take_say fields
+    else if bytes_eq word (codes "suspend") then suspend_say fields
+    else if bytes_eq word (codes "resume") then resume_say fields
+    else if bytes_eq word (codes "reset") then reset_say fields
     else None
 
 -- the item of a board line's fields

@@ -1,6 +1,6 @@
 // The event that a line names.
 ghost use Rattle.std.specs.Prelude.{◌≡◌, ◌∷◌, if◌then◌else◌, Some, None};
-ghost use Rattle.board_lines.specs.Reading.{event_say, open_say, messages_say, flags_say, close_say, write_say, read_say, post_say, signal_say, assert_say, absorb_say, store_say, load_say, tick_say, take_say};
+ghost use Rattle.board_lines.specs.Reading.{event_say, open_say, messages_say, flags_say, close_say, write_say, read_say, post_say, signal_say, assert_say, absorb_say, store_say, load_say, tick_say, processor_say, take_say, suspend_say, resume_say, reset_say};
 
 use crate::numbers::{
     bytes_in, hex_u32_of, hex_u64_of, read_bytes, u8_of, u16_of, u64_of, vector_of,
@@ -63,6 +63,15 @@ pub fn read_event(word: &[u8], fields: &mut Fields<'_>, event: &mut Event) -> bo
     }
     if is_word(word, b"take") {
         return take_of(fields, event);
+    }
+    if is_word(word, b"suspend") {
+        return suspend_of(fields, event);
+    }
+    if is_word(word, b"resume") {
+        return resume_of(fields, event);
+    }
+    if is_word(word, b"reset") {
+        return reset_of(fields, event);
     }
     false
 }
@@ -319,16 +328,55 @@ fn absorb_of(fields: &mut Fields<'_>, event: &mut Event) -> bool
     true
 }
 
+/// The processor of an event that names one, and nothing else.
+#[inline(always)]
+fn processor_of(fields: &mut Fields<'_>) -> Option<u8>
+    ensures { result ≡ processor_say fields.old }
+{
+    let vp = u8_of(fields)?;
+    if fields.is_empty() { Some(vp) } else { None }
+}
+
 #[inline(always)]
 fn take_of(fields: &mut Fields<'_>, event: &mut Event) -> bool
     ensures { (if result then Some event.new else None) ≡ take_say fields.old }
 {
-    let Some(vp) = u8_of(fields) else {
+    let Some(vp) = processor_of(fields) else {
         return false;
     };
-    if !fields.is_empty() {
-        return false;
-    }
     *event = Event::Take { vp };
+    true
+}
+
+#[inline(always)]
+fn suspend_of(fields: &mut Fields<'_>, event: &mut Event) -> bool
+    ensures { (if result then Some event.new else None) ≡ suspend_say fields.old }
+{
+    let Some(vp) = processor_of(fields) else {
+        return false;
+    };
+    *event = Event::Suspend { vp };
+    true
+}
+
+#[inline(always)]
+fn resume_of(fields: &mut Fields<'_>, event: &mut Event) -> bool
+    ensures { (if result then Some event.new else None) ≡ resume_say fields.old }
+{
+    let Some(vp) = processor_of(fields) else {
+        return false;
+    };
+    *event = Event::Resume { vp };
+    true
+}
+
+#[inline(always)]
+fn reset_of(fields: &mut Fields<'_>, event: &mut Event) -> bool
+    ensures { (if result then Some event.new else None) ≡ reset_say fields.old }
+{
+    let Some(vp) = processor_of(fields) else {
+        return false;
+    };
+    *event = Event::Reset { vp };
     true
 }

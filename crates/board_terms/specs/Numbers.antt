@@ -1,7 +1,7 @@
 -- The number of each refusal.
 use Rattle.std.specs.Prelude.{ℕ}
 use Rattle.board_terms.specs.declared.refusal.Refusal.{Refusal}
-use Rattle.board_terms.specs.declared.refusal.Refusal.TheVariants.{UnknownPort, PortOpen, WrongKind, BadTarget, BadType, BadFlag, SynicOff, NoBuffers, TicketsSpent, ClockBack, OutsideSpace, CrossesPage, BadLength, NoSuchProcessor}
+use Rattle.board_terms.specs.declared.refusal.Refusal.TheVariants.{UnknownPort, PortOpen, WrongKind, BadTarget, BadType, BadFlag, SynicOff, NoBuffers, TicketsSpent, ClockBack, OutsideSpace, CrossesPage, BadLength, NoSuchProcessor, AlreadySuspended, NotSuspended}
 
 abbrev pub number_of : Refusal → ℕ
 number_of UnknownPort = 1
@@ -18,3 +18,5 @@ number_of OutsideSpace = 11
 number_of CrossesPage = 12
 number_of BadLength = 13
 number_of NoSuchProcessor = 14
+number_of AlreadySuspended = 15
+number_of NotSuspended = 16

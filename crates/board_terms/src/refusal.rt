@@ -35,6 +35,10 @@ pub enum Refusal {
     BadLength = 13,
     #[error("there is no such processor")]
     NoSuchProcessor = 14,
+    #[error("the processor is suspended already")]
+    AlreadySuspended = 15,
+    #[error("the processor is not suspended")]
+    NotSuspended = 16,
 }
 
 impl Refusal {

@@ -11,3 +11,5 @@ mod overlays;
 mod ports;
 #[cfg(test)]
 mod queues;
+#[cfg(test)]
+mod resets;

@@ -7,7 +7,7 @@ use Rattle.std.proofs.lemmas.List.Elements.{All-head, All-tail}
 use Rattle.std.proofs.lemmas.List.Sorted.{sum_by-IsPermutation, IsPermutation-reverse}
 use Rattle.std.proofs.lemmas.List.Sums.{sum_by-append, sum_by-cons}
 use Rattle.synic_board.specs.declared.event.Event.{Event}
-use Rattle.synic_board.specs.declared.event.Event.TheVariants.{OpenPort, ClosePort, Write, Read, Post, Signal, Assert, Absorb, Store, Load, Tick, Take}
+use Rattle.synic_board.specs.declared.event.Event.TheVariants.{OpenPort, ClosePort, Write, Read, Post, Signal, Assert, Absorb, Store, Load, Tick, Take, Suspend, Resume, Reset}
 use Rattle.synic_board.specs.declared.event.Reply.{Reply}
 use Rattle.synic_board.specs.declared.history.Entry.{Entry}
 use Rattle.posted_words.specs.declared.rule.Did.{Did}
@@ -39,6 +39,9 @@ one-sweep P (Store address bytes) r none some = none
 one-sweep P (Load address count) r none some = none
 one-sweep P (Tick moment) r none some = none
 one-sweep P (Take p) r none some = none
+one-sweep P (Suspend p) r none some = none
+one-sweep P (Resume p) r none some = none
+one-sweep P (Reset p) r none some = none
 
 abbrev swept : Call → List Did
 swept c = sweep_in c.0 c.1

@@ -9,7 +9,7 @@ use Rattle.synic_board.specs.Effects.{Effect, answered, refused}
 use Rattle.synic_board.specs.Absorbing.{absorbed_below}
 use Rattle.synic_board.specs.Step.{step}
 use Rattle.synic_board.specs.declared.event.Event.{Event}
-use Rattle.synic_board.specs.declared.event.Event.TheVariants.{OpenPort, ClosePort, Write, Read, Post, Signal, Assert, Absorb, Store, Load, Tick, Take}
+use Rattle.synic_board.specs.declared.event.Event.TheVariants.{OpenPort, ClosePort, Write, Read, Post, Signal, Assert, Absorb, Store, Load, Tick, Take, Suspend, Resume, Reset}
 use Rattle.synic_board.specs.declared.event.Reply.{Reply}
 use Rattle.synic_board.specs.declared.event.Reply.TheVariants.{Done}
 use Rattle.posted_words.specs.declared.rule.Did.{Did}
@@ -34,6 +34,9 @@ none-swept (Store address bytes) r h = refl
 none-swept (Load address count) r h = refl
 none-swept (Tick moment) r h = refl
 none-swept (Take p) r h = refl
+none-swept (Suspend p) r h = refl
+none-swept (Resume p) r h = refl
+none-swept (Reset p) r h = refl
 
 pub perform-pushes : (old new : List Call) (e : Event) (r : Reply) (did : List Did) → did ≡ sweeps_of old → is_absorb e ≡ false → new ≡ old ++ (e, r) ∷ [] → did ≡ sweeps_of new
 perform-pushes old new e r did was other is = was ∙ sym (ap (λ ds. ds ++ sweeps_of old) (none-swept e r other)) ∙ sym (sweeps-push old e r) ∙ ap sweeps_of (sym is)

@@ -8,6 +8,7 @@ use Rattle.board_text.proofs.LineLemmas.{joined-append}
 use Rattle.synic_board.specs.State.{AreSizes, opened}
 use Rattle.synic_board.specs.History.{IsLegal}
 use Rattle.synic_board.specs.declared.history.Entry.{Entry}
+use Rattle.board_trace.specs.declared.format.Format.{Format}
 use Rattle.board_trace.specs.Trace.{IsEntry, IsTrace, Begins, trace}
 use Rattle.board_trace.specs.Stages.{Stage, Title, Over}
 use Rattle.board_trace.specs.Verdicts.{FirstWrong}
@@ -32,8 +33,8 @@ wrong-once text k l a b = by (cases_order a.before b.before)
     by (inr (inl h)) = absurd (not-before text k l a b h)
     by (inr (inr h)) = absurd (not-before text l k b a h)
 
-pub trace-is : (processors pages ticket : ℕ) (history : List Entry) → AreSizes processors pages → ticket < 2 ^ 64 → All IsEntry history → IsLegal (opened processors pages ticket) history → IsTrace (trace processors pages ticket history) (length history)
-trace-is processors pages ticket history sizes given fits legal = record { processors = processors; pages = pages; ticket = ticket; history = history; sizes = sizes; given = given; fits = fits; legal = legal; counted = refl; written = refl }
+pub trace-is : (f : Format) (processors pages ticket : ℕ) (history : List Entry) → AreSizes processors pages → ticket < 2 ^ 64 → All (IsEntry f) history → IsLegal (opened processors pages ticket) history → IsTrace (trace f processors pages ticket history) (length history)
+trace-is f processors pages ticket history sizes given fits legal = record { format = f; processors = processors; pages = pages; ticket = ticket; history = history; sizes = sizes; given = given; fits = fits; legal = legal; counted = refl; written = refl }
 
 abbrev SameCount : ℕ → Type 0
 SameCount fuel = (stage : Stage) (ys : List ℕ) (m n : ℕ) → Fits stage → length ys ≤ fuel → Continues stage ys m → Continues stage ys n → m ≡ n

@@ -11,17 +11,20 @@ use Rattle.board_terms.specs.Numbers.{number_of}
 use Rattle.synic_board.specs.State.{AreSizes}
 use Rattle.synic_board.specs.declared.event.Event.{Event}
 use Rattle.synic_board.specs.declared.event.Reply.{Reply}
+use Rattle.synic_board.specs.declared.history.Entry.{Entry}
 use Rattle.synic_board.specs.declared.event.Reply.TheVariants as replies
 use Rattle.board_lines.specs.Events.{event_fields, IsEvent}
 use Rattle.board_lines.specs.Items.{Opening, item_fields}
 use Rattle.board_lines.specs.Printing.{vector_or_none, reply_fields}
-use Rattle.board_lines.specs.Reading.{Fields, u8_at, event_say, opening_say}
+use Rattle.board_lines.specs.Reading.{Fields, take_then, u8_at, event_say, opening_say}
 use Rattle.board_lines.specs.Sizes.{are_sizes}
 use Rattle.board_lines.proofs.ReadLemmas.{then-some, then-read, yes, u8-only, u8-spelled, event-says, says-event, opening-says, says-opening}
 use Rattle.board_lines.proofs.SizeLemmas.{sizes-are}
 use Rattle.board_lines.proofs.WrittenLemmas.{bytes-plain, bytes-short, event-plain, board-written}
-use Rattle.board_trace.specs.Trace.{title_fields, entry_fields, end_fields}
-use Rattle.board_trace.specs.Stages.{entry_say, entry_at, within_limits, board_say, board_at}
+use Rattle.board_trace.specs.declared.format.Format.{Format}
+use Rattle.board_trace.specs.declared.format.Format.TheVariants.{One, Two}
+use Rattle.board_trace.specs.Trace.{IsEntry, has_line, title_fields, entry_fields, end_fields}
+use Rattle.board_trace.specs.Stages.{with_line, entry_say, entry_at, within_limits, board_say, board_at}
 use Rattle.synic_board.specs.Replies.{IsReply}
 
 vector-plain : (vector : Option ℕ) → IsPlain (vector_or_none vector)
@@ -38,11 +41,13 @@ actor-short actor small = length-decimal-le 3 actor (omega arith) (omega arith) 
 pub entry-written : (actor : ℕ) (event : Event) → actor < 256 → IsEvent event → IsWritten (entry_fields actor event)
 entry-written actor event small h = let e = event-plain event h in written (decimal actor) (event_fields event) (digits-plain 10 actor, e.plain) (omega (arith, actor-short actor small, e.few))
 
-pub title-written : IsWritten title_fields
-title-written = written _ _ (plain_by (codes "trace") refl, (plain_by (codes "1") refl, tt)) (omega arith)
+pub title-written : (f : Format) → IsWritten (title_fields f)
+title-written One = written _ _ (plain_by (codes "trace") refl, (plain_by (codes "1") refl, tt)) (omega arith)
+title-written Two = written _ _ (plain_by (codes "trace") refl, (plain_by (codes "2") refl, tt)) (omega arith)
 
-pub end-written : (n : ℕ) → IsWritten (end_fields n)
-end-written n = written _ _ (plain_by (codes "end") refl, (digits-plain 10 n, tt)) (omega (arith, digits-short 10 n))
+pub end-written : (f : Format) (n next : ℕ) → IsWritten (end_fields f n next)
+end-written One n next = written _ _ (plain_by (codes "end") refl, (digits-plain 10 n, tt)) (omega (arith, digits-short 10 n))
+end-written Two n next = written _ _ (plain_by (codes "end") refl, (digits-plain 10 n, (digits-plain 10 next, tt))) (omega (arith, digits-short 10 n, digits-short 10 next))
 
 pub reply-written : (reply : Reply) → IsReply reply → IsWritten (reply_fields reply)
 reply-written replies.Done h = written _ _ (plain_by (codes "=") refl, (plain_by (codes "done") refl, tt)) (omega arith)
@@ -60,36 +65,51 @@ whole : (line : List ℕ) (fields : Fields) → fields_of line ≡ fields → li
 whole line fields e = sym (join_with_byte-slice_split 32 line) ∙ ap words e
 
 -- A line is read as an entry exactly where it is written so.
-pub entry-reads : (actor : ℕ) (event : Event) → actor < 256 → IsEvent event → entry_at (words (entry_fields actor event)) ≡ Some event
+pub entry-reads : (f : Format) (e : Entry) → IsEntry f e → entry_at f (words (entry_fields e.actor e.event)) ≡ Some e.event
 unfolding entry_at
-entry-reads actor event small fits =
-    ap entry_say (entry-written actor event small fits).read
-    ∙ then-read u8_at (λ (a : ℕ). event_say) (decimal actor) actor (event_fields event) (u8-spelled actor small)
-    ∙ says-event event fits
+entry-reads f e h =
+    ap (entry_say f) (entry-written e.actor e.event h.actor h.event).read
+    ∙ ap (option_and_then (with_line f)) (then-read u8_at (λ (a : ℕ). event_say) (decimal e.actor) e.actor (event_fields e.event) (u8-spelled e.actor h.actor) ∙ says-event e.event h.event)
+    ∙ ap (λ (t : Bool). cond t (Some e.event) None) h.line
 
-pub record EntryLine (line : List ℕ) (event : Event) : Type 0 where
+pub record EntryLine (f : Format) (line : List ℕ) (event : Event) : Type 0 where
   pub actor : ℕ
   pub text : line ≡ words (entry_fields actor event)
   pub small : actor < 256
   pub fits : IsEvent event
+  pub has : has_line f event ≡ true
 
-entry-says : (line : List ℕ) (fields : Fields) (event : Event) → fields_of line ≡ fields → entry_say fields ≡ Some event → EntryLine line event
-entry-says line fields event is =
-    then-some u8_at (λ (a : ℕ). event_say) fields event (EntryLine line event) (λ field actor more at read said.
+-- it has a line
+lined : (f : Format) (o : Option Event) (event : Event) → option_and_then (with_line f) o ≡ Some event → (o ≡ Some event) × (has_line f event ≡ true)
+lined f None event e = cc
+lined f (Some other) event e = by (has_line f other) refl e
+  where
+    by : (t : Bool) → has_line f other ≡ t → cond t (Some other) None ≡ Some event → (Some other ≡ Some event) × (has_line f event ≡ true)
+    by true is e = let same : other ≡ event = cc in (e, ap (has_line f) (sym same) ∙ is)
+    by false is e = cc
+
+entry-says : (f : Format) (line : List ℕ) (fields : Fields) (event : Event) → fields_of line ≡ fields → entry_say f fields ≡ Some event → EntryLine f line event
+entry-says f line fields event is e =
+    let said = lined f (take_then u8_at (λ (a : ℕ). event_say) fields) event e in
+    then-some u8_at (λ (a : ℕ). event_say) fields event (EntryLine f line event) (λ field actor more at read told.
     let h = u8-only field actor read in
-    let k = event-says more event said in
+    let k = event-says more event told in
     let all : fields ≡ entry_fields actor event = at ∙ rw (h.1, k.same) refl in
-    record { actor = actor; text = whole line fields is ∙ ap words all; small = h.0; fits = k.fits })
+    record { actor = actor; text = whole line fields is ∙ ap words all; small = h.0; fits = k.fits; has = said.1 }) said.0
 
-pub entry-only : (line : List ℕ) (event : Event) → entry_at line ≡ Some event → EntryLine line event
+pub entry-only : (f : Format) (line : List ℕ) (event : Event) → entry_at f line ≡ Some event → EntryLine f line event
 unfolding entry_at
-entry-only line event e = entry-says line (fields_of line) event refl e
+entry-only f line event e = entry-says f line (fields_of line) event refl e
 
 -- an end is no entry
-pub end-no_entry : (n actor : ℕ) (event : Event) → actor < 256 → IsEvent event → words (end_fields n) ≡ words (entry_fields actor event) → ⊥
-end-no_entry n actor event small fits e =
-    let same : end_fields n ≡ entry_fields actor event = sym (end-written n).read ∙ ap fields_of e ∙ (entry-written actor event small fits).read in
-    let first : codes "end" ≡ decimal actor = cc in
+end-first : (f : Format) (n next : ℕ) (fields : Fields) (word : List ℕ) → end_fields f n next ≡ word ∷ fields → codes "end" ≡ word
+end-first One n next fields word e = cc
+end-first Two n next fields word e = cc
+
+pub end-no_entry : (f : Format) (n next actor : ℕ) (event : Event) → actor < 256 → IsEvent event → words (end_fields f n next) ≡ words (entry_fields actor event) → ⊥
+end-no_entry f n next actor event small fits e =
+    let same : end_fields f n next ≡ entry_fields actor event = sym (end-written f n next).read ∙ ap fields_of e ∙ (entry-written actor event small fits).read in
+    let first : codes "end" ≡ decimal actor = end-first f n next (event_fields event) (decimal actor) same in
     let read : u8_at (codes "end") ≡ Some actor = ap u8_at first ∙ u8-spelled actor small in
     cc
 

@@ -5,6 +5,7 @@ ghost use Rattle.synic_board.specs.State.{AreSizes, opened};
 ghost use Rattle.synic_board.specs.History.{IsLegal};
 ghost use Rattle.synic_board.specs.declared.history.Entry.{Entry};
 ghost use Rattle.board_trace.specs.Trace.{IsEntry, IsTrace, trace};
+ghost use Rattle.board_trace.specs.declared.format.Format.{Format};
 ghost use Rattle.board_trace.specs.Verdicts.{FirstWrong};
 
 /// A text has one first wrong line at most.
@@ -17,15 +18,15 @@ pub fn one_count()
     ensures { (text : List ℕ) (m n : ℕ) → IsTrace text m → IsTrace text n → m ≡ n }
 {}
 
-/// A text is the trace of one history at most, from one opening: what is written of a legal history is
+/// A text is the trace of one history at most, from one opening, in one format: what is written of a legal history is
 /// read as that history.
 pub fn one_history()
     ensures { (text : List ℕ) (m n : ℕ) (a : IsTrace text m) (b : IsTrace text n)
-        → (a.processors ≡ b.processors) × (a.pages ≡ b.pages) × (a.ticket ≡ b.ticket) × (a.history ≡ b.history) }
+        → (a.format ≡ b.format) × (a.processors ≡ b.processors) × (a.pages ≡ b.pages) × (a.ticket ≡ b.ticket) × (a.history ≡ b.history) }
 {}
 
-/// What is written of a legal history is its trace.
+/// What is written of a legal history, in either format, is its trace.
 pub fn written_is_legal()
-    ensures { (processors pages ticket : ℕ) (history : List Entry) → AreSizes processors pages → ticket < 2 ^ 64 → All IsEntry history
-        → IsLegal (opened processors pages ticket) history → IsTrace (trace processors pages ticket history) (length history) }
+    ensures { (f : Format) (processors pages ticket : ℕ) (history : List Entry) → AreSizes processors pages → ticket < 2 ^ 64 → All (IsEntry f) history
+        → IsLegal (opened processors pages ticket) history → IsTrace (trace f processors pages ticket history) (length history) }
 {}

@@ -2,10 +2,12 @@
 #![tactic(auto)]
 
 mod check;
+mod format;
 mod judge;
 pub mod laws;
 mod print;
 mod stage;
 
 pub use check::{CheckEnd, check_trace};
+pub use format::Format;
 pub use print::put_trace;

@@ -4,8 +4,9 @@ ghost use Rattle.std.specs.List.{All};
 ghost use Rattle.board_text.specs.Fields.{words, line_of};
 ghost use Rattle.board_lines.specs.Items.{Opening, item_fields};
 ghost use Rattle.board_lines.specs.Printing.{text_of};
-ghost use Rattle.board_trace.specs.Trace.{IsEntry, end_fields, history_lines, trace};
+ghost use Rattle.board_trace.specs.Trace.{IsEntry, end_fields, history_lines, trace_lines};
 
+use crate::format::Format;
 use board_lines::{put_event, put_reply};
 use board_terms::Ticket;
 use board_text::put_decimal;
@@ -13,21 +14,23 @@ use std::alloc::AllocError;
 use synic_board::Entry;
 
 /// Writes the trace of a history at the end of `out`: that of a board of so many processors and
-/// pages, whose first message takes this ticket.
+/// pages, whose first message takes the first ticket, and whose next one would take the next. The
+/// trace has format 2.
 pub fn put_trace(
     out: &mut Vec<u8>,
     processors: u8,
     pages: u8,
     first_ticket: Ticket,
     history: &[Entry],
+    next_ticket: Ticket,
 ) -> Result<(), AllocError>
-    ensures written { OnOk result (out.new.items ≡ out.old.items ++ trace processors pages first_ticket history.now) }
-    ensures fits { OnOk result (All IsEntry history.now) }
+    ensures written { OnOk result (out.new.items ≡ out.old.items ++ text_of (trace_lines Format.Two processors pages first_ticket history.now next_ticket)) }
+    ensures fits { OnOk result (All (IsEntry Format.Two) history.now) }
 {
-    out.extend_from_slice(b"trace 1\n")?;
+    out.extend_from_slice(b"trace 2\n")?;
     put_opening(out, processors, pages, first_ticket)?;
     put_history(out, history)?;
-    put_end(out, history.len() as u64)?;
+    put_end(out, Format::Two, history.len() as u64, next_ticket)?;
     out.extend_from_slice(b"\n")
 }
 
@@ -52,7 +55,7 @@ fn put_opening(
 /// Writes the two lines of each entry at the end of `out`.
 fn put_history(out: &mut Vec<u8>, history: &[Entry]) -> Result<(), AllocError>
     ensures written { OnOk result (out.new.items ≡ out.old.items ++ text_of (history_lines history.now)) }
-    ensures fits { OnOk result (All IsEntry history.now) }
+    ensures fits { OnOk result (All (IsEntry Format.Two) history.now) }
 {
     for entry in history {
         put_entry(out, entry)?;
@@ -62,7 +65,7 @@ fn put_history(out: &mut Vec<u8>, history: &[Entry]) -> Result<(), AllocError>
 
 fn put_entry(out: &mut Vec<u8>, entry: &Entry) -> Result<(), AllocError>
     ensures written { OnOk result (out.new.items ≡ out.old.items ++ text_of (history_lines (entry.now ∷ []))) }
-    ensures fits { OnOk result (IsEntry entry.now) }
+    ensures fits { OnOk result (IsEntry Format.Two entry.now) }
 {
     put_decimal(out, entry.actor)?;
     out.extend_from_slice(b" ")?;
@@ -72,10 +75,23 @@ fn put_entry(out: &mut Vec<u8>, entry: &Entry) -> Result<(), AllocError>
     out.extend_from_slice(b"\n")
 }
 
-/// Writes the end behind so many entries at the end of `out`, without a line feed.
-pub(crate) fn put_end(out: &mut Vec<u8>, entries: u64) -> Result<(), AllocError>
-    ensures { OnOk result (out.new.items ≡ out.old.items ++ words (end_fields entries)) }
+/// Writes the end behind so many entries, where this is the next ticket, at the end of `out`, without
+/// a line feed.
+pub(crate) fn put_end(
+    out: &mut Vec<u8>,
+    format: Format,
+    entries: u64,
+    next: Ticket,
+) -> Result<(), AllocError>
+    ensures { OnOk result (out.new.items ≡ out.old.items ++ words (end_fields format entries next)) }
 {
     out.extend_from_slice(b"end ")?;
-    put_decimal(out, entries)
+    put_decimal(out, entries)?;
+    match format {
+        Format::One => Ok(()),
+        Format::Two => {
+            out.extend_from_slice(b" ")?;
+            put_decimal(out, next)
+        }
+    }
 }

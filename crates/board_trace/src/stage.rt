@@ -7,9 +7,10 @@ ghost use Rattle.board_trace.specs.Trace.{end_fields};
 ghost use Rattle.line_driver.specs.Judging.{Takes};
 ghost use Rattle.board_trace.specs.Stages.{Title, Opening, Over, entry_at, board_at, stage_of, count, IsGood, IsWrong, Opens, Runs, IsOver};
 
+use crate::format::Format;
 use crate::print::put_end;
 use board_lines::{event_of, opening_of, put_reply, u8_of};
-use board_terms::Notices;
+use board_terms::{Notices, Ticket};
 use board_text::Fields;
 use line_driver::Taken;
 use std::alloc::{AllocError, Global};
@@ -21,9 +22,10 @@ pub(crate) enum Stage {
     /// The title.
     Title,
     /// The board line.
-    Opening,
+    Opening(Format),
     /// The reply that is due, or else an event or the end, behind so many entries.
     Running {
+        format: Format,
         board: Board,
         entries: u64,
         due: Option<Reply>,
@@ -62,12 +64,16 @@ pub(crate) fn take_line(
 {
     match stage {
         Stage::Title => take_title(stage, line),
-        Stage::Opening => take_opening(alloc, stage, line),
+        Stage::Opening(format) => {
+            let format = *format;
+            take_opening(alloc, stage, format, line)
+        }
         Stage::Running {
+            format,
             board,
             entries,
             due,
-        } => match run_line(board, entries, due, line, notices, out) {
+        } => match run_line(*format, board, entries, due, line, notices, out) {
             Ran::On => Taken::Good,
             Ran::End => {
                 let all = *entries;
@@ -90,22 +96,27 @@ fn take_title(stage: &mut Stage, line: &[u8]) -> Taken<()>
     requires { stage_of stage.old ≡ Title }
     ensures { Takes IsGood IsWrong result (stage_of stage.old) (stage_of stage.new) line.now [] }
 {
-    if line != b"trace 1".as_slice() {
+    let format = if line == b"trace 1".as_slice() {
+        Format::One
+    } else if line == b"trace 2".as_slice() {
+        Format::Two
+    } else {
         return Taken::Wrong(());
-    }
-    *stage = Stage::Opening;
+    };
+    *stage = Stage::Opening(format);
     Taken::Good
 }
 
 /// Takes the board line.
 #[inline(never)]
-fn take_opening(alloc: Global, stage: &mut Stage, line: &[u8]) -> Taken<()>
-    requires { stage_of stage.old ≡ Opening }
+fn take_opening(alloc: Global, stage: &mut Stage, format: Format, line: &[u8]) -> Taken<()>
+    requires { stage_of stage.old ≡ Opening format }
     ensures { Takes IsGood IsWrong result (stage_of stage.old) (stage_of stage.new) line.now [] }
 {
     match open(alloc, line) {
         Opened::Board(board) => {
             *stage = Stage::Running {
+                format,
                 board,
                 entries: 0,
                 due: None,
@@ -138,7 +149,7 @@ pub(crate) fn entries_of(stage: &Stage) -> Option<u64>
 /// Opens the board that a board line names.
 #[tactic(auto, unfolding(crate::specs::Stages::board_at))]
 fn open(alloc: Global, line: &[u8]) -> Opened
-    ensures { Opens result line.now }
+    ensures { (format : Format) → Opens result format line.now }
 {
     let mut fields = Fields::new(line);
     let Some(word) = fields.next() else {
@@ -159,6 +170,7 @@ fn open(alloc: Global, line: &[u8]) -> Opened
 
 /// Takes a line behind the board line: the reply that is due, an event, which is performed, or the end.
 fn run_line(
+    format: Format,
     board: &mut Board,
     entries: &mut u64,
     due: &mut Option<Reply>,
@@ -167,7 +179,7 @@ fn run_line(
     out: &mut Vec<u8>,
 ) -> Ran
     requires few { entries.old < 2 ^ 64 - 1 }
-    ensures { Runs result board.old.state entries.old due.old board.new.state entries.new due.new line.now }
+    ensures { Runs result format board.old.state entries.old due.old board.new.state entries.new due.new line.now }
 {
     if let Some(reply) = due {
         return match is_reply(reply, line, out) {
@@ -179,12 +191,12 @@ fn run_line(
             Err(_) => Ran::Memory,
         };
     }
-    match is_end(*entries, line, out) {
+    match is_end(format, *entries, board.next_ticket(), line, out) {
         Ok(true) => return Ran::End,
         Ok(false) => {}
         Err(_) => return Ran::Memory,
     }
-    let Some(event) = entry_of(line) else {
+    let Some(event) = entry_of(format, line) else {
         return Ran::Wrong;
     };
     let reply = board.perform(&event, notices);
@@ -202,27 +214,38 @@ fn is_reply(reply: &Reply, line: &[u8], out: &mut Vec<u8>) -> Result<bool, Alloc
     Ok(line == out.as_slice())
 }
 
-/// Whether a line is the end behind so many entries.
-fn is_end(entries: u64, line: &[u8], out: &mut Vec<u8>) -> Result<bool, AllocError>
-    ensures { IfOk result (λ is. is ≡ bytes_eq line.now (words (end_fields entries))) }
+/// Whether a line is the end behind so many entries, where this is the next ticket.
+fn is_end(
+    format: Format,
+    entries: u64,
+    next: Ticket,
+    line: &[u8],
+    out: &mut Vec<u8>,
+) -> Result<bool, AllocError>
+    ensures { IfOk result (λ is. is ≡ bytes_eq line.now (words (end_fields format entries next))) }
 {
     if line.first() != Some(&b'e') {
         return Ok(false);
     }
     out.clear();
-    put_end(out, entries)?;
+    put_end(out, format, entries, next)?;
     Ok(line == out.as_slice())
 }
 
-/// The event that a line names behind an actor's number.
+/// The event that a line names behind an actor's number, if it has a line in the format.
 #[tactic(auto, unfolding(crate::specs::Stages::entry_at))]
-fn entry_of(line: &[u8]) -> Option<Event>
-    ensures { result ≡ entry_at line.now }
+fn entry_of(format: Format, line: &[u8]) -> Option<Event>
+    ensures { result ≡ entry_at format line.now }
 {
     let mut fields = Fields::new(line);
     u8_of(&mut fields)?;
     let Some(word) = fields.next() else {
         return None;
     };
-    event_of(word, &mut fields)
+    let event = event_of(word, &mut fields)?;
+    if format.has_line(&event) {
+        Some(event)
+    } else {
+        None
+    }
 }

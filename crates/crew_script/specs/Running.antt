@@ -12,6 +12,7 @@ use Rattle.board_lines.specs.Faults.{fault_text}
 use Rattle.board_lines.specs.declared.fault.ScriptFault.{ScriptFault}
 use Rattle.line_driver.specs.Driving.{ReadsNear}
 use Rattle.board_trace.specs.Trace.{trace}
+use Rattle.board_trace.specs.declared.format.Format.TheVariants.{Two}
 use Rattle.crew_script.specs.Crew.{Crew, closed}
 use Rattle.crew_script.specs.Reading.{script_asks}
 use Rattle.crew_script.specs.declared.running.Outcome.{Outcome}
@@ -35,7 +36,7 @@ Asks input crew = (last : Crew) × (script_asks input ≡ Ok (Some last)) × (cr
 
 -- what is written for an input at each end
 abbrev pub Tells : CrewRun → List ℕ → List ℕ → Type 0
-Tells Done input text = (crew : Crew) × (history : List Entry) × Asks input crew × IsHistory crew history × (text ≡ trace crew.processors crew.pages crew.first_ticket history)
+Tells Done input text = (crew : Crew) × (history : List Entry) × Asks input crew × IsHistory crew history × (text ≡ trace Two crew.processors crew.pages crew.first_ticket history)
 Tells (Script line fault) input text = (script_asks input ≡ Err (line, fault)) × (text ≡ fault_text (Some (line, fault)))
 Tells Unsettled input text = (crew : Crew) × Asks input crew × (text ≡ codes "! settle\n")
 Tells NoThread input text = (crew : Crew) × Asks input crew × (text ≡ [])
@@ -64,7 +65,7 @@ Refuses end line fault w0 w1 = Says end (Refusal line fault) w0 w1
 
 -- what is written where a script asks for a crew
 abbrev pub Report : Crew → CrewRun → List ℕ → Type 0
-Report crew Done text = (history : List Entry) × IsHistory crew history × (text ≡ trace crew.processors crew.pages crew.first_ticket history)
+Report crew Done text = (history : List Entry) × IsHistory crew history × (text ≡ trace Two crew.processors crew.pages crew.first_ticket history)
 Report crew Unsettled text = text ≡ codes "! settle\n"
 Report crew NoThread text = text ≡ []
 Report crew Memory text = text ≡ []

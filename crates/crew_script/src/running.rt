@@ -148,6 +148,7 @@ fn prepare<T: Threads + Wait + Sync, G: Gate + Sync>(
         setup.pages,
         setup.first_ticket,
         end.ended.history.as_slice(),
+        end.ended.board.next_ticket(),
     ) {
         Ok(()) => Outcome::Done,
         Err(_) => Outcome::Memory,

@@ -106,3 +106,7 @@ is_flag_set s vp sint flag = is_set (own_page s vp kind.Sief) (flag_place sint f
 
 abbrev pub after_flag : Space → ℕ → ℕ → ℕ → Space
 after_flag s vp sint flag = with_own_page s vp kind.Sief (with_bit (own_page s vp kind.Sief) (flag_place sint flag) (flag % 8))
+
+-- both own pages of a processor become zeros
+abbrev pub after_clearing : Space → ℕ → Space
+after_clearing s vp = with_own_page (with_own_page s vp kind.Sim zero_page) vp kind.Sief zero_page

@@ -90,6 +90,13 @@ impl Page {
         self.bytes[at..at + count].fill(0);
     }
 
+    /// All bytes become zeros.
+    pub fn erase(&mut self)
+        ensures { self.new ≡ zero_page }
+    {
+        self.bytes.fill(0);
+    }
+
     /// Replaces a slot by a message of a header and a payload, with zeros behind it.
     pub fn write_message(&mut self, sint: Sint, header: &[u8; HEADER_SIZE], payload: &[u8])
         requires { length payload.now ≤ 240 }

@@ -2,7 +2,7 @@
 ghost use Rattle.std.specs.Prelude.{◌≡◌, ◌==◌, ◌<◌, ◌≤◌, ◌*◌, ◌/◌, length, not, IfOk, replicate, bit_and};
 ghost use Rattle.board_terms.specs.declared.pages.Kind.TheVariants as kind;
 ghost use Rattle.gpa_space.specs.Page.{zero_page, message_bytes};
-ghost use Rattle.gpa_space.specs.Space.{opened, processors_of, overlay_of, with_register, visible, overlay_owner, owner_of, refusal_of, loaded, store_answer, after_store, own_page, after_slot, is_pending, after_pending, is_flag_set, after_flag};
+ghost use Rattle.gpa_space.specs.Space.{opened, processors_of, overlay_of, with_register, visible, overlay_owner, owner_of, refusal_of, loaded, store_answer, after_store, own_page, after_slot, is_pending, after_pending, is_flag_set, after_flag, after_clearing};
 
 use crate::lying::Lying;
 use crate::page::{HEADER_SIZE, MESSAGE_FLAGS, Page, SIZE, SLOT_SIZE};
@@ -212,6 +212,16 @@ impl Space {
     {
         let at = SLOT_SIZE * sint.number() as usize + flag as usize / 8;
         self.own[overlay_of(vp, Kind::Sief)].set_bit(at, (flag % 8) as u8)
+    }
+
+    /// The page of messages and the page of event flags of a processor become zeros, visible or not.
+    /// They stay where they lie.
+    pub fn clear_pages(&mut self, vp: Vp)
+        requires { vp < processors_of self.old }
+        ensures { self.new ≡ after_clearing self.old vp }
+    {
+        self.own[overlay_of(vp, Kind::Sim)].erase();
+        self.own[overlay_of(vp, Kind::Sief)].erase();
     }
 }
 

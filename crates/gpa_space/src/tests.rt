@@ -96,3 +96,22 @@ fn hypervisor_writes_hidden_pages(rt: HostRuntime) -> Result<(), Fail> {
     assert_eq!(rt; space.sief(vp(0))[0xfff], 0x80);
     Ok(())
 }
+
+#[test]
+fn pages_of_one_processor_are_cleared(rt: HostRuntime) -> Result<(), Fail> {
+    let mut space = Space::open(rt.alloc(), 2, 4)?;
+    let _ = space.set_pending(vp(0), sint(15));
+    let _ = space.set_pending(vp(1), sint(15));
+    let _ = space.set_flag(vp(0), sint(15), 2047);
+    let _ = space.set_flag(vp(1), sint(15), 2047);
+    // One page of processor 1 is visible, and the other disabled.
+    space.set_overlay(vp(1), Kind::Sim, 0x2001);
+    space.clear_pages(vp(1));
+    let (sim, sief) = (space.sim(vp(1)), space.sief(vp(1)));
+    assert!(rt; sim == [0; 4096].as_slice() && sief == [0; 4096].as_slice());
+    let (sim, sief) = (space.sim(vp(0)), space.sief(vp(0)));
+    assert!(rt; sim[0xf05] == 1 && sief[0xfff] == 0x80);
+    assert!(rt; space.owner(2) == Owner::Sim(vp(1)));
+    assert_eq!(rt; loaded(&space, 0x2f05), Some(0));
+    Ok(())
+}

@@ -1,24 +1,25 @@
 -- The interrupt priorities of a local APIC (SDM volume 3, "Interrupt, Task, and Processor Priority").
-use Rattle.std.specs.Prelude.{ℕ, ◌/◌, nat_lt, max, Option, Bool, if◌then◌else◌, refl}
+use Rattle.std.specs.Prelude.{ℕ, ◌/◌, nat_lt, max, Option, None, Bool, false, if◌then◌else◌, refl}
 use Rattle.std.specs.Option.{option_map_or}
 use Rattle.std.specs.FinSet as set
-use Rattle.std.specs.Coded.{Coded, code_by, coded×, coded_ℕ}
+use Rattle.std.specs.Coded.{Coded, code_by, coded×, coded_ℕ, coded_bool}
 use Rattle.lapic_core.specs.Vectors.{Vectors, greatest}
 
--- what is requested (IRR), what is in service (ISR), and the task priority (TPR)
+-- what is requested (IRR), what is in service (ISR), the task priority (TPR), and whether the processor is suspended
 pub record Apic : Type 0 where
   pub requested : Vectors
   pub in_service : Vectors
   pub task_priority : ℕ
+  pub suspended : Bool
 
--- stored as its three parts
+-- stored as its four parts
 abbrev pub apic_code : Coded Apic
 apic_code =
-    code_by (Vectors × (Vectors × ℕ)) (coded× (set.code coded_ℕ) (coded× (set.code coded_ℕ) coded_ℕ)) (λ a. (a.requested, (a.in_service, a.task_priority)))
-    (λ p. record { requested = p.0; in_service = p.1.0; task_priority = p.1.1 }) (λ _. refl)
+    code_by (Vectors × (Vectors × (ℕ × Bool))) (coded× (set.code coded_ℕ) (coded× (set.code coded_ℕ) (coded× coded_ℕ coded_bool)))
+    (λ a. (a.requested, (a.in_service, (a.task_priority, a.suspended)))) (λ p. record { requested = p.0; in_service = p.1.0; task_priority = p.1.1.0; suspended = p.1.1.1 }) (λ _. refl)
 
 abbrev pub empty_apic : Apic
-empty_apic = record { requested = set.empty; in_service = set.empty; task_priority = 0 }
+empty_apic = record { requested = set.empty; in_service = set.empty; task_priority = 0; suspended = false }
 
 -- the class of a vector or of TPR
 abbrev pub class : ℕ → ℕ
@@ -36,25 +37,28 @@ priority a = max (class a.task_priority) (in_service_class a)
 abbrev pub deliverable : Apic → Vectors
 deliverable a = set.retain a.requested (λ v. nat_lt (priority a) (class v))
 
--- the next vector: the greatest of these
+-- the vector that would come next: the greatest of these
+abbrev pub awaited : Apic → Option ℕ
+awaited a = greatest (deliverable a)
+
+-- the next vector, none while the processor is suspended
 abbrev pub next : Apic → Option ℕ
-next a = greatest (deliverable a)
+next a = if a.suspended then None else awaited a
 
 -- a vector joins the requests
 abbrev pub request : Apic → ℕ → Apic
-request a v = record { requested = set.insert a.requested v; in_service = a.in_service; task_priority = a.task_priority }
+request a v = record a { requested = set.insert a.requested v }
 
 abbrev pub with_task_priority : Apic → ℕ → Apic
-with_task_priority a value = record { requested = a.requested; in_service = a.in_service; task_priority = value }
+with_task_priority a value = record a { task_priority = value }
+
+-- the processor is suspended, or runs again
+abbrev pub with_mark : Apic → Bool → Apic
+with_mark a mark = record a { suspended = mark }
 
 -- the vector leaves the requests, and joins those in service unless it ends by itself
 abbrev pub take_vector : Bool → ℕ → Apic → Apic
-take_vector auto v a =
-    record {
-      requested = set.remove a.requested v;
-      in_service = if auto then a.in_service else set.insert a.in_service v;
-      task_priority = a.task_priority;
-    }
+take_vector auto v a = record a { requested = set.remove a.requested v; in_service = if auto then a.in_service else set.insert a.in_service v }
 
 -- the next vector is taken
 abbrev pub after_take : Bool → Apic → Apic
@@ -62,7 +66,7 @@ after_take auto a = option_map_or (λ v. take_vector auto v a) (next a) a
 
 -- the vector leaves those in service
 abbrev pub end_vector : ℕ → Apic → Apic
-end_vector v a = record { requested = a.requested; in_service = set.remove a.in_service v; task_priority = a.task_priority }
+end_vector v a = record a { in_service = set.remove a.in_service v }
 
 -- the greatest vector in service ends
 abbrev pub after_end : Apic → Apic

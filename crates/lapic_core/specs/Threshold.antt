@@ -1,5 +1,5 @@
 -- What a vector has to exceed.
-use Rattle.std.specs.Prelude.{ℕ, ◌+◌, ◌*◌, nat_lt, Option}
+use Rattle.std.specs.Prelude.{ℕ, ◌+◌, ◌*◌, nat_lt, Option, false}
 use Rattle.std.specs.FinSet as set
 use Rattle.std.specs.Option.{option_map_or}
 use Rattle.lapic_core.specs.Vectors.{Vectors}
@@ -23,4 +23,4 @@ above s n = set.retain s (λ v. nat_lt n v)
 
 -- a processor that serves these vectors at a task priority, and has these requests
 abbrev pub serving : Vectors → ℕ → Vectors → Apic
-serving in_service task_priority requested = record { requested = requested; in_service = in_service; task_priority = task_priority }
+serving in_service task_priority requested = record { requested = requested; in_service = in_service; task_priority = task_priority; suspended = false }

@@ -1,16 +1,16 @@
 // The interrupt state of one processor.
-ghost use Rattle.std.specs.Prelude.{◌≡◌, not};
+ghost use Rattle.std.specs.Prelude.{◌≡◌, not, true, false};
 ghost use Rattle.std.specs.FinSet as set;
 ghost use Rattle.lapic_core.specs.Vectors.{Vectors, greatest};
-ghost use Rattle.lapic_core.specs.Apic.{class, empty_apic, next, request, with_task_priority, after_take, after_end};
+ghost use Rattle.lapic_core.specs.Apic.{class, empty_apic, next, request, with_task_priority, with_mark, after_take, after_end};
 ghost use Rattle.lapic_core.specs.Threshold.{last_of, threshold, to_exceed, above, serving};
 
 use crate::vector_set::VectorSet;
 use board_terms::Vector;
 use std::marker::Model;
 
-/// The interrupt state of one processor: the request bits (IRR), the in-service bits (ISR) and the
-/// task priority (TPR).
+/// The interrupt state of one processor: the request bits (IRR), the in-service bits (ISR), the
+/// task priority (TPR), and whether the processor is suspended.
 #[derive(Drop)]
 pub struct Lapic {
     requested: VectorSet,
@@ -20,9 +20,10 @@ pub struct Lapic {
     // vector has to exceed it. It depends on `in_service` and `task_priority`, so `take`, `end` and
     // `set_task_priority` keep it.
     threshold: u8,
-    // The greatest requested vector above `threshold`. Each call that changes `requested` or
-    // `threshold` keeps it.
+    // The greatest requested vector above `threshold`: it would come next, whether or not the
+    // processor is suspended. Each call that changes `requested` or `threshold` keeps it.
     next: Option<Vector>,
+    suspended: bool,
 }
 
 impl Model for Lapic {
@@ -40,7 +41,7 @@ impl Model for Lapic {
 }
 
 impl Lapic {
-    /// Nothing requested, nothing in service, task priority 0.
+    /// Nothing requested, nothing in service, task priority 0, not suspended.
     pub fn new() -> Lapic
         ensures { result ≡ empty_apic }
     {
@@ -50,6 +51,7 @@ impl Lapic {
             task_priority: 0,
             threshold: 15,
             next: None,
+            suspended: false,
         }
     }
 
@@ -75,11 +77,12 @@ impl Lapic {
         self.requested.contains(vector)
     }
 
-    /// The greatest requested vector whose class is above the processor priority.
+    /// The greatest requested vector whose class is above the processor priority. None while the
+    /// processor is suspended.
     pub fn next(&self) -> Option<Vector>
         ensures { result ≡ next self.now }
     {
-        self.next
+        if self.suspended { None } else { self.next }
     }
 
     /// Takes the next vector, if there is one: its request bit is cleared, and its in-service bit is
@@ -88,7 +91,7 @@ impl Lapic {
         ensures vector { result ≡ next self.old }
         ensures after { self.new ≡ after_take auto self.old }
     {
-        let vector = self.next?;
+        let vector = self.next()?;
         self.requested.remove(vector);
         if auto {
             self.next = next_above(&self.requested, self.threshold);
@@ -127,6 +130,27 @@ impl Lapic {
         ensures { result ≡ self.now.task_priority }
     {
         self.task_priority
+    }
+
+    /// Suspends the processor: no vector is next until it is resumed, and requests still join.
+    pub fn suspend(&mut self)
+        ensures { self.new ≡ with_mark self.old true }
+    {
+        self.suspended = true;
+    }
+
+    /// Resumes the processor: what was requested meanwhile counts again.
+    pub fn resume(&mut self)
+        ensures { self.new ≡ with_mark self.old false }
+    {
+        self.suspended = false;
+    }
+
+    /// Whether the processor is suspended.
+    pub fn is_suspended(&self) -> bool
+        ensures { result ≡ self.now.suspended }
+    {
+        self.suspended
     }
 }
 

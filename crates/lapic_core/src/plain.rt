@@ -41,6 +41,7 @@ pub struct PlainLapic {
     requested: PlainSet,
     in_service: PlainSet,
     task_priority: u8,
+    suspended: bool,
 }
 
 impl PlainLapic {
@@ -49,6 +50,7 @@ impl PlainLapic {
             requested: PlainSet::new(),
             in_service: PlainSet::new(),
             task_priority: 0,
+            suspended: false,
         }
     }
 
@@ -72,7 +74,7 @@ impl PlainLapic {
 
     pub fn next(&self) -> Option<Vector> {
         let vector = self.requested.greatest()?;
-        if vector.number() / 16 > self.priority() {
+        if !self.suspended && vector.number() / 16 > self.priority() {
             Some(vector)
         } else {
             None
@@ -100,5 +102,17 @@ impl PlainLapic {
 
     pub fn task_priority(&self) -> u8 {
         self.task_priority
+    }
+
+    pub fn suspend(&mut self) {
+        self.suspended = true;
+    }
+
+    pub fn resume(&mut self) {
+        self.suspended = false;
+    }
+
+    pub fn is_suspended(&self) -> bool {
+        self.suspended
     }
 }

@@ -61,6 +61,8 @@ enum Call {
     Take { auto: bool },
     End,
     Priority(u8),
+    Suspend,
+    Resume,
 }
 
 /// Both forms of the state.
@@ -93,8 +95,20 @@ impl Lapics {
                 self.plain.set_task_priority(value);
                 self.kept.task_priority() == self.plain.task_priority()
             }
+            Call::Suspend => {
+                self.kept.suspend();
+                self.plain.suspend();
+                self.kept.is_suspended()
+            }
+            Call::Resume => {
+                self.kept.resume();
+                self.plain.resume();
+                !self.kept.is_suspended()
+            }
         };
-        answers && self.kept.next() == self.plain.next()
+        answers
+            && self.kept.next() == self.plain.next()
+            && self.kept.is_suspended() == self.plain.is_suspended()
     }
 }
 
@@ -149,6 +163,34 @@ fn each_task_priority(rt: HostRuntime) {
             let mut lapics = Lapics::new();
             for call in course {
                 assert!(rt; lapics.agree(call), "{value:x} {vector:?} {call:?}");
+            }
+        }
+    }
+}
+
+#[test]
+fn suspended(rt: HostRuntime) {
+    for first in (16..=255u8).filter_map(Vector::new) {
+        for second in (16..=255u8).filter_map(Vector::new) {
+            let course = [
+                Call::Request(first),
+                Call::Suspend,
+                Call::Request(second),
+                TAKE,
+                Call::Priority(64),
+                AUTO,
+                Call::Suspend,
+                Call::Resume,
+                TAKE,
+                Call::Suspend,
+                END,
+                Call::Priority(0),
+                Call::Resume,
+                TAKE,
+            ];
+            let mut lapics = Lapics::new();
+            for call in course {
+                assert!(rt; lapics.agree(call), "{first:?} {second:?} {call:?}");
             }
         }
     }

@@ -1,6 +1,7 @@
 // The message queues.
-ghost use Rattle.std.specs.Prelude.{◌≡◌, ◌<◌, ◌≤◌, length, IfOk, slice_get};
-ghost use Rattle.message_queues.specs.Queues.{no_messages, place_of, queue_of, appended, after_place, after_withdrawal, withdrawn_of, port_used, is_timer_free, HasBuffer};
+ghost use Rattle.std.specs.Prelude.{◌≡◌, ◌<◌, ◌≤◌, [], length, map, sum_by, IfOk, slice_get};
+ghost use Rattle.board_terms.specs.Messages.{ticket_of};
+ghost use Rattle.message_queues.specs.Queues.{no_messages, place_of, queue_of, with_queue, appended, after_place, after_withdrawal, withdrawn_of, port_used, is_timer_free, HasBuffer};
 
 use crate::chains::{Buffer, Chain, push, unlink, withdraw};
 use crate::owners::{OWNERS, PORTS, owner_of, owner_of_timer};
@@ -120,12 +121,31 @@ impl Queues {
         tickets
     }
 
-    /// How many messages are in a queue, at most 288.
+    /// Takes all messages out of a queue, and answers their tickets, front first. It takes no memory.
+    /// No more than 288 messages are in all queues.
+    pub fn withdraw_all(&mut self, vp: Vp, sint: Sint) -> ArrayVec<Ticket, 288>
+        requires { place_of vp sint < length self.old }
+        ensures tickets { result.items ≡ map ticket_of (queue_of self.old vp sint) }
+        ensures rest { self.new ≡ with_queue self.old vp sint [] }
+        ensures as_many { length self.new ≡ length self.old }
+        ensures in_all { sum_by length self.old ≤ 288 }
+    {
+        let count = self.count(vp, sint);
+        let mut tickets = ArrayVec::new();
+        for _ in 0..count {
+            let message = self.place(vp, sint).unwrap();
+            tickets.push(message.ticket());
+        }
+        tickets
+    }
+
+    /// How many messages are in a queue, at most 288, as there are in all.
     #[inline]
     pub fn count(&self, vp: Vp, sint: Sint) -> u16
         requires { place_of vp sint < length self.now }
         ensures value { result ≡ length (queue_of self.now vp sint) }
         ensures few { result ≤ 288 }
+        ensures in_all { sum_by length self.now ≤ 288 }
     {
         self.chains[place_of(vp, sint)].len
     }

@@ -187,3 +187,30 @@ fn withdrawals_from_front_middle_and_end(rt: HostRuntime) -> Result<(), Fail> {
     assert_eq!(rt; queues.place(vp, other), None);
     Ok(())
 }
+
+#[test]
+fn a_queue_is_emptied(rt: HostRuntime) -> Result<(), Fail> {
+    let mut queues = Queues::open(rt.alloc(), 1)?;
+    let (vp, sint, other) = (
+        Vp::new(0).unwrap(),
+        Sint::new(2).unwrap(),
+        Sint::new(3).unwrap(),
+    );
+    let timer = timer_of(2)?;
+    join(&mut queues, vp, other, 20, 3)?;
+    join(&mut queues, vp, sint, 1, 3)?;
+    assert!(rt; queues.timer_buffer_free(timer));
+    queues.append(vp, sint, expired(2, timer));
+    join(&mut queues, vp, sint, 3, 5)?;
+    join(&mut queues, vp, sint, 4, 3)?;
+    let tickets = queues.withdraw_all(vp, sint);
+    assert_eq!(rt; tickets.as_slice(), [1, 2, 3, 4].as_slice());
+    assert_eq!(rt; queues.count(vp, sint), 0);
+    assert_eq!(rt; queues.port_used(3), 1);
+    assert_eq!(rt; queues.port_used(5), 0);
+    assert!(rt; queues.timer_buffer_free(timer));
+    let none = queues.withdraw_all(vp, sint);
+    assert!(rt; none.is_empty());
+    assert_eq!(rt; queues.place(vp, other), Some(post(20, 3)));
+    Ok(())
+}

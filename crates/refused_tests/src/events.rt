@@ -21,7 +21,7 @@ fn prepared() -> [Event; 6] {
 }
 
 /// Of each kind of event one or more.
-fn events() -> [Event; 14] {
+fn events() -> [Event; 19] {
     let vector = Vector::new(0x61).unwrap();
     [
         post(3, &[0x0a]),
@@ -44,11 +44,16 @@ fn events() -> [Event; 14] {
         },
         Event::Tick { moment: 100 },
         Event::Tick { moment: 235 },
+        Event::Suspend { vp: 0 },
+        Event::Tick { moment: 300 },
+        Event::Resume { vp: 0 },
+        post(3, &[0x0c]),
+        Event::Reset { vp: 0 },
         Event::ClosePort { port: 3 },
     ]
 }
 
-fn replies_to_them() -> [Reply; 14] {
+fn replies_to_them() -> [Reply; 19] {
     [
         Reply::Accepted(0),
         Reply::Accepted(1),
@@ -62,6 +67,11 @@ fn replies_to_them() -> [Reply; 14] {
         Reply::Taken(Vector::new(0x68)),
         Reply::Value(0x50),
         Reply::Done,
+        Reply::Done,
+        Reply::Done,
+        Reply::Done,
+        Reply::Done,
+        Reply::Accepted(2),
         Reply::Done,
         Reply::Done,
     ]

@@ -49,7 +49,7 @@ fn a_script_is_replayed(rt: HostRuntime) -> Result<(), Fail> {
 
 fn checked(alloc: Global) -> (CheckEnd, Written) {
     let mut trace =
-        b"trace 1\nboard 1 1 0\n0 assert 0 60\n= done\n0 take 0\n= taken 60\nend 2\n".as_slice();
+        b"trace 2\nboard 1 1 7\n0 assert 0 60\n= done\n0 reset 0\n= done\nend 2 7\n".as_slice();
     let mut written = nothing();
     (check_trace(alloc, &mut trace, &mut written), written)
 }
@@ -79,9 +79,9 @@ fn crewed<R: Threads + Wait + Sync>(rt: &R, alloc: Global) -> (CrewRun, Written)
 #[test]
 fn a_crew_script_is_run(rt: HostRuntime) -> Result<(), Fail> {
     let trace = concat!(
-        "trace 1\nboard 1 1 0\n0 assert 0 60\n= done\n1 take 0\n= taken 60\n",
+        "trace 2\nboard 1 1 0\n0 assert 0 60\n= done\n1 take 0\n= taken 60\n",
         "0 absorb 0 0 0\n= done\n0 absorb 0 1 0\n= done\n",
-        "0 absorb 0 2 0\n= done\n0 absorb 0 3 0\n= done\nend 6\n"
+        "0 absorb 0 2 0\n= done\n0 absorb 0 3 0\n= done\nend 6 0\n"
     );
     let (mut end, mut written) = crewed(&rt, rt.alloc());
     assert!(rt; begins(&written, trace.as_bytes()));

@@ -1,8 +1,9 @@
 -- The timers of all processors.
-use Rattle.std.specs.Prelude.{ℕ, zero, suc, Bool, false, nat_lt, nat_le, List, [], map, replicate, slice_index_or, slice_set, None, if◌then◌else◌}
-use Rattle.std.specs.List.{insert, position_or_len}
+use Rattle.std.specs.Prelude.{ℕ, zero, suc, ◌/◌, Bool, false, nat_lt, nat_le, List, [], map, replicate, slice_index_or, slice_set, Option, None, if◌then◌else◌}
+use Rattle.std.specs.List.{insert, position_or_len, range_with_len}
 use Rattle.std.specs.Option.{option_map_or}
 use Rattle.board_terms.specs.Dues.{Dues, number_of, timer_of, due_of}
+use Rattle.timer_heap.specs.Heap.{is_due_by}
 use Rattle.stimer_bank.specs.declared.timer.Timer.{Timer}
 use Rattle.stimer_bank.specs.declared.timer.Expiry.{Expiry}
 use Rattle.stimer_bank.specs.Timer.{after_config, after_count, after_expiry}
@@ -10,12 +11,14 @@ use Rattle.stimer_bank.specs.Timer.{after_config, after_count, after_expiry}
 pub record Bank : Type 0 where
   -- by number
   pub timers : List Timer
+  -- whether each processor is suspended, by its number
+  pub suspended : List Bool
 
 abbrev pub idle_timer : Timer
 idle_timer = record { config = 0; count = 0; due = None }
 
 abbrev pub opened : Bank
-opened = record { timers = replicate 32 idle_timer }
+opened = record { timers = replicate 32 idle_timer; suspended = replicate 8 false }
 
 abbrev pub timer_in : Bank → ℕ × ℕ → Timer
 timer_in b t = slice_index_or b.timers (number_of t) idle_timer
@@ -30,9 +33,28 @@ with_config b t value moment = with_timer b t (after_config (timer_in b t) value
 abbrev pub with_count : Bank → ℕ × ℕ → ℕ → ℕ → Bank
 with_count b t value moment = with_timer b t (after_count (timer_in b t) value moment)
 
+-- processor p is suspended
+abbrev pub is_suspended : Bank → ℕ → Bool
+is_suspended b p = slice_index_or b.suspended p false
+
+abbrev pub with_mark : Bank → ℕ → Bool → Bank
+with_mark b p mark = record b { suspended = slice_set b.suspended p mark }
+
+-- the timers of processor p are idle, and it is not suspended
+abbrev pub reset : Bank → ℕ → Bank
+reset b p = with_mark (with_timer (with_timer (with_timer (with_timer b (p, 0) idle_timer) (p, 1) idle_timer) (p, 2) idle_timer) (p, 3) idle_timer) p false
+
+-- when the timer of number n is due: one of a suspended processor is not
+abbrev pub shown_due : Bank → ℕ → Option ℕ
+shown_due b n = if is_suspended b (n / 4) then None else (slice_index_or b.timers n idle_timer).due
+
 -- when each timer is due
-abbrev pub dues : Bank → Dues
-dues b = map (λ x. x.due) b.timers
+unfoldable pub dues : Bank → Dues
+dues b = map (shown_due b) (range_with_len 0 32)
+
+-- a timer is due at the moment
+abbrev pub is_due_in : Bank → ℕ × ℕ → ℕ → Bool
+is_due_in b t moment = is_due_by (dues b) moment (number_of t)
 
 abbrev pub after_expiry_of : Bank → ℕ × ℕ → ℕ → Bank × Expiry
 after_expiry_of b t moment = let r = after_expiry (timer_in b t) moment in (with_timer b t r.0, r.1)

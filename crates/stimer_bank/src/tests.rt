@@ -99,3 +99,49 @@ fn whom_a_timer_tells(rt: HostRuntime) -> Result<(), Fail> {
     assert_eq!(rt; told(&bank, first, 7), (None, Sint::new(2)));
     Ok(())
 }
+
+/// The timers of the bank that are due first, and all of them that are due at 9.
+fn shown(bank: &TimerBank, first: Option<(u128, TimerId)>, due: &[TimerId]) -> bool {
+    bank.earliest() == first && bank.due_list(9).as_slice() == due
+}
+
+#[test]
+fn a_suspended_processor_hides_its_timers(rt: HostRuntime) -> Result<(), Fail> {
+    let (first, last, other) = (timer(1, 0)?, timer(1, 3)?, timer(2, 0)?);
+    let mut bank = TimerBank::new();
+    bank.write_count(first, 7, 0);
+    bank.write_config(first, 0x1401, 0);
+    bank.write_count(other, 9, 0);
+    bank.write_config(other, 0x1401, 0);
+    bank.suspend(first.vp());
+    assert!(rt; bank.is_suspended(first.vp()) && !bank.is_suspended(other.vp()));
+    assert!(rt; shown(&bank, Some((9, other)), [other].as_slice()));
+    assert!(rt; !bank.is_due(first, 9) && bank.is_due(other, 9));
+    // a timer that is written now is kept, and hidden
+    bank.write_count(last, 5, 0);
+    bank.write_config(last, 0x1401, 0);
+    assert_eq!(rt; bank.read_config(last), 0x1401);
+    assert!(rt; shown(&bank, Some((9, other)), [other].as_slice()));
+    bank.resume(first.vp());
+    assert!(rt; !bank.is_suspended(first.vp()));
+    assert!(rt; shown(&bank, Some((5, last)), [last, first, other].as_slice()));
+    assert_eq!(rt; expired(&mut bank, first, 9), Some((Some(7), 0)));
+    Ok(())
+}
+
+#[test]
+fn a_processor_that_is_reset_has_idle_timers(rt: HostRuntime) -> Result<(), Fail> {
+    let (last, other) = (timer(1, 3)?, timer(2, 0)?);
+    let mut bank = TimerBank::new();
+    bank.write_count(last, 5, 0);
+    bank.write_config(last, 0x1401, 0);
+    bank.write_count(other, 9, 0);
+    bank.write_config(other, 0x1401, 0);
+    bank.suspend(last.vp());
+    bank.reset(last.vp());
+    assert!(rt; !bank.is_suspended(last.vp()));
+    assert_eq!(rt; bank.read_config(last), 0);
+    assert_eq!(rt; bank.read_count(last), 0);
+    assert!(rt; shown(&bank, Some((9, other)), [other].as_slice()));
+    Ok(())
+}

@@ -1,6 +1,7 @@
 // One timer: its registers, when it is due, and how it expires.
 ghost use Rattle.std.specs.Prelude.{◌≡◌, true, false, ◌+◌, ◌*◌, ◌^◌, ◌-◌, ◌<◌, ◌≤◌, Option, Some, None, IsSome, IsTrue};
 ghost use Rattle.stimer_bank.specs.Timer.{has_bit, is_periodic, vector_of, sint_of, is_direct, is_mute, disabled, ruled, written_count, started, after_config, after_count, is_due, IsSound, IsRuled, mode_of, expired, once, catching_up, lazily, late, expiry_of, after_expiry};
+ghost use Rattle.stimer_bank.specs.Bank.{idle_timer};
 
 use board_terms::{Moment, Sint, Vector};
 
@@ -149,6 +150,18 @@ fn started(config: u64, count: u64, moment: Moment) -> Option<u128>
 }
 
 impl Timer {
+    /// It is not configured.
+    pub(crate) fn idle() -> Timer
+        ensures idle { result ≡ idle_timer }
+        ensures sound { IsSound result }
+    {
+        Timer {
+            config: 0,
+            count: 0,
+            due: None,
+        }
+    }
+
     pub(crate) fn after_config(self, value: u64, moment: Moment) -> Timer
         ensures after { result ≡ after_config self value moment }
         ensures sound { IsSound result }

@@ -16,20 +16,20 @@ const POSTS: &str = concat!(
 
 /// What is written of it where the first actor is held up.
 const SECOND_FIRST: &str = concat!(
-    "trace 1\nboard 1 4 0\n0 write 0 40000080 1\n= done\n0 write 0 40000083 2001\n= done\n",
+    "trace 2\nboard 1 4 0\n0 write 0 40000080 1\n= done\n0 write 0 40000083 2001\n= done\n",
     "0 write 0 40000092 50\n= done\n0 open 3 message 0 2 2\n= done\n",
     "2 post 3 1 0b\n= accepted 0\n1 post 3 1 0a\n= accepted 1\n",
     "0 absorb 0 0 0\n= done\n0 absorb 0 1 0\n= done\n",
-    "0 absorb 0 2 0\n= done\n0 absorb 0 3 0\n= done\nend 10\n"
+    "0 absorb 0 2 0\n= done\n0 absorb 0 3 0\n= done\nend 10 2\n"
 );
 
 /// And where the second one is.
 const FIRST_FIRST: &str = concat!(
-    "trace 1\nboard 1 4 0\n0 write 0 40000080 1\n= done\n0 write 0 40000083 2001\n= done\n",
+    "trace 2\nboard 1 4 0\n0 write 0 40000080 1\n= done\n0 write 0 40000083 2001\n= done\n",
     "0 write 0 40000092 50\n= done\n0 open 3 message 0 2 2\n= done\n",
     "1 post 3 1 0a\n= accepted 0\n2 post 3 1 0b\n= accepted 1\n",
     "0 absorb 0 0 0\n= done\n0 absorb 0 1 0\n= done\n",
-    "0 absorb 0 2 0\n= done\n0 absorb 0 3 0\n= done\nend 10\n"
+    "0 absorb 0 2 0\n= done\n0 absorb 0 3 0\n= done\nend 10 2\n"
 );
 
 /// Two actors and two lines of two steps each.
@@ -82,9 +82,9 @@ const TAKE: &[u8] = b"board 1 1 0\nassert 0 60\nactor\ntake 0\nline\n";
 
 /// The only trace of it.
 const TAKEN: &str = concat!(
-    "trace 1\nboard 1 1 0\n0 assert 0 60\n= done\n1 take 0\n= taken 60\n",
+    "trace 2\nboard 1 1 0\n0 assert 0 60\n= done\n1 take 0\n= taken 60\n",
     "0 absorb 0 0 0\n= done\n0 absorb 0 1 0\n= done\n",
-    "0 absorb 0 2 0\n= done\n0 absorb 0 3 0\n= done\nend 6\n"
+    "0 absorb 0 2 0\n= done\n0 absorb 0 3 0\n= done\nend 6 0\n"
 );
 
 #[test]

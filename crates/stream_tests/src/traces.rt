@@ -6,6 +6,10 @@ use std::cell::Cell;
 /// A processor takes the vector that was asserted.
 const TRACE: &[u8] = b"trace 1\nboard 1 1 0\n0 assert 0 60\n= done\n0 take 0\n= taken 60\nend 2\n";
 
+/// A processor is reset, and the next ticket is the first.
+const OF_FORMAT_2: &[u8] =
+    b"trace 2\nboard 1 1 7\n0 assert 0 60\n= done\n0 reset 0\n= done\nend 2 7\n";
+
 /// What is written of a trace whose first wrong line is this one, of one digit.
 fn refused(line: u64) -> [u8; 10] {
     let mut text = *b"refused 0\n";
@@ -15,30 +19,32 @@ fn refused(line: u64) -> [u8; 10] {
 
 #[test]
 fn judges_each_beginning_of_a_trace(rt: HostRuntime) {
-    // The line behind the whole lines is the first that is wrong, be it begun or not.
-    let mut line: u64 = 1;
-    for bytes in 0..TRACE.len() {
+    for trace in [TRACE, OF_FORMAT_2] {
+        // The line behind the whole lines is the first that is wrong, be it begun or not.
+        let mut line: u64 = 1;
+        for bytes in 0..trace.len() {
+            let held_back = Cell::new(0);
+            let mut reader = gives(&trace[..bytes], &held_back);
+            let mut writer = takes(&held_back);
+            assert_eq!(rt;
+                check_trace(rt.alloc(), &mut reader, &mut writer),
+                CheckEnd::Refused(line),
+                "after {bytes} bytes"
+            );
+            assert!(rt; writer.has(&refused(line)));
+            if trace[bytes] == b'\n' {
+                line = line.saturating_add(1);
+            }
+        }
         let held_back = Cell::new(0);
-        let mut reader = gives(&TRACE[..bytes], &held_back);
+        let mut reader = gives(trace, &held_back);
         let mut writer = takes(&held_back);
         assert_eq!(rt;
             check_trace(rt.alloc(), &mut reader, &mut writer),
-            CheckEnd::Refused(line),
-            "after {bytes} bytes"
+            CheckEnd::Legal(2)
         );
-        assert!(rt; writer.has(&refused(line)));
-        if TRACE[bytes] == b'\n' {
-            line = line.saturating_add(1);
-        }
+        assert!(rt; writer.has(b"legal 2\n"));
     }
-    let held_back = Cell::new(0);
-    let mut reader = gives(TRACE, &held_back);
-    let mut writer = takes(&held_back);
-    assert_eq!(rt;
-        check_trace(rt.alloc(), &mut reader, &mut writer),
-        CheckEnd::Legal(2)
-    );
-    assert!(rt; writer.has(b"legal 2\n"));
 }
 
 #[test]
@@ -61,7 +67,7 @@ fn a_failed_read_ends_it(rt: HostRuntime) {
 
 #[test]
 fn a_refused_write_ends_it(rt: HostRuntime) {
-    let texts: [(&[u8], &[u8]); 2] = [(TRACE, b"legal 2\n"), (b"trace 2\n", b"refused 1\n")];
+    let texts: [(&[u8], &[u8]); 2] = [(TRACE, b"legal 2\n"), (b"trace 3\n", b"refused 1\n")];
     for (trace, text) in texts {
         for refuses in [Refuses::Writes, Refuses::Bytes] {
             for room in 0..text.len() {
@@ -126,9 +132,9 @@ fn a_reader_that_never_ends_is_left(rt: HostRuntime) {
 }
 
 /// Traces that are wrong, and the first line that is.
-const WRONG: [(&[u8], u64); 20] = [
+const WRONG: [(&[u8], u64); 28] = [
     // the title
-    (b"trace 2\nboard 1 1 0\nend 0\n", 1),
+    (b"trace 3\nboard 1 1 0\nend 0 0\n", 1),
     (b"trace 01\nboard 1 1 0\nend 0\n", 1),
     (b"trace 1\r\nboard 1 1 0\nend 0\n", 1),
     (b"board 1 1 0\nend 0\n", 1),
@@ -164,6 +170,15 @@ const WRONG: [(&[u8], u64); 20] = [
         b"trace 1\nboard 1 1 0\n0 take 0\n= taken none\nend 1\nend 1\n",
         6,
     ),
+    (b"trace 1\nboard 1 1 0\nend 0 0\n", 3),
+    (b"trace 2\nboard 1 1 0\nend 0\n", 3),
+    (b"trace 2\nboard 1 1 0\n0 reset 0\n= done\nend 1 1\n", 5),
+    (b"trace 2\nboard 1 1 0\n0 reset 0\n= done\nend 1 00\n", 5),
+    (b"trace 2\nboard 1 1 0\n0 reset 0\n= done\nend 2 0\n", 5),
+    // a reset, which has no line in format 1
+    (b"trace 1\nboard 1 1 0\n0 reset 0\n= done\nend 1\n", 3),
+    (b"trace 1\nboard 1 1 0\n0 reset 1\n= refused 14\nend 1\n", 3),
+    (b"trace 2\nboard 1 1 0\n0 reset 1\n= done\nend 1 0\n", 4),
 ];
 
 #[test]
@@ -183,7 +198,7 @@ fn names_the_first_wrong_line(rt: HostRuntime) {
 
 #[test]
 fn counts_the_entries_of_a_legal_trace(rt: HostRuntime) {
-    let traces: [(&[u8], &[u8], u64); 3] = [
+    let traces: [(&[u8], &[u8], u64); 6] = [
         (b"trace 1\nboard 1 1 0\nend 0\n", b"legal 0\n", 0),
         (
             b"trace 1\nboard 8 64 18446744073709551615\n255 take 8\n= refused 14\nend 1\n",
@@ -194,6 +209,25 @@ fn counts_the_entries_of_a_legal_trace(rt: HostRuntime) {
             b"trace 1\nboard 1 1 0\n9 tick 5\n= done\n0 read 0 40000020\n= value 5\nend 2\n",
             b"legal 2\n",
             2,
+        ),
+        (
+            b"trace 1\nboard 1 1 0\n0 suspend 0\n= done\n1 resume 0\n= done\nend 2\n",
+            b"legal 2\n",
+            2,
+        ),
+        (
+            b"trace 2\nboard 1 1 5\n0 reset 0\n= done\n0 resume 0\n= refused 16\nend 2 5\n",
+            b"legal 2\n",
+            2,
+        ),
+        (
+            concat!(
+                "trace 2\nboard 1 1 7\n0 write 0 40000080 1\n= done\n0 open 3 message 0 2 1\n= done\n",
+                "1 post 3 1 -\n= accepted 7\n0 reset 0\n= done\nend 4 8\n"
+            )
+            .as_bytes(),
+            b"legal 4\n",
+            4,
         ),
     ];
     for (trace, text, entries) in traces {

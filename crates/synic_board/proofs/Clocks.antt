@@ -1,16 +1,16 @@
 -- Timers that are written and expire, and the stored earliest one.
-use Rattle.std.proofs.Common.{◌≡◌, ◌≢◌, ℕ, ◌*◌, ◌<◌, ◌≤◌, List, [], ◌∷◌, length, refl, sym, ap, ◌∙◌, arith, get_or, nat_lt, true, false, zero, suc}
+use Rattle.std.proofs.Common.{◌≡◌, ◌≢◌, ℕ, ◌*◌, ◌<◌, ◌≤◌, Bool, List, [], ◌∷◌, length, refl, sym, ap, ◌∙◌, arith, get_or, nat_lt, true, false, zero, suc}
 use Rattle.std.specs.Prelude.{Option, None, Some, ◌==◌, if◌then◌else◌}
 use Rattle.std.specs.Option.{option_map_or, option_map}
-use Rattle.std.proofs.lemmas.List.{get_or-set_other, map-set}
 use Rattle.std.proofs.lemmas.Bool.Decides.{nat_tests}
 use Rattle.lapic_core.specs.Vectors.{Vectors}
 use Rattle.board_terms.specs.declared.pages.Owner.{Owner}
 use Rattle.board_terms.specs.Dues.{Dues, number_of, timer_of, earlier, least, least_below}
 use Rattle.stimer_bank.specs.declared.timer.Timer.{Timer}
-use Rattle.stimer_bank.specs.Bank.{Bank, with_timer, dues, due_list}
+use Rattle.stimer_bank.specs.Bank.{Bank, with_timer, with_mark, reset, dues, due_list}
 use Rattle.stimer_bank.specs.DueList.{Each, IsDueBy}
 use Rattle.stimer_bank.proofs.Sorted.{sorted}
+use Rattle.stimer_bank.proofs.Shown.{dues-timer-other, dues-mark-other, dues-reset-other}
 use Rattle.board_terms.specs.declared.refusal.Refusal.TheVariants.{ClockBack}
 use Rattle.synic_board.specs.declared.event.Reply.TheVariants.{Done}
 use Rattle.synic_board.specs.State.{State, bank_of}
@@ -20,9 +20,14 @@ use Rattle.synic_board.specs.Timers.{is_any_due, at_moment, attempted_all, ticke
 
 -- the timers of processors that are not on the board stay idle
 pub idle-written : (b now : Bank) (t : ℕ × ℕ) (x : Timer) (m : ℕ) → now ≡ with_timer b t x → number_of t < 4 * m → ((k : ℕ) → 4 * m ≤ k → get_or (dues b) k None ≡ None) → (k : ℕ) → 4 * m ≤ k → get_or (dues now) k None ≡ None
-idle-written b now t x m is low idle k h =
-    let other : k ≢ number_of t = λ e. omega arith in
-    ap (λ (y : Bank). get_or (dues y) k None) is ∙ ap (λ xs. get_or xs k None) (map-set (λ (y : Timer). y.due) b.timers (number_of t) x) ∙ get_or-set_other (dues b) (number_of t) k x.due None other ∙ idle k h
+idle-written b now t x m is low idle k h = ap (λ (y : Bank). get_or (dues y) k None) is ∙ dues-timer-other b t x k (λ e. omega arith) ∙ idle k h
+
+-- and so where a processor on the board is suspended, goes on or is reset
+pub idle-marked : (b : Bank) (p m : ℕ) (mark : Bool) → p < m → ((k : ℕ) → 4 * m ≤ k → get_or (dues b) k None ≡ None) → (k : ℕ) → 4 * m ≤ k → get_or (dues (with_mark b p mark)) k None ≡ None
+idle-marked b p m mark low idle k h = dues-mark-other b p k mark (λ e. omega (arith, e, low, h)) ∙ idle k h
+
+pub idle-reset : (b : Bank) (p m : ℕ) → p < m → ((k : ℕ) → 4 * m ≤ k → get_or (dues b) k None ≡ None) → (k : ℕ) → 4 * m ≤ k → get_or (dues (reset b p)) k None ≡ None
+idle-reset b p m low idle k h = dues-reset-other b p k (λ e. omega (arith, e, low, h)) ∙ idle k h
 
 -- the summary after the earliest timer was written
 pub scratch-earliest : (nexts : List (Option ℕ)) (autos : List Vectors) (owners : List Owner) (queued : List ℕ) (was now is : Option (ℕ × (ℕ × ℕ))) (before after : Values) →

@@ -19,7 +19,7 @@ use Rattle.message_queues.specs.Queues.{queue_of, withdrawn_of}
 use Rattle.gpa_space.specs.Page.{is_set, with_bit, flag_place}
 use Rattle.gpa_space.specs.Space.{is_pending, is_flag_set, own_page}
 use Rattle.synic_board.specs.declared.event.Event.{Event}
-use Rattle.synic_board.specs.declared.event.Event.TheVariants.{OpenPort, ClosePort, Write, Read, Post, Signal, Assert, Absorb, Store, Load, Tick, Take}
+use Rattle.synic_board.specs.declared.event.Event.TheVariants.{OpenPort, ClosePort, Write, Read, Post, Signal, Assert, Absorb, Store, Load, Tick, Take, Suspend, Resume, Reset}
 use Rattle.synic_board.specs.declared.event.Reply.{Reply}
 use Rattle.synic_board.specs.declared.event.Reply.TheVariants as replies
 use Rattle.synic_board.specs.State.{State, processors, apic_of, with_apic, regs_of, space_of, ports_of}
@@ -28,6 +28,8 @@ use Rattle.synic_board.specs.Interrupts.{requested, raised}
 use Rattle.synic_board.specs.Posts.{with_flag, flagged}
 use Rattle.synic_board.specs.Timers.{expired_notices, skipped_notices, expiry_notices, expiry_at}
 use Rattle.synic_board.specs.Sound.{IsSound}
+use Rattle.synic_board.specs.Suspending.{with_suspension}
+use Rattle.synic_board.specs.Resetting.{emptied, cleared}
 use Rattle.synic_board.specs.Step.{step}
 use Rattle.synic_board.specs.Flags.{tells_of_flag, is_flag_told, is_place, signals_flag, is_performed, found_clear}
 use Rattle.synic_board.proofs.keeping.Requests.{either}
@@ -75,6 +77,8 @@ mute = record {
   marks = λ s p i. record { none = either TellNone (is_pending (space_of s) p i) [] (Pending p i ∷ []) (λ _ _ _ _. refl) (λ _ _ _ _. refl) };
   consumes = λ s p i t _. record { none = λ _ _ _. refl };
   withdraws = λ s p i port. record { none = none-withdrawn p i (withdrawn_of port (queue_of s.queues p i)) };
+  frees = λ s p i t. record { none = λ _ _ _. refl };
+  empties = λ s p i. record { none = none-withdrawn p i (map ticket_of (queue_of s.queues p i)) };
   expires = λ s t _. record { none = none-expired t (expiry_at s t).signal (expiry_at s t).skipped };
 }
 
@@ -112,6 +116,9 @@ no-signal s p i flag (Store address bytes) is = refl
 no-signal s p i flag (Load address count) is = refl
 no-signal s p i flag (Tick moment) is = refl
 no-signal s p i flag (Take q) is = refl
+no-signal s p i flag (Suspend q) is = refl
+no-signal s p i flag (Resume q) is = refl
+no-signal s p i flag (Reset q) is = refl
 
 -- the effect of an event that is no signal
 other : (s : State) (event : Event) (reply : Reply) (e : Effect) → IsNoSignal event → TellNone e.1 → IsFlagged s event (answered reply e)
@@ -191,6 +198,8 @@ flags = throughout IsMute IsFlagged mute (record {
   counts = λ s p n number value e _ h. other s (Write p number value) _ e tt h.none;
   repeats = repeats;
   signals = signals;
+  pauses = λ s event p mark is. other s event _ (nothing (with_suspension s p mark)) is.2 (λ _ _ _. refl);
+  resets = λ s p h. let e : Effect = emptied s p in other s (Reset p) _ (after e (cleared e.0 p, [])) tt (none-joined e.1 [] h.none (λ _ _ _. refl));
 })
 
 pub told-flag : (s : State) (event : Event) (p i flag : ℕ) → is_flag_told p i flag (step s event).2 ≡ found_clear s p i flag event (step s event).1

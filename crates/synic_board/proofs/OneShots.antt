@@ -23,6 +23,7 @@ use Rattle.synic_board.specs.declared.event.Reply.TheVariants.{Done}
 use Rattle.synic_board.specs.State.{State, bank_of, with_bank}
 use Rattle.synic_board.specs.Effects.{Effect, Outcome, after, answered}
 use Rattle.synic_board.specs.Timers.{expired_notices, skipped_notices, expiry_notices, expiry_at, expired_state}
+use Rattle.synic_board.specs.Resetting.{emptied, reset}
 use Rattle.synic_board.specs.Step.{step}
 use Rattle.synic_board.specs.Run.{run_of}
 use Rattle.synic_board.specs.OneShots.{expiries, armed, is_config_of, writes_timer, writes, makes_periodic, IsOneShot}
@@ -154,6 +155,14 @@ event-counted t =
       acts = λ s event reply e h. record { one_shot = λ _ o. h.one_shot o; few = λ _ o. omega (arith, h.few o) };
       configures = configures t;
       counts = counts t;
+      resets = λ s p _ h is. record {
+        one_shot = λ _ _. ap (λ (y : Timer). is_periodic y.config) is;
+        few = λ _ o.
+            let e : Effect = emptied s p in
+            let ends : armed (reset s p).0 t ≡ 0 = ap (λ (y : Timer). if is_some y.due then 1 else 0) is in
+            let same : expiries t (reset s p).2 ≡ expiries t e.1 + 0 = expiries-joined t e.1 [] in
+            omega (arith, h.few o, ends, same);
+      };
     })
 
 -- and all of them

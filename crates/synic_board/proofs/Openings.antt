@@ -1,5 +1,5 @@
 -- The summary of a board as it is opened.
-use Rattle.std.proofs.Common.{◌≡◌, ℕ, ◌*◌, ◌<◌, Bool, true, false, cond, List, [], ◌∷◌, map, replicate, length, refl, sym, ap, ◌∙◌, zero, suc, arith, nat_lt, get_or}
+use Rattle.std.proofs.Common.{◌≡◌, ℕ, ◌*◌, ◌<◌, Bool, true, false, cond, List, [], ◌∷◌, map, replicate, length, refl, sym, ap, ◌∙◌, zero, suc, arith, nat_lt}
 use Rattle.std.specs.Prelude.{Option, None, Some, not, if◌then◌else◌}
 use Rattle.std.specs.Option.{option_map_or, option_map}
 use Rattle.std.specs.Ordering.{nat_cmp}
@@ -20,8 +20,8 @@ use Rattle.gpa_space.specs.Space.{Space, lies_at, visible, owner_of, overlay_own
 use Rattle.event_ports.specs.Ports.{Ports, no_ports}
 use Rattle.message_queues.specs.Queues.{Queues, no_messages}
 use Rattle.board_terms.specs.Dues.{least, least_below, earlier, timer_of}
-use Rattle.stimer_bank.specs.declared.timer.Timer.{Timer}
-use Rattle.stimer_bank.specs.Bank.{Bank, idle_timer, dues, opened as no_timers}
+use Rattle.stimer_bank.specs.Bank.{Bank, dues, opened as no_timers}
+use Rattle.stimer_bank.proofs.Shown.{dues-opened}
 use Rattle.synic_board.specs.State.{bank_of, opened, overlay_registers, space_of}
 use Rattle.synic_board.specs.Scratch.{Values, owners_of, scratch}
 
@@ -40,7 +40,7 @@ none_auto v zero = refl
 none_auto v (suc n) = none_auto v n
 
 -- after reset no vector ends by itself
-auto-reset : auto_vectors reset_regs ≡ set.empty
+pub auto-reset : auto_vectors reset_regs ≡ set.empty
 auto-reset = set.same_set nat_cmp_total nat_cmp-IsAntisymmetric _ _ (λ v. contains-auto_vectors reset_regs v ∙ none_auto v 16 ∙ sym (set.contains-empty nat_cmp v))
 
 -- no overlay is visible where all are disabled
@@ -64,15 +64,10 @@ owners-opened s n k e l =
     (λ i h. get_or-replicate k i Guest Guest (omega arith) ∙ sym (owner-opened s n i e h))
 
 -- no timer is due
-pub idle-opened : (n i : ℕ) → get_or (map (λ (t : Timer). t.due) (replicate n idle_timer)) i None ≡ None
-idle-opened zero i = refl
-idle-opened (suc n) zero = refl
-idle-opened (suc n) (suc i) = idle-opened n i
-
 none_below : (n : ℕ) → least_below (dues no_timers) n ≡ None
 unfolding least_below
 none_below zero = refl
-none_below (suc n) = ap (λ o. option_map_or (λ d. Some (earlier (least_below (dues no_timers) n) (d, n))) o (least_below (dues no_timers) n)) (idle-opened 32 n) ∙ none_below n
+none_below (suc n) = ap (λ o. option_map_or (λ d. Some (earlier (least_below (dues no_timers) n) (d, n))) o (least_below (dues no_timers) n)) (dues-opened n) ∙ none_below n
 
 none-due : least (dues no_timers) ≡ None
 unfolding least
@@ -92,6 +87,6 @@ scratch-opened n pages ticket v nexts autos owners queued earliest =
 -- the state of the fields that a board is opened with
 pub state-opened : (n pages ticket : ℕ) (apics : List Apic) (regs : List Regs) (space : Space) (ports : Ports) (queues : Queues) (slots : List (Option ℕ)) (bank : Bank) →
     apics ≡ replicate n empty_apic → regs ≡ replicate n reset_regs → space ≡ opened_space n pages → ports ≡ no_ports n → queues ≡ no_messages n → slots ≡ replicate (16 * n) None → bank ≡ no_timers →
-    record { moment = 0; next_ticket = ticket; apics = apics; regs = regs; pages = space.pages; own = space.own; ports = ports.ports; queues = queues; slots = slots; timers = bank.timers } ≡ opened n pages ticket
+    record { moment = 0; next_ticket = ticket; apics = apics; regs = regs; pages = space.pages; own = space.own; ports = ports.ports; queues = queues; slots = slots; timers = bank.timers; suspended = bank.suspended } ≡ opened n pages ticket
 state-opened n pages ticket apics regs space ports queues slots bank a r s p q t b =
-    (λ i. record { moment = 0; next_ticket = ticket; apics = a i; regs = r i; pages = (s i).pages; own = (s i).own; ports = (p i).ports; queues = q i; slots = t i; timers = (b i).timers })
+    (λ i. record { moment = 0; next_ticket = ticket; apics = a i; regs = r i; pages = (s i).pages; own = (s i).own; ports = (p i).ports; queues = q i; slots = t i; timers = (b i).timers; suspended = (b i).suspended })

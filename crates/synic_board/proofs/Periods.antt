@@ -1,5 +1,5 @@
 -- Each period of a periodic timer that is not written is told of by one expiry, or skipped once.
-use Rattle.std.proofs.Common.{◌≡◌, ℕ, ◌+◌, ◌*◌, ◌≤◌, true, false, nat_le, List, [], ◌∷◌, ◌++◌, refl, sym, ap, subst, ◌∙◌, arith}
+use Rattle.std.proofs.Common.{◌≡◌, ℕ, ◌+◌, ◌*◌, ◌/◌, ◌≤◌, true, false, nat_le, List, [], ◌∷◌, ◌++◌, refl, sym, ap, subst, ◌∙◌, arith}
 use Rattle.std.specs.Prelude.{Option, None, Some, ◌==◌, if◌then◌else◌}
 use Rattle.std.specs.List.{All}
 use Rattle.std.specs.Option.{option_map_or, unwrap_or}
@@ -19,8 +19,8 @@ use Rattle.synic_board.specs.Effects.{Effect, Outcome, after}
 use Rattle.synic_board.specs.Timers.{expired_notices, skipped_notices, expiry_notices, expiry_at}
 use Rattle.synic_board.specs.Step.{step}
 use Rattle.synic_board.specs.Run.{run_of}
-use Rattle.synic_board.specs.OneShots.{expiries, writes_timer}
-use Rattle.synic_board.specs.Periods.{skips, IsPeriodic, after_periods}
+use Rattle.synic_board.specs.OneShots.{expiries}
+use Rattle.synic_board.specs.Periods.{sets_timer, skips, IsPeriodic, after_periods}
 use Rattle.synic_board.proofs.keeping.Requests.{either}
 use Rattle.synic_board.proofs.Throughout.{expiry_made}
 use Rattle.synic_board.proofs.Timers.{expiries-joined, skips-joined, same-timer, expires-here, skipped-none, expired-none, throughout-timer, same-number, config-writes, count-writes}
@@ -116,9 +116,9 @@ goes-expiry t s u same at due h =
     ∙ ap (after_periods y due) (sym (told-of t u (expiry_at s u).signal (expiry_at s u).skipped same))
     ∙ ap (λ (z : Timer). after_periods z due (periods t (expiry_made s u).1)) (sym is)
 
--- an event that does not write it
+-- an event that does not set it
 abbrev GoesOnAfter : ℕ × ℕ → State → Event → Outcome → Type 0
-GoesOnAfter t s event outcome = writes_timer t event ≡ false → GoesOn t s (outcome.0, outcome.2)
+GoesOnAfter t s event outcome = sets_timer t event ≡ false → GoesOn t s (outcome.0, outcome.2)
 
 -- each event
 event-goes : (t : ℕ × ℕ) (s : State) (event : Event) → GoesOnAfter t s event (step s event)
@@ -127,15 +127,16 @@ event-goes t =
       acts = λ s event reply e h _. h;
       configures = λ s p n number value e is same _ unwritten. let no : true ≡ false = sym (config-writes t p n number value is same) ∙ unwritten in absurd (cc);
       counts = λ s p n number value e is same _ unwritten. let no : true ≡ false = sym (count-writes t p n number value is same) ∙ unwritten in absurd (cc);
+      resets = λ s p own _ _ unset. let no : true ≡ false = sym (same-number (number_of t / 4) p own) ∙ unset in absurd (cc);
     })
 
 -- and all of them
-pub goes-on : (s : State) (t : ℕ × ℕ) (due : ℕ) (events : List Event) → IsPeriodic (timer_in (bank_of s) t) due → All (λ event. writes_timer t event ≡ false) events
+pub goes-on : (s : State) (t : ℕ × ℕ) (due : ℕ) (events : List Event) → IsPeriodic (timer_in (bank_of s) t) due → All (λ event. sets_timer t event ≡ false) events
     → timer_in (bank_of (run_of s events).0) t ≡ after_periods (timer_in (bank_of s) t) due (expiries t (run_of s events).2 + skips t (run_of s events).2)
 unfolding run_of
 goes-on s t due [] h quiet = goes-nowhere t s (s, []) refl refl refl due h
 goes-on s t due (event ∷ events) h quiet =
     let now : State = (step s event).0 in
-    let calm : writes_timer t event ≡ false = All-head (λ event. writes_timer t event ≡ false) event events quiet in
-    let rest : All (λ event. writes_timer t event ≡ false) events = All-tail (λ event. writes_timer t event ≡ false) event events quiet in
+    let calm : sets_timer t event ≡ false = All-head (λ event. sets_timer t event ≡ false) event events quiet in
+    let rest : All (λ event. sets_timer t event ≡ false) events = All-tail (λ event. sets_timer t event ≡ false) event events quiet in
     goes-after t s (now, (step s event).2) ((run_of now events).0, (run_of now events).2) (event-goes t s event calm) (λ moment g. goes-on now t moment events g rest) due h

@@ -20,6 +20,8 @@ use Rattle.synic_board.specs.Interrupts.{raised}
 use Rattle.synic_board.specs.Delivery.{placed_state, accepted}
 use Rattle.synic_board.specs.Posts.{withdrawn, with_flag, flagged}
 use Rattle.synic_board.specs.Timers.{expired_notices, skipped_notices, expiry_notices, expiry_at}
+use Rattle.synic_board.specs.Suspending.{with_suspension}
+use Rattle.synic_board.specs.Resetting.{withdrawn_ticket, queue_emptied, emptied, cleared}
 use Rattle.synic_board.specs.Step.{step}
 use Rattle.synic_board.specs.Run.{run_of}
 use Rattle.synic_board.specs.Order.{accepted_ticket, placed_ticket, accepted_at, placed_at, queued_at, StandsAmong, KeepsOrder}
@@ -155,6 +157,14 @@ in-order-withdrawn p i s q j port =
     (subst (StandsAmong (map ticket_of (left_of port queue))) (sym (ap (λ l. map ticket_of queue ++ l) no_more ∙ append-nil (map ticket_of queue))) (kept (λ m. not (is_from_port port m)) queue)))
     (λ _. (none, no_more))
 
+in-order-emptied : (p i : ℕ) (s : State) (q j : ℕ) → KeepsOrder p i s (queue_emptied s q j).0 (queue_emptied s q j).1
+in-order-emptied p i s q j =
+    let tickets : List ℕ = map ticket_of (queue_of s.queues q j) in
+    let told : List Notice = (queue_emptied s q j).1 in
+    let none : placed_at p i told ≡ [] = none-withdrawn (placed_ticket p i) q j (λ _. refl) tickets in
+    let no_more : accepted_at p i told ≡ [] = none-withdrawn (accepted_ticket p i) q j (λ _. refl) tickets in
+    moved p i q j s (queue_emptied s q j).0 [] told refl (λ _. subst (λ l. StandsAmong (l ++ []) (tickets ++ accepted_at p i told)) (sym none) tt) (λ _. (none, no_more))
+
 none-expired : (tells : Notice → Option ℕ) (t : ℕ × ℕ) (signal : Option ℕ) (skipped : ℕ) → ((d : ℕ) → tells (Expired t.0 t.1 d) ≡ None) → ((n : ℕ) → tells (Skipped t.0 t.1 n) ≡ None) → filter_map tells (expiry_notices t signal skipped) ≡ []
 none-expired tells t signal skipped never none =
     filter_map-append tells (expired_notices t signal) (skipped_notices t skipped) ∙ ap (λ l. l ++ filter_map tells (skipped_notices t skipped)) (first signal)
@@ -177,6 +187,8 @@ ordered p i = record {
   marks = λ s q j. either (λ ns. KeepsOrder p i s (with_space s (after_pending (space_of s) q j)) ns) (is_pending (space_of s) q j) [] (Pending q j ∷ []) (λ _. mute p i s (with_space s (after_pending (space_of s) q j), []) refl refl refl) (λ _. mute p i s (with_space s (after_pending (space_of s) q j), Pending q j ∷ []) refl refl refl);
   consumes = λ s q j t _. mute p i s (consumption s q j t) refl refl refl;
   withdraws = in-order-withdrawn p i;
+  frees = λ s q j t. mute p i s (withdrawn_ticket s q j t) refl refl refl;
+  empties = in-order-emptied p i;
   expires = λ s t _. mute p i s (expiry_made s t) refl (none-expired (placed_ticket p i) t (expiry_at s t).signal (expiry_at s t).skipped (λ _. refl) (λ _. refl)) (none-expired (accepted_ticket p i) t (expiry_at s t).signal (expiry_at s t).skipped (λ _. refl) (λ _. refl));
 }
 
@@ -200,6 +212,8 @@ in-order p i s event = (throughout (Ordered p i) (IsOrdered p i) (ordered p i) (
   counts = λ s q n number value e _ h. record { keeps = h };
   repeats = λ s port flag q j f _ _. silent p i s (with_flag s q j f) _ _ refl;
   signals = λ s port flag q j f _ _ h. let lit : State = with_flag s q j f in record { keeps = joined p i s (flagged s q j f) (raised lit q j) (mute p i s (flagged s q j f) refl refl refl) h };
+  pauses = λ s event q mark _. silent p i s (with_suspension s q mark) event _ refl;
+  resets = λ s q h. let e : Effect = emptied s q in record { keeps = joined p i s e (cleared e.0 q, []) h (mute p i e.0 (cleared e.0 q, []) refl refl refl) };
 }) s event).keeps
 
 pub all-in-order : (s : State) (events : List Event) (p i : ℕ) → KeepsOrder p i s (run_of s events).0 (run_of s events).2

@@ -35,6 +35,8 @@ quiet = throughout Any IsQuiet any (record {
   counts = λ s p n number value e _ _. acts s _ _ (λ never. never);
   repeats = λ s port flag p i f _ _. acts s _ _ (λ never. never);
   signals = λ s port flag p i f _ _ _. acts s _ _ (λ never. never);
+  pauses = λ s event p mark is. acts s event _ is.0;
+  resets = λ s p _. acts s _ _ (λ never. never);
 })
 
 pub no-trace : (s : State) (event : Event) → IsRefusal (step s event).1 → LeavesNoTrace s event

@@ -1,5 +1,5 @@
 -- A vector is told of exactly when its request bit goes from clear to set.
-use Rattle.std.proofs.Common.{◌≡◌, ◌≢◌, ◌⊎◌, inl, inr, ℕ, ◌<◌, ◌&&◌, ◌||◌, get_or, set as set_list, List, [], ◌∷◌, ◌++◌, length, map, refl, sym, ap, subst, ◌∙◌, arith, nat_lt, not, Bool, true, false}
+use Rattle.std.proofs.Common.{zero, suc, ◌≡◌, ◌≢◌, ◌⊎◌, inl, inr, ℕ, ◌<◌, ◌&&◌, ◌||◌, get_or, set as set_list, List, [], ◌∷◌, ◌++◌, length, map, refl, sym, ap, subst, ◌∙◌, arith, nat_lt, not, Bool, true, false}
 use Rattle.std.specs.Prelude.{Option, None, Some, ◌==◌, if◌then◌else◌}
 use Rattle.std.specs.Option.{option_map_or}
 use Rattle.std.specs.Ordering.{nat_cmp, eq_by_cmp}
@@ -9,7 +9,7 @@ use Rattle.std.specs.FinSet.{contains-insert, contains-remove, nat_cmp-IsAntisym
 use Rattle.std.proofs.lemmas.Cmp.{nat_cmp_total}
 use Rattle.std.proofs.lemmas.Bool.{cases_eq}
 use Rattle.std.proofs.lemmas.List.{length-set, get_or-set_same, get_or-set_other}
-use Rattle.lapic_core.specs.Apic.{Apic, empty_apic, request, next, class, priority, deliverable}
+use Rattle.lapic_core.specs.Apic.{Apic, empty_apic, request, with_mark, awaited, next, class, priority, deliverable}
 use Rattle.lapic_core.proofs.Members.{IsGreatest, Tells as Greatest, greatest_tells}
 use Rattle.board_terms.specs.declared.refusal.Refusal.TheVariants.{NoSuchProcessor}
 use Rattle.board_terms.specs.Messages.{ticket_of}
@@ -18,15 +18,17 @@ use Rattle.board_terms.specs.declared.notices.Notice.TheVariants.{Placed, Withdr
 use Rattle.message_queues.specs.Queues.{queue_of, withdrawn_of}
 use Rattle.gpa_space.specs.Space.{is_pending, after_pending}
 use Rattle.synic_board.specs.declared.event.Event.{Event}
-use Rattle.synic_board.specs.declared.event.Event.TheVariants.{Take}
+use Rattle.synic_board.specs.declared.event.Event.TheVariants.{Take, Reset}
 use Rattle.synic_board.specs.declared.event.Reply.{Reply}
 use Rattle.synic_board.specs.declared.event.Reply.TheVariants.{Taken}
-use Rattle.synic_board.specs.State.{State, processors, apic_of, space_of, with_apic, with_space}
+use Rattle.synic_board.specs.State.{State, processors, apic_of, space_of, with_apic, with_space, slot_of}
 use Rattle.synic_board.specs.Effects.{Effect, Outcome, nothing, after, answered, unchanged, refused}
 use Rattle.synic_board.specs.Interrupts.{raised, taken_at, taken}
 use Rattle.synic_board.specs.Delivery.{placed_state}
 use Rattle.synic_board.specs.Posts.{with_flag, flagged}
 use Rattle.synic_board.specs.Timers.{expired_notices, skipped_notices, expiry_notices, expiry_at}
+use Rattle.synic_board.specs.Suspending.{with_suspension}
+use Rattle.synic_board.specs.Resetting.{withdrawn_ticket, slot_emptied, queue_emptied, source_emptied, emptied_below, emptied, cleared, reset}
 use Rattle.synic_board.specs.Step.{step}
 use Rattle.synic_board.specs.Run.{run_of}
 use Rattle.synic_board.specs.Requests.{is_requested, tells_of, is_told, Takes}
@@ -123,6 +125,8 @@ told = record {
   marks = λ s p i. either (λ ns. Tells s (with_space s (after_pending (space_of s) p i), ns)) (is_pending (space_of s) p i) _ _ (λ _. mute s _ refl (λ _ _. refl)) (λ _. mute s _ refl (λ _ _. refl));
   consumes = λ s p i t _. mute s _ refl (λ _ _. refl);
   withdraws = λ s p i port. mute s _ refl (λ q v. told-withdrawn q v p i (withdrawn_of port (queue_of s.queues p i)));
+  frees = λ s p i t. mute s _ refl (λ _ _. refl);
+  empties = λ s p i. mute s _ refl (λ q v. told-withdrawn q v p i (map ticket_of (queue_of s.queues p i)));
   expires = λ s t _. mute s _ refl (λ q v. told-expiry q v t (expiry_at s t).signal (expiry_at s t).skipped);
 }
 
@@ -168,6 +172,36 @@ fewer s p apic less q v on is = by (cases_eq q p)
         ap (λ i. is_requested s i v) here ∙ less v (sym (ap (λ (a : Apic). set.contains a.requested v) stands) ∙ is)
     by (inr away) = sym (ap (λ (a : Apic). set.contains a.requested v) (get_or-set_other s.apics p q apic empty_apic away)) ∙ is
 
+-- what is withdrawn tells of no request
+none-emptied : (s : State) (p n q v : ℕ) → is_told q v (emptied_below s p n).1 ≡ false
+unfolding emptied_below
+none-emptied s p zero q v = refl
+none-emptied s p (suc i) q v =
+    let e : Effect = emptied_below s p i in
+    let freed : Effect = slot_emptied e.0 p i in
+    told-joined q v e.1 (source_emptied e.0 p i).1
+    ∙ ap (λ b. b || is_told q v (source_emptied e.0 p i).1) (none-emptied s p i q v)
+    ∙ told-joined q v freed.1 (queue_emptied freed.0 p i).1
+    ∙ ap (λ b. b || is_told q v (queue_emptied freed.0 p i).1) (elim (slot_of e.0 p i) as (λ o. is_told q v (option_map_or (withdrawn_ticket e.0 p i) o (nothing e.0)).1 ≡ false) [ None ↦ refl | Some t ↦ refl ])
+    ∙ told-withdrawn q v p i (map ticket_of (queue_of freed.0.queues p i))
+
+-- a processor that is reset has nothing requested, and the others have what they had
+resets : (s : State) (p : ℕ) → Tells s (emptied s p) → IsTold s (Reset p) (reset s p)
+resets s p h =
+    let e : Effect = emptied s p in
+    let none : (q v : ℕ) → is_told q v e.1 ≡ false = none-emptied s p 16 in
+    let same : (q v : ℕ) → q < processors s → is_requested e.0 q v ≡ is_requested s q v = λ q v on. h.joins q v on ∙ ap (λ b. is_requested s q v || b) (none q v) ∙ or-false (is_requested s q v) in
+    record {
+      many = length-set e.0.apics p empty_apic ∙ h.many;
+      told = λ q v on.
+          told-joined q v e.1 [] ∙ ap (λ b. b || false) (none q v)
+          ∙ stayed (is_requested s q v) (is_requested (cleared e.0 p) q v) (λ is. sym (same q v on)
+          ∙ fewer e.0 p empty_apic (λ w stands. absurd (empty w stands)) q v (subst (λ n. q < n) (sym h.many) on) is);
+    }
+  where
+    empty : (w : ℕ) → set.contains empty_apic.requested w ≡ true → ⊥
+    empty w stands = let no : true ≡ false = sym stands ∙ set.contains-empty nat_cmp w in cc
+
 steps : (s : State) (event : Event) → IsTold s event (step s event)
 steps s event = throughout Tells IsTold told (record {
   refuses = λ s event r. silent s event _;
@@ -181,6 +215,8 @@ steps s event = throughout Tells IsTold told (record {
   counts = λ s p n number value e _ h. tells s _ _ _ e refl h;
   repeats = λ s port flag p i f _ _. quiet s (with_flag s p i f) _ _ refl (λ _ _ _ e. e);
   signals = λ s port flag p i f _ _ h. let lit : State = with_flag s p i f in tells s s _ _ (after (flagged s p i f) (raised lit p i)) refl (tells-after s (flagged s p i f) (raised lit p i) (mute s _ refl (λ _ _. refl)) h);
+  pauses = λ s event p mark _. quiet s (with_suspension s p mark) event _ (length-set s.apics p (with_mark (apic_of s p) mark)) (fewer s p (with_mark (apic_of s p) mark) (λ v is. is));
+  resets = resets;
 }) s event
 
 pub told-of : (s : State) (event : Event) (p v : ℕ) → p < processors s → is_told p v (step s event).2 ≡ (not (is_requested s p v) && is_requested (step s event).0 p v)
@@ -224,11 +260,18 @@ both-hold : (a b : Bool) → (a && b) ≡ true → a ≡ true
 both-hold true b h = refl
 both-hold false b h = h
 
-next-requested : (a : Apic) (v : ℕ) → next a ≡ Some v → set.contains a.requested v ≡ true
-next-requested a v is =
+awaited-requested : (a : Apic) (v : ℕ) → awaited a ≡ Some v → set.contains a.requested v ≡ true
+awaited-requested a v is =
     let greatest_one : IsGreatest (deliverable a) v = subst (Greatest (deliverable a)) is (greatest_tells (deliverable a)) in
     both-hold (set.contains a.requested v) (nat_lt (priority a) (class v))
     (sym (set.contains-retain a.requested (λ w. nat_lt (priority a) (class w)) v (λ x t. ap (λ w. nat_lt (priority a) (class w)) (sym (nat_cmp-IsAntisymmetric v x t)))) ∙ greatest_one.member)
+
+next-requested : (a : Apic) (v : ℕ) → next a ≡ Some v → set.contains a.requested v ≡ true
+next-requested a v is = by a.suspended is
+  where
+    by : (mark : Bool) → (if mark then None else awaited a) ≡ Some v → set.contains a.requested v ≡ true
+    by true e = absurd (cc)
+    by false e = awaited-requested a v e
 
 -- what was taken is not requested
 taken-clear : (s : State) (p v : ℕ) → p < processors s → next (apic_of s p) ≡ Some v → is_requested (step s (Take p)).0 p v ≡ false

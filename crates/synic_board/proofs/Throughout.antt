@@ -15,7 +15,7 @@ use Rattle.board_terms.specs.declared.notices.Notice.TheVariants.{Consumed, Requ
 use Rattle.board_terms.specs.declared.pages.Owner.{Owner}
 use Rattle.board_terms.specs.declared.pages.Owner.TheVariants.{Guest, Sim, Sief, Nothing}
 use Rattle.board_terms.specs.declared.refusal.Refusal.{Refusal}
-use Rattle.board_terms.specs.declared.refusal.Refusal.TheVariants.{BadTarget, SynicOff, ClockBack, NoSuchProcessor}
+use Rattle.board_terms.specs.declared.refusal.Refusal.TheVariants.{BadTarget, SynicOff, ClockBack, NoSuchProcessor, AlreadySuspended, NotSuspended}
 use Rattle.event_ports.specs.declared.ports.Port.{Port}
 use Rattle.event_ports.specs.Ports.{open_refusal, target_of, message_target_of, flag_place_of}
 use Rattle.synic_regs.specs.Registers.{register_of}
@@ -27,9 +27,10 @@ use Rattle.gpa_space.specs.Space.{refusal_of, owner_of, is_flag_set}
 use Rattle.stimer_bank.specs.declared.timer.Mode.{Mode}
 use Rattle.stimer_bank.specs.declared.timer.Mode.TheVariants.{Direct, Posted}
 use Rattle.stimer_bank.specs.Timer.{is_due}
-use Rattle.stimer_bank.specs.Bank.{timer_in, with_config, with_count, dues, due_list}
+use Rattle.stimer_bank.specs.Bank.{timer_in, is_due_in, with_config, with_count, dues, due_list}
+use Rattle.stimer_bank.proofs.Shown.{due-reached}
 use Rattle.synic_board.specs.declared.event.Event.{Event}
-use Rattle.synic_board.specs.declared.event.Event.TheVariants.{OpenPort, ClosePort, Write, Read, Post, Signal, Assert, Absorb, Store, Load, Tick, Take}
+use Rattle.synic_board.specs.declared.event.Event.TheVariants.{OpenPort, ClosePort, Write, Read, Post, Signal, Assert, Absorb, Store, Load, Tick, Take, Suspend, Resume, Reset}
 use Rattle.synic_board.specs.declared.event.Reply.{Reply}
 use Rattle.synic_board.specs.declared.event.Reply.TheVariants as replies
 use Rattle.synic_board.specs.State.{State, processors, apic_of, regs_of, space_of, ports_of, bank_of, with_apic, with_regs, with_bank, slot_of, with_slot_ticket}
@@ -41,6 +42,8 @@ use Rattle.synic_board.specs.Posts.{with_port, without_port, withdrawn, closed_a
 use Rattle.synic_board.specs.Registers.{stored, written_register, written, read}
 use Rattle.synic_board.specs.Stores.{consumed_ticket, consumed, consumed_below, consumed_in, with_bytes, read_bytes}
 use Rattle.synic_board.specs.Timers.{mode_at, is_ready_for, is_ready, expiry_notices, signalled_by, expired_state, expiry_at, fired, attempted, attempted_all, at_moment, ticked}
+use Rattle.synic_board.specs.Suspending.{is_suspended, with_suspension, suspended, resumed}
+use Rattle.synic_board.specs.Resetting.{withdrawn_ticket, slot_emptied, queue_emptied, source_emptied, emptied_below, emptied, reset}
 use Rattle.synic_board.specs.Replies.{IsReply}
 use Rattle.synic_board.specs.Refusals.{IsRefusal}
 use Rattle.synic_board.specs.Requests.{is_requested}
@@ -71,6 +74,8 @@ pub record OfEffects (P : State → Effect → Type 0) : Type 0 where
   pub marks : (s : State) (p i : ℕ) → P s (marked s p i)
   pub consumes : (s : State) (p i t : ℕ) → is_slot_empty s p i ≡ true → P s (consumption s p i t)
   pub withdraws : (s : State) (p i port : ℕ) → P s (withdrawn s p i port)
+  pub frees : (s : State) (p i t : ℕ) → P s (withdrawn_ticket s p i t)
+  pub empties : (s : State) (p i : ℕ) → P s (queue_emptied s p i)
   pub expires : (s : State) (t : ℕ × ℕ) → is_due (timer_in (bank_of s) t) s.moment ≡ true → P s (expiry_made s t)
 
 -- one that holds of every effect
@@ -87,6 +92,8 @@ any = record {
   marks = λ s p i. tt;
   consumes = λ s p i t _. tt;
   withdraws = λ s p i port. tt;
+  frees = λ s p i t. tt;
+  empties = λ s p i. tt;
   expires = λ s t _. tt;
 }
 
@@ -161,7 +168,7 @@ of-attempted : (P : State → Effect → Type 0) → OfEffects P → (s : State)
 unfolding attempted
 of-attempted P h s t = either (P s) (is_ready s t) (fired s t (mode_at s t)) (nothing s)
     (λ ready. h.joins s (expiry_made s t) (signalled_by (expired_state s t) t (mode_at s t) (expiry_at s t).signal)
-    (h.expires s t (first-holds (is_due (timer_in (bank_of s) t) s.moment) (is_ready_for s t (mode_at s t)) ready))
+    (h.expires s t (due-reached (bank_of s) t s.moment (first-holds (is_due_in (bank_of s) t s.moment) (is_ready_for s t (mode_at s t)) ready)))
     (of-signalled P h (expired_state s t) t (mode_at s t) (expiry_at s t).signal))
     (λ _. h.stays s)
 
@@ -169,6 +176,17 @@ of-attempted_all : (P : State → Effect → Type 0) → OfEffects P → (s : St
 unfolding attempted_all
 of-attempted_all P h s [] = h.stays s
 of-attempted_all P h s (t ∷ ts) = let e : Effect = attempted s t in h.joins s e (attempted_all e.0 ts) (of-attempted P h s t) (of-attempted_all P h e.0 ts)
+
+of-slot_emptied : (P : State → Effect → Type 0) → OfEffects P → (s : State) (p i : ℕ) → P s (slot_emptied s p i)
+of-slot_emptied P h s p i = elim (slot_of s p i) as (λ o. P s (option_map_or (withdrawn_ticket s p i) o (nothing s))) [ None ↦ h.stays s | Some t ↦ h.frees s p i t ]
+
+of-emptied_below : (P : State → Effect → Type 0) → OfEffects P → (s : State) (p n : ℕ) → P s (emptied_below s p n)
+unfolding emptied_below
+of-emptied_below P h s p zero = h.stays s
+of-emptied_below P h s p (suc i) =
+    let e : Effect = emptied_below s p i in
+    let freed : Effect = slot_emptied e.0 p i in
+    h.joins s e (source_emptied e.0 p i) (of-emptied_below P h s p i) (h.joins e.0 freed (queue_emptied freed.0 p i) (of-slot_emptied P h e.0 p i) (h.empties freed.0 p i))
 
 -- another moment, and other ports and registers
 abbrev pub with_settings : State → ℕ → List (Option Port) → List Regs → State
@@ -199,6 +217,9 @@ pub record OfAnswers (P : State → Effect → Type 0) (Q : State → Event → 
   pub repeats : (s : State) (port flag p i f : ℕ) → flag_place_of (ports_of s) port flag ≡ Ok (p, i, f) → is_flag_set (space_of s) p i f ≡ true → Q s (Signal port flag) (unchanged (with_flag s p i f) replies.FlagWasSet)
   pub signals : (s : State) (port flag p i f : ℕ) → flag_place_of (ports_of s) port flag ≡ Ok (p, i, f) → is_flag_set (space_of s) p i f ≡ false → P (with_flag s p i f) (raised (with_flag s p i f) p i)
       → Q s (Signal port flag) (answered replies.FlagWasClear (after (flagged s p i f) (raised (with_flag s p i f) p i)))
+  -- a processor is suspended or goes on, and one is reset
+  pub pauses : (s : State) (event : Event) (p : ℕ) (mark : Bool) → IsAnswer event replies.Done → Q s event (unchanged (with_suspension s p mark) replies.Done)
+  pub resets : (s : State) (p : ℕ) → P s (emptied s p) → Q s (Reset p) (reset s p)
 
 -- of an event at a state
 on_board : (R : Outcome → Type 0) (s : State) (p : ℕ) (outcome : Outcome) → ((r : Refusal) → R (refused s r)) → R outcome → R (at_processor s p outcome)
@@ -301,3 +322,8 @@ throughout P Q h k s (Store address bytes) =
 throughout P Q h k s (Load address count) = k.loads s address count
 throughout P Q h k s (Tick moment) = of-ticked P Q h k s moment
 throughout P Q h k s (Take p) = on_board (Q s (Take p)) s p (taken s p) (k.refuses s _) (of-taken P Q h k s p)
+throughout P Q h k s (Suspend p) = on_board (Q s (Suspend p)) s p (suspended s p) (k.refuses s _)
+    (either (Q s (Suspend p)) (is_suspended s p) (refused s AlreadySuspended) (unchanged (with_suspension s p true) replies.Done) (λ _. k.refuses s _ AlreadySuspended) (λ _. k.pauses s (Suspend p) p true (λ never. never, tt, tt)))
+throughout P Q h k s (Resume p) = on_board (Q s (Resume p)) s p (resumed s p) (k.refuses s _)
+    (either (Q s (Resume p)) (is_suspended s p) (unchanged (with_suspension s p false) replies.Done) (refused s NotSuspended) (λ _. k.pauses s (Resume p) p false (λ never. never, tt, tt)) (λ _. k.refuses s _ NotSuspended))
+throughout P Q h k s (Reset p) = on_board (Q s (Reset p)) s p (reset s p) (k.refuses s _) (k.resets s p (of-emptied_below P h s p 16))

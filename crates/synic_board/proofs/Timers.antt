@@ -1,5 +1,5 @@
 -- What becomes of one timer, and what is told of it: a property of what leaves it, of its expiry and of one effect after another holds of every effect, and with its writes of every event.
-use Rattle.std.proofs.Common.{◌≡◌, ◌≢◌, ◌⊎◌, inl, inr, ℕ, ◌+◌, ◌<◌, ◌≤◌, ◌||◌, get_or, true, false, nat_lt, nat_le, List, [], ◌∷◌, ◌++◌, length, map, refl, sym, ap, ◌∙◌, arith}
+use Rattle.std.proofs.Common.{◌≡◌, ◌≢◌, ◌⊎◌, inl, inr, ℕ, ◌+◌, ◌/◌, ◌<◌, ◌≤◌, ◌||◌, get_or, true, false, nat_lt, nat_le, List, [], ◌∷◌, ◌++◌, length, map, refl, sym, ap, ◌∙◌, arith}
 use Rattle.std.specs.Prelude.{Option, None, Some, ◌==◌, is_some, if◌then◌else◌}
 use Rattle.std.specs.Option.{option_map_or}
 use Rattle.std.proofs.lemmas.Bool.{cases_eq, cases_lt}
@@ -18,8 +18,9 @@ use Rattle.synic_regs.specs.declared.register.Register.TheVariants.{TimerConfig,
 use Rattle.stimer_bank.specs.declared.timer.Timer.{Timer}
 use Rattle.stimer_bank.specs.Timer.{after_config, after_count, is_due, after_expiry}
 use Rattle.stimer_bank.specs.Bank.{idle_timer, timer_in, with_timer, with_config, with_count}
+use Rattle.stimer_bank.proofs.Shown.{reset-here, reset-other}
 use Rattle.synic_board.specs.declared.event.Event.{Event}
-use Rattle.synic_board.specs.declared.event.Event.TheVariants.{Write, Signal}
+use Rattle.synic_board.specs.declared.event.Event.TheVariants.{Write, Signal, Reset}
 use Rattle.synic_board.specs.declared.event.Reply.{Reply}
 use Rattle.synic_board.specs.declared.event.Reply.TheVariants.{Done, FlagWasClear}
 use Rattle.synic_board.specs.State.{State, space_of, bank_of, with_bank}
@@ -28,6 +29,8 @@ use Rattle.synic_board.specs.Interrupts.{raised}
 use Rattle.synic_board.specs.Delivery.{accepted, marked}
 use Rattle.synic_board.specs.Posts.{withdrawn, with_flag, flagged}
 use Rattle.synic_board.specs.Timers.{expired_notices, skipped_notices, expiry_notices, expiry_at, expired_state}
+use Rattle.synic_board.specs.Suspending.{with_suspension}
+use Rattle.synic_board.specs.Resetting.{withdrawn_ticket, queue_emptied, emptied, cleared, reset}
 use Rattle.synic_board.specs.Step.{step}
 use Rattle.synic_board.specs.OneShots.{tells_expiry, expiries, is_config_of, is_count_of, writes_timer}
 use Rattle.synic_board.specs.Periods.{skips_of, skips}
@@ -140,6 +143,8 @@ of-timer t P h = record {
       (either (λ ns. skips t ns ≡ 0) (is_pending (space_of s) p i) [] (Pending p i ∷ []) (λ _. refl) (λ _. refl));
   consumes = λ s p i ticket _. h.still s (consumption s p i ticket) refl refl refl;
   withdraws = λ s p i port. let tickets : List ℕ = withdrawn_of port (queue_of s.queues p i) in h.still s (withdrawn s p i port) refl (none-withdrawn t p i tickets) (none-skipped t p i tickets);
+  frees = λ s p i ticket. h.still s (withdrawn_ticket s p i ticket) refl refl refl;
+  empties = λ s p i. let tickets : List ℕ = map ticket_of (queue_of s.queues p i) in h.still s (queue_emptied s p i) refl (none-withdrawn t p i tickets) (none-skipped t p i tickets);
   expires = expires;
 }
   where
@@ -158,6 +163,7 @@ pub record OfTimerAnswers (t : ℕ × ℕ) (P : State → Effect → Type 0) (Q 
   pub acts : (s : State) (event : Event) (reply : Reply) (e : Effect) → P s e → Q s event (answered reply e)
   pub configures : (s : State) (p n number value : ℕ) (e : Effect) → register_of number ≡ Some (TimerConfig n) → number_of (p, n) ≡ number_of t → P (with_bank s (with_config (bank_of s) (p, n) value s.moment)) e → Q s (Write p number value) (answered Done e)
   pub counts : (s : State) (p n number value : ℕ) (e : Effect) → register_of number ≡ Some (TimerCount n) → number_of (p, n) ≡ number_of t → P (with_bank s (with_count (bank_of s) (p, n) value s.moment)) e → Q s (Write p number value) (answered Done e)
+  pub resets : (s : State) (p : ℕ) → number_of t / 4 ≡ p → P s (emptied s p) → timer_in (bank_of (reset s p).0) t ≡ idle_timer → Q s (Reset p) (reset s p)
 
 -- it holds of each way to answer
 of-timer-answers : (t : ℕ × ℕ) (P : State → Effect → Type 0) (Q : State → Event → Outcome → Type 0) → OfTimer t P → OfTimerAnswers t P Q → OfAnswers P Q
@@ -173,6 +179,8 @@ of-timer-answers t P Q h k = record {
   counts = λ s p n number value e is g. writes s (Write p number value) (p, n) (after_count (timer_in (bank_of s) (p, n)) value s.moment) e g (λ same. k.counts s p n number value e is same g);
   repeats = λ s port flag p i f _ _. silent s (with_flag s p i f) _ _ refl;
   signals = λ s port flag p i f _ _ g. let lit : State = with_flag s p i f in k.acts s (Signal port flag) FlagWasClear (after (flagged s p i f) (raised lit p i)) (h.joins s (flagged s p i f) (raised lit p i) (h.still s (flagged s p i f) refl refl refl) g);
+  pauses = λ s event p mark _. silent s (with_suspension s p mark) event _ refl;
+  resets = λ s p g. resets s p g (cases_eq (number_of t / 4) p);
 }
   where
     -- an effect from a state with the same timer
@@ -181,6 +189,14 @@ of-timer-answers t P Q h k = record {
 
     silent : (s now : State) (event : Event) (reply : Reply) → timer_in (bank_of now) t ≡ timer_in (bank_of s) t → Q s event (answered reply (nothing now))
     silent s now event reply same = k.acts s event reply (nothing now) (h.still s (nothing now) same refl refl)
+
+    -- a reset of its processor, or another
+    resets : (s : State) (p : ℕ) → P s (emptied s p) → (number_of t / 4 ≡ p) ⊎ (number_of t / 4 ≢ p) → Q s (Reset p) (reset s p)
+    resets s p g (inl own) = k.resets s p own g (reset-here (bank_of (emptied s p).0) p t own)
+    resets s p g (inr other) =
+        let e : Effect = emptied s p in
+        let clears : Effect = (cleared e.0 p, []) in
+        k.acts s (Reset p) Done (after e clears) (h.joins s e clears g (h.still e.0 clears (reset-other (bank_of e.0) p t other) refl refl))
 
     -- an effect behind a write of a timer, of this one or another
     writes : (s : State) (event : Event) (u : ℕ × ℕ) (x : Timer) (e : Effect) → P (replaced s u x) e → (number_of u ≡ number_of t → Q s event (answered Done e)) → Q s event (answered Done e)

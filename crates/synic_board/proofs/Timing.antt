@@ -20,6 +20,7 @@ use Rattle.synic_board.specs.Delivery.{placed_state}
 use Rattle.synic_board.specs.Posts.{with_flag, flagged}
 use Rattle.synic_board.specs.Interrupts.{raised}
 use Rattle.synic_board.specs.Timers.{expired_notices, skipped_notices, expiry_notices, expiry_at}
+use Rattle.synic_board.specs.Resetting.{emptied, cleared}
 use Rattle.synic_board.specs.Step.{step}
 use Rattle.synic_board.specs.Timely.{AreTimely}
 use Rattle.synic_board.proofs.keeping.Requests.{either}
@@ -89,6 +90,8 @@ timely = record {
   marks = λ s p i. either (λ ns. Timely s (with_space s (after_pending (space_of s) p i), ns)) (is_pending (space_of s) p i) _ _ (λ _. record { same = refl; told = tt }) (λ _. record { same = refl; told = (tt, tt) });
   consumes = λ s p i t _. record { same = refl; told = (tt, tt) };
   withdraws = λ s p i port. record { same = refl; told = timely-withdrawals s.moment p i (withdrawn_of port (queue_of s.queues p i)) };
+  frees = λ s p i t. record { same = refl; told = (tt, tt) };
+  empties = λ s p i. record { same = refl; told = timely-withdrawals s.moment p i (map ticket_of (queue_of s.queues p i)) };
   expires = λ s t due. record { same = refl; told = timely-expiry s.moment t (expiry_at s t).signal (expiry_at s t).skipped (signals-due (timer_in (bank_of s) t) s.moment due) };
 }
 
@@ -115,4 +118,6 @@ on-time s event = (throughout Timely IsOnTime timely (record {
   counts = λ s p n number value e _ h. tells s _ _ _ e h;
   repeats = λ s port flag p i f _ _. silent s _ _ _;
   signals = λ s port flag p i f _ _ h. let lit : State = with_flag s p i f in tells s s _ _ (after (flagged s p i f) (raised lit p i)) (timely-after s (flagged s p i f) (raised lit p i) (record { same = refl; told = (tt, tt) }) h);
+  pauses = λ s event p mark _. silent s _ event _;
+  resets = λ s p h. let e : Effect = emptied s p in tells s s _ _ (after e (cleared e.0 p, [])) (timely-after s e (cleared e.0 p, []) h (record { same = refl; told = tt }));
 }) s event).told

@@ -13,7 +13,10 @@ pub mod Stores
 pub mod Posts
 pub mod Timers
 pub mod Registers
+pub mod Suspending
+pub mod Resetting
 pub mod Step
+pub mod Bounds
 pub mod Replies
 pub mod Refusals
 pub mod Timely

@@ -1,11 +1,19 @@
 -- How far a periodic timer has gone on: each period is told of by one expiry, or is one of those that were skipped. Timers are told apart by their numbers.
-use Rattle.std.specs.Prelude.{◌≡◌, ◌<◌, ◌+◌, ◌*◌, ℕ, ◌==◌, true, Some, List, if◌then◌else◌}
+use Rattle.std.specs.Prelude.{◌≡◌, ◌<◌, ◌+◌, ◌*◌, ◌/◌, ℕ, Bool, ◌==◌, true, Some, List, if◌then◌else◌}
 use Rattle.std.specs.List.{sum_by}
 use Rattle.board_terms.specs.Dues.{number_of}
 use Rattle.board_terms.specs.declared.notices.Notice.{Notice}
 use Rattle.board_terms.specs.declared.notices.Notice.TheVariants.{Skipped}
 use Rattle.stimer_bank.specs.declared.timer.Timer.{Timer}
 use Rattle.stimer_bank.specs.Timer.{is_periodic}
+use Rattle.synic_board.specs.declared.event.Event.{Event}
+use Rattle.synic_board.specs.declared.event.Event.TheVariants.{Reset}
+use Rattle.synic_board.specs.OneShots.{writes_timer}
+
+-- an event writes the timer, or resets its processor
+abbrev pub sets_timer : ℕ × ℕ → Event → Bool
+sets_timer t (Reset p) = number_of t / 4 == p
+sets_timer t event = writes_timer t event
 
 -- how many periods a notice tells that the timer skipped
 abbrev pub skips_of : ℕ × ℕ → Notice → ℕ

@@ -4,13 +4,14 @@ use Rattle.std.specs.Int.{bit_at}
 use Rattle.board_terms.specs.declared.pages.Kind.TheVariants.{Sim}
 use Rattle.gpa_space.specs.Space.{own_page}
 use Rattle.synic_board.specs.declared.event.Event.{Event}
-use Rattle.synic_board.specs.declared.event.Event.TheVariants.{Store}
+use Rattle.synic_board.specs.declared.event.Event.TheVariants.{Store, Reset}
 use Rattle.synic_board.specs.State.{State, space_of, slot_of}
 
--- an event that is no guest store
-abbrev pub IsNoStore : Event → Type 0
-IsNoStore (Store address bytes) = ⊥
-IsNoStore event = Unit {0}
+-- an event that is no guest store, and no reset of a processor
+abbrev pub IsApart : ℕ → Event → Type 0
+IsApart p (Store address bytes) = ⊥
+IsApart p (Reset q) = q ≢ p
+IsApart p event = Unit {0}
 
 -- one of the 256 bytes of a slot
 abbrev pub slot_byte : State → ℕ → ℕ → ℕ → ℕ

@@ -1,6 +1,6 @@
 -- The state of the written machine: one list a part, each by the number of the processor.
-use Rattle.std.specs.Prelude.{ℕ, ◌≤◌, ◌*◌, List, [], ◌∷◌, Option, None, slice_index_or, slice_set, replicate, length, refl}
-use Rattle.std.specs.Coded.{Coded, code_by, coded×, coded_ℕ, coded_list, coded_option}
+use Rattle.std.specs.Prelude.{ℕ, Bool, ◌≤◌, ◌*◌, List, [], ◌∷◌, Option, None, slice_index_or, slice_set, replicate, length, refl}
+use Rattle.std.specs.Coded.{Coded, code_by, coded×, coded_ℕ, coded_bool, coded_list, coded_option}
 use Rattle.lapic_core.specs.Apic.{Apic, apic_code, empty_apic}
 use Rattle.synic_regs.specs.Regs.{Regs, regs_code, reset_regs}
 use Rattle.board_terms.specs.declared.messages.Message.{Message}
@@ -36,13 +36,15 @@ pub record State : Type 0 where
   pub slots : List (Option ℕ)
   -- the timers, four of each processor
   pub timers : List Timer
+  -- whether the timers of each processor are suspended, as its local APIC is
+  pub suspended : List Bool
 
 abbrev pub state_code : Coded State
 state_code =
-    code_by (ℕ × (ℕ × (List Apic × (List Regs × (List (List ℕ) × (List (List ℕ) × (List (Option Port) × (List (List Message) × (List (Option ℕ) × List Timer)))))))))
+    code_by (ℕ × (ℕ × (List Apic × (List Regs × (List (List ℕ) × (List (List ℕ) × (List (Option Port) × (List (List Message) × (List (Option ℕ) × (List Timer × List Bool))))))))))
     (coded× coded_ℕ (coded× coded_ℕ (coded× (coded_list apic_code) (coded× (coded_list regs_code) (coded× (coded_list (coded_list coded_ℕ)) (coded× (coded_list (coded_list coded_ℕ))
-    (coded× (coded_list (coded_option port.the_row.coded)) (coded× (coded_list (coded_list message.the_row.coded)) (coded× (coded_list (coded_option coded_ℕ)) (coded_list timer.the_row.coded))))))))))
-    (λ s. (s.moment, (s.next_ticket, (s.apics, (s.regs, (s.pages, (s.own, (s.ports, (s.queues, (s.slots, s.timers))))))))))
+    (coded× (coded_list (coded_option port.the_row.coded)) (coded× (coded_list (coded_list message.the_row.coded)) (coded× (coded_list (coded_option coded_ℕ)) (coded× (coded_list timer.the_row.coded) (coded_list coded_bool)))))))))))
+    (λ s. (s.moment, (s.next_ticket, (s.apics, (s.regs, (s.pages, (s.own, (s.ports, (s.queues, (s.slots, (s.timers, s.suspended)))))))))))
     (λ p. record {
       moment = p.0;
       next_ticket = p.1.0;
@@ -53,7 +55,8 @@ state_code =
       ports = p.1.1.1.1.1.1.0;
       queues = p.1.1.1.1.1.1.1.0;
       slots = p.1.1.1.1.1.1.1.1.0;
-      timers = p.1.1.1.1.1.1.1.1.1;
+      timers = p.1.1.1.1.1.1.1.1.1.0;
+      suspended = p.1.1.1.1.1.1.1.1.1.1;
     }) (λ _. refl)
 
 -- how many processors are on the board
@@ -89,12 +92,12 @@ with_space s space = record s { pages = space.pages; own = space.own }
 abbrev pub ports_of : State → Ports
 ports_of s = record { processors = processors s; ports = s.ports }
 
--- the timers, and the machine with others
+-- the timers and what suspends them, and the machine with others
 abbrev pub bank_of : State → Bank
-bank_of s = record { timers = s.timers }
+bank_of s = record { timers = s.timers; suspended = s.suspended }
 
 abbrev pub with_bank : State → Bank → State
-with_bank s b = record s { timers = b.timers }
+with_bank s b = record s { timers = b.timers; suspended = b.suspended }
 
 -- the ticket in the slot of a source
 abbrev pub slot_of : State → ℕ → ℕ → Option ℕ
@@ -124,6 +127,7 @@ opened n pages ticket =
       queues = no_messages n;
       slots = replicate (16 * n) None;
       timers = no_timers.timers;
+      suspended = no_timers.suspended;
     }
 
 -- a board: its state, and how often its summary was written

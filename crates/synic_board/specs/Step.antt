@@ -1,6 +1,6 @@
 -- What each event does: the state after it, the reply and the notices.
 use Rattle.synic_board.specs.declared.event.Event.{Event}
-use Rattle.synic_board.specs.declared.event.Event.TheVariants.{OpenPort, ClosePort, Write, Read, Post, Signal, Assert, Absorb, Store, Load, Tick, Take}
+use Rattle.synic_board.specs.declared.event.Event.TheVariants.{OpenPort, ClosePort, Write, Read, Post, Signal, Assert, Absorb, Store, Load, Tick, Take, Suspend, Resume, Reset}
 use Rattle.synic_board.specs.declared.event.Reply.TheVariants.{Done}
 use Rattle.synic_board.specs.State.{State}
 use Rattle.synic_board.specs.Effects.{Outcome, at_processor, answered, unchanged}
@@ -10,6 +10,8 @@ use Rattle.synic_board.specs.Registers.{written, read}
 use Rattle.synic_board.specs.Posts.{opened_port, closed, posted, signalled}
 use Rattle.synic_board.specs.Timers.{ticked}
 use Rattle.synic_board.specs.Stores.{stored_bytes, read_bytes}
+use Rattle.synic_board.specs.Suspending.{suspended, resumed}
+use Rattle.synic_board.specs.Resetting.{reset}
 
 unfoldable pub step : State → Event → Outcome
 step s (OpenPort port p i shape) = opened_port s port p i shape
@@ -24,3 +26,6 @@ step s (Store address bytes) = stored_bytes s address bytes.items
 step s (Load address count) = unchanged s (read_bytes s address count)
 step s (Tick moment) = ticked s moment
 step s (Take p) = at_processor s p (taken s p)
+step s (Suspend p) = at_processor s p (suspended s p)
+step s (Resume p) = at_processor s p (resumed s p)
+step s (Reset p) = at_processor s p (reset s p)

@@ -10,8 +10,8 @@ use Rattle.message_queues.specs.Queues.{is_timer_free}
 use Rattle.stimer_bank.specs.declared.timer.Expiry.{Expiry}
 use Rattle.stimer_bank.specs.declared.timer.Mode.{Mode}
 use Rattle.stimer_bank.specs.declared.timer.Mode.TheVariants.{Direct, Posted}
-use Rattle.stimer_bank.specs.Timer.{is_due, mode_of}
-use Rattle.stimer_bank.specs.Bank.{Bank, timer_in, dues, after_expiry_of, due_list}
+use Rattle.stimer_bank.specs.Timer.{mode_of}
+use Rattle.stimer_bank.specs.Bank.{Bank, timer_in, is_due_in, dues, after_expiry_of, due_list}
 use Rattle.synic_board.specs.declared.event.Reply.TheVariants.{Done}
 use Rattle.synic_board.specs.State.{State, processors, regs_of, bank_of, with_bank}
 use Rattle.synic_board.specs.Effects.{Effect, Outcome, nothing, after, answered, unchanged, refused}
@@ -30,7 +30,7 @@ is_ready_for s t (Posted i) = has (regs_of s t.0).control enable && is_timer_fre
 
 -- a timer that is due at the present moment and can tell of it
 abbrev pub is_ready : State → ℕ × ℕ → Bool
-is_ready s t = is_due (timer_in (bank_of s) t) s.moment && is_ready_for s t (mode_at s t)
+is_ready s t = is_due_in (bank_of s) t s.moment && is_ready_for s t (mode_at s t)
 
 -- what an expiry tells
 abbrev pub expired_notices : ℕ × ℕ → Option ℕ → List Notice

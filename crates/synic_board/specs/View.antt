@@ -18,6 +18,7 @@ state_of b =
       queues = b.queues;
       slots = b.slots.items;
       timers = b.timers.timers;
+      suspended = b.timers.suspended;
     }
 
 abbrev pub held_of : Inside → Held

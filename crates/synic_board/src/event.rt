@@ -70,6 +70,20 @@ pub enum Event {
     Take {
         vp: u8,
     },
+    /// Processor `vp` is suspended: it takes no interrupt, and its timers are not tried, until it
+    /// goes on.
+    Suspend {
+        vp: u8,
+    },
+    /// Processor `vp` goes on. Nothing is tried.
+    Resume {
+        vp: u8,
+    },
+    /// Processor `vp` is as it was opened: its messages in slots and queues are withdrawn, and its
+    /// registers, its local APIC, its timers and its own two pages are reset. Ports stay open.
+    Reset {
+        vp: u8,
+    },
 }
 
 /// What the board answers.
@@ -158,6 +172,9 @@ impl Event {
             },
             Event::Tick { moment } => Event::Tick { moment: *moment },
             Event::Take { vp } => Event::Take { vp: *vp },
+            Event::Suspend { vp } => Event::Suspend { vp: *vp },
+            Event::Resume { vp } => Event::Resume { vp: *vp },
+            Event::Reset { vp } => Event::Reset { vp: *vp },
         }
     }
 }

@@ -12,6 +12,8 @@ mod overlays;
 mod pages;
 mod posts;
 mod registers;
+mod resetting;
+mod suspending;
 mod timers;
 
 use crate::event::{Event, Reply};
@@ -187,6 +189,18 @@ impl Machine {
             Event::Tick { moment } => self.tick(*moment, notices),
             Event::Take { vp } => match self.processor(*vp) {
                 Some(vp) => Reply::Taken(self.take(vp)),
+                None => Reply::Refused(Refusal::NoSuchProcessor),
+            },
+            Event::Suspend { vp } => match self.processor(*vp) {
+                Some(vp) => self.suspend(vp),
+                None => Reply::Refused(Refusal::NoSuchProcessor),
+            },
+            Event::Resume { vp } => match self.processor(*vp) {
+                Some(vp) => self.resume(vp),
+                None => Reply::Refused(Refusal::NoSuchProcessor),
+            },
+            Event::Reset { vp } => match self.processor(*vp) {
+                Some(vp) => self.reset(vp, notices),
                 None => Reply::Refused(Refusal::NoSuchProcessor),
             },
         }

@@ -1,12 +1,20 @@
 -- What the calls of the heap say of due moments.
-use Rattle.std.specs.Prelude.{◌≡◌, ◌≢◌, ℕ, ◌<◌, Bool, false, nat_le, None, Some, slice_index_or, replicate, if◌then◌else◌}
+use Rattle.std.specs.Prelude.{◌≡◌, ◌≢◌, ℕ, ◌<◌, Bool, false, nat_le, None, Some, slice_index_or, slice_set, replicate, if◌then◌else◌}
 use Rattle.std.specs.Option.{option_map_or}
 use Rattle.std.specs.Int.{bit_at}
-use Rattle.board_terms.specs.Dues.{Dues, number_of, least}
+use Rattle.board_terms.specs.Dues.{Dues, number_of, due_of, least}
 
 -- no timer is due
 abbrev pub no_dues : Dues
 no_dues = replicate 32 None
+
+-- the timers of a processor are not due
+abbrev pub without_processor : Dues → ℕ → Dues
+without_processor m p = slice_set (slice_set (slice_set (slice_set m (number_of (p, 0)) None) (number_of (p, 1)) None) (number_of (p, 2)) None) (number_of (p, 3)) None
+
+-- no timer of a processor is due
+abbrev pub NoneOf : Dues → ℕ → Type 0
+NoneOf m p = (i : ℕ) → i < 4 → due_of m (p, i) ≡ None
 
 -- no other timer is due
 abbrev pub NoOther : Dues → ℕ × ℕ → Type 0

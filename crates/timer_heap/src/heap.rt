@@ -1,11 +1,11 @@
 // The timers that are due some time, the earliest at hand.
 ghost use Rattle.std.specs.Prelude.{◌≡◌, ◌+◌, ◌*◌, ◌<◌, ◌≤◌, Option, None, Some, slice_set};
 ghost use Rattle.board_terms.specs.Dues.{number_of, due_of, least};
-ghost use Rattle.timer_heap.specs.Heap.{no_dues, NoOther, Other, FirstOfThree, MarksDue};
+ghost use Rattle.timer_heap.specs.Heap.{no_dues, without_processor, NoOther, Other, FirstOfThree, NoneOf, MarksDue};
 
 use crate::table::Table;
 use arrayvec::ArrayVec;
-use board_terms::TimerId;
+use board_terms::{TimerId, Vp};
 use std::marker::Model;
 
 /// The timers that are due some time, each with its due moment (TLFS, "Synthetic Timers").
@@ -73,6 +73,20 @@ impl TimerHeap {
             Some(place) => self.table.remove(place as usize),
             None => 0,
         }
+    }
+
+    /// The timers of a processor lose their due moments. The answer is how many comparisons were made:
+    /// forty at most, and none where no timer of it is due.
+    pub fn clear_processor(&mut self, vp: Vp) -> u8
+        ensures set { self.new ≡ without_processor self.old vp }
+        ensures few { result ≤ 40 }
+        ensures absent { NoneOf self.old vp → result ≡ 0 }
+    {
+        let zero = self.clear(TimerId::new(vp, 0).unwrap());
+        let one = self.clear(TimerId::new(vp, 1).unwrap());
+        let two = self.clear(TimerId::new(vp, 2).unwrap());
+        let three = self.clear(TimerId::new(vp, 3).unwrap());
+        zero + one + two + three
     }
 
     /// The timer that is due first, and when: the least by due moment, processor and index.

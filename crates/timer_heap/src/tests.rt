@@ -64,6 +64,17 @@ fn an_entry_alone_is_compared_with_nothing(rt: HostRuntime) -> Result<(), Fail> 
     Ok(())
 }
 
+#[test]
+fn the_timers_of_a_processor_lose_their_due_moments(rt: HostRuntime) -> Result<(), Fail> {
+    let second = Vp::new(1).ok_or("processor")?;
+    let mut heap = full(13)?;
+    let cleared = heap.clear_processor(second);
+    assert!(rt; 0 < cleared && cleared <= 40, "{cleared}");
+    assert_eq!(rt; heap.due_by(u128::MAX), 0xffff_ff0f);
+    assert_eq!(rt; heap.clear_processor(second), 0);
+    Ok(())
+}
+
 /// The numbers of those that are due by a moment, by looking at all.
 fn scan_due(dues: &[Option<u128>; 32], moment: u128) -> u32 {
     let mut word = 0;

@@ -6,4 +6,6 @@ mod absorbs;
 #[cfg(test)]
 mod runs;
 #[cfg(test)]
+mod suspensions;
+#[cfg(test)]
 mod timers;

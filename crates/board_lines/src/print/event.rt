@@ -42,6 +42,9 @@ pub fn put_event(out: &mut Vec<u8>, event: &Event) -> Result<(), AllocError>
         Event::Load { address, length } => put_load(out, *address, *length),
         Event::Tick { moment } => put_named(out, b"tick", *moment),
         Event::Take { vp } => put_named(out, b"take", u64::from(*vp)),
+        Event::Suspend { vp } => put_named(out, b"suspend", u64::from(*vp)),
+        Event::Resume { vp } => put_named(out, b"resume", u64::from(*vp)),
+        Event::Reset { vp } => put_named(out, b"reset", u64::from(*vp)),
     }
 }
 

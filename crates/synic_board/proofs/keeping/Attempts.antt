@@ -120,7 +120,7 @@ keeps-delivered n s p i m h below under good next =
     keeps-after n s (accepted s p i m) (tried (accepted s p i m).0 p i) first (keeps-tried n (accepted s p i m).0 p i first.kept below under)
 
 -- the messages of a port are withdrawn from a queue
-ends-each : (t p i : ℕ) (tickets : List ℕ) → ended t (map (λ x. Withdrawn x p i) tickets) ≡ times t tickets
+pub ends-each : (t p i : ℕ) (tickets : List ℕ) → ended t (map (λ x. Withdrawn x p i) tickets) ≡ times t tickets
 ends-each t p i [] = refl
 ends-each t p i (x ∷ tickets) =
     let more = ends-each t p i tickets in

@@ -1,6 +1,6 @@
 -- Timers that are written and expire, and the clock.
-use Rattle.std.proofs.Common.{◌≡◌, ◌⊎◌, inl, inr, ℕ, zero, suc, ◌*◌, ◌<◌, ◌≤◌, Bool, true, false, ◌&&◌, List, [], ◌∷◌, map, refl, ap, sym, ◌∙◌, arith, nat_lt}
-use Rattle.std.specs.Prelude.{Option, None, Some, slice_index_or, ◌==◌, nat_le}
+use Rattle.std.proofs.Common.{◌≡◌, ◌⊎◌, inl, inr, ℕ, ◌*◌, ◌<◌, ◌≤◌, Bool, true, false, ◌&&◌, List, [], ◌∷◌, refl, ap, arith, nat_lt}
+use Rattle.std.specs.Prelude.{Option, None, Some, ◌==◌, nat_le}
 use Rattle.std.specs.Option.{option_map_or}
 use Rattle.std.proofs.lemmas.Bool.{cases_lt}
 use Rattle.board_terms.specs.Dues.{number_of}
@@ -9,8 +9,8 @@ use Rattle.board_terms.specs.declared.refusal.Refusal.TheVariants.{ClockBack}
 use Rattle.stimer_bank.specs.declared.timer.Timer.{Timer}
 use Rattle.stimer_bank.specs.declared.timer.Mode.{Mode}
 use Rattle.stimer_bank.specs.declared.timer.Mode.TheVariants.{Direct, Posted}
-use Rattle.stimer_bank.specs.Timer.{is_due, is_direct, vector_of, sint_of, mode_of, after_config, after_count, after_expiry}
-use Rattle.stimer_bank.specs.Bank.{idle_timer, timer_in, dues, due_list, with_config, with_count, with_timer}
+use Rattle.stimer_bank.specs.Timer.{is_direct, vector_of, sint_of, mode_of, after_config, after_count, after_expiry}
+use Rattle.stimer_bank.specs.Bank.{timer_in, is_due_in, dues, due_list, with_config, with_count, with_timer}
 use Rattle.synic_board.specs.State.{State, bank_of, with_bank}
 use Rattle.synic_board.specs.declared.event.Reply.TheVariants.{Done, Refused}
 use Rattle.synic_board.specs.Timers.{mode_at, is_ready_for, is_ready, expired_notices, skipped_notices, expiry_notices, told_by, signalled_by, expired_state, expiry_at, fired, attempted, attempted_all, written_timer, at_moment, ticked}
@@ -23,19 +23,13 @@ use Rattle.synic_board.proofs.keeping.Attempts.{keeps-delivered}
 use Rattle.synic_board.proofs.keeping.Changes.{kept-timer, kept-moment}
 
 -- a timer that is due is one of a processor on the board
-due-at : (timers : List Timer) (k : ℕ) → slice_index_or (map (λ (x : Timer). x.due) timers) k None ≡ (slice_index_or timers k idle_timer).due
-due-at [] k = refl
-due-at (x ∷ timers) zero = refl
-due-at (x ∷ timers) (suc k) = due-at timers k
-
-due-on : (n : ℕ) (s : State) (t : ℕ × ℕ) → IsIntact n s → is_due (timer_in (bank_of s) t) s.moment ≡ true → number_of t < 4 * n
+due-on : (n : ℕ) (s : State) (t : ℕ × ℕ) → IsIntact n s → is_due_in (bank_of s) t s.moment ≡ true → number_of t < 4 * n
 due-on n s t h due = split (cases_lt (number_of t) (4 * n))
   where
     split : (number_of t < 4 * n) ⊎ (4 * n ≤ number_of t) → number_of t < 4 * n
     split (inl low) = low
     split (inr high) =
-        let idle : (timer_in (bank_of s) t).due ≡ None = sym (due-at s.timers (number_of t)) ∙ h.whole.idle (number_of t) high in
-        let never : is_due (timer_in (bank_of s) t) s.moment ≡ false = ap (λ o. option_map_or (λ d. nat_le d s.moment) o false) idle in
+        let never : is_due_in (bank_of s) t s.moment ≡ false = ap (λ o. option_map_or (λ d. nat_le d s.moment) o false) (h.whole.idle (number_of t) high) in
         absurd (cc)
 
 expiry-ends : (t : ℕ × ℕ) (signal : Option ℕ) (skipped : ℕ) → EndsNone (expiry_notices t signal skipped)
@@ -49,11 +43,11 @@ expiry-ends t signal skipped ticket = omega (arith, ended-append ticket (expired
     skips = either (λ ns. ended ticket ns ≡ 0) (skipped == 0) _ _ (λ _. refl) (λ _. refl)
 
 -- a mode that names a source names one of the sixteen
-abbrev Names : Mode → Type 0
+abbrev pub Names : Mode → Type 0
 Names (Direct v) = Unit {0}
 Names (Posted i) = i < 16
 
-mode-names : (config : ℕ) → Names (mode_of config)
+pub mode-names : (config : ℕ) → Names (mode_of config)
 mode-names config = either Names (is_direct config) (Direct (vector_of config)) (Posted (sint_of config)) (λ _. tt) (λ _. omega arith)
 
 keeps-told : (n : ℕ) (s : State) (t : ℕ × ℕ) (mode : Mode) (d : ℕ) → IsIntact n s → t.0 < n → Names mode → Keeps n s (told_by s t mode d)
@@ -79,7 +73,7 @@ pub keeps-attempted : (n : ℕ) (s : State) (t : ℕ × ℕ) → IsIntact n s �
 unfolding attempted
 keeps-attempted n s t h =
     either (Keeps n s) (is_ready s t) _ _
-    (λ ready. keeps-fired n s t (mode_at s t) h (due-on n s t h (first-of (is_due (timer_in (bank_of s) t) s.moment) (is_ready_for s t (mode_at s t)) ready)) (mode-names (timer_in (bank_of s) t).config))
+    (λ ready. keeps-fired n s t (mode_at s t) h (due-on n s t h (first-of (is_due_in (bank_of s) t s.moment) (is_ready_for s t (mode_at s t)) ready)) (mode-names (timer_in (bank_of s) t).config))
     (λ _. keeps-nothing n s h)
 
 keeps-attempted_all : (n : ℕ) (s : State) (ts : List (ℕ × ℕ)) → IsIntact n s → Keeps n s (attempted_all s ts)

@@ -79,4 +79,6 @@ step-fits s event = (throughout Any Fits any (record {
   counts = λ s p n number value e _ _. record { reply = tt };
   repeats = λ s port flag p i f _ _. record { reply = tt };
   signals = λ s port flag p i f _ _ _. record { reply = tt };
+  pauses = λ s event p mark is. record { reply = is.1 };
+  resets = λ s p _. record { reply = tt };
 }) s event).reply

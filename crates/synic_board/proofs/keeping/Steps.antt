@@ -4,7 +4,7 @@ use Rattle.std.specs.Prelude.{Option, None, Some, nat_le}
 use Rattle.std.specs.Option.{option_map_or}
 use Rattle.std.proofs.lemmas.Bool.Decides.{nat_tests}
 use Rattle.board_terms.specs.declared.notices.Notice.{Notice}
-use Rattle.board_terms.specs.declared.refusal.Refusal.TheVariants.{BadTarget, NoSuchProcessor}
+use Rattle.board_terms.specs.declared.refusal.Refusal.TheVariants.{BadTarget, NoSuchProcessor, AlreadySuspended, NotSuspended}
 use Rattle.lapic_core.specs.Apic.{next, with_task_priority, after_end}
 use Rattle.synic_regs.specs.declared.register.Register.{Register}
 use Rattle.synic_regs.specs.declared.register.Register.TheVariants.{ReferenceCounter, Eoi, Tpr, Control, Version, Sief, Sim, Eom, Source, TimerConfig, TimerCount}
@@ -12,7 +12,7 @@ use Rattle.synic_regs.specs.Registers.{register_of, Exists}
 use Rattle.synic_regs.specs.Regs.{is_refused, with_value}
 use Rattle.synic_regs.proofs.Numbers.{have_their_numbers}
 use Rattle.synic_board.specs.declared.event.Event.{Event}
-use Rattle.synic_board.specs.declared.event.Event.TheVariants.{OpenPort, ClosePort, Write, Read, Post, Signal, Assert, Absorb, Store, Load, Tick, Take}
+use Rattle.synic_board.specs.declared.event.Event.TheVariants.{OpenPort, ClosePort, Write, Read, Post, Signal, Assert, Absorb, Store, Load, Tick, Take, Suspend, Resume, Reset}
 use Rattle.synic_board.specs.declared.event.Reply.{Reply}
 use Rattle.synic_board.specs.declared.event.Reply.TheVariants.{Done, GeneralProtection, Refused}
 use Rattle.synic_board.specs.State.{State, processors, slot_of, apic_of, regs_of, with_apic, with_regs}
@@ -21,18 +21,21 @@ use Rattle.synic_board.specs.Interrupts.{requested, taken_at, taken, ended, with
 use Rattle.synic_board.specs.Absorbing.{absorbed}
 use Rattle.synic_board.specs.Registers.{stored, written_register, written, read}
 use Rattle.synic_board.specs.Stores.{read_bytes}
+use Rattle.synic_board.specs.Suspending.{is_suspended, suspended, resumed}
+use Rattle.synic_board.specs.Resetting.{reset}
 use Rattle.synic_board.specs.Step.{step}
 use Rattle.synic_board.specs.Places.{Conserves}
-use Rattle.synic_board.specs.Slots.{IsNoStore, LeavesSlot}
+use Rattle.synic_board.specs.Slots.{IsApart, LeavesSlot}
 use Rattle.synic_board.specs.Delivery.{is_slot_empty}
 use Rattle.synic_board.specs.Sound.{IsSound, PayloadFits}
-use Rattle.synic_board.proofs.keeping.Left.{leaves-same}
+use Rattle.synic_board.proofs.keeping.Left.{leaves-page, leaves-same}
 use Rattle.synic_board.proofs.keeping.Wholes.{IsIntact, Keeps, KeepsOutcome, KeepsMessagesOf, messages-kept, kept_from_sound, sound_from_kept, tickets-conserved, kept-apic, keeps-still, keeps-nothing, keeps-unchanged}
 use Rattle.synic_board.proofs.keeping.Requests.{either, still-apic, leaves-apic, keeps-requested, keeps-absorbed_below}
 use Rattle.synic_board.proofs.keeping.Attempts.{keeps-tried_below}
 use Rattle.synic_board.proofs.keeping.Changes.{kept-regs}
 use Rattle.synic_board.proofs.keeping.Posts.{keeps-opened_port, keeps-closed, keeps-posted, keeps-signalled}
 use Rattle.synic_board.proofs.keeping.Stores.{keeps-stored_bytes}
+use Rattle.synic_board.proofs.keeping.Resets.{keeps-suspension, keeps-reset, leaves-reset}
 use Rattle.synic_board.proofs.keeping.Clocks.{keeps-written_config, keeps-written_count, keeps-ticked}
 
 keeps-stored : (n : ℕ) (s : State) (p : ℕ) (r : Register) (value : ℕ) → IsIntact n s → KeepsOutcome n s (stored s p r value)
@@ -73,8 +76,19 @@ keeps-taken n s p h = elim (next (apic_of s p)) as (λ o. Keeps n s (option_map_
 on-board : (n : ℕ) (s : State) (p : ℕ) (o : Outcome) → IsIntact n s → (p < n → KeepsOutcome n s o) → KeepsOutcome n s (at_processor s p o)
 on-board n s p o h there = either (KeepsOutcome n s) (nat_lt p (processors s)) _ _ (λ on. there (let c = h.count in grind (arith, nat_tests))) (λ _. keeps-unchanged n s (Refused NoSuchProcessor) h)
 
--- an event that is no store
-keeps-other : (n : ℕ) (s : State) (e : Event) → IsNoStore e → PayloadFits e → IsIntact n s → KeepsOutcome n s (step s e)
+keeps-suspended : (n : ℕ) (s : State) (p : ℕ) → IsIntact n s → p < n → KeepsOutcome n s (suspended s p)
+keeps-suspended n s p h below = either (KeepsOutcome n s) (is_suspended s p) _ _ (λ _. keeps-unchanged n s (Refused AlreadySuspended) h) (λ _. keeps-suspension n s p true h below)
+
+keeps-resumed : (n : ℕ) (s : State) (p : ℕ) → IsIntact n s → p < n → KeepsOutcome n s (resumed s p)
+keeps-resumed n s p h below = either (KeepsOutcome n s) (is_suspended s p) _ _ (λ _. keeps-suspension n s p false h below) (λ _. keeps-unchanged n s (Refused NotSuspended) h)
+
+-- an event that leaves all slots that are occupied: no store, and no reset
+abbrev LeavesAll : Event → Type 0
+LeavesAll (Store address bytes) = ⊥
+LeavesAll (Reset p) = ⊥
+LeavesAll e = Unit {0}
+
+keeps-other : (n : ℕ) (s : State) (e : Event) → LeavesAll e → PayloadFits e → IsIntact n s → KeepsOutcome n s (step s e)
 unfolding step
 keeps-other n s (OpenPort port p i shape) other fits h = keeps-opened_port n s port p i shape h
 keeps-other n s (ClosePort port) other fits h = keeps-closed n s port h
@@ -88,8 +102,11 @@ keeps-other n s (Store address bytes) other fits h = absurd other
 keeps-other n s (Load address count) other fits h = keeps-unchanged n s (read_bytes s address count) h
 keeps-other n s (Tick moment) other fits h = keeps-ticked n s moment h
 keeps-other n s (Take p) other fits h = on-board n s p (taken s p) h (λ _. keeps-taken n s p h)
+keeps-other n s (Suspend p) other fits h = on-board n s p (suspended s p) h (λ below. keeps-suspended n s p h below)
+keeps-other n s (Resume p) other fits h = on-board n s p (resumed s p) h (λ below. keeps-resumed n s p h below)
+keeps-other n s (Reset p) other fits h = absurd other
 
-other-kept : (n : ℕ) (s : State) (e : Event) → IsNoStore e → PayloadFits e → IsIntact n s → KeepsMessagesOf n s (step s e)
+other-kept : (n : ℕ) (s : State) (e : Event) → LeavesAll e → PayloadFits e → IsIntact n s → KeepsMessagesOf n s (step s e)
 other-kept n s e other fits h = messages-kept n s ((step s e).0, (step s e).2) (keeps-other n s e other fits h)
 
 pub keeps-step : (n : ℕ) (s : State) (e : Event) → PayloadFits e → IsIntact n s → KeepsMessagesOf n s (step s e)
@@ -106,6 +123,11 @@ keeps-step n s (Absorb p part bits) fits h = other-kept n s (Absorb p part bits)
 keeps-step n s (Load address count) fits h = other-kept n s (Load address count) tt fits h
 keeps-step n s (Tick moment) fits h = other-kept n s (Tick moment) tt fits h
 keeps-step n s (Take p) fits h = other-kept n s (Take p) tt fits h
+keeps-step n s (Suspend p) fits h = other-kept n s (Suspend p) tt fits h
+keeps-step n s (Resume p) fits h = other-kept n s (Resume p) tt fits h
+keeps-step n s (Reset p) fits h =
+    either (KeepsMessagesOf n s) (nat_lt p (processors s)) (reset s p) (unchanged s (Refused NoSuchProcessor)) (λ on. keeps-reset n s p h (let c = h.count in grind (arith, nat_tests)))
+    (λ _. messages-kept n s (s, []) (keeps-unchanged n s (Refused NoSuchProcessor) h))
 
 -- each accepted message stays in one place, or ends once
 pub conserves : (s now : State) (e : Event) (reply : Reply) (notices : List Notice) → PayloadFits e → (now, reply, notices) ≡ step s e → IsSound s → Conserves s now notices
@@ -122,10 +144,31 @@ sound s now e reply notices fits is before =
     subst (λ (o : Outcome). IsSound o.0) (sym is) (sound_from_kept (processors s) (step s e).0 k.kept (tickets-conserved s (step s e).0 (step s e).2 k.later k.conserves before.tickets))
 
 -- an occupied slot is left, and one that holds a ticket is occupied
-pub slot-left : (s : State) (e : Event) (p i : ℕ) → IsSound s → PayloadFits e → IsNoStore e → p < processors s → i < 16 → is_slot_empty s p i ≡ false → LeavesSlot s (step s e).0 p i
-slot-left s e p i sound fits other below under full = (keeps-other (processors s) s e other fits (kept_from_sound s sound)).leaves p i below under full
+pub slot-left : (s : State) (e : Event) (p i : ℕ) → IsSound s → PayloadFits e → IsApart p e → p < processors s → i < 16 → is_slot_empty s p i ≡ false → LeavesSlot s (step s e).0 p i
+unfolding step
+slot-left s e p i sound fits apart below under full = by e fits apart
+  where
+    left : (e : Event) → LeavesAll e → PayloadFits e → LeavesSlot s (step s e).0 p i
+    left e other fits = (keeps-other (processors s) s e other fits (kept_from_sound s sound)).leaves p i below under full
 
-pub ticket-left : (s : State) (e : Event) (p i ticket : ℕ) → IsSound s → PayloadFits e → IsNoStore e → p < processors s → i < 16 → slot_of s p i ≡ Some ticket → LeavesSlot s (step s e).0 p i
+    by : (e : Event) → PayloadFits e → IsApart p e → LeavesSlot s (step s e).0 p i
+    by (OpenPort port q j shape) fits apart = left (OpenPort port q j shape) tt fits
+    by (ClosePort port) fits apart = left (ClosePort port) tt fits
+    by (Write q number value) fits apart = left (Write q number value) tt fits
+    by (Read q number) fits apart = left (Read q number) tt fits
+    by (Post port kind payload) fits apart = left (Post port kind payload) tt fits
+    by (Signal port flag) fits apart = left (Signal port flag) tt fits
+    by (Assert q v) fits apart = left (Assert q v) tt fits
+    by (Absorb q part bits) fits apart = left (Absorb q part bits) tt fits
+    by (Store address bytes) fits apart = absurd apart
+    by (Load address count) fits apart = left (Load address count) tt fits
+    by (Tick moment) fits apart = left (Tick moment) tt fits
+    by (Take q) fits apart = left (Take q) tt fits
+    by (Suspend q) fits apart = left (Suspend q) tt fits
+    by (Resume q) fits apart = left (Resume q) tt fits
+    by (Reset q) fits apart = either (λ (o : Outcome). LeavesSlot s o.0 p i) (nat_lt q (processors s)) (reset s q) (unchanged s (Refused NoSuchProcessor)) (λ _. leaves-reset s q p i (λ e. apart (sym e)) under) (λ _. leaves-page s s p i refl refl)
+
+pub ticket-left : (s : State) (e : Event) (p i ticket : ℕ) → IsSound s → PayloadFits e → IsApart p e → p < processors s → i < 16 → slot_of s p i ≡ Some ticket → LeavesSlot s (step s e).0 p i
 ticket-left s e p i ticket sound fits other below under held = slot-left s e p i sound fits other below under (by (is_slot_empty s p i) refl)
   where
     by : (b : Bool) → is_slot_empty s p i ≡ b → b ≡ false

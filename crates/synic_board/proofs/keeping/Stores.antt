@@ -41,7 +41,7 @@ record Consumes (n p i : ℕ) (s : State) (e : Effect) : Type 0 where
   conserves : Conserves s e.0 e.1
 
 -- a slot loses its ticket
-without-whole : (n : ℕ) (s : State) (p i : ℕ) → IsWhole n s → IsWhole n (with_slot_ticket s p i None)
+pub without-whole : (n : ℕ) (s : State) (p i : ℕ) → IsWhole n s → IsWhole n (with_slot_ticket s p i None)
 without-whole n s p i h = record {
   registers = h.registers;
   own = h.own;
@@ -53,7 +53,7 @@ without-whole n s p i h = record {
   messages = h.messages;
 }
 
-without-slot : (n : ℕ) (s : State) (p i q j : ℕ) → IsWhole n s → p < n → i < 16 → j < 16 → ((p ≡ q → i ≢ j) → slot_of s q j ≡ None) → slot_of (with_slot_ticket s p i None) q j ≡ None
+pub without-slot : (n : ℕ) (s : State) (p i q j : ℕ) → IsWhole n s → p < n → i < 16 → j < 16 → ((p ≡ q → i ≢ j) → slot_of s q j ≡ None) → slot_of (with_slot_ticket s p i None) q j ≡ None
 without-slot n s p i q j h below under inside free = split (cases_eq (place_of q j) (place_of p i))
   where
     split : (place_of q j ≡ place_of p i) ⊎ (place_of q j ≢ place_of p i) → slot_of (with_slot_ticket s p i None) q j ≡ None
@@ -121,10 +121,10 @@ length-overwritten page bytes at l fits =
     omega (arith, length-append (take at page ++ bytes) (drop (at + length bytes) page), length-append (take at page) bytes, length-take at page, length-drop (at + length bytes) page)
 
 -- an overlay's own page is written
-abbrev with_own : State → ℕ → List ℕ → State
+abbrev pub with_own : State → ℕ → List ℕ → State
 with_own s k page = record s { own = slice_set s.own k page }
 
-own-whole : (n : ℕ) (s : State) (k : ℕ) (page : List ℕ) → IsWhole n s → length page ≡ 4096 → IsWhole n (with_own s k page)
+pub own-whole : (n : ℕ) (s : State) (k : ℕ) (page : List ℕ) → IsWhole n s → length page ≡ 4096 → IsWhole n (with_own s k page)
 own-whole n s k page h l = record {
   registers = h.registers;
   own = length-set s.own k page ∙ h.own;

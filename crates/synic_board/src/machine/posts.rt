@@ -132,7 +132,7 @@ impl Machine {
 }
 
 /// A notice for each message that was withdrawn.
-fn tell_withdrawn(vp: Vp, sint: Sint, tickets: &[Ticket], notices: &mut Notices)
+pub(crate) fn tell_withdrawn(vp: Vp, sint: Sint, tickets: &[Ticket], notices: &mut Notices)
     requires { length notices.old + length tickets.now ≤ 320 }
     ensures { notices.new ≡ notices.old ++ map (λ t. Notice.Withdrawn t vp sint) tickets.now }
 {

@@ -28,7 +28,7 @@ returns-in-Some-clause-text g c =
     let last = crew_of c.in-Some.script in
     let here : seen c.drive.new.judge ≡ Some last = ap asked c.in-Some.is in
     let first = subst (Appends _ _) (sym d.sends ∙ nothing-sent seen _ _ refl (ends.Last c.in-Last.line) _ _ d.read) d.writes in
-    let ran : Runs c.run.result last (g.W.Write.contents c.drive.new.writer) (g.W.Write.contents c.run.new.writer) = search rules in
+    let ran : Runs c.run.result last (g.W.Write.contents c.drive.new.writer) (g.W.Write.contents c.run.new.writer) = rw c.in-Some.is at c.run.ensures in
     spoken (Report (closed last)) _ _ _ _ _ (λ input p. tells-report last input (asked-for seen _ _ refl c.in-Last.line d.answers input last here p)) d.whole first c.run.result ran
 
 pub returns-in-Last-clause-text : goal.returns-in-Last-clause-text
@@ -48,12 +48,12 @@ returns-in-Wrong-clause-text g c =
 
 pub returns-in-Some-clause-limit : goal.returns-in-Some-clause-limit
 returns-in-Some-clause-limit g c =
-    let ran : Runs c.run.result (crew_of c.in-Some.script) (g.W.Write.contents c.drive.new.writer) (g.W.Write.contents c.run.new.writer) = search rules in
+    let ran : Runs c.run.result (crew_of c.in-Some.script) (g.W.Write.contents c.drive.new.writer) (g.W.Write.contents c.run.new.writer) = rw c.in-Some.is at c.run.ensures in
     within c.run.result (Report (closed (crew_of c.in-Some.script))) _ _ _ _ (λ _ none. none) ran c.in-Last.ensures.limit
 
 pub returns-in-Some-clause-near : goal.returns-in-Some-clause-near
 returns-in-Some-clause-near g c =
-    let ran : Runs c.run.result (crew_of c.in-Some.script) (g.W.Write.contents c.drive.new.writer) (g.W.Write.contents c.run.new.writer) = search rules in
+    let ran : Runs c.run.result (crew_of c.in-Some.script) (g.W.Write.contents c.drive.new.writer) (g.W.Write.contents c.run.new.writer) = rw c.in-Some.is at c.run.ensures in
     run-near c.run.result (crew_of c.in-Some.script) _ _ _ _ ran
 
 pub returns-in-Last-clause-limit : goal.returns-in-Last-clause-limit

@@ -2,6 +2,9 @@ use Rattle.std.proofs.Common.{rules, ◌≡◌, Err, ap, sym, ◌∙◌, subst}
 use Rattle.std.proofs.lemmas.Bool.{both_ways}
 use Rattle.board_threads.specs.Crew.{lists}
 use Rattle.board_threads.specs.Judging.{has_bad_step}
+use Rattle.synic_board.specs.State.{State, opened}
+use Rattle.synic_board.specs.History.{leads_to}
+use Rattle.board_trace.specs.declared.format.Format.TheVariants.{Two}
 use Rattle.board_trace.specs.Trace.{trace}
 use Rattle.crew_script.specs.Crew.{Crew, closed, IsGood}
 use Rattle.crew_script.specs.View.{crew_of}
@@ -36,5 +39,6 @@ returns-in-Ok-put_trace g c =
       each = e.each;
       raises = e.raises;
     } in
-    let text : c.put_trace.new.out.items ≡ trace s.setup.processors s.setup.pages s.setup.first_ticket h = search rules in
+    let next : c.next_ticket.result ≡ (leads_to (opened s.setup.processors s.setup.pages s.setup.first_ticket) h).next_ticket = c.next_ticket.ensures.next ∙ ap (λ (x : State). x.next_ticket) e.settled.leads in
+    let text : c.put_trace.new.out.items ≡ trace Two s.setup.processors s.setup.pages s.setup.first_ticket h = search rules in
     subst (λ (crew : Crew). Report crew Done c.put_trace.new.out.items) over (h, is, text)

@@ -1,5 +1,8 @@
-use Rattle.std.proofs.Common.{◌<◌, ℕ, [], ap, ◌∙◌, sym, length, arith}
-use Rattle.std.specs.Prelude.{slice_index_or}
+use Rattle.std.proofs.Common.{◌<◌, ◌≤◌, ℕ, [], ap, ◌∙◌, sym, subst, length, arith}
+use Rattle.std.specs.Prelude.{slice_index_or, sum_by}
+use Rattle.message_queues.specs.Queues.{Queues}
+use Rattle.message_queues.specs.View.{queues_of}
+use Rattle.message_queues.proofs.Counts.{each-owned, all-within}
 use Rattle.message_queues.proofs.Steps.{here}
 use Rattle.message_queues.proofs.queues.Queues.count.Goals as goal
 
@@ -13,3 +16,8 @@ pub returns-clause-few : goal.returns-clause-few
 returns-clause-few c =
     let within : c.place_of.result < length c.args.self.now = omega (arith, c.place_of.ensures, c.requires) in
     (here c.self.inside c.args.self.now c.place_of.result c.index.result.now c.self.invariant c.self.view_is within c.index.ensures).few
+
+pub returns-clause-in_all : goal.returns-clause-in_all
+returns-clause-in_all c =
+    let k = c.self.invariant in
+    subst (λ (qs : Queues). sum_by length qs ≤ 288) c.self.view_is (all-within (queues_of c.self.inside) c.self.inside.in_use (each-owned (queues_of c.self.inside) k.owned) k.counts)

@@ -8,9 +8,10 @@ use Rattle.board_terms.specs.declared.messages.Message.{Message}
 use Rattle.gpa_space.specs.Page.{zero_page}
 use Rattle.gpa_space.specs.Space.{Space}
 use Rattle.stimer_bank.specs.Bank.{Bank, dues}
+use Rattle.stimer_bank.proofs.Shown.{dues-opened}
 use Rattle.synic_board.specs.Scratch.{scratch}
 use Rattle.synic_board.specs.State.{overlay_registers}
-use Rattle.synic_board.proofs.Openings.{overlays-opened, scratch-opened, state-opened, idle-opened}
+use Rattle.synic_board.proofs.Openings.{overlays-opened, scratch-opened, state-opened}
 use Rattle.synic_board.proofs.machine.Machine.open.Goals as goal
 
 pub invariant_of-result : goal.invariant_of-result
@@ -35,7 +36,7 @@ invariant_of-result c =
       ports = ap (λ (p : Ports). p.processors) c.new-ports.ensures ∙ sym (ap length lapics ∙ length-replicate n empty_apic);
       queues = omega (arith, ap length queues, length-replicate {A = List Message} (16 * n) [], ap length lapics, length-replicate n empty_apic);
       slots = omega (arith, ap length slots, length-replicate {A = Option ℕ} (16 * n) None, ap length lapics, length-replicate n empty_apic);
-      idle = λ k _. ap (λ (b : Bank). slice_index_or (dues b) k None) c.new-timers.ensures ∙ idle-opened 32 k;
+      idle = λ k _. ap (λ (b : Bank). slice_index_or (dues b) k None) c.new-timers.ensures ∙ dues-opened k;
       summary = scratch-opened n pages c.args.first_ticket c.in_ok-summary.summary.values summary.nexts summary.autos summary.owners summary.queued summary.earliest ∙ ap scratch (sym state);
     }
 

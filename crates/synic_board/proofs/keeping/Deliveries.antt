@@ -1,0 +1,102 @@
+-- What is delivered, and timers that are tried, keep to the buffers.
+use Rattle.std.proofs.Common.{◌≡◌, ℕ, zero, suc, ◌+◌, ◌*◌, ◌<◌, Bool, true, false, ◌&&◌, List, [], ◌∷◌, length, get_or, refl, sym, subst, arith, nat_lt}
+use Rattle.std.specs.Prelude.{Option, None, Some}
+use Rattle.std.specs.Option.{option_map_or}
+use Rattle.std.specs.FinSet as finset
+use Rattle.board_terms.specs.declared.messages.Message.{Message}
+use Rattle.board_terms.specs.declared.messages.Message.TheVariants.{FromTimer}
+use Rattle.synic_regs.specs.Regs.{has, enable, raised_by}
+use Rattle.message_queues.specs.Queues.{is_timer_free, place_of, queue_of}
+use Rattle.stimer_bank.specs.Bank.{timer_in, is_due_in}
+use Rattle.stimer_bank.specs.declared.timer.Mode.{Mode}
+use Rattle.stimer_bank.specs.declared.timer.Mode.TheVariants.{Direct, Posted}
+use Rattle.synic_board.specs.State.{State, apic_of, regs_of, bank_of}
+use Rattle.synic_board.specs.Effects.{Effect, nothing}
+use Rattle.synic_board.specs.Interrupts.{requested, raised}
+use Rattle.synic_board.specs.Absorbing.{is_posted, absorbed_below}
+use Rattle.synic_board.specs.Delivery.{delivers, is_slot_empty, placed_head, placed, tried, tried_below, accepted, delivered}
+use Rattle.synic_board.specs.Posts.{are_tickets_left}
+use Rattle.synic_board.specs.Timers.{mode_at, is_ready_for, is_ready, told_by, signalled_by, expired_state, expiry_at, attempted, attempted_all}
+use Rattle.synic_board.specs.Sound.{HasBuffers}
+use Rattle.synic_board.proofs.keeping.Requests.{either}
+use Rattle.synic_board.proofs.keeping.Clocks.{Names, mode-names}
+use Rattle.synic_board.proofs.keeping.Uses.{alike, fewer-queued, IsPart, part-rest, Fits, timer-fits, buffers-accepted}
+
+-- vectors
+pub buffers-requested : (s : State) (p v : ℕ) → HasBuffers s → HasBuffers (requested s p v).0
+buffers-requested s p v h = either (λ (e : Effect). HasBuffers e.0) (finset.contains (apic_of s p).requested v) _ _ (λ _. h) (λ _. alike s _ refl refl h)
+
+pub buffers-raised : (s : State) (p i : ℕ) → HasBuffers s → HasBuffers (raised s p i).0
+buffers-raised s p i h = elim (raised_by (regs_of s p) i) as (λ o. HasBuffers (option_map_or (requested s p) o (nothing s)).0) [ None ↦ h | Some v ↦ buffers-requested s p v h ]
+
+pub buffers-absorbed_below : (s : State) (p part bits n : ℕ) → HasBuffers s → HasBuffers (absorbed_below s p part bits n).0
+unfolding absorbed_below
+buffers-absorbed_below s p part bits zero h = h
+buffers-absorbed_below s p part bits (suc i) h =
+    let e : Effect = absorbed_below s p part bits i in
+    let before = buffers-absorbed_below s p part bits i h in
+    either (λ (f : Effect). HasBuffers f.0) (is_posted part bits i) _ _ (λ _. buffers-requested e.0 p (64 * part + i) before) (λ _. before)
+
+-- delivery
+buffers-placed : (s : State) (p i : ℕ) → HasBuffers s → HasBuffers (placed s p i).0
+buffers-placed s p i h = go (queue_of s.queues p i) refl
+  where
+    go : (q : List Message) → queue_of s.queues p i ≡ q → HasBuffers (placed_head s p i q).0
+    go [] is = h
+    go (m ∷ rest) is =
+        fewer-queued s _ (place_of p i) rest refl refl (subst (IsPart rest) (sym is) (part-rest m rest)) h
+
+buffers-tried : (s : State) (p i : ℕ) → HasBuffers s → HasBuffers (tried s p i).0
+unfolding tried
+buffers-tried s p i h =
+    either (λ (e : Effect). HasBuffers e.0) (delivers s p && nat_lt 0 (length (queue_of s.queues p i))) _ _
+    (λ _. either (λ (e : Effect). HasBuffers e.0) (is_slot_empty s p i) _ _ (λ _. buffers-raised (placed s p i).0 p i (buffers-placed s p i h)) (λ _. alike s _ refl refl h))
+    (λ _. h)
+
+pub buffers-tried_below : (s : State) (p n : ℕ) → HasBuffers s → HasBuffers (tried_below s p n).0
+unfolding tried_below
+buffers-tried_below s p zero h = h
+buffers-tried_below s p (suc i) h = buffers-tried (tried_below s p i).0 p i (buffers-tried_below s p i h)
+
+pub buffers-delivered : (s : State) (p i : ℕ) (m : Message) → Fits s p i m → HasBuffers s → HasBuffers (delivered s p i m).0
+buffers-delivered s p i m free h = buffers-tried (accepted s p i m).0 p i (buffers-accepted s p i m free h)
+
+-- a timer in message mode has its buffer free
+abbrev IsReadyTo : State → ℕ × ℕ → Mode → Type 0
+IsReadyTo s t (Direct v) = Unit {0}
+IsReadyTo s t (Posted i) = is_timer_free s.queues t ≡ true
+
+middle-of : (a b c : Bool) → (a && b && c) ≡ true → b ≡ true
+middle-of true true c e = refl
+middle-of true false c e = absurd (cc)
+middle-of false b c e = absurd (cc)
+
+ready-to : (s : State) (t : ℕ × ℕ) (mode : Mode) (due : Bool) → (due && is_ready_for s t mode) ≡ true → IsReadyTo s t mode
+ready-to s t (Direct v) due e = tt
+ready-to s t (Posted i) true e = middle-of (has (regs_of s t.0).control enable) (is_timer_free s.queues t) (are_tickets_left s) e
+ready-to s t (Posted i) false e = absurd (cc)
+
+buffers-told : (s : State) (t : ℕ × ℕ) (mode : Mode) (d : ℕ) → t.1 < 4 → Names mode → IsReadyTo s t mode → HasBuffers s → HasBuffers (told_by s t mode d).0
+buffers-told s t (Direct v) d index names ready h = buffers-requested s t.0 v h
+buffers-told s t (Posted i) d index names ready h = buffers-delivered s t.0 i (FromTimer s.next_ticket t d) (timer-fits s t i s.next_ticket d names index ready) h
+
+buffers-signalled : (s : State) (t : ℕ × ℕ) (mode : Mode) (o : Option ℕ) → t.1 < 4 → Names mode → IsReadyTo s t mode → HasBuffers s → HasBuffers (signalled_by s t mode o).0
+buffers-signalled s t mode None index names ready h = h
+buffers-signalled s t mode (Some d) index names ready h = buffers-told s t mode d index names ready h
+
+expired-ready : (s : State) (t : ℕ × ℕ) (mode : Mode) → IsReadyTo s t mode → IsReadyTo (expired_state s t) t mode
+expired-ready s t (Direct v) ready = tt
+expired-ready s t (Posted i) ready = ready
+
+pub buffers-attempted : (s : State) (t : ℕ × ℕ) → t.1 < 4 → HasBuffers s → HasBuffers (attempted s t).0
+unfolding attempted
+buffers-attempted s t index h =
+    either (λ (e : Effect). HasBuffers e.0) (is_ready s t) _ _
+    (λ ready. buffers-signalled (expired_state s t) t (mode_at s t) (expiry_at s t).signal index (mode-names (timer_in (bank_of s) t).config)
+    (expired-ready s t (mode_at s t) (ready-to s t (mode_at s t) (is_due_in (bank_of s) t s.moment) ready)) (alike s (expired_state s t) refl refl h))
+    (λ _. h)
+
+pub buffers-attempted_all : (s : State) (ts : List (ℕ × ℕ)) → ((k : ℕ) → k < length ts → (get_or ts k (0, 0)).1 < 4) → HasBuffers s → HasBuffers (attempted_all s ts).0
+unfolding attempted_all
+buffers-attempted_all s [] indexes h = h
+buffers-attempted_all s (t ∷ ts) indexes h = buffers-attempted_all (attempted s t).0 ts (λ k less. indexes (suc k) (omega (arith, less))) (buffers-attempted s t (indexes 0 (omega arith)) h)

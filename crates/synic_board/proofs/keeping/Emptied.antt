@@ -1,0 +1,134 @@
+-- A reset gives at most 276 notices.
+use Rattle.std.proofs.Common.{◌≡◌, ◌⊎◌, inl, inr, ℕ, zero, suc, ◌+◌, ◌*◌, ◌<◌, ◌≤◌, Bool, true, false, cond, ◌&&◌, List, [], ◌∷◌, ◌++◌, length, length-append, map, refl, ap, ◌∙◌, arith, nat_lt}
+use Rattle.std.specs.Prelude.{None, Some, ◌==◌, sum_by, count_by}
+use Rattle.std.specs.Option.{option_map_or}
+use Rattle.std.specs.List.{All}
+use Rattle.std.proofs.lemmas.Bool.{cases_lt}
+use Rattle.std.proofs.lemmas.Bool.Decides.{nat_tests}
+use Rattle.std.proofs.lemmas.List.{length-map, set_past}
+use Rattle.std.proofs.lemmas.List.Elements.{All-head, All-tail}
+use Rattle.std.proofs.lemmas.List.Sums.{sum_by-set, sum_by-cons}
+use Rattle.std.proofs.Math.ListN.{get_or-eq_default}
+use Rattle.board_terms.specs.Messages.{ticket_of}
+use Rattle.board_terms.specs.declared.messages.Message.{Message}
+use Rattle.board_terms.specs.declared.messages.Message.TheVariants.{FromPort, FromTimer}
+use Rattle.board_terms.specs.declared.notices.Notice.TheVariants.{Withdrawn}
+use Rattle.message_queues.specs.Queues.{Queues, is_from_port, is_from_timer, place_of, queue_of}
+use Rattle.synic_board.specs.State.{State, slot_of}
+use Rattle.synic_board.specs.Effects.{Effect, nothing}
+use Rattle.synic_board.specs.Resetting.{withdrawn_ticket, slot_emptied, queue_emptied, emptied_below, emptied, reset}
+use Rattle.synic_board.specs.Sound.{IsHome, HasBuffers}
+use Rattle.synic_board.proofs.keeping.Uses.{found_in, buffers-slot, buffers-emptied_below}
+
+-- sums over a list
+sum-split : {X : Type 0} (f g h : X → ℕ) → ((x : X) → f x ≤ g x + h x) → (xs : List X) → sum_by f xs ≤ sum_by g xs + sum_by h xs
+sum-split f g h le [] = omega arith
+sum-split f g h le (x ∷ xs) = omega (arith, le x, sum-split f g h le xs, sum_by-cons f x xs, sum_by-cons g x xs, sum_by-cons h x xs)
+
+sum-none : {X : Type 0} (f : X → ℕ) → ((x : X) → f x ≡ 0) → (xs : List X) → sum_by f xs ≡ 0
+sum-none f none [] = refl
+sum-none f none (x ∷ xs) = omega (arith, none x, sum-none f none xs, sum_by-cons f x xs)
+
+abbrev one_if : Bool → ℕ
+one_if b = cond b 1 0
+
+-- what one test finds, one of two others finds
+found-split : (f g h : Message → Bool) → ((m : Message) → one_if (f m) ≤ one_if (g m) + one_if (h m)) → (qs : Queues) → found_in f qs ≤ found_in g qs + found_in h qs
+found-split f g h le qs = sum-split (count_by f) (count_by g) (count_by h) (λ q. sum-split (λ m. one_if (f m)) (λ m. one_if (g m)) (λ m. one_if (h m)) le q) qs
+
+found-none : (f : Message → Bool) → ((m : Message) → f m ≡ false) → (qs : Queues) → found_in f qs ≡ 0
+found-none f none qs = sum-none (count_by f) (λ q. sum-none (λ m. one_if (f m)) (λ m. ap one_if (none m)) q) qs
+
+-- whether a message is of a port below n, or of one of the first n timers of a processor
+abbrev is_of_ports : ℕ → Message → Bool
+is_of_ports n (FromPort ticket port kind payload) = nat_lt port n
+is_of_ports n (FromTimer ticket t expiration) = false
+
+abbrev is_of_timers : ℕ → ℕ → Message → Bool
+is_of_timers p n (FromPort ticket port kind payload) = false
+is_of_timers p n (FromTimer ticket t expiration) = (t.0 == p) && nat_lt t.1 n
+
+last-below : (k n : ℕ) → one_if (nat_lt k (suc n)) ≤ one_if (nat_lt k n) + one_if (k == n)
+last-below k n = grind (arith, nat_tests)
+
+last-of : (a : Bool) (k n : ℕ) → one_if (a && nat_lt k (suc n)) ≤ one_if (a && nat_lt k n) + one_if (a && (k == n))
+last-of true k n = last-below k n
+last-of false k n = omega arith
+
+next-port : (n : ℕ) (m : Message) → one_if (is_of_ports (suc n) m) ≤ one_if (is_of_ports n m) + one_if (is_from_port n m)
+next-port n (FromPort ticket port kind payload) = last-below port n
+next-port n (FromTimer ticket t expiration) = omega arith
+
+next-timer : (p n : ℕ) (m : Message) → one_if (is_of_timers p (suc n) m) ≤ one_if (is_of_timers p n m) + one_if (is_from_timer (p, n) m)
+next-timer p n (FromPort ticket port kind payload) = omega arith
+next-timer p n (FromTimer ticket t expiration) = last-of (t.0 == p) t.1 n
+
+no-port : (m : Message) → is_of_ports 0 m ≡ false
+no-port (FromPort ticket port kind payload) = grind (arith, nat_tests)
+no-port (FromTimer ticket t expiration) = refl
+
+no-timer : (p : ℕ) (m : Message) → is_of_timers p 0 m ≡ false
+no-timer p (FromPort ticket port kind payload) = refl
+no-timer p (FromTimer ticket t expiration) = none (t.0 == p)
+  where
+    none : (a : Bool) → (a && nat_lt t.1 0) ≡ false
+    none true = grind (arith, nat_tests)
+    none false = refl
+
+-- 16 buffers of each port, and one of each timer
+ports-few : (s : State) (n : ℕ) → HasBuffers s → found_in (is_of_ports n) s.queues ≤ 16 * n
+ports-few s zero h = omega (arith, found-none (is_of_ports 0) no-port s.queues)
+ports-few s (suc n) h = omega (arith, found-split (is_of_ports (suc n)) (is_of_ports n) (is_from_port n) (next-port n) s.queues, ports-few s n h, h.room n)
+
+timers-few : (s : State) (p n : ℕ) → HasBuffers s → found_in (is_of_timers p n) s.queues ≤ n
+timers-few s p zero h = omega (arith, found-none (is_of_timers p 0) (no-timer p) s.queues)
+timers-few s p (suc n) h = omega (arith, found-split (is_of_timers p (suc n)) (is_of_timers p n) (is_from_timer (p, n)) (next-timer p n) s.queues, timers-few s p n h, h.one_each (p, n))
+
+-- how many messages are queued that may be queued for a processor
+abbrev homes : ℕ → Queues → ℕ
+homes p qs = found_in (is_of_ports 16) qs + found_in (is_of_timers p 4) qs
+
+homes-few : (s : State) (p : ℕ) → HasBuffers s → homes p s.queues ≤ 260
+homes-few s p h = omega (arith, ports-few s 16 h, timers-few s p 4 h)
+
+home-found : (p : ℕ) (m : Message) → IsHome p m → 1 ≤ one_if (is_of_ports 16 m) + one_if (is_of_timers p 4 m)
+home-found p (FromPort ticket port kind payload) home = grind (arith, nat_tests)
+home-found p (FromTimer ticket t expiration) home = let same = home.0 in let below = home.1 in grind (arith, nat_tests)
+
+-- they are all the messages of one of its queues
+all-found : (p : ℕ) (q : List Message) → All (IsHome p) q → length q ≤ count_by (is_of_ports 16) q + count_by (is_of_timers p 4) q
+all-found p [] h = omega arith
+all-found p (m ∷ q) h =
+    omega (arith, home-found p m (All-head (IsHome p) m q h), all-found p q (All-tail (IsHome p) m q h), sum_by-cons (λ x. cond (is_of_ports 16 x) 1 0) m q, sum_by-cons (λ x. cond (is_of_timers p 4 x) 1 0) m q)
+
+-- so each message that is withdrawn from a queue was one of them
+queue-told : (s : State) (p i : ℕ) → i < 16 → HasBuffers s → length (queue_emptied s p i).1 + homes p (queue_emptied s p i).0.queues ≤ homes p s.queues
+queue-told s p i below h = by (cases_lt (place_of p i) (length s.queues))
+  where
+    told : length (queue_emptied s p i).1 ≡ length (queue_of s.queues p i)
+    told = length-map (map ticket_of (queue_of s.queues p i)) (λ t. Withdrawn t p i) ∙ length-map (queue_of s.queues p i) ticket_of
+
+    by : (place_of p i < length s.queues) ⊎ (length s.queues ≤ place_of p i) → length (queue_emptied s p i).1 + homes p (queue_emptied s p i).0.queues ≤ homes p s.queues
+    by (inl inside) =
+        omega (arith, told, all-found p (queue_of s.queues p i) (h.home p i below), sum_by-set (count_by (is_of_ports 16)) s.queues (place_of p i) [] [] inside, sum_by-set (count_by (is_of_timers p 4)) s.queues (place_of p i) [] [] inside)
+    by (inr past) =
+        let none : queue_of s.queues p i ≡ [] = get_or-eq_default s.queues [] past in
+        let same : homes p (queue_emptied s p i).0.queues ≡ homes p s.queues = ap (homes p) (set_past s.queues (place_of p i) [] past) in
+        omega (arith, told, ap length none, same)
+
+slot-told : (s : State) (p i : ℕ) → length (slot_emptied s p i).1 + homes p (slot_emptied s p i).0.queues ≤ 1 + homes p s.queues
+slot-told s p i =
+    elim (slot_of s p i) as (λ o. length (option_map_or (withdrawn_ticket s p i) o (nothing s)).1 + homes p (option_map_or (withdrawn_ticket s p i) o (nothing s)).0.queues ≤ 1 + homes p s.queues) [ None ↦ omega arith | Some t ↦ omega arith ]
+
+emptied-told : (s : State) (p n : ℕ) → n ≤ 16 → HasBuffers s → length (emptied_below s p n).1 + homes p (emptied_below s p n).0.queues ≤ n + homes p s.queues
+unfolding emptied_below
+emptied-told s p zero few h = omega arith
+emptied-told s p (suc i) few h =
+    let e : Effect = emptied_below s p i in
+    let slot : Effect = slot_emptied e.0 p i in
+    let queue : Effect = queue_emptied slot.0 p i in
+    let left = buffers-slot e.0 p i (buffers-emptied_below s p i h) in
+    omega (arith, emptied-told s p i (omega (arith, few)) h, slot-told e.0 p i, queue-told slot.0 p i (omega (arith, few)) left, length-append e.1 (slot.1 ++ queue.1), length-append slot.1 queue.1)
+
+pub few-reset : (s : State) (p : ℕ) → HasBuffers s → length (reset s p).2 ≤ 276
+few-reset s p h = omega (arith, emptied-told s p 16 (omega arith) h, homes-few s p h, length-append (emptied s p).1 [])

@@ -1,0 +1,164 @@
+-- How many buffers are in use where a queue is written.
+use Rattle.std.proofs.Common.{◌≡◌, ◌≢◌, ◌⊎◌, inl, inr, ℕ, zero, suc, ◌+◌, ◌<◌, ◌≤◌, Bool, true, false, cond, ◌&&◌, List, [], ◌∷◌, ◌++◌, length, set, get_or, refl, ap, sym, ◌∙◌, subst, arith}
+use Rattle.std.specs.Prelude.{Option, None, Some, not, ◌==◌, sum_by, count_by, slice_index_or}
+use Rattle.std.specs.Option.{option_map_or}
+use Rattle.std.specs.List.{All}
+use Rattle.std.proofs.lemmas.Bool.{cases_lt, cases_eq}
+use Rattle.std.proofs.lemmas.Bool.Decides.{nat_tests}
+use Rattle.std.proofs.lemmas.List.{set_past, get_or-set_same, get_or-set_other}
+use Rattle.std.proofs.lemmas.List.Elements.{All-nil, All-tail, All-push, All-filter}
+use Rattle.std.proofs.lemmas.List.Sums.{sum_by-set, sum_by-cons, sum_by_push}
+use Rattle.arrayvec.specs.ArrayVec.{ArrayVec}
+use Rattle.board_terms.specs.declared.messages.Message.{Message}
+use Rattle.board_terms.specs.declared.messages.Message.TheVariants.{FromPort, FromTimer}
+use Rattle.message_queues.specs.Queues.{Queues, is_from_port, is_from_timer, port_used, timer_used, is_timer_free, place_of, queue_of, left_of}
+use Rattle.synic_board.specs.State.{State, slot_of}
+use Rattle.synic_board.specs.Effects.{Effect, nothing}
+use Rattle.synic_board.specs.Delivery.{accepted}
+use Rattle.synic_board.specs.Resetting.{withdrawn_ticket, slot_emptied, queue_emptied, emptied_below}
+use Rattle.synic_board.specs.Sound.{IsHome, HasBuffers}
+use Rattle.synic_board.proofs.keeping.Requests.{either}
+
+pub alike : (s now : State) → now.queues ≡ s.queues → now.ports ≡ s.ports → HasBuffers s → HasBuffers now
+alike s now queues ports h = record {
+  room = λ k. omega (arith, ap (λ qs. port_used qs k) queues, h.room k);
+  one_each = λ t. omega (arith, ap (λ qs. timer_used qs t) queues, h.one_each t);
+  home = λ p i below. subst (λ qs. All (IsHome p) (queue_of qs p i)) (sym queues) (h.home p i below);
+  ports = ap length ports ∙ h.ports;
+  shapes = λ k p e. h.shapes k p (ap (λ xs. slice_index_or xs k None) (sym ports) ∙ e);
+}
+
+-- how many messages that a test finds are queued
+abbrev pub found_in : (Message → Bool) → Queues → ℕ
+found_in f qs = sum_by (count_by f) qs
+
+-- a queue that was written
+used-set : (f : Message → Bool) (qs : Queues) (j d : ℕ) (q : List Message) → count_by f q ≤ count_by f (get_or qs j []) + d → found_in f (set qs j q) ≤ found_in f qs + d
+used-set f qs j d q few = split (cases_lt j (length qs))
+  where
+    split : (j < length qs) ⊎ (length qs ≤ j) → found_in f (set qs j q) ≤ found_in f qs + d
+    split (inl inside) = omega (arith, few, sum_by-set (count_by f) qs j q [] inside)
+    split (inr past) = omega (arith, ap (λ xs. found_in f xs) (set_past qs j q past))
+
+abbrev AreHome : Queues → Type 0
+AreHome qs = (p i : ℕ) → i < 16 → All (IsHome p) (queue_of qs p i)
+
+home-set : (qs : Queues) (j : ℕ) (q : List Message) → ((p i : ℕ) → i < 16 → place_of p i ≡ j → All (IsHome p) q) → AreHome qs → AreHome (set qs j q)
+home-set qs j q new home p i below = split (cases_eq (place_of p i) j) (cases_lt j (length qs))
+  where
+    split : (place_of p i ≡ j) ⊎ (place_of p i ≢ j) → (j < length qs) ⊎ (length qs ≤ j) → All (IsHome p) (queue_of (set qs j q) p i)
+    split (inl same) (inl inside) = subst (All (IsHome p)) (sym (ap (λ k. get_or (set qs j q) k []) same ∙ get_or-set_same qs j q [] inside)) (new p i below same)
+    split (inr other) _ = subst (All (IsHome p)) (sym (get_or-set_other qs j (place_of p i) q [] other)) (home p i below)
+    split _ (inr past) = subst (λ xs. All (IsHome p) (queue_of xs p i)) (sym (set_past qs j q past)) (home p i below)
+
+-- messages of a queue, some of which may be missing
+pub record IsPart (q whole : List Message) : Type 0 where
+  pub counts : (f : Message → Bool) → count_by f q ≤ count_by f whole
+  pub home : (p : ℕ) → All (IsHome p) whole → All (IsHome p) q
+
+pub part-rest : (m : Message) (q : List Message) → IsPart q (m ∷ q)
+part-rest m q = record { counts = λ f. omega (arith, sum_by-cons (λ x. cond (f x) 1 0) m q); home = λ p h. All-tail (IsHome p) m q h }
+
+pub part-none : (q : List Message) → IsPart [] q
+part-none q = record { counts = λ f. omega arith; home = λ p h. All-nil (IsHome p) }
+
+count-left : (f : Message → Bool) (port : ℕ) (q : List Message) → count_by f (left_of port q) ≤ count_by f q
+count-left f port [] = omega arith
+count-left f port (m ∷ q) =
+    let more = count-left f port q in
+    either (λ (xs : List Message). count_by f xs ≤ count_by f (m ∷ q)) (not (is_from_port port m)) _ _
+    (λ _. omega (arith, more, sum_by-cons (λ x. cond (f x) 1 0) m (left_of port q), sum_by-cons (λ x. cond (f x) 1 0) m q))
+    (λ _. omega (arith, more, sum_by-cons (λ x. cond (f x) 1 0) m q))
+
+pub part-left : (port : ℕ) (q : List Message) → IsPart (left_of port q) q
+part-left port q = record { counts = λ f. count-left f port q; home = λ p h. All-filter (λ m. not (is_from_port port m)) (IsHome p) q h }
+
+pub fewer-queued : (s now : State) (j : ℕ) (q : List Message) → now.queues ≡ set s.queues j q → now.ports ≡ s.ports → IsPart q (get_or s.queues j []) → HasBuffers s → HasBuffers now
+fewer-queued s now j q is ports part h = alike written now is ports (record {
+  room = λ k. omega (arith, fewer (is_from_port k), h.room k);
+  one_each = λ t. omega (arith, fewer (is_from_timer t), h.one_each t);
+  home = home-set s.queues j q (λ p i below same. part.home p (subst (λ k. All (IsHome p) (get_or s.queues k [])) same (h.home p i below))) h.home;
+  ports = h.ports;
+  shapes = h.shapes;
+})
+  where
+    written : State
+    written = record s { queues = set s.queues j q }
+
+    fewer : (f : Message → Bool) → found_in f (set s.queues j q) ≤ found_in f s.queues
+    fewer f = let few = used-set f s.queues j 0 q (omega (arith, part.counts f)) in omega (arith, few)
+
+-- there is a buffer for a message that joins a queue, and it may be queued there
+pub record Fits (s : State) (p i : ℕ) (m : Message) : Type 0 where
+  pub ports : (k : ℕ) → is_from_port k m ≡ true → port_used s.queues k < 16
+  pub timers : (t : ℕ × ℕ) → is_from_timer t m ≡ true → timer_used s.queues t < 1
+  pub home : (q j : ℕ) → j < 16 → place_of q j ≡ place_of p i → IsHome q m
+
+pub port-fits : (s : State) (p i ticket port kind : ℕ) (payload : ArrayVec ℕ) → port < 16 → port_used s.queues port < 16 → Fits s p i (FromPort ticket port kind payload)
+port-fits s p i ticket port kind payload below low = record {
+  ports = λ k f. let same : port ≡ k = grind (arith, nat_tests) in omega (arith, ap (port_used s.queues) same, low);
+  timers = λ t f. absurd (cc);
+  home = λ q j _ _. below;
+}
+
+pub timer-fits : (s : State) (t : ℕ × ℕ) (i ticket expiration : ℕ) → i < 16 → t.1 < 4 → is_timer_free s.queues t ≡ true → Fits s t.0 i (FromTimer ticket t expiration)
+timer-fits s t i ticket expiration under index free = record {
+  ports = λ k f. absurd (cc);
+  timers = λ u f. used u (both (t.0 == u.0) (t.1 == u.1) f);
+  home = λ q j below same. (omega (arith, under, below, same), index);
+}
+  where
+    none : timer_used s.queues t ≡ 0
+    none = grind (arith, nat_tests)
+
+    both : (a b : Bool) → (a && b) ≡ true → (a ≡ true) × (b ≡ true)
+    both true true e = (refl, refl)
+    both true false e = absurd (cc)
+    both false b e = absurd (cc)
+
+    used : (u : ℕ × ℕ) → ((t.0 == u.0) ≡ true) × ((t.1 == u.1) ≡ true) → timer_used s.queues u < 1
+    used u found =
+        let first : t.0 ≡ u.0 = grind (arith, nat_tests, found.0) in
+        let second : t.1 ≡ u.1 = grind (arith, nat_tests, found.1) in
+        let same : timer_used s.queues t ≡ timer_used s.queues u = ap (λ n. timer_used s.queues (n, t.1)) first ∙ ap (λ n. timer_used s.queues (u.0, n)) second in
+        omega (arith, none, same)
+
+abbrev one_if : Bool → ℕ
+one_if b = cond b 1 0
+
+-- one message more that the test finds, if it finds the new one
+more-found : (f : Message → Bool) (s : State) (p i : ℕ) (m : Message) (d : ℕ) → found_in f s.queues ≤ d → (f m ≡ true → found_in f s.queues < d) → found_in f (accepted s p i m).0.queues ≤ d
+more-found f s p i m d few free = elim (f m) as (λ b. f m ≡ b → found_in f (accepted s p i m).0.queues ≤ d) [
+  | true ↦ λ e. omega (arith, more, ap one_if e, free e)
+  | false ↦ λ e. omega (arith, more, ap one_if e, few)
+] refl
+  where
+    more : found_in f (accepted s p i m).0.queues ≤ found_in f s.queues + cond (f m) 1 0
+    more = used-set f s.queues (place_of p i) (cond (f m) 1 0) (queue_of s.queues p i ++ m ∷ []) (omega (arith, sum_by_push (λ x. cond (f x) 1 0) (queue_of s.queues p i) m))
+
+pub buffers-accepted : (s : State) (p i : ℕ) (m : Message) → Fits s p i m → HasBuffers s → HasBuffers (accepted s p i m).0
+buffers-accepted s p i m fit h = record {
+  room = λ k. more-found (is_from_port k) s p i m 16 (h.room k) (fit.ports k);
+  one_each = λ t. more-found (is_from_timer t) s p i m 1 (h.one_each t) (fit.timers t);
+  home = home-set s.queues (place_of p i) (queue_of s.queues p i ++ m ∷ []) (λ q j below same. All-push (IsHome q) (queue_of s.queues p i) m (subst (λ k. All (IsHome q) (get_or s.queues k [])) same (h.home q j below)) (fit.home q j below same)) h.home;
+  ports = h.ports;
+  shapes = h.shapes;
+}
+
+-- a processor whose slots and queues are emptied
+pub buffers-slot : (s : State) (p i : ℕ) → HasBuffers s → HasBuffers (slot_emptied s p i).0
+buffers-slot s p i h = held (slot_of s p i)
+  where
+    held : (o : Option ℕ) → HasBuffers (option_map_or (withdrawn_ticket s p i) o (nothing s)).0
+    held None = h
+    held (Some t) = alike s _ refl refl h
+
+pub buffers-queue : (s : State) (p i : ℕ) → HasBuffers s → HasBuffers (queue_emptied s p i).0
+buffers-queue s p i h = fewer-queued s (queue_emptied s p i).0 (place_of p i) [] refl refl (part-none (queue_of s.queues p i)) h
+
+pub buffers-emptied_below : (s : State) (p n : ℕ) → HasBuffers s → HasBuffers (emptied_below s p n).0
+unfolding emptied_below
+buffers-emptied_below s p zero h = h
+buffers-emptied_below s p (suc i) h =
+    let e : Effect = emptied_below s p i in
+    buffers-queue (slot_emptied e.0 p i).0 p i (buffers-slot e.0 p i (buffers-emptied_below s p i h))

@@ -1,0 +1,75 @@
+use Rattle.std.proofs.Common.{◌≡◌, ℕ, length, length-append, ap, subst, ◌∙◌, arith}
+use Rattle.std.specs.Prelude.{Option, Some, IfSome}
+use Rattle.synic_board.specs.State.{State, processors}
+use Rattle.synic_board.specs.Effects.{Effect}
+use Rattle.synic_board.specs.Resetting.{slot_emptied, emptied_below}
+use Rattle.synic_board.proofs.Emptying.{emptied_none, emptied_more, same_left, slot-same, slot-fits, queue-fits, all-in, total}
+use Rattle.synic_board.proofs.machine.Machine.empty.Goals as goal
+
+-- a source of a number is that number
+numbered : (o : Option ℕ) (v n : ℕ) → o ≡ Some v → IfSome o (λ x. x ≡ n) → v ≡ n
+numbered o v n is value = subst (λ x. IfSome x (λ y. y ≡ n)) is value
+
+pub loop-number-init : goal.loop-number-init
+loop-number-init c = record { few = omega arith; so_far = record { effect = emptied_none _ _ _; rises = omega arith; few = omega arith }; in_all = λ less. absurd (omega (arith, less)) }
+
+pub empty_slot-requires-clause-on : goal.empty_slot-requires-clause-on
+empty_slot-requires-clause-on c =
+    let same = ap (λ (x : Effect). processors x.0) c.loop-number.invariant.so_far.effect ∙ same_left c.args.self.now.state c.args.vp c.loop-number.number in
+    omega (arith, same, c.requires.on)
+
+pub empty_slot-requires-clause-room : goal.empty_slot-requires-clause-room
+empty_slot-requires-clause-room c =
+    let e : Effect = emptied_below c.args.self.now.state c.args.vp c.loop-number.number in
+    omega (arith, ap (λ (x : Effect). length x.1) c.loop-number.invariant.so_far.effect, length-append c.args.notices.now e.1, ap length c.requires.none, slot-fits c.args.self.now.state c.args.vp c.loop-number.number c.loop-number-test.true c.loop-number.invariant.in_all)
+
+pub empty_queue-requires-clause-on : goal.empty_queue-requires-clause-on
+empty_queue-requires-clause-on c =
+    let same = ap (λ (x : Effect). processors x.0) c.loop-number.invariant.so_far.effect ∙ same_left c.args.self.now.state c.args.vp c.loop-number.number in
+    let slot = ap (λ (x : Effect). processors x.0) c.empty_slot.ensures.effect ∙ slot-same c.loop-number.self.state c.args.vp c.unwrap-sint.result in
+    omega (arith, same, slot, c.requires.on)
+
+pub empty_queue-requires-clause-room : goal.empty_queue-requires-clause-room
+empty_queue-requires-clause-room c few =
+    let s : State = c.args.self.now.state in
+    let n = c.loop-number.number in
+    let v = c.unwrap-sint.result in
+    let e : Effect = emptied_below s c.args.vp n in
+    let was : c.loop-number.self.state ≡ e.0 = ap (λ (x : Effect). x.0) c.loop-number.invariant.so_far.effect in
+    let told = ap (λ (x : Effect). length x.1) c.loop-number.invariant.so_far.effect in
+    let more = ap (λ (x : Effect). length x.1) c.empty_slot.ensures.effect in
+    let queued = ap (λ (x : Effect). total x.0) c.empty_slot.ensures.effect ∙ ap (λ (t : State). total (slot_emptied t c.args.vp v).0) was in
+    let slot = ap (λ (t : State). length (slot_emptied t c.args.vp v).1) was in
+    let all = all-in s c.args.vp n v (omega (arith, queued, few)) c.loop-number.invariant.in_all in
+    omega (
+      arith,
+      told,
+      more,
+      queued,
+      slot,
+      length-append c.args.notices.now e.1,
+      ap length c.requires.none,
+      length-append c.loop-number.notices (slot_emptied c.loop-number.self.state c.args.vp v).1,
+      queue-fits s c.args.vp n v c.loop-number-test.true (numbered _ v n c.unwrap-sint.ensures c.new.ensures.value) all,
+    )
+
+pub loop-number-preserved : goal.loop-number-preserved
+loop-number-preserved c =
+    let s : State = c.args.self.now.state in
+    let n = c.loop-number.number in
+    let v = c.unwrap-sint.result in
+    let e : Effect = emptied_below s c.args.vp n in
+    let was : c.loop-number.self.state ≡ e.0 = ap (λ (x : Effect). x.0) c.loop-number.invariant.so_far.effect in
+    let more = ap (λ (x : Effect). length x.1) c.empty_slot.ensures.effect in
+    let queued = ap (λ (x : Effect). total x.0) c.empty_slot.ensures.effect ∙ ap (λ (t : State). total (slot_emptied t c.args.vp v).0) was in
+    let longer = length-append c.loop-number.notices (slot_emptied c.loop-number.self.state c.args.vp v).1 in
+    record {
+      few = omega (arith, c.loop-number-test.true);
+      so_far = record {
+        effect = emptied_more s c.loop-number.self.state c.empty_slot.new.self.state c.empty_queue.new.self.state c.args.vp n v c.args.notices.now c.loop-number.notices c.empty_slot.new.notices c.empty_queue.new.notices
+            c.loop-number.invariant.so_far.effect (numbered _ v n c.unwrap-sint.ensures c.new.ensures.value) c.empty_slot.ensures.effect c.empty_queue.ensures.effect.effect;
+        rises = omega (arith, c.loop-number.invariant.so_far.rises, c.empty_slot.ensures.writes, c.empty_queue.ensures.effect.rises);
+        few = omega (arith, c.loop-number.invariant.so_far.few, c.empty_slot.ensures.writes, c.empty_queue.ensures.effect.few, more, longer);
+      };
+      in_all = λ _. all-in s c.args.vp n v (omega (arith, queued, c.empty_queue.ensures.in_all)) c.loop-number.invariant.in_all;
+    }

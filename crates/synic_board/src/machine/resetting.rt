@@ -1,0 +1,137 @@
+// A processor that is reset.
+ghost use Rattle.std.specs.Prelude.{◌≡◌, ◌<◌, ◌≤◌, ◌+◌, ◌++◌, [], length, map, sum_by};
+ghost use Rattle.board_terms.specs.Messages.{ticket_of};
+ghost use Rattle.lapic_core.specs.Apic.{empty_apic};
+ghost use Rattle.synic_regs.specs.Regs.{reset_regs};
+ghost use Rattle.gpa_space.specs.Space.{after_clearing};
+ghost use Rattle.stimer_bank.specs.Bank.{reset as bank_reset};
+ghost use Rattle.synic_board.specs.State.{processors, regs_of, space_of, bank_of, with_apic, with_regs, with_space, with_bank};
+ghost use Rattle.synic_board.specs.Effects.{appended};
+ghost use Rattle.synic_board.specs.Effected.{Effected};
+ghost use Rattle.synic_board.specs.Resetting.{slot_emptied, queue_emptied, source_emptied, emptied, cleared, reset};
+
+use crate::event::Reply;
+use crate::machine::Machine;
+use crate::machine::posts::tell_withdrawn;
+use crate::summary::{Entry, place_of};
+use board_terms::{Notice, Notices, Sint, Vp};
+use lapic_core::{Lapic, VectorSet};
+use synic_regs::SynicRegs;
+
+impl Machine {
+    /// Resets a processor: the messages in its slots and queues are withdrawn, and then it is as it
+    /// was opened.
+    pub(crate) fn reset(&mut self, vp: Vp, notices: &mut Notices) -> Reply
+        requires on { vp < processors self.old.state }
+        requires none { notices.old ≡ [] }
+        ensures step { (self.new.state, result, notices.new) ≡ reset self.old.state vp }
+        ensures rises { self.old.writes ≤ self.new.writes }
+        ensures few { self.new.writes ≤ self.old.writes + (7 + length notices.new) }
+    {
+        self.empty(vp, notices);
+        self.clear(vp);
+        Reply::Done
+    }
+
+    /// Withdraws the messages in the slots and queues of a processor.
+    fn empty(&mut self, vp: Vp, notices: &mut Notices)
+        requires on { vp < processors self.old.state }
+        requires none { notices.old ≡ [] }
+        ensures { Effected self.old notices.old self.new notices.new (emptied self.old.state vp) }
+    {
+        for number in 0..16 {
+            let sint = Sint::new(number).unwrap();
+            self.empty_slot(vp, sint, notices);
+            self.empty_queue(vp, sint, notices);
+        }
+    }
+
+    /// Withdraws the message in the slot of a source, if the slot holds a ticket.
+    fn empty_slot(&mut self, vp: Vp, sint: Sint, notices: &mut Notices)
+        requires on { vp < processors self.old.state }
+        requires room { length notices.old < 320 }
+        ensures effect { (self.new.state, notices.new) ≡ appended notices.old (slot_emptied self.old.state vp sint) }
+        ensures writes { self.new.writes ≡ self.old.writes }
+    {
+        let slot = &mut self.slots[place_of(vp, sint)];
+        if let Some(ticket) = *slot {
+            *slot = None;
+            notices.push(Notice::Withdrawn { ticket, vp, sint });
+        }
+    }
+
+    /// Withdraws the messages in the queue of a source, front first.
+    fn empty_queue(&mut self, vp: Vp, sint: Sint, notices: &mut Notices)
+        requires on { vp < processors self.old.state }
+        requires room { sum_by length self.old.state.queues ≤ 288 → length notices.old + sum_by length self.old.state.queues ≤ 320 }
+        ensures effect { Effected self.old notices.old self.new notices.new (queue_emptied self.old.state vp sint) }
+        ensures in_all { sum_by length self.old.state.queues ≤ 288 }
+    {
+        if self.queues.count(vp, sint) == 0 {
+            return;
+        }
+        let tickets = self.queues.withdraw_all(vp, sint);
+        self.summary.write(Entry::Queued(vp, sint, 0));
+        tell_withdrawn(vp, sint, tickets.as_slice(), notices);
+    }
+
+    /// A processor is as it was opened, but for its slots and queues, which are empty.
+    fn clear(&mut self, vp: Vp)
+        requires { vp < processors self.old.state }
+        ensures state { self.new.state ≡ cleared self.old.state vp }
+        ensures rises { self.old.writes ≤ self.new.writes }
+        ensures few { self.new.writes ≤ self.old.writes + 7 }
+    {
+        // The overlays leave the pages at which they lay before the registers are replaced, so that
+        // the space has the registers' values all along.
+        self.write_sim(vp, 0);
+        self.write_sief(vp, 0);
+        self.clear_registers(vp);
+        self.clear_lapic(vp);
+        self.clear_timers(vp);
+        self.clear_pages(vp);
+    }
+
+    /// The registers of a processor are those at reset. Its overlays are disabled already, so that no
+    /// page has another owner.
+    fn clear_registers(&mut self, vp: Vp)
+        requires on { vp < processors self.old.state }
+        requires sim { (regs_of self.old.state vp).sim ≡ 0 }
+        requires sief { (regs_of self.old.state vp).sief ≡ 0 }
+        ensures state { self.new.state ≡ with_regs self.old.state vp reset_regs }
+        ensures writes { self.new.writes ≡ self.old.writes + 1 }
+    {
+        self.regs[vp.number() as usize] = SynicRegs::new();
+        self.summary.write(Entry::Auto(vp, VectorSet::new()));
+    }
+
+    /// The local APIC of a processor has nothing requested and nothing in service.
+    #[tactic(auto, using(crate::proofs::Rules::lists))]
+    fn clear_lapic(&mut self, vp: Vp)
+        requires { vp < processors self.old.state }
+        ensures state { self.new.state ≡ with_apic self.old.state vp empty_apic }
+        ensures writes { self.new.writes ≡ self.old.writes + 1 }
+    {
+        self.lapics[vp.number() as usize] = Lapic::new();
+        self.summary.write(Entry::Next(vp, None));
+    }
+
+    /// No timer of a processor is configured.
+    fn clear_timers(&mut self, vp: Vp)
+        requires { vp < processors self.old.state }
+        ensures state { self.new.state ≡ with_bank self.old.state (bank_reset (bank_of self.old.state) vp) }
+        ensures writes { self.new.writes ≡ self.old.writes + 1 }
+    {
+        self.timers.reset(vp);
+        self.summary.write(Entry::Earliest(self.timers.earliest()));
+    }
+
+    /// Both own pages of a processor are zero.
+    fn clear_pages(&mut self, vp: Vp)
+        requires { vp < processors self.old.state }
+        ensures state { self.new.state ≡ with_space self.old.state (after_clearing (space_of self.old.state) vp) }
+        ensures writes { self.new.writes ≡ self.old.writes }
+    {
+        self.space.clear_pages(vp);
+    }
+}
