@@ -1,6 +1,7 @@
 """What can be said of a crew's trace without knowing the schedule: it is legal, it begins with the
-setup and ends with the last absorbs of actor 0, each actor's entries are its script, and each vector
-that was raised is absorbed at least once and at most as often as it was raised."""
+setup and ends with the last absorbs of actor 0, each actor's entries are its script, each vector that
+was raised is absorbed at least once and at most as often as it was raised, and its end counts the
+entries and the posts that were accepted."""
 
 import collections
 import random
@@ -14,7 +15,7 @@ class Script:
     def __init__(self, text):
         lines = [line for line in text.decode().splitlines() if line and not line.startswith("#")]
         self.board = lines[0]
-        self.processors = int(self.board.split()[1])
+        self.processors, self.first_ticket = int(self.board.split()[1]), int(self.board.split()[3])
         self.setup, self.actors, self.lines = [], [], []
         section = self.setup
         for line in lines[1:]:
@@ -49,6 +50,10 @@ class Trace:
     def of(self, actor):
         return [(event, reply) for number, event, reply in self.entries if number == str(actor)]
 
+    def accepted(self):
+        """How many posts were accepted. No crew here has a timer that posts."""
+        return sum(reply.startswith("= accepted ") for _, _, reply in self.entries)
+
     def absorbed(self):
         """How often each vector of each processor stands among the bits of an absorb that was done."""
         counts = collections.Counter()
@@ -77,9 +82,9 @@ def is_script(steps, entries):
 def complaints_of(script, trace):
     found = []
     last = ["absorb %d %d" % (vp, part) for vp in range(script.processors) for part in range(4)]
-    if trace.title != "trace 1" or trace.board != script.board:
+    if trace.title != "trace 2" or trace.board != script.board:
         found.append("it begins %r, %r" % (trace.title, trace.board))
-    if trace.end != "end %d" % len(trace.entries):
+    if trace.end != "end %d %d" % (len(trace.entries), script.first_ticket + trace.accepted()):
         found.append("it ends %r" % trace.end)
     begun = trace.entries[:len(script.setup)]
     ended = trace.entries[len(trace.entries) - len(last):]
@@ -101,7 +106,8 @@ def complaints_of(script, trace):
 
 
 def crowd(seed, steps):
-    """A full crew on one board: every actor posts, sweeps, takes and ends, every line raises."""
+    """A full crew on one board: every actor posts, sweeps, takes and ends, suspends, resumes and resets,
+    and every line raises."""
     chance = random.Random(seed)
     text = ["board 8 4 0"]
     for vp in range(8):
@@ -113,7 +119,9 @@ def crowd(seed, steps):
             vp = chance.randrange(8)
             text.append(chance.choice(["absorb %d %d" % (vp, chance.randrange(4)), "take %d" % vp,
                                        "write %d 40000070 0" % vp, "write %d 40000084 0" % vp,
-                                       "post %d 1 %02x" % (vp, actor), "read %d 40000072" % vp]))
+                                       "post %d 1 %02x" % (vp, actor), "read %d 40000072" % vp,
+                                       "suspend %d" % vp, "resume %d" % vp, "reset %d" % vp,
+                                       "write %d 40000080 1" % vp, "write %d 40000083 2001" % vp]))
     for _ in range(LINES):
         text.append("line")
         text += ["raise %d %02x" % (chance.randrange(8), chance.randrange(0x20, 0x40) * 4)

@@ -69,11 +69,20 @@ def verdict_of_cut(trace, verdict, size):
     return 3, b"refused %d\n" % line
 
 
-def trace_of(text, output):
-    """The trace of a script's events and their replies, all by actor 0, and how many they are."""
+def trace_of(text, output, number):
+    """The trace in format 1 or 2 of a script's events and their replies, all by actor 0, and how many
+    they are. Each message that was accepted took a ticket."""
     entries = []
     for line, block in zip(text.splitlines(), outputs_of_lines(text.splitlines(), output)):
         if block.startswith(b"= "):
             entries.append(b"0 %s\n%s\n" % (line, block.split(b"\n", 1)[0]))
     board = next(line for line in text.splitlines() if line.startswith(b"board"))
-    return b"trace 1\n%s\n%send %d\n" % (board, b"".join(entries), len(entries)), len(entries)
+    end = b"end %d" % len(entries)
+    if number == 2:
+        end += b" %d" % (int(board.split()[3]) + output.count(b"\n. accepted "))
+    return b"trace %d\n%s\n%s%s\n" % (number, board, b"".join(entries), end), len(entries)
+
+
+def formats_of(text):
+    """The formats that a script's trace can have: format 1 has no line for a reset."""
+    return (2,) if b"\nreset " in text else (1, 2)

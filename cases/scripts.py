@@ -125,6 +125,15 @@ class Maker:
     def take(self):
         return "take %d" % self.processor()
 
+    def suspend(self):
+        return "suspend %d" % self.processor()
+
+    def resume(self):
+        return "resume %d" % self.processor()
+
+    def reset(self):
+        return "reset %d" % self.processor()
+
     def setup(self):
         """Each processor's SynIC with its two pages, a message port and an event port."""
         for vp in range(self.processors):
@@ -144,7 +153,7 @@ class Maker:
             yield from self.setup()
         often = (self.post, self.consume, self.end, self.timer, self.tick, self.take)
         seldom = (self.write, self.read, self.open, self.close, self.signal, self.interrupt, self.absorb,
-                  self.store, self.load)
+                  self.store, self.load, self.suspend, self.resume, self.resume, self.reset)
         for _ in range(EVENTS):
             yield self.random.choice(often * 3 + seldom)()
 
