@@ -3,6 +3,10 @@
 import subprocess
 
 
+# the first line of a trace, in either format
+TITLES = (["trace 1"], ["trace 2"])
+
+
 class Fault(Exception):
     """The text has no answers: it is no script and no trace, or the program failed."""
 
@@ -44,7 +48,7 @@ class Step:
 def events_of(text):
     """The board line and each event with its actor, of a script or of a trace."""
     lines = [line for line in text.splitlines() if line and not line.startswith("#")]
-    if lines[:1] == ["trace 1"]:
+    if lines[:1] in TITLES:
         numbered = [line.split(" ", 1) for line in lines[2:] if line[0].isdigit()]
         return lines[1], [(event, int(actor)) for actor, event in numbered]
     return lines[0] if lines else "", [(line, None) for line in lines[1:] if line != "summary"]
@@ -72,11 +76,12 @@ def steps_of(program, text):
 
 
 class State:
-    """What stands behind the steps so far: requests, what is in service, slots, queues and the moment."""
+    """What stands behind the steps so far: requests, what is in service, slots, queues, who is suspended and the moment."""
 
     def __init__(self):
         self.moment = 0
         self.requested, self.serving, self.slots, self.queues, self.pending = {}, {}, {}, {}, set()
+        self.suspended = set()
         self.summary = None
 
     def go_on(self, step):
@@ -95,6 +100,12 @@ class State:
         if words[0] == "write" and words[2] == "40000070" and step.reply == "done":
             serving = self.serving.get(int(words[1]), set())
             serving.discard(max(serving, default=None))
+        if words[0] == "suspend" and step.reply == "done":
+            self.suspended.add(int(words[1]))
+        if words[0] == "resume" and step.reply == "done":
+            self.suspended.discard(int(words[1]))
+        if words[0] == "reset" and step.reply == "done":
+            self.reset(int(words[1]))
         self.summary = step.summary
 
     def store(self, address, data, pages):
@@ -105,6 +116,13 @@ class State:
             if kind == "sim" and at % 256 == 5 and source in self.slots:
                 (self.pending.add if byte & 1 else self.pending.discard)(source)
 
+    def reset(self, vp):
+        """Its notices have emptied its slots and queues."""
+        self.requested.pop(vp, None)
+        self.serving.pop(vp, None)
+        self.pending = {source for source in self.pending if source[0] != vp}
+        self.suspended.discard(vp)
+
     def note(self, notice):
         kind, numbers = notice[0], notice[1:]
         if kind == "requested":
@@ -114,6 +132,8 @@ class State:
             queue = self.queues.setdefault(source, [])
             if kind == "accepted":
                 queue.append(ticket)
+            elif kind == "withdrawn" and self.slots.get(source) == ticket:
+                del self.slots[source]
             elif kind != "consumed":
                 queue.remove(ticket)
             if kind == "placed":

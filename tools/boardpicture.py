@@ -10,6 +10,8 @@ INK, QUIET, WRONG = "#222222", "#8a8a8a", "#c0392b"
 
 REQUESTED, SERVING, SLOT, MARKED, TIMER = "#2e86c1", "#1b4f72", "#d5f5e3", "#e67e22", "#7d3c98"
 
+SUSPENDED = "#d6dbe4"
+
 LEGEND = (("o", REQUESTED, "requested"), ("*", SERVING, "taken, in service"), ("#", "#1e8449", "slot holds a message"),
           ("#", MARKED, "MessagePending set"), ("t", TIMER, "a timer expires, or skips (x)"), ("!", WRONG, "refused, or #GP"))
 
@@ -58,7 +60,7 @@ class Lanes:
                     place[key] = x
                     x += width
             if x > begin:
-                self.heads.append((begin, vp))
+                self.heads.append((begin, x, vp))
                 x += 20
         self.end = x
 
@@ -77,7 +79,7 @@ def keys_of(step):
 
 
 def draw_head(canvas, lanes):
-    for x, vp in lanes.heads:
+    for x, _, vp in lanes.heads:
         canvas.text(x, 20, "processor %d" % vp, size=13, weight="bold")
     for (_, vector), x in lanes.vectors.items():
         canvas.text(x + 2, TOP - 18, "%02x" % vector, REQUESTED)
@@ -85,6 +87,13 @@ def draw_head(canvas, lanes):
         canvas.text(x, TOP - 18, "SINT%d" % sint, "#1e8449")
     for (_, index), x in lanes.timers.items():
         canvas.text(x, TOP - 18, "timer %d" % index, TIMER)
+
+
+def draw_suspended(canvas, lanes, after, y):
+    """The lanes of a suspended processor are grey."""
+    for x, end, vp in lanes.heads:
+        if vp in after.suspended:
+            canvas.box(x - 4, y - 10, end - x, ROW, SUSPENDED)
 
 
 def draw_vectors(canvas, lanes, step, before, after, y):
@@ -128,11 +137,13 @@ def draw_timers(canvas, lanes, step, before, after, y):
             canvas.text(x, y + 4, "due " + brief(due[0], 8), QUIET, 10)
 
 
-def draw_legend(canvas, y):
+def draw_legend(canvas, y, any_suspended):
     x = LEFT
-    for sign, colour, words in LEGEND:
+    for sign, colour, words in LEGEND + ((("=", SUSPENDED, "suspended"),) if any_suspended else ()):
         if sign == "#":
             canvas.box(x, y - 9, 14, 10, SLOT, colour)
+        elif sign == "=":
+            canvas.box(x, y - 9, 14, 10, colour)
         elif sign in "o*":
             canvas.dot(x + 6, y - 4, "white" if sign == "o" else colour, colour)
         else:
@@ -166,7 +177,7 @@ def draw(processors, steps, first, rows):
     actor, moment, line, reply, lane = columns(shown)
     lanes = Lanes(processors, shown, lane)
     canvas.reach(lanes.end)
-    before, after = boardlog.State(), boardlog.State()
+    before, after, any_suspended = boardlog.State(), boardlog.State(), False
     for step in steps[:first]:
         before.go_on(step)
         after.go_on(step)
@@ -179,15 +190,17 @@ def draw(processors, steps, first, rows):
     for row, step in enumerate(shown):
         y = TOP + ROW * row
         after.go_on(step)
+        any_suspended = any_suspended or bool(after.suspended)
         canvas.text(LEFT, y + 4, "%d" % (first + row + 1), QUIET)
         if step.actor is not None:
             canvas.text(actor, y + 4, "%d" % step.actor, QUIET)
         canvas.text(moment, y + 4, brief(after.moment, 9), INK if after.moment != before.moment else QUIET)
         canvas.text(line, y + 4, short(step.line, 44), WRONG if step.is_refused else INK)
         canvas.text(reply, y + 4, short(step.reply, 26), WRONG if step.is_refused else INK)
+        draw_suspended(canvas, lanes, after, y)
         draw_vectors(canvas, lanes, step, before, after, y)
         draw_sources(canvas, lanes, step, after, y)
         draw_timers(canvas, lanes, step, before, after, y)
         before.go_on(step)
-    draw_legend(canvas, TOP + ROW * len(shown) + 16)
+    draw_legend(canvas, TOP + ROW * len(shown) + 16, any_suspended)
     return canvas.svg(TOP + ROW * len(shown) + 34)

@@ -5,7 +5,8 @@ REFUSALS = {
     4: "there is no such target", 5: "a post can't have this type", 6: "the port has no such flag",
     7: "the SynIC or its page is off", 8: "all buffers of the port are in use", 9: "no ticket is left",
     10: "the clock can't go back", 11: "no page lies there", 12: "it crosses into another page",
-    13: "1 to 8 bytes are moved", 14: "there is no such processor",
+    13: "1 to 8 bytes are moved", 14: "there is no such processor", 15: "it is suspended already",
+    16: "it is not suspended",
 }
 
 REGISTERS = {0x40000020: "the reference counter", 0x40000070: "EOI", 0x40000072: "TPR", 0x40000080: "SCONTROL",
@@ -76,6 +77,9 @@ EVENTS = {
     "load": lambda n: "a guest loads from %s" % n[0],
     "tick": lambda n: "the clock goes on to %s" % n[0],
     "take": lambda n: "processor %s takes its next interrupt" % n[0],
+    "suspend": lambda n: "processor %s is suspended" % n[0],
+    "resume": lambda n: "processor %s goes on" % n[0],
+    "reset": lambda n: "processor %s is reset" % n[0],
 }
 
 NOTICES = {
@@ -109,10 +113,12 @@ def reply(step, state):
             "clear": "it was clear", "set": "it was set already"}[words[0]].replace("%s", words[-1])
 
 
-def notice(words, before):
-    """What a notice tells; `before` are those of the same event before it."""
+def notice(words, before, state):
+    """What a notice tells; `before` are those of the same event before it, and the state is that before the event."""
     if words[0] == "pending" and any(other[0] == "placed" and other[2:] == words[1:] for other in before):
         return "more waits behind it: MessagePending set"
+    if words[0] == "withdrawn" and state.slots.get((int(words[2]), int(words[3]))) == int(words[1]):
+        return "message %s is withdrawn from slot %s of processor %s" % (words[1], words[3], words[2])
     return NOTICES[words[0]](words[1:])
 
 
@@ -120,4 +126,4 @@ def explain(step, state):
     """The sentences of a step, from the state before it: the event with its answer, and each notice."""
     answer = reply(step, state)
     first = EVENTS[step.words[0]](step.words[1:]) + (": " + answer if answer else "")
-    return [first] + [notice(words, step.notices[:i]) for i, words in enumerate(step.notices)]
+    return [first] + [notice(words, step.notices[:i], state) for i, words in enumerate(step.notices)]

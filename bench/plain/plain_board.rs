@@ -1,6 +1,6 @@
 //! A board in plain Rust, as fast as its author would write it without proofs: what board_bench
 //! does is done here too, with the same replies, notices and summary, so that times can be compared.
-//! It has the events of the workloads and no others.
+//! It has the events of the workloads, and those that suspend, resume and reset a processor.
 
 #[allow(dead_code)]
 mod board;

@@ -1,5 +1,5 @@
 //! `synicboard replay` and `synicboard check` in plain Rust: reads a script from standard input,
-//! performs it on the plain board, and writes the same text; or reads a trace, and says whether the
+//! performs it on the plain board, and writes the same text; or reads a trace of either format, and says whether the
 //! plain board answers so. Lines of kinds that no workload has (close, read, absorb) are malformed
 //! here.
 

@@ -62,6 +62,9 @@ impl Digest {
             Notice::Consumed { ticket, vp, sint } => {
                 self.add_all(&[6, ticket, vp.into(), sint.into()])
             }
+            Notice::Withdrawn { ticket, vp, sint } => {
+                self.add_all(&[7, ticket, vp.into(), sint.into()])
+            }
             Notice::Expired { vp, index, due } => self.add_all(&[8, vp.into(), index.into(), due]),
             Notice::Skipped { vp, index, count } => {
                 self.add_all(&[9, vp.into(), index.into(), count])

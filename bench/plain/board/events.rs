@@ -61,6 +61,15 @@ pub enum Event<'a> {
     Take {
         vp: u8,
     },
+    Suspend {
+        vp: u8,
+    },
+    Resume {
+        vp: u8,
+    },
+    Reset {
+        vp: u8,
+    },
 }
 
 #[derive(Clone, Copy, PartialEq)]
@@ -79,6 +88,8 @@ pub enum Refusal {
     CrossesPage = 12,
     BadLength = 13,
     NoSuchProcessor = 14,
+    AlreadySuspended = 15,
+    NotSuspended = 16,
 }
 
 #[derive(Clone, Copy, PartialEq)]
@@ -105,6 +116,7 @@ pub enum Notice {
     Requested { vp: u8, vector: u8 },
     FlagSet { vp: u8, sint: u8, flag: u16 },
     Consumed { ticket: u64, vp: u8, sint: u8 },
+    Withdrawn { ticket: u64, vp: u8, sint: u8 },
     Expired { vp: u8, index: u8, due: u64 },
     Skipped { vp: u8, index: u8, count: u64 },
 }

@@ -43,7 +43,10 @@ pub struct Lapic {
     /// The greatest vector in service.
     serving: u8,
     /// What a request has to exceed to be the next: the next vector, or the last of the priority's class.
+    /// While the processor is suspended, the last of all.
     barrier: u8,
+    /// The barrier where nothing is in service and nothing is next.
+    floor: u8,
 }
 
 impl Lapic {
@@ -55,11 +58,31 @@ impl Lapic {
             next: 0,
             serving: 0,
             barrier: last_of_class(0),
+            floor: last_of_class(0),
         }
     }
 
     pub fn next(&self) -> Option<u8> {
         (self.next != 0).then_some(self.next)
+    }
+
+    /// Whether the processor was not suspended.
+    pub fn suspend(&mut self) -> bool {
+        let is_new = self.floor != u8::MAX;
+        self.next = 0;
+        self.barrier = u8::MAX;
+        self.floor = u8::MAX;
+        is_new
+    }
+
+    /// Whether the processor was suspended.
+    pub fn resume(&mut self) -> bool {
+        let is_new = self.floor == u8::MAX;
+        if is_new {
+            self.floor = last_of_class(0);
+            self.find_next(u8::MAX);
+        }
+        is_new
     }
 
     /// Whether the vector was not requested yet.
@@ -107,7 +130,7 @@ impl Lapic {
     #[inline(always)]
     fn find_next(&mut self, vector: u8) {
         let greatest = self.requested.greatest_below(vector);
-        self.barrier = last_of_class(self.serving);
+        self.barrier = self.serving | self.floor;
         self.next = 0;
         if greatest > self.barrier {
             self.next = greatest;

@@ -67,6 +67,10 @@ impl Board {
         self.processors[vp as usize].chains[sint as usize].length
     }
 
+    pub fn next_ticket(&self) -> u64 {
+        self.next_ticket
+    }
+
     pub fn owner(&self, page: u8) -> Owner {
         self.pages.owner(page)
     }
@@ -105,6 +109,9 @@ impl Board {
             Event::Load { address, length } => self.load(address, length),
             Event::Tick { moment } => self.tick(moment, notices),
             Event::Take { vp } => self.take(vp),
+            Event::Suspend { vp } => self.suspend(vp),
+            Event::Resume { vp } => self.resume(vp),
+            Event::Reset { vp } => self.reset(vp, notices),
         }
     }
 
@@ -323,6 +330,46 @@ impl Board {
             self.attempt(number, notices);
         }
         self.timers.update(number);
+        Reply::Done
+    }
+
+    #[inline(never)]
+    fn suspend(&mut self, vp: u8) -> Reply {
+        let Some(processor) = self.processors.get_mut(vp as usize) else {
+            return Reply::Refused(Refusal::NoSuchProcessor);
+        };
+        if !processor.lapic.suspend() {
+            return Reply::Refused(Refusal::AlreadySuspended);
+        }
+        self.timers.hold(vp, true);
+        Reply::Done
+    }
+
+    /// Nothing is tried: a timer that came due meanwhile waits for the next tick.
+    #[inline(never)]
+    fn resume(&mut self, vp: u8) -> Reply {
+        let Some(processor) = self.processors.get_mut(vp as usize) else {
+            return Reply::Refused(Refusal::NoSuchProcessor);
+        };
+        if !processor.lapic.resume() {
+            return Reply::Refused(Refusal::NotSuspended);
+        }
+        self.timers.hold(vp, false);
+        Reply::Done
+    }
+
+    /// What waits in slots and queues is withdrawn, and then the processor is a new one.
+    #[inline(never)]
+    fn reset(&mut self, vp: u8, notices: &mut Notices) -> Reply {
+        let Some(processor) = self.processors.get_mut(vp as usize) else {
+            return Reply::Refused(Refusal::NoSuchProcessor);
+        };
+        for sint in 0..16 {
+            processor.withdraw(vp, sint, &mut self.buffers, notices);
+        }
+        *processor = Processor::new();
+        self.pages.clear(vp);
+        self.timers.reset(vp);
         Reply::Done
     }
 

@@ -104,6 +104,15 @@ impl Pages {
         self.move_overlay(2 * vp + 1, register);
     }
 
+    /// Both pages of a processor are disabled, and zero.
+    pub fn clear(&mut self, vp: u8) {
+        self.move_sim(vp, 0);
+        self.move_sief(vp, 0);
+        for frame in &mut self.frames[2 * vp as usize..][..2] {
+            frame.0.fill(0);
+        }
+    }
+
     /// Only the page that the overlay left and the page that it reached can have another owner, and
     /// the others are looked at only where it was the visible one.
     #[inline(always)]

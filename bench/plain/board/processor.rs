@@ -2,7 +2,7 @@
 
 use super::events::{Notice, Notices, Reply};
 use super::lapic::{Lapic, VectorSet};
-use super::queues::Chain;
+use super::queues::{Buffers, Chain};
 
 const MASKED: u64 = 1 << 16;
 const AUTO_EOI: u64 = 1 << 17;
@@ -78,6 +78,19 @@ impl Processor {
     pub fn hold(&mut self, vp: u8, sint: u8, ticket: u64, notices: &mut Notices) {
         self.tickets[sint as usize] = ticket;
         notices.push(Notice::Placed { ticket, vp, sint });
+    }
+
+    /// The ticket of a slot, and then those of its queue, are withdrawn.
+    pub fn withdraw(&mut self, vp: u8, sint: u8, buffers: &mut Buffers, notices: &mut Notices) {
+        let ticket = self.tickets[sint as usize];
+        if ticket != NO_TICKET {
+            notices.push(Notice::Withdrawn { ticket, vp, sint });
+        }
+        let chain = &mut self.chains[sint as usize];
+        while chain.length != 0 {
+            let ticket = buffers.withdraw(chain);
+            notices.push(Notice::Withdrawn { ticket, vp, sint });
+        }
     }
 
     /// A slot is empty behind a guest's store.

@@ -153,6 +153,16 @@ impl Buffers {
         chain.length += 1;
     }
 
+    /// The head of a queue that is not empty is taken out. Gives its ticket.
+    pub fn withdraw(&mut self, chain: &mut Chain) -> u64 {
+        let number = chain.head as usize;
+        let buffer = &self.buffers[number];
+        chain.head = buffer.next;
+        chain.length -= 1;
+        self.used[number / 16] &= !(1 << (number % 16));
+        buffer.ticket
+    }
+
     /// The head of a queue that is not empty goes into an empty slot. Gives its ticket.
     pub fn place(&mut self, chain: &mut Chain, slot: &mut Image, moment: u64) -> u64 {
         let number = chain.head as usize;

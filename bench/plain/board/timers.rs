@@ -19,6 +19,8 @@ struct Timer {
     /// Whether the due moment is 2^64 and more.
     is_beyond: bool,
     is_running: bool,
+    /// Whether its processor is suspended.
+    is_held: bool,
 }
 
 pub struct Expiry {
@@ -28,7 +30,7 @@ pub struct Expiry {
 
 impl Timer {
     fn key(&self) -> u64 {
-        if self.is_running && !self.is_beyond {
+        if self.is_running && !self.is_beyond && !self.is_held {
             self.due - 1
         } else {
             NEVER
@@ -97,7 +99,7 @@ impl Timers {
         }
         let beyond = (0..).zip(&self.timers);
         beyond
-            .filter(|(_, timer)| timer.is_running && timer.is_beyond)
+            .filter(|(_, timer)| timer.is_running && timer.is_beyond && !timer.is_held)
             .map(|(number, timer)| ((1 << 64) + u128::from(timer.due), number))
             .min()
     }
@@ -157,6 +159,22 @@ impl Timers {
         while self.aside != 0 {
             self.update(self.aside.trailing_zeros() as u8);
             self.aside &= self.aside - 1;
+        }
+    }
+
+    /// A processor is suspended, or goes on.
+    pub fn hold(&mut self, vp: u8, is_held: bool) {
+        for number in 4 * vp..4 * vp + 4 {
+            self.timers[number as usize].is_held = is_held;
+            self.update(number);
+        }
+    }
+
+    /// The timers of a processor are as at first.
+    pub fn reset(&mut self, vp: u8) {
+        for number in 4 * vp..4 * vp + 4 {
+            self.timers[number as usize] = Timer::default();
+            self.update(number);
         }
     }
 

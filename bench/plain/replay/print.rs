@@ -42,11 +42,13 @@ fn put_vector(text: &mut Text, vector: Option<u8>) {
     }
 }
 
+#[inline(always)]
 pub fn put_notice(text: &mut Text, notice: &Notice) {
     match *notice {
         Notice::Accepted { ticket, vp, sint } => put_ticket(text, b". accepted ", ticket, vp, sint),
         Notice::Placed { ticket, vp, sint } => put_ticket(text, b". placed ", ticket, vp, sint),
         Notice::Consumed { ticket, vp, sint } => put_ticket(text, b". consumed ", ticket, vp, sint),
+        Notice::Withdrawn { ticket, vp, sint } => put_withdrawn(text, ticket, vp, sint),
         Notice::Expired { vp, index, due } => put_numbers(text, b". expired ", vp, index, due),
         Notice::Skipped { vp, index, count } => put_numbers(text, b". skipped ", vp, index, count),
         Notice::FlagSet { vp, sint, flag } => put_numbers(text, b". flag ", vp, sint, flag.into()),
@@ -63,6 +65,13 @@ pub fn put_notice(text: &mut Text, notice: &Notice) {
             text.put(b"\n");
         }
     }
+}
+
+/// Only resets give these, so they stand aside.
+#[cold]
+#[inline(never)]
+fn put_withdrawn(text: &mut Text, ticket: u64, vp: u8, sint: u8) {
+    put_ticket(text, b". withdrawn ", ticket, vp, sint);
 }
 
 #[inline(always)]

@@ -34,7 +34,7 @@ pub fn event_of<'a>(line: &[u8], payload: &'a mut [u8; PAYLOAD]) -> Option<Item<
         [b'l', b'o', b'a', b'd', b' ', rest @ ..] => load_of(Fields(rest)),
         [b'p', b'o', b's', b't', b' ', rest @ ..] => post_of(Fields(rest), payload),
         [b'o', b'p', b'e', b'n', b' ', rest @ ..] => open_of(Fields(rest)),
-        _ => None,
+        _ => rare_of(line),
     };
     Some(Item::Event(event?))
 }
@@ -99,10 +99,28 @@ fn tick_of(mut fields: Fields) -> Option<Event<'static>> {
     Some(Event::Tick { moment })
 }
 
-fn take_of(mut fields: Fields) -> Option<Event<'static>> {
+/// A processor is suspended, goes on or is reset. These come seldom, and stand aside.
+#[inline(never)]
+fn rare_of(line: &[u8]) -> Option<Event<'static>> {
+    let place = line.iter().position(|byte| *byte == b' ')?;
+    let vp = || processor_of(Fields(&line[place + 1..]));
+    match &line[..place] {
+        b"suspend" => vp().map(|vp| Event::Suspend { vp }),
+        b"resume" => vp().map(|vp| Event::Resume { vp }),
+        b"reset" => vp().map(|vp| Event::Reset { vp }),
+        _ => None,
+    }
+}
+
+#[inline(never)]
+fn take_of(fields: Fields) -> Option<Event<'static>> {
+    processor_of(fields).map(|vp| Event::Take { vp })
+}
+
+fn processor_of(mut fields: Fields) -> Option<u8> {
     let vp = fields.small()?;
     fields.end()?;
-    Some(Event::Take { vp })
+    Some(vp)
 }
 
 fn assert_of(mut fields: Fields) -> Option<Event<'static>> {

@@ -1,11 +1,11 @@
-//! A trace, line by line: its entries are performed, and each reply is compared with the one due.
+//! A trace of either format, line by line: its entries are performed, and each reply is compared with the one due.
 
 use super::lines::{Lines, Next};
 use super::open;
 use super::script::entry_of;
 use super::text::Text;
 use super::{PAYLOAD, print};
-use crate::board::events::Notices;
+use crate::board::events::{Event, Notices};
 use std::fs::File;
 use std::io;
 
@@ -32,9 +32,11 @@ pub fn check(input: File, output: File) -> io::Result<bool> {
 
 /// How many entries a legal trace has. If it is none, the last line that was read is wrong.
 fn count_entries(lines: &mut Lines, text: &mut Text) -> io::Result<Option<u64>> {
-    if !matches!(lines.next(text)?, Next::Line(b"trace 1")) {
-        return Ok(None);
-    }
+    let is_second = match lines.next(text)? {
+        Next::Line(b"trace 1") => false,
+        Next::Line(b"trace 2") => true,
+        _ => return Ok(None),
+    };
     let Next::Line(line) = lines.next(text)? else {
         return Ok(None);
     };
@@ -51,12 +53,19 @@ fn count_entries(lines: &mut Lines, text: &mut Text) -> io::Result<Option<u64>> 
         if line.starts_with(b"end ") {
             text.put(b"end ");
             text.put_decimal(entries);
+            if is_second {
+                text.put(b" ");
+                text.put_decimal(board.next_ticket());
+            }
             let is_last = text.take() == line && matches!(lines.next(text)?, Next::End);
             return Ok(is_last.then_some(entries));
         }
         let Some(event) = entry_of(line, &mut payload) else {
             return Ok(None);
         };
+        if !is_second && matches!(event, Event::Reset { .. }) {
+            return Ok(None);
+        }
         let reply = board.perform(&event, &mut notices);
         let Next::Line(line) = lines.next(text)? else {
             return Ok(None);
