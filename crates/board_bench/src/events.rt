@@ -1,22 +1,7 @@
 // The events that workloads are made of, and the registers that they write.
 use board_terms::{Bytes8, Moment, PayloadBytes, PortShape, Vector};
 use synic_board::Event;
-
-pub(crate) const EOI: u32 = 0x4000_0070;
-
-pub(crate) const SCONTROL: u32 = 0x4000_0080;
-
-pub(crate) const SIEFP: u32 = 0x4000_0082;
-
-pub(crate) const SIMP: u32 = 0x4000_0083;
-
-pub(crate) const EOM: u32 = 0x4000_0084;
-
-const SINT0: u32 = 0x4000_0090;
-
-const STIMER0_CONFIG: u32 = 0x4000_00b0;
-
-const STIMER0_COUNT: u32 = 0x4000_00b1;
+use synic_board::msr::{SINT0, STIMER0_CONFIG, STIMER0_COUNT};
 
 /// The enable bit of SCONTROL, SIEFP and SIMP.
 pub(crate) const ENABLE: u64 = 1;

@@ -8,36 +8,33 @@ mod scene;
 mod tally;
 mod workload;
 
-use crate::faults::{Fault, Wrong};
+use crate::faults::{Fault, USAGE_FAULT};
 use crate::measure::measure;
 use crate::workload::Workload;
+use clap::error::ErrorKind;
+use clap::{Arg, Command, Error};
+use std::alloc::{AllocError, Global};
 use std::process::ExitCode;
 use std::{env, io};
 
 /// How many events each workload performs where nobody says.
 const FEW_EVENTS: u32 = 10_000;
 
-const HELP: &str = "Performs events on a board, and tells what one costs
-
-Usage: board_bench [WORKLOAD] [EVENTS]
-
-Standard output: each workload, the events, their notices, the sum of the replies, and a digest of
-the first 2000 events. Standard error: each workload, the events, and nanoseconds an event.
-
-Workloads: interrupts, messages, pages, flags, timers, timer-messages, mixed (all, if none is named)
-Events: 10000, if no number is given";
+const OUTPUT: &str = "\
+Standard output: each workload, the events, their notices, the sum of the replies, and a digest
+of the first 2000 events. Standard error: each workload, the events, and nanoseconds an event.";
 
 /// What the command line asks for.
-#[derive(Clone, Copy)]
 enum Asked {
-    Help,
     /// One workload, or all of them, of that many events.
     Measurements(Option<Workload>, u32),
+    /// Nothing more: help was shown, or what is wrong was said.
+    Nothing(ExitCode),
 }
 
 fn main(rt: HostRuntime) -> ExitCode {
     match run(&rt) {
-        Ok(()) => ExitCode::SUCCESS,
+        Ok(code) => code,
         Err(fault) => {
             // That the message may fail too changes no status.
             let _ = eprintln!(rt; "board_bench: {fault}");
@@ -46,10 +43,25 @@ fn main(rt: HostRuntime) -> ExitCode {
     }
 }
 
+/// The command line of the program.
+fn command<'a>(alloc: Global, names: &'a [&'a str]) -> Result<Command<'a>, AllocError> {
+    let workload = Arg::new(alloc, "workload")
+        .help("What is measured [default: all]")
+        .value_parser(names);
+    let events = Arg::new(alloc, "events")
+        .help("How many events it performs [default: 10000]")
+        .value_parser(clap::value_parser!(u32).range(1..));
+    Command::new(alloc, "board_bench")
+        .about("Performs events on a board, and tells what one costs")
+        .after_help(OUTPUT)
+        .arg(workload)?
+        .arg(events)
+}
+
 /// Does what the command line asks for.
-fn run(rt: &HostRuntime) -> Result<(), Fault> {
+fn run(rt: &HostRuntime) -> Result<ExitCode, Fault> {
     match read_command_line(rt)? {
-        Asked::Help => println!(rt; "{HELP}")?,
+        Asked::Nothing(code) => return Ok(code),
         Asked::Measurements(Some(workload), events) => show(rt, workload, events)?,
         Asked::Measurements(None, events) => {
             for workload in Workload::ALL {
@@ -57,50 +69,38 @@ fn run(rt: &HostRuntime) -> Result<(), Fault> {
             }
         }
     }
-    Ok(())
+    Ok(ExitCode::SUCCESS)
 }
 
 fn read_command_line(rt: &HostRuntime) -> Result<Asked, Fault> {
     let words = match env::args(rt) {
         Ok(words) => words.collect::<Vec<String>>(rt.alloc())?,
-        Err(error) if error.kind() == io::ErrorKind::InvalidData => {
-            return Err(Fault::Usage(Wrong::NotText));
-        }
+        Err(error) if error.kind() == io::ErrorKind::InvalidData => return Err(Fault::NotText),
         Err(error) => return Err(Fault::from(error)),
     };
-    // The first word is the program's name.
-    let asked = match words.as_slice() {
-        [] | [_] => Asked::Measurements(None, FEW_EVENTS),
-        [_, word] => read_word(word.as_str())?,
-        [_, name, count] => {
-            let workload = Workload::named(name.as_str()).ok_or(Wrong::Workload)?;
-            Asked::Measurements(Some(workload), read_count(count.as_str())?)
-        }
-        _ => return Err(Fault::Usage(Wrong::TooMany)),
+    let names = Workload::ALL.map(|workload| workload.name());
+    let command = command(rt.alloc(), names.as_slice())?;
+    let matches = match command.try_get_matches_from(words.as_slice()) {
+        Ok(matches) => matches,
+        Err(error) => return say(rt, error),
     };
-    Ok(asked)
+    let workload = matches.get_str("workload").and_then(Workload::named);
+    let events = matches.get_one::<u32>("events").unwrap_or(FEW_EVENTS);
+    Ok(Asked::Measurements(workload, events))
 }
 
-/// What a word asks for that stands alone.
-fn read_word(word: &str) -> Result<Asked, Wrong> {
-    if word == "--help" {
-        return Ok(Asked::Help);
+/// Says what the parser of the command line says: help, or what is wrong.
+fn say(rt: &HostRuntime, error: Error) -> Result<Asked, Fault> {
+    if error.kind() == ErrorKind::OutOfMemory {
+        return Err(Fault::Memory);
     }
-    if let Some(workload) = Workload::named(word) {
-        return Ok(Asked::Measurements(Some(workload), FEW_EVENTS));
-    }
-    match word.as_bytes().first() {
-        Some(b'0'..=b'9') => Ok(Asked::Measurements(None, read_count(word)?)),
-        _ => Err(Wrong::Workload),
-    }
-}
-
-/// A number of events, at least one.
-fn read_count(word: &str) -> Result<u32, Wrong> {
-    match word.parse::<u32>() {
-        Ok(0) | Err(_) => Err(Wrong::Count),
-        Ok(count) => Ok(count),
-    }
+    error.print(rt)?;
+    let code = if error.use_stderr() {
+        ExitCode::from(USAGE_FAULT)
+    } else {
+        ExitCode::SUCCESS
+    };
+    Ok(Asked::Nothing(code))
 }
 
 /// Measures a workload and shows it: what is the same each time on standard output, the time on

@@ -2,13 +2,14 @@
 ghost use Rattle.std.specs.Prelude.{◌<◌};
 
 use crate::events::{
-    ENABLE, EOI, EOM, PAGE, SCONTROL, SIEFP, SIMP, assert_vector, clear_flags, empty_slot,
-    open_port, post, store, write, write_source, write_timer_config, write_timer_count,
+    ENABLE, PAGE, assert_vector, clear_flags, empty_slot, open_port, post, store, write,
+    write_source, write_timer_config, write_timer_count,
 };
 use crate::faults::Fault;
 use crate::workload::Workload;
 use board_terms::{Moment, Notices, PortShape};
 use std::alloc::{AllocError, Global};
+use synic_board::msr::{EOI, EOM, SCONTROL, SIEFP, SIMP};
 use synic_board::{Board, Event};
 
 const PROCESSORS: u8 = 8;

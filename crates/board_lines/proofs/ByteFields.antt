@@ -7,7 +7,7 @@ use Rattle.std.proofs.lemmas.Slice.Eq.{bytes_eq-Decides}
 use Rattle.board_text.specs.Numbers.{spelled, byte_at, IsByte, AreBytes}
 use Rattle.board_text.proofs.NumberLemmas.{byte_at-spelled, byte_at-only}
 use Rattle.board_lines.specs.Events.{bytes_text, FewBytes}
-use Rattle.board_lines.specs.Reading.{spelled_at, some_bytes, bytes_at, taken}
+use Rattle.board_lines.specs.Reading.{spelled_at, some_bytes, bytes_at, first_read}
 
 pub record Spells (text bytes : List ℕ) : Type 0 where
   pub same : text ≡ spelled bytes
@@ -88,10 +88,10 @@ read-none most text dash never = go (bytes_at most text) refl
     go (Some (b ∷ bytes)) is = let h = bytes_at-only most text (b ∷ bytes) is in absurd (never (b ∷ bytes) h.few.0 h.few.1 h.same)
 
 -- the first field, and what is read of it
-pub taken-none : (most : ℕ) (old new : List (List ℕ)) (field : List ℕ) → old ≡ field ∷ new → bytes_at most field ≡ None → taken (bytes_at most) old ≡ None
+pub taken-none : (most : ℕ) (old new : List (List ℕ)) (field : List ℕ) → old ≡ field ∷ new → bytes_at most field ≡ None → first_read (bytes_at most) old ≡ None
 taken-none most old new field at read = rw (at, read) refl
 
-pub taken-some : (most : ℕ) (old new : List (List ℕ)) (field bytes : List ℕ) → old ≡ field ∷ new → bytes_at most field ≡ Some bytes → taken (bytes_at most) old ≡ Some (bytes, new)
+pub taken-some : (most : ℕ) (old new : List (List ℕ)) (field bytes : List ℕ) → old ≡ field ∷ new → bytes_at most field ≡ Some bytes → first_read (bytes_at most) old ≡ Some (bytes, new)
 taken-some most old new field bytes at read = rw (at, read) refl
 
 pub not-empty : (n : ℕ) → (n == 0) ≡ false → 0 < n

@@ -5,14 +5,14 @@ use Rattle.std.specs.Str.{bytes_eq}
 use Rattle.std.proofs.lemmas.Slice.Eq.{bytes_eq-Decides}
 use Rattle.std.proofs.lemmas.List.Splits.{join_with_byte-slice_split}
 use Rattle.board_text.specs.Numbers.{hex, two_digits, byte_at}
-use Rattle.board_text.specs.Fields.{fields_of, words}
+use Rattle.board_text.specs.Fields.{fields_of, spaced}
 use Rattle.board_text.proofs.NumberLemmas.{decimal_at-spelled, decimal_at-only, hex_at-spelled, hex_at-only, byte_at-spelled, byte_at-only}
 use Rattle.synic_board.specs.declared.event.Event.{Event}
 use Rattle.synic_board.specs.declared.event.Event.TheVariants.{OpenPort, ClosePort, Write, Read, Post, Signal, Assert, Absorb, Store, Load, Tick, Take, Suspend, Resume, Reset}
 use Rattle.board_terms.specs.declared.messages.PortShape.TheVariants.{Messages, Flags}
 use Rattle.board_lines.specs.Events.{event_fields, bytes_text, IsVector, IsEvent}
 use Rattle.board_lines.specs.Items.{Item, Opening, Performs, Summary, item_fields, IsItem, Means}
-use Rattle.board_lines.specs.Reading.{Fields, take_then, ended, u8_at, u16_at, bytes_at, u64_at, hex_u32_at, hex_u64_at, from_16, vector_at, messages_say, flags_say, shape_say, open_say, close_say, write_say, read_say, post_say, signal_say, assert_say, absorb_say, store_say, load_say, tick_say, processor_say, take_say, suspend_say, resume_say, reset_say, opening_say, event_say, item_say, item_at}
+use Rattle.board_lines.specs.Reading.{Fields, take_then, none_left, u8_at, u16_at, bytes_at, u64_at, hex_u32_at, hex_u64_at, from_16, vector_at, messages_say, flags_say, shape_say, open_say, close_say, write_say, read_say, post_say, signal_say, assert_say, absorb_say, store_say, load_say, tick_say, processor_say, take_say, suspend_say, resume_say, reset_say, opening_say, event_say, item_say, item_at}
 use Rattle.board_lines.proofs.ByteFields.{bytes_at-only, bytes_at-spelled}
 
 -- What was read tells what stood there.
@@ -25,7 +25,7 @@ then-some {A} {B} read next (field ∷ rest) a P k e = go (read field) refl e
     go None is e = cc
     go (Some n) is e = k field n rest refl is e
 
-pub ended-some : {A : Type 0} (a : A) (fields : Fields) (b : A) (P : Type 0) → (fields ≡ [] → a ≡ b → P) → ended a fields ≡ Some b → P
+pub ended-some : {A : Type 0} (a : A) (fields : Fields) (b : A) (P : Type 0) → (fields ≡ [] → a ≡ b → P) → none_left a fields ≡ Some b → P
 ended-some a [] b P k e = k refl cc
 ended-some a (field ∷ fields) b P k e = cc
 
@@ -104,7 +104,7 @@ absorb-says fs event =
 
 processor-says : (fs : Fields) (vp : ℕ) → processor_say fs ≡ Some vp → (fs ≡ decimal vp ∷ []) × (vp < 256)
 processor-says fs vp =
-    then-some u8_at ended fs vp ((fs ≡ decimal vp ∷ []) × (vp < 256)) (λ a n more at read.
+    then-some u8_at none_left fs vp ((fs ≡ decimal vp ∷ []) × (vp < 256)) (λ a n more at read.
     ended-some n more vp ((fs ≡ decimal vp ∷ []) × (vp < 256)) (λ none is.
     let h = u8-only a n read in
     rw (at, none, h.1, ← is) (refl, h.0)))
@@ -245,7 +245,7 @@ pub then-read : {A B : Type 0} (read : List ℕ → Option B) (next : B → Fiel
 then-read {A} {B} read next field n rest e = ap (λ (r : Option B). option_and_then (λ (p : B × Fields). next p.0 p.1) (option_map (λ (m : B). (m, rest)) r)) e
 
 processor-spelled : (vp : ℕ) → vp < 256 → processor_say (decimal vp ∷ []) ≡ Some vp
-processor-spelled vp h = then-read u8_at ended (decimal vp) vp [] (u8-spelled vp h)
+processor-spelled vp h = then-read u8_at none_left (decimal vp) vp [] (u8-spelled vp h)
 
 pub says-event : (event : Event) → IsEvent event → event_say (event_fields event) ≡ Some event
 says-event (OpenPort port vp sint (Messages buffers)) h = then-read u8_at shape_say (decimal port) port _ (u8-spelled port h.0) ∙ then-read u8_at _ (decimal vp) vp _ (u8-spelled vp h.1) ∙ then-read u8_at _ (decimal sint) sint _ (u8-spelled sint h.2) ∙ then-read u8_at _ (decimal buffers) buffers [] (u8-spelled buffers h.3)
@@ -282,7 +282,7 @@ item-says : (fs : Fields) (item : Item) → item_say fs ≡ Some item → SaysIt
 item-says [] item e = cc
 item-says (word ∷ fs) item e =
     yes (bytes_eq word (codes "board")) _ _ item (SaysItem (word ∷ fs) item) (λ is e. worded (λ w. SaysItem (w ∷ fs) item) word (codes "board") is (mapped (λ (p : ℕ × ℕ × ℕ). Opening p.0 p.1 p.2) (opening_say fs) item (SaysItem (codes "board" ∷ fs) item) (λ p said same. rw (← same) (opening-says fs p said)) e))
-    (yes (bytes_eq word (codes "summary")) (ended Summary fs) _ item (SaysItem (word ∷ fs) item) (λ is e. worded (λ w. SaysItem (w ∷ fs) item) word (codes "summary") is (ended-some Summary fs item (SaysItem (codes "summary" ∷ fs) item) (λ none same. rw (none, ← same) (record { same = refl; fits = tt })) e))
+    (yes (bytes_eq word (codes "summary")) (none_left Summary fs) _ item (SaysItem (word ∷ fs) item) (λ is e. worded (λ w. SaysItem (w ∷ fs) item) word (codes "summary") is (ended-some Summary fs item (SaysItem (codes "summary" ∷ fs) item) (λ none same. rw (none, ← same) (record { same = refl; fits = tt })) e))
     (λ e. mapped Performs (event_say (word ∷ fs)) item (SaysItem (word ∷ fs) item) (λ event said same. let h = event-says (word ∷ fs) event said in rw (← same) (record { same = h.same; fits = h.fits })) e)) e
 
 pub says-opening : (n g f : ℕ) → IsItem (Opening n g f) → opening_say (decimal n ∷ decimal g ∷ decimal f ∷ []) ≡ Some (n, g, f)
@@ -319,7 +319,7 @@ reading-means line item = (
 )
 
 pub means-one_line : (a b : List ℕ) (item : Item) → Means a item → Means b item → a ≡ b
-means-one_line a b item h k = sym (join_with_byte-slice_split 32 a) ∙ ap words (h.fields ∙ sym k.fields) ∙ join_with_byte-slice_split 32 b
+means-one_line a b item h k = sym (join_with_byte-slice_split 32 a) ∙ ap spaced (h.fields ∙ sym k.fields) ∙ join_with_byte-slice_split 32 b
 
 pub means-one_item : (line : List ℕ) (a b : Item) → Means line a → Means line b → a ≡ b
 means-one_item line a b h k = let is = (reading-means line a).1 h in let is' = (reading-means line b).1 k in cc

@@ -7,18 +7,18 @@ use Rattle.std.proofs.lemmas.List.FromFn.{filter_of_map_range_with_len_more}
 use Rattle.lapic_core.specs.Vectors.{Vectors}
 use Rattle.synic_board.specs.Scratch.{Values}
 use Rattle.board_text.specs.Numbers.{two_digits}
-use Rattle.board_text.specs.Fields.{words, line_of}
+use Rattle.board_text.specs.Fields.{spaced, line_of}
 use Rattle.board_lines.specs.Printing.{text_of, numbered, next_lines, auto_lines, auto_line, auto_part, auto_fields, auto_text, is_some_vector, below, timer_line, page_lines, queue_lines, summary_lines}
 use Rattle.board_lines.proofs.PrintLemmas.{text_of-append}
 
-words-more : (x : List ℕ) (xs : List (List ℕ)) (y : List ℕ) → words (x ∷ (xs ++ y ∷ [])) ≡ words (x ∷ xs) ++ 32 ∷ y
+words-more : (x : List ℕ) (xs : List (List ℕ)) (y : List ℕ) → spaced (x ∷ (xs ++ y ∷ [])) ≡ spaced (x ∷ xs) ++ 32 ∷ y
 words-more x [] y = refl
-words-more x (b ∷ xs) y = ap (λ (rest : List ℕ). x ++ 32 ∷ rest) (words-more b xs y) ∙ sym (append_assoc x (32 ∷ words (b ∷ xs)) (32 ∷ y))
+words-more x (b ∷ xs) y = ap (λ (rest : List ℕ). x ++ 32 ∷ rest) (words-more b xs y) ∙ sym (append_assoc x (32 ∷ spaced (b ∷ xs)) (32 ∷ y))
 
 text-more : (p v : ℕ) (found : List ℕ) → auto_text p (found ++ v ∷ []) ≡ auto_text p found ++ auto_part p v (is_some_vector found)
 text-more p v [] = refl
 text-more p v (u ∷ found) =
-    ap (λ (digits : List (List ℕ)). words ((58 ∷ []) ∷ (97 ∷ 117 ∷ 116 ∷ 111 ∷ []) ∷ decimal p ∷ digits)) (map-append two_digits (u ∷ found) (v ∷ []))
+    ap (λ (digits : List (List ℕ)). spaced ((58 ∷ []) ∷ (97 ∷ 117 ∷ 116 ∷ 111 ∷ []) ∷ decimal p ∷ digits)) (map-append two_digits (u ∷ found) (v ∷ []))
     ∙ words-more (58 ∷ []) ((97 ∷ 117 ∷ 116 ∷ 111 ∷ []) ∷ decimal p ∷ map two_digits (u ∷ found)) (two_digits v)
 
 some-more : (v : ℕ) (found : List ℕ) → is_some_vector (found ++ v ∷ []) ≡ true

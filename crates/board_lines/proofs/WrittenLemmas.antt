@@ -1,6 +1,6 @@
 -- Items as they are written.
 use Rattle.std.proofs.Common.{◌≡◌, ℕ, ◌+◌, ◌*◌, ◌<◌, ◌≤◌, List, [], ◌∷◌, length, Some, refl, arith, codes}
-use Rattle.board_text.specs.Fields.{words}
+use Rattle.board_text.specs.Fields.{spaced}
 use Rattle.board_text.proofs.PlainWords.{IsPlain, ArePlain, total, plain_by, digits-plain, digits-short, two_digits-plain, spelled-plain, spelled-length, IsWritten, written}
 use Rattle.board_terms.specs.declared.messages.PortShape.TheVariants.{Messages, Flags}
 use Rattle.synic_board.specs.declared.event.Event.{Event}
@@ -57,8 +57,8 @@ item-written (Opening p g f) h = board-written p g f
 item-written (Performs event) h = plain-written (event_fields event) (event-plain event h)
 item-written Summary h = written _ _ (plain_by (codes "summary") refl, tt) (omega arith)
 
-pub item-means : (item : Item) → IsItem item → Means (words (item_fields item)) item
+pub item-means : (item : Item) → IsItem item → Means (spaced (item_fields item)) item
 item-means item h = record { fields = (item-written item h).read; fits = h }
 
-pub event-read : (event : Event) → IsEvent event → item_at (words (event_fields event)) ≡ Some (Performs event)
-event-read event h = (reading-means (words (event_fields event)) (Performs event)).1 (item-means (Performs event) h)
+pub event-read : (event : Event) → IsEvent event → item_at (spaced (event_fields event)) ≡ Some (Performs event)
+event-read event h = (reading-means (spaced (event_fields event)) (Performs event)).1 (item-means (Performs event) h)

@@ -3,8 +3,8 @@ use Rattle.std.specs.Prelude.{ℕ, ◌+◌, ◌==◌, ◌/◌, ◌%◌, List, []
 use Rattle.std.specs.List.{filter, range_with_len}
 use Rattle.std.specs.FinSet as set
 use Rattle.board_text.specs.Numbers.{hex, two_digits}
-use Rattle.board_text.specs.Fields.{words, line_of}
-use Rattle.board_terms.specs.Numbers.{number_of}
+use Rattle.board_text.specs.Fields.{spaced, line_of}
+use Rattle.board_terms.specs.Numbers.{refusal_number}
 use Rattle.board_terms.specs.declared.notices.Notice.{Notice}
 use Rattle.board_terms.specs.declared.notices.Notice.TheVariants as notices
 use Rattle.synic_board.specs.declared.event.Reply.{Reply}
@@ -33,7 +33,7 @@ reply_fields (replies.Accepted ticket) = codes "=" ∷ codes "accepted" ∷ deci
 reply_fields replies.FlagWasClear = codes "=" ∷ codes "clear" ∷ []
 reply_fields replies.FlagWasSet = codes "=" ∷ codes "set" ∷ []
 reply_fields replies.GeneralProtection = codes "=" ∷ codes "general" ∷ codes "protection" ∷ []
-reply_fields (replies.Refused refusal) = codes "=" ∷ codes "refused" ∷ decimal (number_of refusal) ∷ []
+reply_fields (replies.Refused refusal) = codes "=" ∷ codes "refused" ∷ decimal (refusal_number refusal) ∷ []
 
 abbrev pub notice_fields : Notice → List (List ℕ)
 notice_fields (notices.Accepted ticket vp sint) = codes "." ∷ codes "accepted" ∷ decimal ticket ∷ decimal vp ∷ decimal sint ∷ []
@@ -63,7 +63,7 @@ rising vectors = below 240 vectors
 
 -- one of them as it is written, the first behind the head of the line
 abbrev pub auto_part : ℕ → ℕ → Bool → List ℕ
-auto_part p v any = (if any then [] else words (codes ":" ∷ codes "auto" ∷ decimal p ∷ [])) ++ 32 ∷ two_digits v
+auto_part p v any = (if any then [] else spaced (codes ":" ∷ codes "auto" ∷ decimal p ∷ [])) ++ 32 ∷ two_digits v
 
 abbrev pub auto_fields : ℕ → List ℕ → List (List ℕ)
 auto_fields p vectors = codes ":" ∷ codes "auto" ∷ decimal p ∷ map two_digits vectors
@@ -75,7 +75,7 @@ is_some_vector (v ∷ vectors) = true
 -- the line so far
 abbrev pub auto_text : ℕ → List ℕ → List ℕ
 auto_text p [] = []
-auto_text p (v ∷ vectors) = words (auto_fields p (v ∷ vectors))
+auto_text p (v ∷ vectors) = spaced (auto_fields p (v ∷ vectors))
 
 abbrev pub auto_line : ℕ → List ℕ → List (List (List ℕ))
 auto_line p [] = []

@@ -15,13 +15,13 @@ abbrev pub Fields : Type 0
 Fields = List (List ℕ)
 
 -- the first field, read in one way, and the fields behind it
-abbrev pub taken : {B : Type 0} → (List ℕ → Option B) → Fields → Option (B × Fields)
-taken read [] = None
-taken {B} read (field ∷ fields) = option_map (λ (b : B). (b, fields)) (read field)
+abbrev pub first_read : {B : Type 0} → (List ℕ → Option B) → Fields → Option (B × Fields)
+first_read read [] = None
+first_read {B} read (field ∷ fields) = option_map (λ (b : B). (b, fields)) (read field)
 
 -- the first field, and then what is read behind it
 abbrev pub take_then : {A B : Type 0} → (List ℕ → Option B) → (B → Fields → Option A) → Fields → Option A
-take_then {A} {B} read next fields = option_and_then (λ (p : B × Fields). next p.0 p.1) (taken read fields)
+take_then {A} {B} read next fields = option_and_then (λ (p : B × Fields). next p.0 p.1) (first_read read fields)
 
 -- the bytes that are written so, two digits each
 abbrev pub spelled_at : List ℕ → Option (List ℕ)
@@ -40,18 +40,18 @@ bytes_at most text = if bytes_eq text (codes "-") then Some [] else option_and_t
 
 -- a call read the first field so, or there is none that reads so
 abbrev pub TakesNumber : (List ℕ → Option ℕ) → Option ℕ → Fields → Fields → Type 0
-TakesNumber read None old new = taken read old ≡ None
-TakesNumber read (Some n) old new = taken read old ≡ Some (n, new)
+TakesNumber read None old new = first_read read old ≡ None
+TakesNumber read (Some n) old new = first_read read old ≡ Some (n, new)
 
 -- likewise for bytes
 abbrev pub TakesBytes : ℕ → Option (ArrayVec ℕ) → Fields → Fields → Type 0
-TakesBytes most None old new = taken (bytes_at most) old ≡ None
-TakesBytes most (Some bytes) old new = taken (bytes_at most) old ≡ Some (bytes.items, new)
+TakesBytes most None old new = first_read (bytes_at most) old ≡ None
+TakesBytes most (Some bytes) old new = first_read (bytes_at most) old ≡ Some (bytes.items, new)
 
 -- no field is left
-abbrev pub ended : {A : Type 0} → A → Fields → Option A
-ended a [] = Some a
-ended a (field ∷ fields) = None
+abbrev pub none_left : {A : Type 0} → A → Fields → Option A
+none_left a [] = Some a
+none_left a (field ∷ fields) = None
 
 -- The numbers of the formats.
 abbrev pub u8_at : List ℕ → Option ℕ
@@ -77,10 +77,10 @@ vector_at text = option_and_then from_16 (byte_at text)
 
 -- What stands behind the first word.
 abbrev pub messages_say : ℕ → Fields → Option Event
-messages_say port = take_then u8_at (λ vp. take_then u8_at (λ sint. take_then u8_at (λ buffers. ended (OpenPort port vp sint (Messages buffers)))))
+messages_say port = take_then u8_at (λ vp. take_then u8_at (λ sint. take_then u8_at (λ buffers. none_left (OpenPort port vp sint (Messages buffers)))))
 
 abbrev pub flags_say : ℕ → Fields → Option Event
-flags_say port = take_then u8_at (λ vp. take_then u8_at (λ sint. take_then u16_at (λ base. take_then u16_at (λ count. ended (OpenPort port vp sint (Flags base count))))))
+flags_say port = take_then u8_at (λ vp. take_then u8_at (λ sint. take_then u16_at (λ base. take_then u16_at (λ count. none_left (OpenPort port vp sint (Flags base count))))))
 
 abbrev pub shape_say : ℕ → Fields → Option Event
 shape_say port [] = None
@@ -93,38 +93,38 @@ abbrev pub open_say : Fields → Option Event
 open_say = take_then u8_at shape_say
 
 abbrev pub close_say : Fields → Option Event
-close_say = take_then u8_at (λ port. ended (ClosePort port))
+close_say = take_then u8_at (λ port. none_left (ClosePort port))
 
 abbrev pub post_say : Fields → Option Event
-post_say = take_then u8_at (λ port. take_then hex_u32_at (λ kind. take_then (bytes_at 240) (λ payload. ended (Post port kind (record { items = payload })))))
+post_say = take_then u8_at (λ port. take_then hex_u32_at (λ kind. take_then (bytes_at 240) (λ payload. none_left (Post port kind (record { items = payload })))))
 
 abbrev pub signal_say : Fields → Option Event
-signal_say = take_then u8_at (λ port. take_then u16_at (λ flag. ended (Signal port flag)))
+signal_say = take_then u8_at (λ port. take_then u16_at (λ flag. none_left (Signal port flag)))
 
 abbrev pub store_say : Fields → Option Event
-store_say = take_then hex_u64_at (λ address. take_then (bytes_at 8) (λ bytes. ended (Store address (record { items = bytes }))))
+store_say = take_then hex_u64_at (λ address. take_then (bytes_at 8) (λ bytes. none_left (Store address (record { items = bytes }))))
 
 abbrev pub load_say : Fields → Option Event
-load_say = take_then hex_u64_at (λ address. take_then u8_at (λ count. ended (Load address count)))
+load_say = take_then hex_u64_at (λ address. take_then u8_at (λ count. none_left (Load address count)))
 
 abbrev pub tick_say : Fields → Option Event
-tick_say = take_then u64_at (λ moment. ended (Tick moment))
+tick_say = take_then u64_at (λ moment. none_left (Tick moment))
 
 abbrev pub write_say : Fields → Option Event
-write_say = take_then u8_at (λ vp. take_then hex_u32_at (λ register. take_then hex_u64_at (λ value. ended (Write vp register value))))
+write_say = take_then u8_at (λ vp. take_then hex_u32_at (λ register. take_then hex_u64_at (λ value. none_left (Write vp register value))))
 
 abbrev pub read_say : Fields → Option Event
-read_say = take_then u8_at (λ vp. take_then hex_u32_at (λ register. ended (Read vp register)))
+read_say = take_then u8_at (λ vp. take_then hex_u32_at (λ register. none_left (Read vp register)))
 
 abbrev pub assert_say : Fields → Option Event
-assert_say = take_then u8_at (λ vp. take_then vector_at (λ vector. ended (Assert vp vector)))
+assert_say = take_then u8_at (λ vp. take_then vector_at (λ vector. none_left (Assert vp vector)))
 
 abbrev pub absorb_say : Fields → Option Event
-absorb_say = take_then u8_at (λ vp. take_then u8_at (λ part. take_then hex_u64_at (λ bits. ended (Absorb vp part bits))))
+absorb_say = take_then u8_at (λ vp. take_then u8_at (λ part. take_then hex_u64_at (λ bits. none_left (Absorb vp part bits))))
 
 -- a processor and nothing else
 abbrev pub processor_say : Fields → Option ℕ
-processor_say = take_then u8_at ended
+processor_say = take_then u8_at none_left
 
 abbrev pub take_say : Fields → Option Event
 take_say fields = option_map Take (processor_say fields)
@@ -139,7 +139,7 @@ abbrev pub reset_say : Fields → Option Event
 reset_say fields = option_map Reset (processor_say fields)
 
 abbrev pub opening_say : Fields → Option (ℕ × ℕ × ℕ)
-opening_say = take_then u8_at (λ processors. take_then u8_at (λ pages. take_then u64_at (λ ticket. ended (processors, pages, ticket))))
+opening_say = take_then u8_at (λ processors. take_then u8_at (λ pages. take_then u64_at (λ ticket. none_left (processors, pages, ticket))))
 
 -- the event that the fields name
 abbrev pub event_say : Fields → Option Event
@@ -171,7 +171,7 @@ abbrev pub item_say : Fields → Option Item
 item_say [] = None
 item_say (word ∷ fields) =
     if bytes_eq word (codes "board") then opening_item fields
-    else if bytes_eq word (codes "summary") then ended Summary fields
+    else if bytes_eq word (codes "summary") then none_left Summary fields
     else option_map Performs (event_say (word ∷ fields))
 
 unfoldable pub item_at : List ℕ → Option Item

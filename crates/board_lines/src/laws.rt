@@ -1,6 +1,6 @@
 //! Laws of the definitions.
 ghost use Rattle.std.specs.Prelude.{◌≡◌, ◌↔◌, ℕ, List, Some, IsTrue};
-ghost use Rattle.board_text.specs.Fields.{words};
+ghost use Rattle.board_text.specs.Fields.{spaced};
 ghost use Rattle.synic_board.specs.State.{AreSizes};
 ghost use Rattle.synic_board.specs.declared.event.Event.{Event};
 ghost use Rattle.board_lines.specs.Events.{event_fields, IsEvent};
@@ -20,12 +20,12 @@ pub fn one_line()
 
 /// Each item whose fields are in range has a line.
 pub fn some_line()
-    ensures { (item : Item) → IsItem item → Means (words (item_fields item)) item }
+    ensures { (item : Item) → IsItem item → Means (spaced (item_fields item)) item }
 {}
 
 /// The line that is written of an event is read as that event.
 pub fn a_written_event_is_read()
-    ensures { (event : Event) → IsEvent event → item_at (words (event_fields event)) ≡ Some (Performs event) }
+    ensures { (event : Event) → IsEvent event → item_at (spaced (event_fields event)) ≡ Some (Performs event) }
 {}
 
 /// A line means one item at most.

@@ -6,13 +6,13 @@ use Rattle.std.specs.Str.{bytes_eq}
 use Rattle.synic_board.specs.State.{AreSizes}
 use Rattle.synic_board.specs.declared.event.Event.{Event}
 use Rattle.board_lines.specs.Items.{Item, Opening, Performs, Summary}
-use Rattle.board_lines.specs.Reading.{Fields, ended, opening_say, opening_item, event_say, item_say, item_at}
+use Rattle.board_lines.specs.Reading.{Fields, none_left, opening_say, opening_item, event_say, item_say, item_at}
 use Rattle.board_lines.specs.Sizes.{are_sizes}
 use Rattle.board_lines.proofs.SizeLemmas.{sizes-are}
 use Rattle.board_script.specs.Script.{item_in, is_skipped, item_fault, line_fault, opens, good_items, first_fault}
 use Rattle.board_script.specs.Output.{Machine, answers, output_from}
 use Rattle.board_text.specs.Fields.{fields_of}
-use Rattle.line_driver.specs.Judging.{Takes}
+use Rattle.line_driver.specs.Judging.{Judges}
 use Rattle.line_driver.specs.declared.judge.Taken.{Taken}
 use Rattle.line_driver.specs.declared.judge.Taken.TheVariants as taken
 use Rattle.board_script.specs.Streams.{after_maybe, answer_maybe, AnswersItem, IsAnswered, IsFaulty}
@@ -62,7 +62,7 @@ judged : (opened : Bool) (line : List ℕ) (item : Option Item) → length line 
 judged opened line item short not is = rw (le-ltb 640 (length line) short, not, is) (refl, refl)
 
 -- what is answered to the item is answered to the line
-pub answers-line : (result : Taken ScriptFault) (line word : List ℕ) (rest : Fields) (old new : Machine) (out : List ℕ) → length line ≤ 640 → is_skipped line ≡ false → fields_of line ≡ word ∷ rest → AnswersItem result (item_say (word ∷ rest)) old new out → Takes IsAnswered IsFaulty result old new line out
+pub answers-line : (result : Taken ScriptFault) (line word : List ℕ) (rest : Fields) (old new : Machine) (out : List ℕ) → length line ≤ 640 → is_skipped line ≡ false → fields_of line ≡ word ∷ rest → AnswersItem result (item_say (word ∷ rest)) old new out → Judges IsAnswered IsFaulty result old new line out
 answers-line taken.Good line word rest old new out short not fields h =
     let j = judged (is_some old) line (item_say (word ∷ rest)) short not (item-at line word rest fields) in
     rw (j.0, j.1) h
@@ -72,7 +72,7 @@ answers-line (taken.Wrong fault) line word rest old new out short not fields h =
 answers-line taken.Memory line word rest old new out short not fields h = tt
 
 -- a first item that is no board line
-other : (t : Bool) (fs : Fields) (r : Option Event) → item_fault false (cond t (ended Summary fs) (option_map Performs r)) ≡ Some faults.First
+other : (t : Bool) (fs : Fields) (r : Option Event) → item_fault false (cond t (none_left Summary fs) (option_map Performs r)) ≡ Some faults.First
 other true [] r = refl
 other true (field ∷ fs) r = refl
 other false fs None = refl
@@ -81,7 +81,7 @@ other false fs (Some event) = refl
 pub first-other : (word key : List ℕ) (fs : Fields) → key ≡ codes "board" → false ≡ bytes_eq word key → item_fault false (item_say (word ∷ fs)) ≡ Some faults.First
 first-other word key fs is e =
     let no_board : bytes_eq word (codes "board") ≡ false = ap (bytes_eq word) (sym is) ∙ sym e in
-    ap (λ (t : Bool). item_fault false (cond t (opening_item fs) (cond (bytes_eq word (codes "summary")) (ended Summary fs) (option_map Performs (event_say (word ∷ fs)))))) no_board
+    ap (λ (t : Bool). item_fault false (cond t (opening_item fs) (cond (bytes_eq word (codes "summary")) (none_left Summary fs) (option_map Performs (event_say (word ∷ fs)))))) no_board
     ∙ other (bytes_eq word (codes "summary")) fs (event_say (word ∷ fs))
 
 -- a board that was opened has sizes within the limits

@@ -15,11 +15,11 @@ use Rattle.board_lines.specs.declared.fault.ScriptFault.{ScriptFault}
 abbrev pub Machine : Type 0
 Machine = Option State
 
-abbrev pub after : Machine → Item → Machine
-after machine (Opening processors pages ticket) = Some (opened processors pages ticket)
-after None (Performs event) = None
-after (Some s) (Performs event) = Some (step s event).0
-after machine Summary = machine
+abbrev pub machine_after : Machine → Item → Machine
+machine_after machine (Opening processors pages ticket) = Some (opened processors pages ticket)
+machine_after None (Performs event) = None
+machine_after (Some s) (Performs event) = Some (step s event).0
+machine_after machine Summary = machine
 
 -- the reply, and then a line for each notice
 abbrev pub told : Outcome → List ℕ
@@ -35,7 +35,7 @@ answer (Some s) Summary = text_of (summary_lines (scratch s))
 -- what the machine answers to a list of items
 abbrev pub answers : Machine → List Item → List ℕ
 answers machine [] = []
-answers machine (item ∷ items) = answer machine item ++ answers (after machine item) items
+answers machine (item ∷ items) = answer machine item ++ answers (machine_after machine item) items
 
 -- what is written for whole lines, from a machine on
 abbrev pub output_from : Machine → List (List ℕ) → List ℕ

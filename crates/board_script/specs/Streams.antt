@@ -8,7 +8,7 @@ use Rattle.line_driver.specs.Driving.{ReadsNear}
 use Rattle.line_driver.specs.declared.judge.Taken.{Taken}
 use Rattle.line_driver.specs.declared.judge.Taken.TheVariants as taken
 use Rattle.board_script.specs.Script.{item_in, item_fault, line_fault}
-use Rattle.board_script.specs.Output.{Machine, after, answer, output_of, fault_of, fault_text, text}
+use Rattle.board_script.specs.Output.{Machine, machine_after, answer, output_of, fault_of, fault_text, text}
 use Rattle.board_lines.specs.declared.fault.ScriptFault.{ScriptFault}
 use Rattle.board_script.specs.declared.stream.ReplayEnd.{ReplayEnd}
 use Rattle.board_script.specs.declared.stream.ReplayEnd.TheVariants.{Done, Script, Memory, Reading, Writing}
@@ -54,7 +54,7 @@ machine_of board = option_map (λ h. h.state) board
 
 abbrev pub after_maybe : Machine → Option Item → Machine
 after_maybe machine None = machine
-after_maybe machine (Some item) = after machine item
+after_maybe machine (Some item) = machine_after machine item
 
 abbrev pub answer_maybe : Machine → Option Item → List ℕ
 answer_maybe machine None = []

@@ -3,7 +3,6 @@
 #![tactic(auto)]
 
 mod judge;
-pub mod laws;
 mod respond;
 mod stream;
 

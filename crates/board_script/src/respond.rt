@@ -4,7 +4,7 @@ ghost use Rattle.synic_board.specs.Step.{step};
 ghost use Rattle.board_lines.specs.Reading.{opening_item, item_say};
 ghost use Rattle.board_script.specs.Output.{told};
 ghost use Rattle.board_script.specs.Streams.{IsAnswered, IsFaulty, AnswersItem, machine_of};
-ghost use Rattle.line_driver.specs.Judging.{Takes};
+ghost use Rattle.line_driver.specs.Judging.{Judges};
 
 use board_lines::{
     ScriptFault, opening_of, put_notices, put_reply, put_summary, read_event, skips,
@@ -27,7 +27,7 @@ pub(crate) fn respond(
 ) -> Taken<ScriptFault>
     requires short { length line.now ≤ 640 }
     requires empty { out.old.items ≡ [] }
-    ensures { Takes IsAnswered IsFaulty result (machine_of board.old) (machine_of board.new) line.now out.new.items }
+    ensures { Judges IsAnswered IsFaulty result (machine_of board.old) (machine_of board.new) line.now out.new.items }
 {
     if skips(line) {
         return Taken::Good;

@@ -4,21 +4,8 @@
 ghost use Rattle.std.specs.Prelude.{◌<◌, ◌≤◌};
 
 use board_terms::{Bytes8, Notice, Notices, PayloadBytes, PortShape, Vector, Vp};
+pub use synic_board::msr::{EOM, SCONTROL, SIEFP, SIMP, SINT2, STIMER0_CONFIG, STIMER0_COUNT};
 use synic_board::{Board, Event, Reply};
-
-pub const SCONTROL: u32 = 0x4000_0080;
-
-pub const SIEFP: u32 = 0x4000_0082;
-
-pub const SIMP: u32 = 0x4000_0083;
-
-pub const EOM: u32 = 0x4000_0084;
-
-pub const SINT2: u32 = 0x4000_0092;
-
-pub const STIMER0_CONFIG: u32 = 0x4000_00b0;
-
-pub const STIMER0_COUNT: u32 = 0x4000_00b1;
 
 /// A guest of processor `vp` writes a register.
 pub fn write(vp: u8, register: u32, value: u64) -> Event {

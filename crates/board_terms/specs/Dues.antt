@@ -1,20 +1,21 @@
 -- When each timer is due, and which is due first (TLFS, "Synthetic Timers").
 use Rattle.std.specs.Prelude.{◌≡◌, ◌≤◌, ℕ, zero, suc, ◌<◌, ◌+◌, ◌*◌, ◌/◌, ◌%◌, nat_lt, List, Option, None, Some, slice_index_or, if◌then◌else◌}
 use Rattle.std.specs.Option.{option_map_or, option_map}
+use Rattle.board_terms.specs.Quantities.{TimerId, Moment}
 
 -- the due moment of each timer, or none: that of a timer stands at its number
 abbrev pub Dues : Type 0
-Dues = List (Option ℕ)
+Dues = List (Option Moment)
 
 -- a timer is a processor and an index, and its number counts them in this order
-abbrev pub number_of : ℕ × ℕ → ℕ
+abbrev pub number_of : TimerId → ℕ
 number_of t = 4 * t.0 + t.1
 
-abbrev pub timer_of : ℕ → ℕ × ℕ
+abbrev pub timer_of : ℕ → TimerId
 timer_of n = (n / 4, n % 4)
 
 -- when a timer is due
-abbrev pub due_of : Dues → ℕ × ℕ → Option ℕ
+abbrev pub due_of : Dues → TimerId → Option Moment
 due_of m t = slice_index_or m (number_of t) None
 
 -- a timer that is due at d, and the least so far: the earlier, and of equals the least so far
@@ -27,7 +28,7 @@ least_below m zero = None
 least_below m (suc n) = option_map_or (λ d. Some (earlier (least_below m n) (d, n))) (slice_index_or m n None) (least_below m n)
 
 -- the least (due, processor, index)
-unfoldable pub least : Dues → Option (ℕ × (ℕ × ℕ))
+unfoldable pub least : Dues → Option (Moment × TimerId)
 least m = option_map (λ r. (r.0, timer_of r.1)) (least_below m 32)
 
 -- the timer of number n is due at d, and none comes before it

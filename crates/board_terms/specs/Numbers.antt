@@ -3,20 +3,20 @@ use Rattle.std.specs.Prelude.{ℕ}
 use Rattle.board_terms.specs.declared.refusal.Refusal.{Refusal}
 use Rattle.board_terms.specs.declared.refusal.Refusal.TheVariants.{UnknownPort, PortOpen, WrongKind, BadTarget, BadType, BadFlag, SynicOff, NoBuffers, TicketsSpent, ClockBack, OutsideSpace, CrossesPage, BadLength, NoSuchProcessor, AlreadySuspended, NotSuspended}
 
-abbrev pub number_of : Refusal → ℕ
-number_of UnknownPort = 1
-number_of PortOpen = 2
-number_of WrongKind = 3
-number_of BadTarget = 4
-number_of BadType = 5
-number_of BadFlag = 6
-number_of SynicOff = 7
-number_of NoBuffers = 8
-number_of TicketsSpent = 9
-number_of ClockBack = 10
-number_of OutsideSpace = 11
-number_of CrossesPage = 12
-number_of BadLength = 13
-number_of NoSuchProcessor = 14
-number_of AlreadySuspended = 15
-number_of NotSuspended = 16
+abbrev pub refusal_number : Refusal → ℕ
+refusal_number UnknownPort = 1
+refusal_number PortOpen = 2
+refusal_number WrongKind = 3
+refusal_number BadTarget = 4
+refusal_number BadType = 5
+refusal_number BadFlag = 6
+refusal_number SynicOff = 7
+refusal_number NoBuffers = 8
+refusal_number TicketsSpent = 9
+refusal_number ClockBack = 10
+refusal_number OutsideSpace = 11
+refusal_number CrossesPage = 12
+refusal_number BadLength = 13
+refusal_number NoSuchProcessor = 14
+refusal_number AlreadySuspended = 15
+refusal_number NotSuspended = 16

@@ -14,7 +14,7 @@ pub use messages::{Message, PayloadBytes, PortShape};
 pub use notices::{Notice, Notices, ROOM};
 pub use pages::{Bytes8, Kind, Owner};
 pub use refusal::Refusal;
-pub use sint::Sint;
+pub use sint::{Sint, source_number};
 pub use timer_id::TimerId;
 pub use vector::Vector;
 pub use vp::Vp;

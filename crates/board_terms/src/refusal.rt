@@ -1,6 +1,6 @@
 // Why an event was refused.
 ghost use Rattle.std.specs.Prelude.{◌≡◌};
-ghost use Rattle.board_terms.specs.Numbers.{number_of};
+ghost use Rattle.board_terms.specs.Numbers.{refusal_number};
 
 use thiserror::Error;
 
@@ -44,7 +44,7 @@ pub enum Refusal {
 impl Refusal {
     /// Its number, as the script's reply shows it.
     pub fn number(self) -> u8
-        ensures { result ≡ number_of self }
+        ensures { result ≡ refusal_number self }
     {
         self as u8
     }

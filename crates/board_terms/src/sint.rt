@@ -1,6 +1,8 @@
 // A synthetic interrupt source.
 ghost use Rattle.std.specs.Prelude.{◌≡◌, ◌<◌, ◌↔◌, IsSome, IfSome};
+ghost use Rattle.board_terms.specs.Sources.{source_number};
 
+use crate::vp::Vp;
 use std::marker::Model;
 
 /// A synthetic interrupt source, SINT0 to SINT15 (TLFS, "Synthetic Interrupt Sources").
@@ -41,4 +43,13 @@ impl Sint {
     {
         self.number
     }
+}
+
+/// The number of a source among those of all processors, 0 to 127: those of processor 0 come first.
+#[inline]
+pub fn source_number(vp: Vp, sint: Sint) -> usize
+    ensures value { result ≡ source_number vp sint }
+    ensures range { result < 128 }
+{
+    16 * vp.number() as usize + sint.number() as usize
 }

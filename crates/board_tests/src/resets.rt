@@ -4,11 +4,8 @@ use board_steps::{
 };
 use board_terms::{Notice, Notices, Owner, PortShape, Refusal, Sint, Ticket, TimerId, Vector, Vp};
 use std::test::Fail;
+use synic_board::msr::{STIMER3_CONFIG, TPR};
 use synic_board::{Board, Event, Reply};
-
-const TPR: u32 = 0x4000_0072;
-
-const STIMER3_CONFIG: u32 = 0x4000_00b6;
 
 /// A timer that is one-shot, sends its message to SINT1, and is enabled; and what is to be added for
 /// each source further on.

@@ -4,7 +4,7 @@ use Rattle.std.proofs.lemmas.Bool.Decides.{Decides-and, Decides-ltb}
 use Rattle.std.specs.Fmt.{digits, digits_onto, digit_glyph}
 use Rattle.board_text.specs.Numbers.{spelled, two_digits}
 use Rattle.board_text.specs.Lines.{IsOneLine}
-use Rattle.board_text.specs.Fields.{fields_of, words}
+use Rattle.board_text.specs.Fields.{fields_of, spaced}
 
 -- every byte is above the space
 abbrev pub IsPlain : List ℕ → Type 0
@@ -75,10 +75,10 @@ one-append : (xs ys : List ℕ) → IsOneLine xs → IsOneLine ys → IsOneLine 
 one-append [] ys h k = k
 one-append (x ∷ xs) ys h k = (h.0, one-append xs ys h.1 k)
 
-one-words : (fields : List (List ℕ)) → ArePlain fields → IsOneLine (words fields)
+one-words : (fields : List (List ℕ)) → ArePlain fields → IsOneLine (spaced fields)
 one-words [] h = tt
 one-words (f ∷ []) h = one-plain f h.0
-one-words (f ∷ g ∷ fields) h = one-append f (32 ∷ words (g ∷ fields)) (one-plain f h.0) ((λ e. omega (arith, e)), one-words (g ∷ fields) h.1)
+one-words (f ∷ g ∷ fields) h = one-append f (32 ∷ spaced (g ∷ fields)) (one-plain f h.0) ((λ e. omega (arith, e)), one-words (g ∷ fields) h.1)
 
 pub split-one : (xs : List ℕ) → IsPlain xs → fields_of xs ≡ xs ∷ []
 split-one [] h = refl
@@ -89,24 +89,24 @@ split-more [] ys h = refl
 split-more (x ∷ xs) ys h = rw (ne_eqb x 32 (λ e. let low = h.0 in omega arith), split-more xs ys h.1) refl
 
 -- a line that was written of fields is read as these fields
-fields-words : (f : List ℕ) (fields : List (List ℕ)) → ArePlain (f ∷ fields) → fields_of (words (f ∷ fields)) ≡ f ∷ fields
+fields-words : (f : List ℕ) (fields : List (List ℕ)) → ArePlain (f ∷ fields) → fields_of (spaced (f ∷ fields)) ≡ f ∷ fields
 fields-words f [] h = split-one f h.0
-fields-words f (g ∷ fields) h = split-more f (words (g ∷ fields)) h.0 ∙ ap (λ (x : List (List ℕ)). f ∷ x) (fields-words g fields h.1)
+fields-words f (g ∷ fields) h = split-more f (spaced (g ∷ fields)) h.0 ∙ ap (λ (x : List (List ℕ)). f ∷ x) (fields-words g fields h.1)
 
 abbrev pub total : List (List ℕ) → ℕ
 total [] = 0
 total (f ∷ fields) = length f + 1 + total fields
 
-short-words : (fields : List (List ℕ)) → length (words fields) ≤ total fields
+short-words : (fields : List (List ℕ)) → length (spaced fields) ≤ total fields
 short-words [] = omega arith
 short-words (f ∷ []) = omega arith
-short-words (f ∷ g ∷ fields) = let h = short-words (g ∷ fields) in omega (arith, h, length-append f (32 ∷ words (g ∷ fields)))
+short-words (f ∷ g ∷ fields) = let h = short-words (g ∷ fields) in omega (arith, h, length-append f (32 ∷ spaced (g ∷ fields)))
 
 -- a line as it is written
 pub record IsWritten (fields : List (List ℕ)) : Type 0 where
-  pub one : IsOneLine (words fields)
-  pub short : length (words fields) ≤ 640
-  pub read : fields_of (words fields) ≡ fields
+  pub one : IsOneLine (spaced fields)
+  pub short : length (spaced fields) ≤ 640
+  pub read : fields_of (spaced fields) ≡ fields
 
 pub written : (f : List ℕ) (fields : List (List ℕ)) → ArePlain (f ∷ fields) → total (f ∷ fields) ≤ 640 → IsWritten (f ∷ fields)
 written f fields h few = record { one = one-words (f ∷ fields) h; short = (let k = short-words (f ∷ fields) in omega arith); read = fields-words f fields h }

@@ -8,12 +8,12 @@ abbrev pub fields_of : List ℕ → List (List ℕ)
 fields_of line = slice_split (λ b. b == 32) line
 
 -- the line of these fields
-abbrev pub words : List (List ℕ) → List ℕ
-words fields = join_with_byte 32 fields
+abbrev pub spaced : List (List ℕ) → List ℕ
+spaced fields = join_with_byte 32 fields
 
 -- with its line feed
 abbrev pub line_of : List (List ℕ) → List ℕ
-line_of fields = words fields ++ 10 ∷ []
+line_of fields = spaced fields ++ 10 ∷ []
 
 -- the fields of what is left of a line, if something is left
 abbrev pub fields_left : Option (Bor (List ℕ)) → List (List ℕ)

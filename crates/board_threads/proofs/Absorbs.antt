@@ -12,13 +12,13 @@ use Rattle.synic_board.specs.declared.event.Reply.{Reply}
 use Rattle.synic_board.specs.declared.history.Entry.{Entry}
 use Rattle.posted_words.specs.declared.rule.Did.{Did}
 use Rattle.posted_words.specs.declared.rule.Did.TheVariants.{Raise, Sweep}
-use Rattle.posted_words.specs.Did.{raised, fresh, taken}
+use Rattle.posted_words.specs.Did.{times_raised, fresh, times_taken}
 use Rattle.posted_words.specs.Settled.{Bounded, Settled}
 use Rattle.posted_words.specs.Words.{Token, token, did_of, sweep_of}
 use Rattle.board_threads.specs.History.{Call}
 use Rattle.board_threads.specs.Sharing.{Acting}
-use Rattle.board_threads.specs.Sweeps.{is_refused, sweep_in, sweeps_of}
-use Rattle.board_threads.specs.Settling.{AreAllOf, AreAbsorbed, only_raises, listed, listed_out}
+use Rattle.board_threads.specs.Sweeps.{is_refusal, sweep_in, sweeps_of}
+use Rattle.board_threads.specs.Settling.{AreAllOf, AreAbsorbed, only_raises, calls_held, calls_given}
 use Rattle.board_threads.specs.declared.settling.ActorCalls.{ActorCalls}
 use Rattle.board_threads.proofs.Counting.{counted, sum-map}
 
@@ -31,7 +31,7 @@ one-sweep P (Read p number) r none some = none
 one-sweep P (Post port kind payload) r none some = none
 one-sweep P (Signal port flag) r none some = none
 one-sweep P (Assert p v) r none some = none
-one-sweep P (Absorb p part bits) r none some = elim (is_refused r) as (λ b. P (if b then [] else sweep_of p part bits ∷ [])) [
+one-sweep P (Absorb p part bits) r none some = elim (is_refusal r) as (λ b. P (if b then [] else sweep_of p part bits ∷ [])) [
   | true ↦ none
   | false ↦ some _ bits
 ]
@@ -51,32 +51,32 @@ module _ (w b : ℕ) where
   fresh-none [] = refl
   fresh-none (c ∷ calls) = one-sweep (λ l. fresh w b (l ++ flat_map swept calls) ≡ 0) c.0 c.1 (fresh-none calls) (λ _ _. let r = fresh-none calls in omega arith)
 
-  raised-none : (calls : List Call) → raised w b (flat_map swept calls) ≡ 0
+  raised-none : (calls : List Call) → times_raised w b (flat_map swept calls) ≡ 0
   raised-none [] = refl
-  raised-none (c ∷ calls) = one-sweep (λ l. raised w b (l ++ flat_map swept calls) ≡ 0) c.0 c.1 (raised-none calls) (λ _ _. let r = raised-none calls in omega arith)
+  raised-none (c ∷ calls) = one-sweep (λ l. times_raised w b (l ++ flat_map swept calls) ≡ 0) c.0 c.1 (raised-none calls) (λ _ _. let r = raised-none calls in omega arith)
 
-  taken-append : (xs ys : List Did) → taken w b (xs ++ ys) ≡ taken w b xs + taken w b ys
+  taken-append : (xs ys : List Did) → times_taken w b (xs ++ ys) ≡ times_taken w b xs + times_taken w b ys
   taken-append [] ys = omega arith
   taken-append (x ∷ xs) ys = let r = taken-append xs ys in omega arith
 
-  taken-flat : (calls : List Call) → taken w b (flat_map swept calls) ≡ sum_by (λ (c : Call). taken w b (swept c)) calls
+  taken-flat : (calls : List Call) → times_taken w b (flat_map swept calls) ≡ sum_by (λ (c : Call). times_taken w b (swept c)) calls
   taken-flat [] = refl
-  taken-flat (c ∷ calls) = omega (arith, taken-append (swept c) (flat_map swept calls), taken-flat calls, sum_by-cons (λ (d : Call). taken w b (swept d)) c calls)
+  taken-flat (c ∷ calls) = omega (arith, taken-append (swept c) (flat_map swept calls), taken-flat calls, sum_by-cons (λ (d : Call). times_taken w b (swept d)) c calls)
 
-  taken-all : (calls : List Call) → taken w b (sweeps_of calls) ≡ sum_by (λ (c : Call). taken w b (swept c)) calls
-  taken-all calls = taken-flat (reverse calls) ∙ sum_by-IsPermutation (λ (c : Call). taken w b (swept c)) calls (reverse calls) (IsPermutation-reverse calls)
+  taken-all : (calls : List Call) → times_taken w b (sweeps_of calls) ≡ sum_by (λ (c : Call). times_taken w b (swept c)) calls
+  taken-all calls = taken-flat (reverse calls) ∙ sum_by-IsPermutation (λ (c : Call). times_taken w b (swept c)) calls (reverse calls) (IsPermutation-reverse calls)
 
   -- a line takes nothing
-  only-raised : (log : List Did) → only_raises log ≡ true → taken w b log ≡ 0
+  only-raised : (log : List Did) → only_raises log ≡ true → times_taken w b log ≡ 0
   only-raised [] only = refl
   only-raised (Raise word bit fresh ∷ log) only = let r = only-raised log only in omega arith
   only-raised (Sweep word bits ∷ log) only = absurd (cc)
 
-  lines-take : (lines : List Token) → All (λ (t : Token). only_raises t.did ≡ true) lines → sum_by (taken w b) (map did_of lines) ≡ 0
+  lines-take : (lines : List Token) → All (λ (t : Token). only_raises t.did ≡ true) lines → sum_by (times_taken w b) (map did_of lines) ≡ 0
   lines-take [] only = refl
   lines-take (t ∷ lines) only =
       let P = λ (x : Token). only_raises x.did ≡ true in
-      omega (arith, only-raised t.did (All-head P t lines only), lines-take lines (All-tail P t lines only), sum_by-cons (taken w b) t.did (map did_of lines))
+      omega (arith, only-raised t.did (All-head P t lines only), lines-take lines (All-tail P t lines only), sum_by-cons (times_taken w b) t.did (map did_of lines))
 
 module _ {A : Type 0} where
   none : (f : A → ℕ) (xs : List A) → ((x : A) → f x ≡ 0) → sum_by f xs ≡ 0
@@ -94,29 +94,29 @@ abbrev IsOwn : Acting → Type 0
 IsOwn a = a.did ≡ sweeps_of a.calls
 
 -- the logs of the sweepers, by the lists that are handed out
-logs-are : (actors : List Acting) (ended : List ActorCalls) → map listed_out ended ≡ map listed actors → All IsOwn actors → map (λ (a : Acting). a.did) actors ≡ map log_of ended
+logs-are : (actors : List Acting) (ended : List ActorCalls) → map calls_given ended ≡ map calls_held actors → All IsOwn actors → map (λ (a : Acting). a.did) actors ≡ map log_of ended
 logs-are [] [] is own = refl
 logs-are [] (e ∷ ended) is own = absurd (cc)
 logs-are (a ∷ actors) [] is own = absurd (cc)
 logs-are (a ∷ actors) (e ∷ ended) is own =
-    let head : listed_out e ≡ listed a = cc in
-    let tail : map listed_out ended ≡ map listed actors = cc in
+    let head : calls_given e ≡ calls_held a = cc in
+    let tail : map calls_given ended ≡ map calls_held actors = cc in
     λ i. (All-head IsOwn a actors own ∙ ap (λ (x : ℕ × List Call). sweeps_of x.1) (sym head)) i ∷ logs-are actors ended tail (All-tail IsOwn a actors own) i
 
 dids : (actors : List Acting) → map did_of (map (λ (a : Acting). token a.of a.did) actors) ≡ map (λ (a : Acting). a.did) actors
 dids [] = refl
 dids (a ∷ actors) = ap (λ l. a.did ∷ l) (dids actors)
 
-some-fresh : (F T : ℕ → ℕ → ℕ) (w b : ℕ) (logs : List (List Did)) → All (Bounded F T) logs → 0 < sum_by (raised w b) logs → 0 < F w b
+some-fresh : (F T : ℕ → ℕ → ℕ) (w b : ℕ) (logs : List (List Did)) → All (Bounded F T) logs → 0 < sum_by (times_raised w b) logs → 0 < F w b
 some-fresh F T w b [] all some = absurd (omega arith)
-some-fresh F T w b (log ∷ logs) all some = one (raised w b log) refl (λ more. some-fresh F T w b logs (All-tail (Bounded F T) log logs all) more)
+some-fresh F T w b (log ∷ logs) all some = one (times_raised w b log) refl (λ more. some-fresh F T w b logs (All-tail (Bounded F T) log logs all) more)
   where
-    one : (n : ℕ) → n ≡ raised w b log → (0 < sum_by (raised w b) logs → 0 < F w b) → 0 < F w b
-    one zero is rest = rest (omega (arith, is, some, sum_by-cons (raised w b) log logs))
+    one : (n : ℕ) → n ≡ times_raised w b log → (0 < sum_by (times_raised w b) logs → 0 < F w b) → 0 < F w b
+    one zero is rest = rest (omega (arith, is, some, sum_by-cons (times_raised w b) log logs))
     one (suc n) is rest = let p = (All-head (Bounded F T) log logs all).raises w b (omega (arith, is)) in omega (arith, p)
 
 pub are-absorbed : (n : ℕ) (sweepers : List Token) (actors : List Acting) (ended : List ActorCalls) (lines : List Token) (h : List Entry) (standing : List ℕ)
-    → sweepers ≡ map (λ (a : Acting). token a.of a.did) actors → map listed_out ended ≡ map listed actors → All IsOwn actors → All (λ (t : Token). only_raises t.did ≡ true) lines
+    → sweepers ≡ map (λ (a : Acting). token a.of a.did) actors → map calls_given ended ≡ map calls_held actors → All IsOwn actors → All (λ (t : Token). only_raises t.did ≡ true) lines
     → AreAllOf h ended → length standing ≡ n → Settled n (map did_of (sweepers ++ lines)) standing → AreAbsorbed n (map did_of lines) h standing
 are-absorbed n sweepers actors ended lines h standing are out own only all width s =
     let logs = map log_of ended in
@@ -130,18 +130,18 @@ are-absorbed n sweepers actors ended lines h standing are out own only all width
             arith,
             settled.even w b lt,
             sum_by-append (fresh w b) logs (map did_of lines),
-            sum_by-append (taken w b) logs (map did_of lines),
+            sum_by-append (times_taken w b) logs (map did_of lines),
             sum-map (fresh w b) log_of ended,
             none (λ a. fresh w b (log_of a)) ended (λ a. fresh-none w b (reverse a.calls.items)),
             lines-take w b lines only,
-            sum-map (taken w b) log_of ended,
-            same (λ a. taken w b (log_of a)) (λ a. sum_by (λ (c : Call). taken w b (swept c)) a.calls.items) ended (λ a. taken-all w b a.calls.items),
-            counted (λ e r. taken w b (sweep_in e r)) h ended all,
+            sum-map (times_taken w b) log_of ended,
+            same (λ a. times_taken w b (log_of a)) (λ a. sum_by (λ (c : Call). times_taken w b (swept c)) a.calls.items) ended (λ a. taken-all w b a.calls.items),
+            counted (λ e r. times_taken w b (sweep_in e r)) h ended all,
           );
       some = λ w b raise.
           omega (
             arith,
-            some-fresh _ _ w b (logs ++ map did_of lines) settled.bounded (omega (arith, raise, sum_by-append (raised w b) logs (map did_of lines))),
+            some-fresh _ _ w b (logs ++ map did_of lines) settled.bounded (omega (arith, raise, sum_by-append (times_raised w b) logs (map did_of lines))),
             sum_by-append (fresh w b) logs (map did_of lines),
             sum-map (fresh w b) log_of ended,
             none (λ a. fresh w b (log_of a)) ended (λ a. fresh-none w b (reverse a.calls.items)),

@@ -15,7 +15,7 @@ use Rattle.board_threads.specs.Settling.{only_raises}
 use Rattle.board_threads.specs.Sweeps.{is_absorb}
 use Rattle.board_threads.specs.Judging.{is_bad_script, is_bad_raise, is_bad_line, has_bad_step}
 use Rattle.board_threads.specs.Crew.{raises_of, log_of, logs_of, HasEach, lists}
-use Rattle.board_threads.specs.Work.{IsNewActor, IsNewLine, IsThere, HasActed, HasRaised, HaveWorked}
+use Rattle.board_threads.specs.inside.Work.{IsNewActor, IsNewLine, IsThere, HasActed, HasRaised, HaveWorked}
 use Rattle.board_threads.specs.declared.script.Step.{Step}
 use Rattle.board_threads.specs.declared.script.Setup.{Setup}
 use Rattle.board_threads.specs.declared.script.Scripts.{Scripts}

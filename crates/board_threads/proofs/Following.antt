@@ -13,7 +13,7 @@ use Rattle.posted_words.specs.Answers.{is_fresh}
 use Rattle.posted_words.specs.Words.{raise_of}
 use Rattle.board_threads.specs.History.{Call}
 use Rattle.board_threads.specs.Sharing.{Acting, acting}
-use Rattle.board_threads.specs.Crew.{IsStep, Follows, acts, last_step, raises_of, log_of}
+use Rattle.board_threads.specs.Crew.{IsStep, AreSteps, acts, last_step, raises_of, log_of}
 use Rattle.board_threads.specs.declared.script.Step.{Step}
 use Rattle.board_threads.specs.declared.script.Step.TheVariants.{Act, Sweep}
 
@@ -28,7 +28,7 @@ module _ {A B : Type 0} (R : A → B → Type 0) where
 pub record GoesOn (steps : List Step) (start now : Acting) : Type 0 where
   pub of : now.of ≡ start.of
   pub number : now.number ≡ start.number
-  pub follows : Follows steps now.calls
+  pub follows : AreSteps steps now.calls
 
 went_on : (front more : List Step) (s : Step) (start old new : Acting) (e : Event) (r : Reply) (did : List Did) → more ≡ front ++ s ∷ [] → GoesOn front start old
     → new ≡ acting old.of old.number (old.calls ++ (e, r) ∷ []) did → IsStep s (e, r) → GoesOn more start new
@@ -54,13 +54,13 @@ pub performed : (front more : List Event) (e e' : Event) (start old new : Acting
 performed front more e e' start old new r did is was goes same = went_on (acts front) (acts more) (Act e) start old new e' r did (ap acts is ∙ map-append (λ x. Act x) front (e ∷ [])) was goes same
 
 -- by one of the last absorbs
-pub absorbed : (k : ℕ) (start old new : Acting) (calls more : List Call) (bits : ℕ) (r : Reply) (did : List Did) → old.calls ≡ calls ++ more → Follows (map last_step (range_with_len 0 k)) more
+pub absorbed : (k : ℕ) (start old new : Acting) (calls more : List Call) (bits : ℕ) (r : Reply) (did : List Did) → old.calls ≡ calls ++ more → AreSteps (map last_step (range_with_len 0 k)) more
     → new ≡ acting old.of old.number (old.calls ++ (Absorb (k / 4) (k % 4) bits, r) ∷ []) did
-    → (new.calls ≡ calls ++ (more ++ (Absorb (k / 4) (k % 4) bits, r) ∷ [])) × Follows (map last_step (range_with_len 0 (k + 1))) (more ++ (Absorb (k / 4) (k % 4) bits, r) ∷ [])
+    → (new.calls ≡ calls ++ (more ++ (Absorb (k / 4) (k % 4) bits, r) ∷ [])) × AreSteps (map last_step (range_with_len 0 (k + 1))) (more ++ (Absorb (k / 4) (k % 4) bits, r) ∷ [])
 absorbed k start old new calls more bits r did was follows goes =
     let c : Call = (Absorb (k / 4) (k % 4) bits, r) in (
       ap (λ (a : Acting). a.calls) goes ∙ ap (λ (l : List Call). l ++ c ∷ []) was ∙ append_assoc calls more (c ∷ []),
-      subst (λ (l : List Step). Follows l (more ++ c ∷ [])) (sym (map-range_with_len_more last_step 0 k k (omega arith))) (zip-push IsStep (map last_step (range_with_len 0 k)) more (last_step k) c follows (bits, refl)),
+      subst (λ (l : List Step). AreSteps l (more ++ c ∷ [])) (sym (map-range_with_len_more last_step 0 k k (omega arith))) (zip-push IsStep (map last_step (range_with_len 0 k)) more (last_step k) c follows (bits, refl)),
     )
 
 raises-push : (script : List (ℕ × ℕ)) (answers : List Raised) (s : ℕ × ℕ) (a : Raised) → length answers ≡ length script → raises_of (script ++ s ∷ []) (answers ++ a ∷ []) ≡ raises_of script answers ++ raise_of s.0 s.1 (is_fresh a) ∷ []

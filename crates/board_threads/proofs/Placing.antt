@@ -12,9 +12,9 @@ use Rattle.synic_board.specs.declared.event.Event.{Event}
 use Rattle.synic_board.specs.declared.history.Entry.{Entry}
 use Rattle.board_threads.specs.History.{Call, call_of, calls_by}
 use Rattle.board_threads.specs.Sharing.{Acting}
-use Rattle.board_threads.specs.Settling.{listed, listed_out}
-use Rattle.board_threads.specs.Crew.{Follows, acts, last_step, last_steps, EachFollows, IsCrewed, lists}
-use Rattle.board_threads.specs.Work.{HasActed, HasServed, InPlace}
+use Rattle.board_threads.specs.Settling.{calls_held, calls_given}
+use Rattle.board_threads.specs.Crew.{AreSteps, acts, last_step, last_steps, EachFollows, IsCrewed, lists}
+use Rattle.board_threads.specs.inside.Work.{HasActed, HasServed, InPlace}
 use Rattle.board_threads.specs.declared.script.Step.{Step}
 use Rattle.board_threads.specs.declared.script.Step.TheVariants.{Act}
 use Rattle.board_threads.specs.declared.settling.ActorCalls.{ActorCalls}
@@ -53,7 +53,7 @@ module _ {A : Type 0} where
   no-more [] ys zs e n = (refl, e)
   no-more (x ∷ xs) ys zs e n = absurd (omega (arith, ap (λ (l : List A). length l) e, length-append (x ∷ xs) ys))
 
-same-length : (steps : List Step) (calls : List Call) → Follows steps calls → length calls ≡ length steps
+same-length : (steps : List Step) (calls : List Call) → AreSteps steps calls → length calls ≡ length steps
 same-length [] [] f = refl
 same-length [] (c ∷ calls) f = absurd f
 same-length (s ∷ steps) [] f = absurd f
@@ -67,7 +67,7 @@ between-calls n first between last some f l =
 others-between : (n : ℕ) (scripts : List (List Step)) (h first between last : List Entry) → 0 < n → h ≡ first ++ (between ++ last) → All IsMain first → All IsMain last → EachFollows n scripts h → EachFollows n scripts between
 others-between n [] h first between last some is f l each = tt
 others-between n (s ∷ scripts) h first between last some is f l each =
-    (subst (Follows s) (ap (calls_by n) is ∙ between-calls n first between last some f l) each.0, others-between (n + 1) scripts h first between last (omega arith) is f l each.1)
+    (subst (AreSteps s) (ap (calls_by n) is ∙ between-calls n first between last some f l) each.0, others-between (n + 1) scripts h first between last (omega arith) is f l each.1)
 
 -- what actor 0 did stands at the ends, and the others' scripts between
 pub crewed : (name : TableId) (n : ℕ) (setup : List Event) (scripts : List (List Step)) (h : List Entry) (main : Acting) → InPlace (length setup) (4 * n) h → HasServed name n setup main
@@ -86,8 +86,8 @@ crewed name n setup scripts h main place served own each =
       between = between;
       last = last;
       is = place.is;
-      begins = record { number = place.main_first; follow = subst (Follows (acts setup)) (sym cut.0) served.begins };
-      ends = record { number = place.main_last; follow = subst (Follows (last_steps n)) (sym rest.1) served.ends };
+      begins = record { number = place.main_first; follow = subst (AreSteps (acts setup)) (sym cut.0) served.begins };
+      ends = record { number = place.main_last; follow = subst (AreSteps (last_steps n)) (sym rest.1) served.ends };
       main = rest.0;
       others = others-between 1 scripts h first between last (omega arith) place.is place.main_first place.main_last each;
     }
@@ -96,15 +96,15 @@ abbrev pub StandsIn : List Entry → Acting → Type 0
 StandsIn h a = calls_by a.number h ≡ a.calls
 
 -- the entries of each actor are its calls, as it had them
-pub stand : (h : List Entry) (ended : List ActorCalls) (actors : List Acting) → map listed_out ended ≡ map listed actors → All (λ (a : ActorCalls). calls_by a.number h ≡ a.calls.items) ended → All (StandsIn h) actors
+pub stand : (h : List Entry) (ended : List ActorCalls) (actors : List Acting) → map calls_given ended ≡ map calls_held actors → All (λ (a : ActorCalls). calls_by a.number h ≡ a.calls.items) ended → All (StandsIn h) actors
 stand h [] [] is own k d lt = absurd (omega arith)
 stand h [] (a ∷ actors) is own k d lt = absurd (cc)
 stand h (e ∷ ended) [] is own k d lt = absurd (omega arith)
 stand h (e ∷ ended) (a ∷ actors) is own zero d lt =
-    let head : listed_out e ≡ listed a = cc in
+    let head : calls_given e ≡ calls_held a = cc in
     ap (λ (x : ℕ × List Call). calls_by x.0 h) (sym head) ∙ All-head (λ (b : ActorCalls). calls_by b.number h ≡ b.calls.items) e ended own ∙ ap (λ (x : ℕ × List Call). x.1) head
 stand h (e ∷ ended) (a ∷ actors) is own (suc k) d lt =
-    let tail : map listed_out ended ≡ map listed actors = cc in
+    let tail : map calls_given ended ≡ map calls_held actors = cc in
     stand h ended actors tail (All-tail (λ (b : ActorCalls). calls_by b.number h ≡ b.calls.items) e ended own) k d (omega arith)
 
 -- each script stands in the history, by the actor of its place
@@ -116,13 +116,13 @@ each-stands name n (s ∷ scripts) [] h numbers acted own = absurd acted
 each-stands name n (s ∷ scripts) (a ∷ others) h numbers acted own =
     let head : a.number ≡ n = cc in
     let tail : map (λ (b : Acting). b.number) others ≡ range_with_len (n + 1) (length scripts) = cc in
-    (subst (Follows s.items) (sym (All-head (StandsIn h) a others own) ∙ ap (λ k. calls_by k h) head) acted.0.follows, each-stands name (n + 1) scripts others h tail acted.1 (All-tail (StandsIn h) a others own))
+    (subst (AreSteps s.items) (sym (All-head (StandsIn h) a others own) ∙ ap (λ k. calls_by k h) head) acted.0.follows, each-stands name (n + 1) scripts others h tail acted.1 (All-tail (StandsIn h) a others own))
 
-pub numbers-are : (ended : List ActorCalls) (actors : List Acting) → map listed_out ended ≡ map listed actors → map (λ (a : ActorCalls). a.number) ended ≡ map (λ (a : Acting). a.number) actors
+pub numbers-are : (ended : List ActorCalls) (actors : List Acting) → map calls_given ended ≡ map calls_held actors → map (λ (a : ActorCalls). a.number) ended ≡ map (λ (a : Acting). a.number) actors
 numbers-are [] [] is = refl
 numbers-are [] (a ∷ actors) is = absurd (cc)
 numbers-are (e ∷ ended) [] is = absurd (cc)
 numbers-are (e ∷ ended) (a ∷ actors) is =
-    let head : listed_out e ≡ listed a = cc in
-    let tail : map listed_out ended ≡ map listed actors = cc in
+    let head : calls_given e ≡ calls_held a = cc in
+    let tail : map calls_given ended ≡ map calls_held actors = cc in
     λ i. ap (λ (x : ℕ × List Call). x.0) head i ∷ numbers-are ended actors tail i

@@ -4,9 +4,9 @@ use Rattle.std.specs.List.{AllZip}
 use Rattle.atomic_table.specs.Seated.{TableId}
 use Rattle.posted_words.specs.declared.line.Raised.{Raised}
 use Rattle.posted_words.specs.Words.{Token}
-use Rattle.board_threads.specs.Crew.{Follows, log_of}
+use Rattle.board_threads.specs.Crew.{AreSteps, log_of}
 use Rattle.board_threads.specs.Sharing.{Acting}
-use Rattle.board_threads.specs.Work.{HasActed, HasRaised}
+use Rattle.board_threads.specs.inside.Work.{HasActed, HasRaised}
 use Rattle.board_threads.specs.declared.script.Step.{Step}
 
 abbrev pub pair : {A B : Type 0} → A → B → A × B
@@ -38,7 +38,7 @@ module _ (name name' : TableId) where
   acted n script s a is h = record {
     of = h.of ∙ ap (λ (p : TableId × List Step). p.0) is;
     same = refl;
-    follows = subst (λ (l : List Step). Follows l a.calls) (ap (λ (p : TableId × List Step). p.1) is) h.follows;
+    follows = subst (λ (l : List Step). AreSteps l a.calls) (ap (λ (p : TableId × List Step). p.1) is) h.follows;
   }
 
   pub raised : (script : List (ℕ × ℕ)) (s : Vec (ℕ × ℕ) Global) (x : Token × Vec Raised Global) → pair name' script ≡ pair name s.items → HasRaised name' script x.0 x.1.items → HasRaised name s.items x.0 x.1.items

@@ -15,7 +15,7 @@ use Rattle.synic_board.specs.declared.event.Reply.TheVariants.{Done}
 use Rattle.posted_words.specs.declared.rule.Did.{Did}
 use Rattle.posted_words.specs.Words.{sweep_of}
 use Rattle.board_threads.specs.History.{Call}
-use Rattle.board_threads.specs.Sweeps.{is_absorb, is_refused, sweep_in, sweeps_of}
+use Rattle.board_threads.specs.Sweeps.{is_absorb, is_refusal, sweep_in, sweeps_of}
 
 sweeps-push : (calls : List Call) (e : Event) (r : Reply) → sweeps_of (calls ++ (e, r) ∷ []) ≡ sweep_in e r ++ sweeps_of calls
 sweeps-push calls e r = ap (flat_map (λ (c : Call). sweep_in c.0 c.1)) (reverse-append calls ((e, r) ∷ []))
@@ -55,18 +55,18 @@ absorb-sweeps s n vp part bits r ds is many =
     ap (λ x. sweep_in (Absorb vp part bits) x ++ ds) is ∙ by-cases s (nat_lt vp (processors s)) (nat_le part 3) (absorbed_below s vp part bits 64) vp part bits ds
     ∙ ap (λ m. if nat_lt vp m && nat_le part 3 then sweep_of vp part bits ∷ ds else ds) many
 
-refused-by-cases : (s : State) (a b : Bool) (e : Effect) → is_refused (if a then (if b then answered Done e else refused s BadTarget) else refused s NoSuchProcessor).1 ≡ true → (a && b) ≡ false
+refused-by-cases : (s : State) (a b : Bool) (e : Effect) → is_refusal (if a then (if b then answered Done e else refused s BadTarget) else refused s NoSuchProcessor).1 ≡ true → (a && b) ≡ false
 refused-by-cases s true true e h = absurd (cc)
 refused-by-cases s true false e h = refl
 refused-by-cases s false b e h = refl
 
 -- no word of a refused absorb is there
 pub refused-absorb : (s : State) (n vp part bits : ℕ) (r : Reply) → r ≡ (step s (Absorb vp part bits)).1 → processors s ≡ n
-    → is_refused r ≡ true → (nat_lt vp n && nat_le part 3) ≡ false
+    → is_refusal r ≡ true → (nat_lt vp n && nat_le part 3) ≡ false
 unfolding step
 refused-absorb s n vp part bits r is many h =
     ap (λ m. nat_lt vp m && nat_le part 3) (sym many)
-    ∙ refused-by-cases s (nat_lt vp (processors s)) (nat_le part 3) (absorbed_below s vp part bits 64) (ap is_refused (sym is) ∙ h)
+    ∙ refused-by-cases s (nat_lt vp (processors s)) (nat_le part 3) (absorbed_below s vp part bits 64) (ap is_refusal (sym is) ∙ h)
 
 pub absorb-pushes : (old new : List Call) (s : State) (n vp part bits : ℕ) (r : Reply) (ds ds' : List Did) → ds ≡ sweeps_of old
     → ds' ≡ (if nat_lt vp n && nat_le part 3 then sweep_of vp part bits ∷ ds else ds)

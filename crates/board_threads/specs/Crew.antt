@@ -19,8 +19,8 @@ IsStep (Act e) c = c.0 ≡ e
 IsStep (Sweep vp part) c = (bits : ℕ) × (c.0 ≡ Absorb vp part bits)
 
 -- calls are a script, step by step
-abbrev pub Follows : List Step → List Call → Type 0
-Follows = AllZip IsStep
+abbrev pub AreSteps : List Step → List Call → Type 0
+AreSteps = AllZip IsStep
 
 abbrev pub acts : List Event → List Step
 acts = map (λ e. Act e)
@@ -59,12 +59,12 @@ lists {A} = map (λ (v : Vec A Global). v.items)
 -- the calls of the actors from n on are their scripts
 abbrev pub EachFollows : ℕ → List (List Step) → List Entry → Type 0
 EachFollows n [] history = Unit {0}
-EachFollows n (s ∷ scripts) history = Follows s (calls_by n history) × EachFollows (n + 1) scripts history
+EachFollows n (s ∷ scripts) history = AreSteps s (calls_by n history) × EachFollows (n + 1) scripts history
 
 -- entries by actor 0 that are these steps
 pub record AreMain (steps : List Step) (entries : List Entry) : Type 0 where
   pub number : All (λ (e : Entry). e.actor ≡ 0) entries
-  pub follow : Follows steps (map call_of entries)
+  pub follow : AreSteps steps (map call_of entries)
 
 -- the history of a crew: the setup, then all scripts in whatever order their calls came, then the last absorbs
 pub record IsCrewed (processors : ℕ) (setup : List Event) (scripts : List (List Step)) (history : List Entry) : Type 0 where

@@ -4,4 +4,4 @@ pub mod Sharing
 pub mod Settling
 pub mod Judging
 pub mod Crew
-pub mod Work
+pub mod inside

@@ -7,10 +7,10 @@ use Rattle.synic_board.specs.History.{IsLegal, leads_to}
 use Rattle.synic_board.specs.declared.history.Entry.{Entry}
 use Rattle.posted_words.specs.declared.rule.Did.{Did}
 use Rattle.posted_words.specs.declared.rule.Did.TheVariants.{Raise, Sweep}
-use Rattle.posted_words.specs.Did.{raised}
+use Rattle.posted_words.specs.Did.{times_raised}
 use Rattle.posted_words.specs.Settled.{all_fresh}
 use Rattle.board_threads.specs.History.{Call, calls_by}
-use Rattle.board_threads.specs.Sweeps.{absorbed}
+use Rattle.board_threads.specs.Sweeps.{times_absorbed}
 use Rattle.board_threads.specs.Sharing.{Acting}
 use Rattle.board_threads.specs.declared.settling.ActorCalls.{ActorCalls}
 use Rattle.board_threads.specs.declared.settling.Ended.{Ended}
@@ -40,9 +40,9 @@ pub record IsSettled (start : State) (e : Ended) : Type 0 where
 pub record AreAbsorbed (n : ℕ) (logs : List (List Did)) (history : List Entry) (standing : List ℕ) : Type 0 where
   pub words : length standing ≡ n
   -- each Fresh answer was absorbed once, or stands
-  pub even : (w b : ℕ) → w < n → all_fresh logs w b ≡ absorbed w b history + bit_at (slice_index standing w) b
+  pub even : (w b : ℕ) → w < n → all_fresh logs w b ≡ times_absorbed w b history + bit_at (slice_index standing w) b
   -- and where a line raised at all, some answer was Fresh
-  pub some : (w b : ℕ) → 0 < sum_by (raised w b) logs → 0 < all_fresh logs w b
+  pub some : (w b : ℕ) → 0 < sum_by (times_raised w b) logs → 0 < all_fresh logs w b
 
 -- a line has swept nothing
 abbrev pub only_raises : List Did → Bool
@@ -51,8 +51,8 @@ only_raises (Raise word bit fresh ∷ log) = only_raises log
 only_raises (Sweep word bits ∷ log) = false
 
 -- the number and the calls, as an actor has them and as they are handed out
-abbrev pub listed : Acting → ℕ × List Call
-listed a = (a.number, a.calls)
+abbrev pub calls_held : Acting → ℕ × List Call
+calls_held a = (a.number, a.calls)
 
-abbrev pub listed_out : ActorCalls → ℕ × List Call
-listed_out a = (a.number, a.calls.items)
+abbrev pub calls_given : ActorCalls → ℕ × List Call
+calls_given a = (a.number, a.calls.items)

@@ -2,8 +2,8 @@
 use Rattle.std.specs.Prelude.{ℕ, List, []}
 use Rattle.atomic_table.specs.Seated.{TableId}
 use Rattle.posted_words.specs.declared.rule.Did.{Did}
-use Rattle.posted_words.specs.Words.{Words, AreSizes as AreWordSizes}
-use Rattle.synic_board.specs.State.{State, opened, AreSizes as AreBoardSizes}
+use Rattle.posted_words.specs.Words.{Words, AreWordSizes}
+use Rattle.synic_board.specs.State.{State, opened, AreSharedSizes as AreBoardSizes}
 use Rattle.board_threads.specs.History.{Call}
 
 -- the posted words, and what else the board was opened with
@@ -20,7 +20,7 @@ abbrev pub start : Sharing → State
 start s = opened s.words.processors s.pages s.first_ticket
 
 -- the sizes that a shared board may be opened with: those of a board and of its posted words, which each actor sweeps
-pub record AreSizes (processors pages actors lines : ℕ) : Type 0 where
+pub record AreSharedSizes (processors pages actors lines : ℕ) : Type 0 where
   pub board : AreBoardSizes processors pages
   pub words : AreWordSizes processors actors lines
 

@@ -7,7 +7,7 @@ use Rattle.synic_board.specs.declared.event.Reply.{Reply}
 use Rattle.synic_board.specs.declared.event.Reply.TheVariants.{Refused}
 use Rattle.synic_board.specs.declared.history.Entry.{Entry}
 use Rattle.posted_words.specs.declared.rule.Did.{Did}
-use Rattle.posted_words.specs.Did.{taken}
+use Rattle.posted_words.specs.Did.{times_taken}
 use Rattle.posted_words.specs.Words.{sweep_of}
 use Rattle.board_threads.specs.History.{Call}
 
@@ -15,13 +15,13 @@ abbrev pub is_absorb : Event → Bool
 is_absorb (Absorb vp part bits) = true
 is_absorb _ = false
 
-abbrev pub is_refused : Reply → Bool
-is_refused (Refused refusal) = true
-is_refused _ = false
+abbrev pub is_refusal : Reply → Bool
+is_refusal (Refused refusal) = true
+is_refusal _ = false
 
 -- an absorb swept its word, unless it was refused
 abbrev pub sweep_in : Event → Reply → List Did
-sweep_in (Absorb vp part bits) reply = if is_refused reply then [] else sweep_of vp part bits ∷ []
+sweep_in (Absorb vp part bits) reply = if is_refusal reply then [] else sweep_of vp part bits ∷ []
 sweep_in _ reply = []
 
 -- the sweeps among calls, the last first
@@ -29,5 +29,5 @@ abbrev pub sweeps_of : List Call → List Did
 sweeps_of calls = flat_map (λ (c : Call). sweep_in c.0 c.1) (reverse calls)
 
 -- how often the bit b of the word w was absorbed: the absorbs that were not refused and had it
-abbrev pub absorbed : ℕ → ℕ → List Entry → ℕ
-absorbed w b history = sum_by (λ (e : Entry). taken w b (sweep_in e.event e.reply)) history
+abbrev pub times_absorbed : ℕ → ℕ → List Entry → ℕ
+times_absorbed w b history = sum_by (λ (e : Entry). times_taken w b (sweep_in e.event e.reply)) history

@@ -3,7 +3,7 @@ ghost use Rattle.std.specs.Prelude.{◌≡◌, ℕ, ◌<◌, true, false, Err, [
 ghost use Rattle.posted_words.specs.Words.{token, sweep_of};
 ghost use Rattle.synic_board.specs.declared.event.Event.TheVariants.{Absorb};
 ghost use Rattle.board_threads.specs.History.{entry};
-ghost use Rattle.board_threads.specs.Sweeps.{is_absorb, is_refused, sweep_in, sweeps_of};
+ghost use Rattle.board_threads.specs.Sweeps.{is_absorb, is_refusal, sweep_in, sweeps_of};
 ghost use Rattle.board_threads.specs.Sharing.{acting};
 
 use crate::recorded::{MOST, Recorded};
@@ -127,7 +127,7 @@ impl Actor {
     ) -> Result<Reply, CallFault>
         requires { self.old.of ≡ words.now.name }
         ensures ok { IfOk result (λ r. (bits : ℕ) × (self.new ≡ acting self.old.of self.old.number (self.old.calls ++ (Absorb vp part bits, r) ∷ []) (sweep_in (Absorb vp part bits) r ++ self.old.did))) }
-        ensures refused { IfOk result (λ r. is_refused r ≡ true → self.new.calls ≡ self.old.calls ++ (Absorb vp part 0, r) ∷ []) }
+        ensures refused { IfOk result (λ r. is_refusal r ≡ true → self.new.calls ≡ self.old.calls ++ (Absorb vp part 0, r) ∷ []) }
         ensures fault { OnErr result (self.new ≡ self.old) }
         ensures unchanged { OnErr result (recorded.new.history.items ≡ recorded.old.history.items) }
         ensures event { ¬ (IsErrOf result CallFault.AbsorbEvent) }

@@ -9,7 +9,7 @@ ghost use Rattle.board_threads.specs.Sharing.{new_actor};
 ghost use Rattle.board_threads.specs.Settling.{IsSettled, AreAbsorbed};
 ghost use Rattle.board_threads.specs.Judging.{IsSized, has_bad_step};
 ghost use Rattle.board_threads.specs.Crew.{IsCrewed, HasEach, lists, logs_of};
-ghost use Rattle.board_threads.specs.Work.{IsNewLine, HaveWorked};
+ghost use Rattle.board_threads.specs.inside.Work.{IsNewLine, HaveWorked};
 
 use crate::actor::Actor;
 use crate::fault::WorkFault;

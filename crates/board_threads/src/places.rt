@@ -1,6 +1,6 @@
 // Where the setup and the last absorbs stand in a history.
 ghost use Rattle.std.specs.Prelude.{◌≡◌, IsTrue, All};
-ghost use Rattle.board_threads.specs.Work.{InPlace};
+ghost use Rattle.board_threads.specs.inside.Work.{InPlace};
 
 use synic_board::Entry;
 

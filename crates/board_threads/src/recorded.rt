@@ -1,7 +1,8 @@
 // What lies under the lock.
 ghost use base.Stored.{Coded-set};
 ghost use Rattle.std.specs.Prelude.{◌≡◌, ◌<◌, [], ◌∷◌, ◌++◌, vec_len, vec_capacity, IfOk};
-ghost use Rattle.synic_board.specs.State.{AreSizes, opened, state_code};
+ghost use Rattle.synic_board.specs.State.{AreSizes, opened};
+ghost use Rattle.synic_board.specs.inside.Codes.{state_code};
 ghost use Rattle.synic_board.specs.Step.{step};
 ghost use Rattle.synic_board.specs.History.{IsLegal, leads_to};
 ghost use Rattle.board_threads.specs.History.{entry};

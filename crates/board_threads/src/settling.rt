@@ -4,7 +4,7 @@ ghost use Rattle.std.specs.List.{sum_by};
 ghost use Rattle.posted_words.specs.Words.{token};
 ghost use Rattle.board_threads.specs.History.{calls_by};
 ghost use Rattle.board_threads.specs.Sweeps.{sweeps_of};
-ghost use Rattle.board_threads.specs.Settling.{HaveOwnNumbers, AreAllOf, listed, listed_out};
+ghost use Rattle.board_threads.specs.Settling.{HaveOwnNumbers, AreAllOf, calls_held, calls_given};
 ghost use Rattle.board_threads.specs.Sharing.{Acting};
 
 use crate::actor::Actor;
@@ -47,7 +47,7 @@ pub(crate) fn split_all(
     actors: Vec<Actor>,
 ) -> Result<(Vec<Sweeper>, Vec<ActorCalls>), AllocError>
     ensures sweepers { IfOk result (λ r. r.0.items ≡ map (λ (a : Acting). token a.of a.did) actors.items) }
-    ensures actors { IfOk result (λ r. map listed_out r.1.items ≡ map listed actors.items) }
+    ensures actors { IfOk result (λ r. map calls_given r.1.items ≡ map calls_held actors.items) }
     ensures sweeps { IfOk result (λ _. All (λ (a : Acting). a.did ≡ sweeps_of a.calls) actors.items) }
 {
     let mut sweepers = Vec::new(alloc);

@@ -3,11 +3,11 @@ ghost use Rattle.std.specs.Prelude.{◌≡◌, ◌↔◌, ℕ, ◌*◌, ◌<◌,
 ghost use Rattle.std.specs.List.{range_with_len};
 ghost use Rattle.atomic_table.specs.Seated.{TableId};
 ghost use Rattle.synic_board.specs.declared.event.Event.TheVariants.{Absorb};
-ghost use Rattle.posted_words.specs.Words.{words, token, after, raise_of, did_of};
+ghost use Rattle.posted_words.specs.Words.{shared_words, token, with_last_step, raise_of, did_of};
 ghost use Rattle.posted_words.specs.Answers.{is_fresh};
-ghost use Rattle.board_threads.specs.Sharing.{AreSizes, sharing, start, acting, new_actor};
-ghost use Rattle.board_threads.specs.Sweeps.{is_absorb, is_refused, sweep_in};
-ghost use Rattle.board_threads.specs.Settling.{IsSettled, AreAbsorbed, only_raises, listed, listed_out};
+ghost use Rattle.board_threads.specs.Sharing.{AreSharedSizes, sharing, start, acting, new_actor};
+ghost use Rattle.board_threads.specs.Sweeps.{is_absorb, is_refusal, sweep_in};
+ghost use Rattle.board_threads.specs.Settling.{IsSettled, AreAbsorbed, only_raises, calls_held, calls_given};
 
 use crate::actor::{Actor, CallFault};
 use crate::recorded::{Opening, Recorded};
@@ -41,7 +41,7 @@ impl Model for SharedBoard {
 }
 
 fn are_sizes(processors: u8, pages: u8, actors: u8, lines: u8) -> bool
-    ensures { IsTrue result ↔ AreSizes processors pages actors lines }
+    ensures { IsTrue result ↔ AreSharedSizes processors pages actors lines }
 {
     let is_board = 1 <= processors && processors <= 8 && 1 <= pages && pages <= 64;
     is_board && 1 <= actors && actors <= 16 && lines <= 16
@@ -79,8 +79,8 @@ impl SharedBoard {
         actors: u8,
         lines: u8,
     ) -> Result<(SharedBoard, Vec<Actor>, Vec<Line>), OpenFault>
-        ensures size { IsErrOf result OpenFault.BadSize ↔ (¬ AreSizes processors pages actors lines) }
-        ensures board { IfOk result (λ r. r.0 ≡ sharing (words r.0.words.name processors actors lines) pages first_ticket) }
+        ensures size { IsErrOf result OpenFault.BadSize ↔ (¬ AreSharedSizes processors pages actors lines) }
+        ensures board { IfOk result (λ r. r.0 ≡ sharing (shared_words r.0.words.name processors actors lines) pages first_ticket) }
         ensures actors { IfOk result (λ r. r.1.items ≡ map (new_actor r.0.words.name) (range_with_len 0 actors)) }
         ensures lines { IfOk result (λ r. r.2.items ≡ replicate lines (token r.0.words.name [])) }
     {
@@ -156,7 +156,7 @@ impl SharedBoard {
     ) -> Result<Reply, CallFault>
         requires own { actor.old.of ≡ self.now.words.name }
         ensures ok { IfOk result (λ r. (bits : ℕ) × (actor.new ≡ acting actor.old.of actor.old.number (actor.old.calls ++ (Absorb vp part bits, r) ∷ []) (sweep_in (Absorb vp part bits) r ++ actor.old.did))) }
-        ensures refused { IfOk result (λ r. is_refused r ≡ true → actor.new.calls ≡ actor.old.calls ++ (Absorb vp part 0, r) ∷ []) }
+        ensures refused { IfOk result (λ r. is_refusal r ≡ true → actor.new.calls ≡ actor.old.calls ++ (Absorb vp part 0, r) ∷ []) }
         ensures fault { OnErr result (actor.new ≡ actor.old) }
         ensures event { ¬ (IsErrOf result CallFault.AbsorbEvent) }
     {
@@ -169,7 +169,7 @@ impl SharedBoard {
     pub fn raise(&self, line: &mut Line, vp: Vp, vector: Vector) -> Raised
         requires own { line.old.of ≡ self.now.words.name }
         requires there { vp < self.now.words.processors }
-        ensures { line.new ≡ after line.old (raise_of vp vector (is_fresh result)) }
+        ensures { line.new ≡ with_last_step line.old (raise_of vp vector (is_fresh result)) }
     {
         self.words.raise(line, vp, vector)
     }
@@ -182,7 +182,7 @@ impl SharedBoard {
         requires lines { All (λ l. l.of ≡ self.words.name) lines.items }
         requires raises { All (λ l. only_raises l.did ≡ true) lines.items }
         ensures settled { IfOk result (IsSettled (start self)) }
-        ensures actors { IfOk result (λ e. map listed_out e.actors.items ≡ map listed actors.items) }
+        ensures actors { IfOk result (λ e. map calls_given e.actors.items ≡ map calls_held actors.items) }
         ensures raises { IfOk result (λ e. AreAbsorbed (4 * self.words.processors) (map did_of lines.items) e.history.items e.standing) }
     {
         let SharedBoard {

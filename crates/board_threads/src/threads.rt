@@ -8,7 +8,7 @@ ghost use Rattle.board_threads.specs.declared.script.Step.{Step};
 ghost use Rattle.std.specs.List.{AllZip};
 ghost use Rattle.std.specs.Thread.{IsSync};
 ghost use Rattle.atomic_table.specs.Seated.{TableId};
-ghost use Rattle.board_threads.specs.Work.{IsNewActor, IsNewLine, IsThere, HasActed, HasRaised};
+ghost use Rattle.board_threads.specs.inside.Work.{IsNewActor, IsNewLine, IsThere, HasActed, HasRaised};
 
 use crate::actor::Actor;
 use crate::fault::WorkFault;
@@ -33,7 +33,7 @@ pub(crate) struct Acts<'a> {
 
 impl<'a> Promise<Result<Actor, WorkFault>> for Acts<'a> {
     ghost use Rattle.std.specs.Prelude.{IfOk};
-    ghost use Rattle.board_threads.specs.Work.{HasActed};
+    ghost use Rattle.board_threads.specs.inside.Work.{HasActed};
 
     ghost kept_by = { λ p r. IfOk r (HasActed p.board.now.words.name p.number p.script.now) };
 }
@@ -47,7 +47,7 @@ pub(crate) struct Raises<'a> {
 
 impl<'a> Promise<Result<(Line, Vec<Raised>), WorkFault>> for Raises<'a> {
     ghost use Rattle.std.specs.Prelude.{IfOk};
-    ghost use Rattle.board_threads.specs.Work.{HasRaised};
+    ghost use Rattle.board_threads.specs.inside.Work.{HasRaised};
 
     ghost kept_by = { λ p r. IfOk r (λ x. HasRaised p.board.now.words.name p.script.now x.0 x.1.items) };
 }

@@ -1,8 +1,8 @@
 // What actor 0 and the workers do, each in its thread.
 ghost use Rattle.std.specs.Prelude.{◌≡◌, ◌<◌, ◌≤◌, ◌++◌, [], List, IfOk};
 ghost use Rattle.board_threads.specs.History.{Call};
-ghost use Rattle.board_threads.specs.Crew.{Follows, acts, last_steps};
-ghost use Rattle.board_threads.specs.Work.{IsThere, HasActed, HasRaised};
+ghost use Rattle.board_threads.specs.Crew.{AreSteps, acts, last_steps};
+ghost use Rattle.board_threads.specs.inside.Work.{IsThere, HasActed, HasRaised};
 
 use crate::actor::{Actor, CallFault};
 use crate::fault::WorkFault;
@@ -25,7 +25,7 @@ pub(crate) fn perform_all<R: Wait>(
     requires new { actor.calls ≡ [] }
     ensures of { IfOk result (λ a. a.of ≡ actor.of) }
     ensures number { IfOk result (λ a. a.number ≡ actor.number) }
-    ensures calls { IfOk result (λ a. Follows (acts events.now) a.calls) }
+    ensures calls { IfOk result (λ a. AreSteps (acts events.now) a.calls) }
 {
     for event in events {
         board.perform(rt, &mut actor, event.copy())?;
@@ -43,7 +43,7 @@ pub(crate) fn absorb_all<R: Wait>(
     requires few { board.now.words.processors ≤ 8 }
     ensures of { IfOk result (λ a. a.of ≡ actor.of) }
     ensures number { IfOk result (λ a. a.number ≡ actor.number) }
-    ensures calls { IfOk result (λ a. (more : List Call) × (a.calls ≡ actor.calls ++ more) × Follows (last_steps board.now.words.processors) more) }
+    ensures calls { IfOk result (λ a. (more : List Call) × (a.calls ≡ actor.calls ++ more) × AreSteps (last_steps board.now.words.processors) more) }
 {
     for place in 0..4 * board.processors() {
         board.absorb(rt, &mut actor, place / 4, place % 4)?;

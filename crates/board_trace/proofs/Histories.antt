@@ -3,7 +3,7 @@ use Rattle.std.proofs.Common.{◌≡◌, ℕ, get_or, arith, List, [], ◌∷◌
 use Rattle.std.specs.List.{All}
 use Rattle.std.proofs.lemmas.List.{append_cancel_left}
 use Rattle.std.proofs.lemmas.List.Elements.{All-head, All-tail}
-use Rattle.board_text.specs.Fields.{fields_of, words, line_of}
+use Rattle.board_text.specs.Fields.{fields_of, spaced, line_of}
 use Rattle.synic_board.specs.State.{State, opened}
 use Rattle.synic_board.specs.Step.{step}
 use Rattle.synic_board.specs.Run.{run_of}
@@ -19,7 +19,7 @@ use Rattle.board_lines.proofs.WrittenLemmas.{board-written}
 use Rattle.board_trace.specs.declared.format.Format.{Format}
 use Rattle.board_trace.specs.declared.format.Format.TheVariants.{One, Two}
 use Rattle.board_trace.specs.Trace.{IsEntry, IsTrace, title_fields, entry_fields, end_fields, history_lines}
-use Rattle.board_trace.specs.Stages.{entry_at, board_at}
+use Rattle.board_trace.specs.inside.Stages.{entry_at, board_at}
 use Rattle.board_text.proofs.PlainWords.{IsWritten}
 use Rattle.board_trace.proofs.Written.{entry-written, title-written, end-written, entry-reads, end-no_entry, board-reads}
 use Rattle.board_trace.proofs.StageLemmas.{first_line, text-line}
@@ -32,22 +32,22 @@ abbrev closed : Format → List Entry → ℕ → ℕ → Lines
 closed f history n next = history_lines history ++ end_fields f n next ∷ []
 
 -- texts that are the same begin with the same line
-same-first : (f g : List (List ℕ)) (more rest : Lines) → IsWritten f → IsWritten g → text_of (f ∷ more) ≡ text_of (g ∷ rest) → (words f ≡ words g) × (text_of more ≡ text_of rest)
-same-first f g more rest wf wg text = first_line (words f) (text_of more) (words g) (text_of rest) wf.one wg.one (sym (text-line f more) ∙ text ∙ text-line g rest)
+same-first : (f g : List (List ℕ)) (more rest : Lines) → IsWritten f → IsWritten g → text_of (f ∷ more) ≡ text_of (g ∷ rest) → (spaced f ≡ spaced g) × (text_of more ≡ text_of rest)
+same-first f g more rest wf wg text = first_line (spaced f) (text_of more) (spaced g) (text_of rest) wf.one wg.one (sym (text-line f more) ∙ text ∙ text-line g rest)
 
 same-entry : (x y : Entry) → x.actor ≡ y.actor → x.event ≡ y.event → x.reply ≡ y.reply → x ≡ y
 same-entry x y actor event reply =
     ap (λ (a : ℕ). record x { actor = a }) actor ∙ ap (λ (v : Event). record x { actor = y.actor; event = v }) event ∙ ap (λ (r : Reply). record y { reply = r }) reply
 
 -- an entry's line is that of one actor and one event
-same-actor : (f : Format) (x y : Entry) → IsEntry f x → IsEntry f y → words (entry_fields x.actor x.event) ≡ words (entry_fields y.actor y.event) → x.actor ≡ y.actor
+same-actor : (f : Format) (x y : Entry) → IsEntry f x → IsEntry f y → spaced (entry_fields x.actor x.event) ≡ spaced (entry_fields y.actor y.event) → x.actor ≡ y.actor
 same-actor f x y fx fy line =
     let fields : entry_fields x.actor x.event ≡ entry_fields y.actor y.event = sym (entry-written x.actor x.event fx.actor fx.event).read ∙ ap fields_of line ∙ (entry-written y.actor y.event fy.actor fy.event).read in
     let first : decimal x.actor ≡ decimal y.actor = cc in
     let read : Some x.actor ≡ Some y.actor = sym (u8-spelled x.actor fx.actor) ∙ ap u8_at first ∙ u8-spelled y.actor fy.actor in
     cc
 
-same-event : (f : Format) (x y : Entry) → IsEntry f x → IsEntry f y → words (entry_fields x.actor x.event) ≡ words (entry_fields y.actor y.event) → x.event ≡ y.event
+same-event : (f : Format) (x y : Entry) → IsEntry f x → IsEntry f y → spaced (entry_fields x.actor x.event) ≡ spaced (entry_fields y.actor y.event) → x.event ≡ y.event
 same-event f x y fx fy line =
     let read : Some x.event ≡ Some y.event = sym (entry-reads f x fx) ∙ ap (entry_at f) line ∙ entry-reads f y fy in
     cc
@@ -78,7 +78,7 @@ same-history f s (x ∷ a) (y ∷ b) m n t u fa fb la lb text =
     ap (λ (e : Entry). e ∷ a) (same-entry x y (same-actor f x y fx fy cut.0) event reply) ∙ ap (λ (l : List Entry). y ∷ l) rest
 
 -- titles tell formats apart
-same-format : (f g : Format) → words (title_fields f) ≡ words (title_fields g) → f ≡ g
+same-format : (f g : Format) → spaced (title_fields f) ≡ spaced (title_fields g) → f ≡ g
 same-format One One e = refl
 same-format Two Two e = refl
 same-format One Two e = let digit : 49 ≡ 50 = ap (λ (l : List ℕ). get_or l 6 0) e in absurd (omega (arith, digit))
@@ -115,13 +115,13 @@ history-once text m n a b = (
     lines_b : Lines
     lines_b = closed b.format b.history (length b.history) (next_of b)
 
-    title : (words (title_fields a.format) ≡ words (title_fields b.format)) × (text_of (board_a ∷ lines_a) ≡ text_of (board_b ∷ lines_b))
+    title : (spaced (title_fields a.format) ≡ spaced (title_fields b.format)) × (text_of (board_a ∷ lines_a) ≡ text_of (board_b ∷ lines_b))
     title = same-first (title_fields a.format) (title_fields b.format) (board_a ∷ lines_a) (board_b ∷ lines_b) (title-written a.format) (title-written b.format) (sym a.written ∙ b.written)
 
     format : a.format ≡ b.format
     format = same-format a.format b.format title.0
 
-    cut : (words board_a ≡ words board_b) × (text_of lines_a ≡ text_of lines_b)
+    cut : (spaced board_a ≡ spaced board_b) × (text_of lines_a ≡ text_of lines_b)
     cut = same-first board_a board_b lines_a lines_b (board-written a.processors a.pages a.ticket) (board-written b.processors b.pages b.ticket) title.1
 
     sizes : sizes_of a ≡ sizes_of b

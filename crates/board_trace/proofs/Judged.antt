@@ -11,7 +11,7 @@ use Rattle.line_driver.specs.Driving.{next_of, Ends, Stops, Sends, Drives}
 use Rattle.line_driver.specs.declared.driving.End.{End}
 use Rattle.line_driver.specs.declared.driving.End.TheVariants as ends
 use Rattle.board_trace.specs.Trace.{IsTrace, Begins}
-use Rattle.board_trace.specs.Stages.{Stage, Title, Over, IsGood, IsWrong}
+use Rattle.board_trace.specs.inside.Stages.{Stage, Title, Over, IsGood, IsWrong}
 use Rattle.board_trace.specs.Verdicts.{FirstWrong, Judges, verdict_text, Checks, Says}
 use Rattle.board_trace.specs.declared.check.Verdict.{Verdict}
 use Rattle.board_trace.specs.declared.check.Verdict.TheVariants as verdicts

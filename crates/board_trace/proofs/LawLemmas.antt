@@ -10,7 +10,7 @@ use Rattle.synic_board.specs.History.{IsLegal}
 use Rattle.synic_board.specs.declared.history.Entry.{Entry}
 use Rattle.board_trace.specs.declared.format.Format.{Format}
 use Rattle.board_trace.specs.Trace.{IsEntry, IsTrace, Begins, trace}
-use Rattle.board_trace.specs.Stages.{Stage, Title, Over}
+use Rattle.board_trace.specs.inside.Stages.{Stage, Title, Over}
 use Rattle.board_trace.specs.Verdicts.{FirstWrong}
 use Rattle.board_trace.proofs.StageLemmas.{Continues, Fits, back, move, reached, Starts, starts}
 

@@ -1,7 +1,7 @@
 -- The lines of a history, one entry behind another.
 use Rattle.std.proofs.Common.{◌≡◌, ℕ, ◌+◌, ◌<◌, List, [], ◌∷◌, ◌++◌, length, get_or, drop, append_assoc, append-nil, sym, ap, ◌∙◌}
 use Rattle.std.proofs.lemmas.List.{drop_more}
-use Rattle.board_text.specs.Fields.{words, line_of}
+use Rattle.board_text.specs.Fields.{spaced, line_of}
 use Rattle.synic_board.specs.declared.history.Entry.{Entry}
 use Rattle.board_lines.specs.Items.{Opening, item_fields}
 use Rattle.board_lines.specs.Printing.{text_of}
@@ -26,12 +26,12 @@ in_a_row out title board lines end' feed = simp append_assoc
 
 -- the parts of a trace
 pub trace-parts : (f : Format) (processors pages ticket : ℕ) (history : List Entry) (next : ℕ) (out a b c d e : List ℕ) → a ≡ out ++ line_of (title_fields f) → b ≡ a ++ line_of (item_fields (Opening processors pages ticket)) →
-    c ≡ b ++ text_of (history_lines history) → d ≡ c ++ words (end_fields f (length history) next) → e ≡ d ++ 10 ∷ [] → e ≡ out ++ text_of (trace_lines f processors pages ticket history next)
+    c ≡ b ++ text_of (history_lines history) → d ≡ c ++ spaced (end_fields f (length history) next) → e ≡ d ++ 10 ∷ [] → e ≡ out ++ text_of (trace_lines f processors pages ticket history next)
 trace-parts f processors pages ticket history next out a b c d e h i j k l =
     let title = line_of (title_fields f) in
     let board = line_of (item_fields (Opening processors pages ticket)) in
     let lines = history_lines history in
     let last = end_fields f (length history) next in
-    l ∙ ap (λ (x : List ℕ). x ++ 10 ∷ []) (k ∙ ap (λ (x : List ℕ). x ++ words last) (j ∙ ap (λ (x : List ℕ). x ++ text_of lines) (i ∙ ap (λ (x : List ℕ). x ++ board) h)))
-    ∙ in_a_row out title board (text_of lines) (words last) (10 ∷ [])
+    l ∙ ap (λ (x : List ℕ). x ++ 10 ∷ []) (k ∙ ap (λ (x : List ℕ). x ++ spaced last) (j ∙ ap (λ (x : List ℕ). x ++ text_of lines) (i ∙ ap (λ (x : List ℕ). x ++ board) h)))
+    ∙ in_a_row out title board (text_of lines) (spaced last) (10 ∷ [])
     ∙ ap (λ (x : List ℕ). out ++ (title ++ (board ++ x))) (ap (λ (x : List ℕ). text_of lines ++ x) (sym (append-nil (line_of last))) ∙ sym (text_of-append lines (last ∷ [])))

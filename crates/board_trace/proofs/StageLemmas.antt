@@ -6,7 +6,7 @@ use Rattle.std.specs.Str.{bytes_eq}
 use Rattle.std.proofs.lemmas.Slice.Eq.{bytes_eq-Decides}
 use Rattle.std.proofs.lemmas.List.Elements.{All-nil, All-head, All-tail, All-cons}
 use Rattle.board_text.specs.Lines.{IsOneLine}
-use Rattle.board_text.specs.Fields.{words}
+use Rattle.board_text.specs.Fields.{spaced}
 use Rattle.board_text.proofs.PlainWords.{IsWritten}
 use Rattle.synic_board.specs.State.{State, AreSizes, opened}
 use Rattle.synic_board.specs.Step.{step}
@@ -22,8 +22,8 @@ use Rattle.synic_board.specs.declared.history.Entry.{Entry}
 use Rattle.board_trace.specs.declared.format.Format.{Format}
 use Rattle.board_trace.specs.declared.format.Format.TheVariants.{One, Two}
 use Rattle.board_trace.specs.Trace.{IsEntry, title_fields, entry_fields, end_fields, history_lines, IsTrace}
-use Rattle.board_trace.specs.Stages.{Stage, Title, Opening, Running, Over, entry_at, board_at, performed, follow, count}
-use Rattle.synic_board.specs.Replies.{IsReply}
+use Rattle.board_trace.specs.inside.Stages.{Stage, Title, Opening, Running, Over, entry_at, board_at, performed, follow, count}
+use Rattle.synic_board.specs.inside.Replies.{IsReply}
 use Rattle.synic_board.proofs.keeping.Replies.{step-fits}
 use Rattle.board_trace.proofs.Written.{title-written, entry-written, reply-written, end-written, EntryLine, entry-reads, entry-only, end-no_entry, BoardLine, board-reads, board-only}
 
@@ -42,7 +42,7 @@ pub record Goes (f : Format) (s : State) (c : ℕ) (ys : List ℕ) (n : ℕ) : T
 -- the reply that is due, and then these
 pub record Due (f : Format) (s : State) (c : ℕ) (r : Reply) (ys : List ℕ) (n : ℕ) : Type 0 where
   pub rest : List ℕ
-  pub text : ys ≡ words (reply_fields r) ++ 10 ∷ rest
+  pub text : ys ≡ spaced (reply_fields r) ++ 10 ∷ rest
   pub goes : Goes f s c rest n
 
 pub record Opens (f : Format) (ys : List ℕ) (n : ℕ) : Type 0 where
@@ -52,7 +52,7 @@ pub record Opens (f : Format) (ys : List ℕ) (n : ℕ) : Type 0 where
   pub sizes : AreSizes processors pages
   pub given : ticket < 2 ^ 64
   pub rest : List ℕ
-  pub text : ys ≡ words (item_fields (Board processors pages ticket)) ++ 10 ∷ rest
+  pub text : ys ≡ spaced (item_fields (Board processors pages ticket)) ++ 10 ∷ rest
   pub goes : Goes f (opened processors pages ticket) 0 rest n
 
 -- ys is what is left of the trace of a legal history of n entries
@@ -82,8 +82,8 @@ first_line (x ∷ xs) ys (x' ∷ xs') ys' h k e =
     let m = first_line xs ys xs' ys' h.1 k.1 t in
     (rw (is, m.0) refl, m.1)
 
-pub text-line : (fields : List (List ℕ)) (lines : List (List (List ℕ))) → text_of (fields ∷ lines) ≡ words fields ++ 10 ∷ text_of lines
-text-line fields lines = append_assoc (words fields) (10 ∷ []) (text_of lines)
+pub text-line : (fields : List (List ℕ)) (lines : List (List (List ℕ))) → text_of (fields ∷ lines) ≡ spaced fields ++ 10 ∷ text_of lines
+text-line fields lines = append_assoc (spaced fields) (10 ∷ []) (text_of lines)
 
 -- where the line leads, and how it goes on from there
 pub record Follow (stage : Stage) (line ys : List ℕ) (n : ℕ) : Type 0 where
@@ -102,7 +102,7 @@ tested-no line w e = go (bytes_eq line w) refl
     go false is = refl
 
 -- the title tells the format
-title-follow : (f : Format) → follow Title (words (title_fields f)) ≡ Some (Opening f)
+title-follow : (f : Format) → follow Title (spaced (title_fields f)) ≡ Some (Opening f)
 title-follow One = refl
 title-follow Two = refl
 
@@ -112,7 +112,7 @@ back-title line ys n one t =
     let rest = left t.format t.history (length t.history) next in
     let board = item_fields (Board t.processors t.pages t.ticket) in
     let title = title_fields t.format in
-    let cut = first_line line ys (words title) (text_of (board ∷ rest)) one (title-written t.format).one (t.written ∙ text-line title (board ∷ rest)) in
+    let cut = first_line line ys (spaced title) (text_of (board ∷ rest)) one (title-written t.format).one (t.written ∙ text-line title (board ∷ rest)) in
     record {
       next = Opening t.format;
       is = ap (follow Title) cut.0 ∙ title-follow t.format;
@@ -128,7 +128,7 @@ back-title line ys n one t =
       };
     }
 
-on-title : (f : Format) (line ys : List ℕ) (n : ℕ) → line ≡ words (title_fields f) → Opens f ys n → IsTrace (line ++ 10 ∷ ys) n
+on-title : (f : Format) (line ys : List ℕ) (n : ℕ) → line ≡ spaced (title_fields f) → Opens f ys n → IsTrace (line ++ 10 ∷ ys) n
 on-title f line ys n is h =
     let history = h.goes.history in
     let next = (leads_to (opened h.processors h.pages h.ticket) history).next_ticket in
@@ -137,7 +137,7 @@ on-title f line ys n is h =
     let title = title_fields f in
     let same : length history ≡ n = omega (arith, h.goes.counted) in
     let tail : h.rest ≡ text_of rest = h.goes.text ∙ ap (λ (k : ℕ). text_of (left f history k next)) (sym same) in
-    let all : ys ≡ text_of (board ∷ rest) = h.text ∙ ap (λ (x : List ℕ). words board ++ 10 ∷ x) tail ∙ sym (text-line board rest) in
+    let all : ys ≡ text_of (board ∷ rest) = h.text ∙ ap (λ (x : List ℕ). spaced board ++ 10 ∷ x) tail ∙ sym (text-line board rest) in
     record {
       format = f;
       processors = h.processors;
@@ -149,13 +149,13 @@ on-title f line ys n is h =
       fits = h.goes.fits;
       legal = h.goes.legal;
       counted = same;
-      written = ap (λ (x : List ℕ). x ++ 10 ∷ ys) is ∙ ap (λ (x : List ℕ). words title ++ 10 ∷ x) all ∙ sym (text-line title (board ∷ rest));
+      written = ap (λ (x : List ℕ). x ++ 10 ∷ ys) is ∙ ap (λ (x : List ℕ). spaced title ++ 10 ∷ x) all ∙ sym (text-line title (board ∷ rest));
     }
 
 back-opening : (f : Format) (line ys : List ℕ) (n : ℕ) → IsOneLine line → Opens f (line ++ 10 ∷ ys) n → Follow (Opening f) line ys n
 back-opening f line ys n one h =
     let board = item_fields (Board h.processors h.pages h.ticket) in
-    let cut = first_line line ys (words board) h.rest one (board-written h.processors h.pages h.ticket).one h.text in
+    let cut = first_line line ys (spaced board) h.rest one (board-written h.processors h.pages h.ticket).one h.text in
     let read : board_at line ≡ Some (h.processors, h.pages, h.ticket) = ap board_at cut.0 ∙ board-reads h.processors h.pages h.ticket h.sizes h.given in
     record { next = Running f (opened h.processors h.pages h.ticket) 0 None; is = ap (option_map (λ (p : ℕ × ℕ × ℕ). Running f (opened p.0 p.1 p.2) 0 None)) read; on = subst (λ (x : List ℕ). Goes f (opened h.processors h.pages h.ticket) 0 x n) (sym cut.1) h.goes }
 
@@ -168,30 +168,30 @@ unfolding run_of
 back-entry f s c line ys n [] one fits legal counted text =
     let same : n ≡ c = omega (arith, counted) in
     let last = end_fields f n s.next_ticket in
-    let cut = first_line line ys (words last) [] one (end-written f n s.next_ticket).one (text ∙ text-line last []) in
-    record { next = Over c; is = rw (tested line (words (end_fields f c s.next_ticket)) (cut.0 ∙ ap (λ (k : ℕ). words (end_fields f k s.next_ticket)) same)) refl; on = (cut.1, same) }
+    let cut = first_line line ys (spaced last) [] one (end-written f n s.next_ticket).one (text ∙ text-line last []) in
+    record { next = Over c; is = rw (tested line (spaced (end_fields f c s.next_ticket)) (cut.0 ∙ ap (λ (k : ℕ). spaced (end_fields f k s.next_ticket)) same)) refl; on = (cut.1, same) }
 back-entry f s c line ys n (e ∷ history) one fits legal counted text =
     let now : State = (step s e.event).0 in
     let rest = left f history n (leads_to now history).next_ticket in
     let h : IsEntry f e = All-head (IsEntry f) e history fits in
     let written = entry-written e.actor e.event h.actor h.event in
     let tail = text_of (reply_fields e.reply ∷ rest) in
-    let cut = first_line line ys (words (entry_fields e.actor e.event)) tail one written.one (text ∙ text-line (entry_fields e.actor e.event) (reply_fields e.reply ∷ rest)) in
+    let cut = first_line line ys (spaced (entry_fields e.actor e.event)) tail one written.one (text ∙ text-line (entry_fields e.actor e.event) (reply_fields e.reply ∷ rest)) in
     let answer : e.reply ≡ (step s e.event).1 = cc in
     let on : IsLegal now history = cc in
     let read : entry_at f line ≡ Some e.event = ap (entry_at f) cut.0 ∙ entry-reads f e h in
-    let no_end = tested-no line (words (end_fields f c s.next_ticket)) (λ is. end-no_entry f c s.next_ticket e.actor e.event h.actor h.event (sym is ∙ cut.0)) in
+    let no_end = tested-no line (spaced (end_fields f c s.next_ticket)) (λ is. end-no_entry f c s.next_ticket e.actor e.event h.actor h.event (sym is ∙ cut.0)) in
     record {
       next = performed f s c e.event;
       is = rw no_end (ap (option_map (performed f s c)) read);
       on = record {
         rest = text_of rest;
-        text = cut.1 ∙ text-line (reply_fields e.reply) rest ∙ ap (λ (r : Reply). words (reply_fields r) ++ 10 ∷ text_of rest) answer;
+        text = cut.1 ∙ text-line (reply_fields e.reply) rest ∙ ap (λ (r : Reply). spaced (reply_fields r) ++ 10 ∷ text_of rest) answer;
         goes = record { history = history; fits = All-tail (IsEntry f) e history fits; legal = on; counted = omega (arith, counted); text = refl };
       };
     }
 
-on-end : (f : Format) (s : State) (c : ℕ) (line ys : List ℕ) (n : ℕ) → line ≡ words (end_fields f c s.next_ticket) → (ys ≡ []) × (n ≡ c) → Goes f s c (line ++ 10 ∷ ys) n
+on-end : (f : Format) (s : State) (c : ℕ) (line ys : List ℕ) (n : ℕ) → line ≡ spaced (end_fields f c s.next_ticket) → (ys ≡ []) × (n ≡ c) → Goes f s c (line ++ 10 ∷ ys) n
 unfolding run_of
 on-end f s c line ys n is h = record { history = []; fits = All-nil (IsEntry f); legal = refl; counted = omega (arith, h.1); text = rw (is, h.0, h.1) (sym (text-line (end_fields f c s.next_ticket) [])) }
 
@@ -201,19 +201,19 @@ on-entry f s c line ys n event l h =
     let now : State = (step s event).0 in
     let rest = left f h.goes.history n (leads_to now h.goes.history).next_ticket in
     let r = (step s event).1 in
-    let all : ys ≡ text_of (reply_fields r ∷ rest) = h.text ∙ ap (λ (x : List ℕ). words (reply_fields r) ++ 10 ∷ x) h.goes.text ∙ sym (text-line (reply_fields r) rest) in
+    let all : ys ≡ text_of (reply_fields r ∷ rest) = h.text ∙ ap (λ (x : List ℕ). spaced (reply_fields r) ++ 10 ∷ x) h.goes.text ∙ sym (text-line (reply_fields r) rest) in
     record {
       history = record { actor = l.actor; event = event; reply = r } ∷ h.goes.history;
       fits = All-cons (IsEntry f) (record { actor = l.actor; event = event; reply = r }) h.goes.history (record { actor = l.small; event = l.fits; line = l.has }) h.goes.fits;
       legal = ap (λ (rs : List Reply). r ∷ rs) h.goes.legal;
       counted = omega (arith, h.goes.counted);
-      text = ap (λ (x : List ℕ). x ++ 10 ∷ ys) l.text ∙ ap (λ (x : List ℕ). words (entry_fields l.actor event) ++ 10 ∷ x) all ∙ sym (text-line (entry_fields l.actor event) (reply_fields r ∷ rest));
+      text = ap (λ (x : List ℕ). x ++ 10 ∷ ys) l.text ∙ ap (λ (x : List ℕ). spaced (entry_fields l.actor event) ++ 10 ∷ x) all ∙ sym (text-line (entry_fields l.actor event) (reply_fields r ∷ rest));
     }
 
 back-reply : (f : Format) (s : State) (c : ℕ) (r : Reply) (line ys : List ℕ) (n : ℕ) → IsOneLine line → IsReply r → Due f s c r (line ++ 10 ∷ ys) n → Follow (Running f s c (Some r)) line ys n
 back-reply f s c r line ys n one short h =
-    let cut = first_line line ys (words (reply_fields r)) h.rest one (reply-written r short).one h.text in
-    record { next = Running f s c None; is = rw (tested line (words (reply_fields r)) cut.0) refl; on = subst (λ (x : List ℕ). Goes f s c x n) (sym cut.1) h.goes }
+    let cut = first_line line ys (spaced (reply_fields r)) h.rest one (reply-written r short).one h.text in
+    record { next = Running f s c None; is = rw (tested line (spaced (reply_fields r)) cut.0) refl; on = subst (λ (x : List ℕ). Goes f s c x n) (sym cut.1) h.goes }
 
 no_more : (line ys : List ℕ) → line ++ 10 ∷ ys ≡ [] → ⊥
 no_more [] ys e = cc
@@ -233,22 +233,22 @@ move from to ys n e h = let same : from ≡ to = cc in subst (λ (s : Stage). Co
 -- What follows the line goes on behind it.
 pub forward : (stage next : Stage) (line ys : List ℕ) (n : ℕ) → follow stage line ≡ Some next → Continues next ys n → Continues stage (line ++ 10 ∷ ys) n
 forward Title next line ys n e h =
-    yes (bytes_eq line (words (title_fields One))) (Some (Opening One)) _ next _
-    (λ is e. on-title One line ys n ((bytes_eq-Decides line (words (title_fields One))).0 is) (move next (Opening One) ys n e h))
-    (yes (bytes_eq line (words (title_fields Two))) (Some (Opening Two)) None next _
-    (λ is e. on-title Two line ys n ((bytes_eq-Decides line (words (title_fields Two))).0 is) (move next (Opening Two) ys n e h))
+    yes (bytes_eq line (spaced (title_fields One))) (Some (Opening One)) _ next _
+    (λ is e. on-title One line ys n ((bytes_eq-Decides line (spaced (title_fields One))).0 is) (move next (Opening One) ys n e h))
+    (yes (bytes_eq line (spaced (title_fields Two))) (Some (Opening Two)) None next _
+    (λ is e. on-title Two line ys n ((bytes_eq-Decides line (spaced (title_fields Two))).0 is) (move next (Opening Two) ys n e h))
     (λ e. cc)) e
 forward (Opening f) next line ys n e h =
     mapped (λ (p : ℕ × ℕ × ℕ). Running f (opened p.0 p.1 p.2) 0 None) (board_at line) next _
     (λ q is e. on-opening f line ys n q (board-only line q is) (move next (Running f (opened q.0 q.1 q.2) 0 None) ys n (ap (λ (s : Stage). Some s) e) h)) e
 forward (Running f s c None) next line ys n e h =
-    yes (bytes_eq line (words (end_fields f c s.next_ticket))) (Some (Over c)) (option_map (performed f s c) (entry_at f line)) next _
-    (λ is e. on-end f s c line ys n ((bytes_eq-Decides line (words (end_fields f c s.next_ticket))).0 is) (move next (Over c) ys n e h))
+    yes (bytes_eq line (spaced (end_fields f c s.next_ticket))) (Some (Over c)) (option_map (performed f s c) (entry_at f line)) next _
+    (λ is e. on-end f s c line ys n ((bytes_eq-Decides line (spaced (end_fields f c s.next_ticket))).0 is) (move next (Over c) ys n e h))
     (λ e. mapped (performed f s c) (entry_at f line) next _
     (λ event is e. on-entry f s c line ys n event (entry-only f line event is) (move next (performed f s c event) ys n (ap (λ (s : Stage). Some s) e) h)) e) e
 forward (Running f s c (Some r)) next line ys n e h =
-    yes (bytes_eq line (words (reply_fields r))) (Some (Running f s c None)) None next _
-    (λ is e. record { rest = ys; text = ap (λ (x : List ℕ). x ++ 10 ∷ ys) ((bytes_eq-Decides line (words (reply_fields r))).0 is); goes = move next (Running f s c None) ys n e h })
+    yes (bytes_eq line (spaced (reply_fields r))) (Some (Running f s c None)) None next _
+    (λ is e. record { rest = ys; text = ap (λ (x : List ℕ). x ++ 10 ∷ ys) ((bytes_eq-Decides line (spaced (reply_fields r))).0 is); goes = move next (Running f s c None) ys n e h })
     (λ e. cc) e
 forward (Over c) next line ys n e h = cc
 
@@ -262,14 +262,14 @@ reached-running f s c = record { few = omega arith; fits = tt }
 
 pub reached : (stage next : Stage) (line : List ℕ) → follow stage line ≡ Some next → Reached stage next
 reached Title next line e =
-    yes (bytes_eq line (words (title_fields One))) (Some (Opening One)) _ next (Reached Title next) (λ is e. let same : Opening One ≡ next = cc in subst (Reached Title) same (record { few = omega arith; fits = tt }))
-    (yes (bytes_eq line (words (title_fields Two))) (Some (Opening Two)) None next (Reached Title next) (λ is e. let same : Opening Two ≡ next = cc in subst (Reached Title) same (record { few = omega arith; fits = tt })) (λ e. cc)) e
+    yes (bytes_eq line (spaced (title_fields One))) (Some (Opening One)) _ next (Reached Title next) (λ is e. let same : Opening One ≡ next = cc in subst (Reached Title) same (record { few = omega arith; fits = tt }))
+    (yes (bytes_eq line (spaced (title_fields Two))) (Some (Opening Two)) None next (Reached Title next) (λ is e. let same : Opening Two ≡ next = cc in subst (Reached Title) same (record { few = omega arith; fits = tt })) (λ e. cc)) e
 reached (Opening f) next line e = mapped (λ (p : ℕ × ℕ × ℕ). Running f (opened p.0 p.1 p.2) 0 None) (board_at line) next (Reached (Opening f) next) (λ q is e. subst (Reached (Opening f)) e (record { few = omega arith; fits = tt })) e
 reached (Running f s c None) next line e =
-    yes (bytes_eq line (words (end_fields f c s.next_ticket))) (Some (Over c)) (option_map (performed f s c) (entry_at f line)) next (Reached (Running f s c None) next)
+    yes (bytes_eq line (spaced (end_fields f c s.next_ticket))) (Some (Over c)) (option_map (performed f s c) (entry_at f line)) next (Reached (Running f s c None) next)
     (λ is e. let same : Over c ≡ next = cc in subst (Reached (Running f s c None)) same (reached-running f s c))
     (λ e. mapped (performed f s c) (entry_at f line) next (Reached (Running f s c None) next) (λ event is e. subst (Reached (Running f s c None)) e (record { few = omega arith; fits = step-fits s event })) e) e
-reached (Running f s c (Some r)) next line e = yes (bytes_eq line (words (reply_fields r))) (Some (Running f s c None)) None next (Reached (Running f s c (Some r)) next) (λ is e. let same : Running f s c None ≡ next = cc in subst (Reached (Running f s c (Some r))) same (record { few = omega arith; fits = tt })) (λ e. cc) e
+reached (Running f s c (Some r)) next line e = yes (bytes_eq line (spaced (reply_fields r))) (Some (Running f s c None)) None next (Reached (Running f s c (Some r)) next) (λ is e. let same : Running f s c None ≡ next = cc in subst (Reached (Running f s c (Some r))) same (record { few = omega arith; fits = tt })) (λ e. cc) e
 reached (Over c) next line e = cc
 
 -- a whole line that is not too long comes first
@@ -280,8 +280,8 @@ pub record Starts (ys : List ℕ) : Type 0 where
   pub one : IsOneLine line
   pub short : length line ≤ 640
 
-start : (fields : List (List ℕ)) (ys rest : List ℕ) → IsWritten fields → ys ≡ words fields ++ 10 ∷ rest → Starts ys
-start fields ys rest w e = record { line = words fields; rest = rest; text = e; one = w.one; short = w.short }
+start : (fields : List (List ℕ)) (ys rest : List ℕ) → IsWritten fields → ys ≡ spaced fields ++ 10 ∷ rest → Starts ys
+start fields ys rest w e = record { line = spaced fields; rest = rest; text = e; one = w.one; short = w.short }
 
 starts-goes : (f : Format) (ys : List ℕ) (n next : ℕ) (history : List Entry) → All (IsEntry f) history → ys ≡ text_of (left f history n next) → Starts ys
 starts-goes f ys n next [] fits text = start (end_fields f n next) ys [] (end-written f n next) (text ∙ text-line (end_fields f n next) [])
@@ -310,12 +310,12 @@ goes-end : (f : Format) (s : State) (c : ℕ) → Goes f s c (text_of (left f []
 unfolding run_of
 goes-end f s c = record { history = []; fits = All-nil (IsEntry f); legal = refl; counted = omega arith; text = refl }
 
-opens-end : (f : Format) → Opens f (words (item_fields (Board 1 1 0)) ++ 10 ∷ text_of (left f [] 0 0)) 0
+opens-end : (f : Format) → Opens f (spaced (item_fields (Board 1 1 0)) ++ 10 ∷ text_of (left f [] 0 0)) 0
 opens-end f = record { processors = 1; pages = 1; ticket = 0; sizes = record { some_processor = omega arith; few_processors = omega arith; some_page = omega arith; few_pages = omega arith }; given = omega arith; rest = text_of (left f [] 0 0); text = refl; goes = goes-end f (opened 1 1 0) 0 }
 
 pub alive : (stage : Stage) → Alive stage
-alive Title = record { rest = _; entries = 0; on = on-title One (words (title_fields One)) _ 0 refl (opens-end One) }
+alive Title = record { rest = _; entries = 0; on = on-title One (spaced (title_fields One)) _ 0 refl (opens-end One) }
 alive (Opening f) = record { rest = _; entries = 0; on = opens-end f }
 alive (Running f s c None) = record { rest = _; entries = c; on = goes-end f s c }
-alive (Running f s c (Some r)) = record { rest = words (reply_fields r) ++ 10 ∷ text_of (left f [] c s.next_ticket); entries = c; on = record { rest = text_of (left f [] c s.next_ticket); text = refl; goes = goes-end f s c } }
+alive (Running f s c (Some r)) = record { rest = spaced (reply_fields r) ++ 10 ∷ text_of (left f [] c s.next_ticket); entries = c; on = record { rest = text_of (left f [] c s.next_ticket); text = refl; goes = goes-end f s c } }
 alive (Over c) = record { rest = []; entries = c; on = (refl, refl) }

@@ -5,9 +5,9 @@ use Rattle.std.specs.Str.{bytes_eq}
 use Rattle.std.proofs.lemmas.Slice.Eq.{bytes_eq-Decides}
 use Rattle.std.proofs.lemmas.List.Splits.{join_with_byte-slice_split}
 use Rattle.std.proofs.lemmas.Fmt.{length-decimal-le}
-use Rattle.board_text.specs.Fields.{fields_of, words}
+use Rattle.board_text.specs.Fields.{fields_of, spaced}
 use Rattle.board_text.proofs.PlainWords.{IsPlain, plain_by, digits-plain, digits-short, two_digits-plain, IsWritten, written}
-use Rattle.board_terms.specs.Numbers.{number_of}
+use Rattle.board_terms.specs.Numbers.{refusal_number}
 use Rattle.synic_board.specs.State.{AreSizes}
 use Rattle.synic_board.specs.declared.event.Event.{Event}
 use Rattle.synic_board.specs.declared.event.Reply.{Reply}
@@ -24,8 +24,8 @@ use Rattle.board_lines.proofs.WrittenLemmas.{bytes-plain, bytes-short, event-pla
 use Rattle.board_trace.specs.declared.format.Format.{Format}
 use Rattle.board_trace.specs.declared.format.Format.TheVariants.{One, Two}
 use Rattle.board_trace.specs.Trace.{IsEntry, has_line, title_fields, entry_fields, end_fields}
-use Rattle.board_trace.specs.Stages.{with_line, entry_say, entry_at, within_limits, board_say, board_at}
-use Rattle.synic_board.specs.Replies.{IsReply}
+use Rattle.board_trace.specs.inside.Stages.{with_line, entry_say, entry_at, within_limits, board_say, board_at}
+use Rattle.synic_board.specs.inside.Replies.{IsReply}
 
 vector-plain : (vector : Option ℕ) → IsPlain (vector_or_none vector)
 vector-plain None = plain_by (codes "none") refl
@@ -58,14 +58,14 @@ reply-written (replies.Accepted t) h = written _ _ (plain_by (codes "=") refl, (
 reply-written replies.FlagWasClear h = written _ _ (plain_by (codes "=") refl, (plain_by (codes "clear") refl, tt)) (omega arith)
 reply-written replies.FlagWasSet h = written _ _ (plain_by (codes "=") refl, (plain_by (codes "set") refl, tt)) (omega arith)
 reply-written replies.GeneralProtection h = written _ _ (plain_by (codes "=") refl, (plain_by (codes "general") refl, (plain_by (codes "protection") refl, tt))) (omega arith)
-reply-written (replies.Refused r) h = written _ _ (plain_by (codes "=") refl, (plain_by (codes "refused") refl, (digits-plain 10 (number_of r), tt))) (omega (arith, digits-short 10 (number_of r)))
+reply-written (replies.Refused r) h = written _ _ (plain_by (codes "=") refl, (plain_by (codes "refused") refl, (digits-plain 10 (refusal_number r), tt))) (omega (arith, digits-short 10 (refusal_number r)))
 
 -- a line is the words of its fields
-whole : (line : List ℕ) (fields : Fields) → fields_of line ≡ fields → line ≡ words fields
-whole line fields e = sym (join_with_byte-slice_split 32 line) ∙ ap words e
+whole : (line : List ℕ) (fields : Fields) → fields_of line ≡ fields → line ≡ spaced fields
+whole line fields e = sym (join_with_byte-slice_split 32 line) ∙ ap spaced e
 
 -- A line is read as an entry exactly where it is written so.
-pub entry-reads : (f : Format) (e : Entry) → IsEntry f e → entry_at f (words (entry_fields e.actor e.event)) ≡ Some e.event
+pub entry-reads : (f : Format) (e : Entry) → IsEntry f e → entry_at f (spaced (entry_fields e.actor e.event)) ≡ Some e.event
 unfolding entry_at
 entry-reads f e h =
     ap (entry_say f) (entry-written e.actor e.event h.actor h.event).read
@@ -74,7 +74,7 @@ entry-reads f e h =
 
 pub record EntryLine (f : Format) (line : List ℕ) (event : Event) : Type 0 where
   pub actor : ℕ
-  pub text : line ≡ words (entry_fields actor event)
+  pub text : line ≡ spaced (entry_fields actor event)
   pub small : actor < 256
   pub fits : IsEvent event
   pub has : has_line f event ≡ true
@@ -95,7 +95,7 @@ entry-says f line fields event is e =
     let h = u8-only field actor read in
     let k = event-says more event told in
     let all : fields ≡ entry_fields actor event = at ∙ rw (h.1, k.same) refl in
-    record { actor = actor; text = whole line fields is ∙ ap words all; small = h.0; fits = k.fits; has = said.1 }) said.0
+    record { actor = actor; text = whole line fields is ∙ ap spaced all; small = h.0; fits = k.fits; has = said.1 }) said.0
 
 pub entry-only : (f : Format) (line : List ℕ) (event : Event) → entry_at f line ≡ Some event → EntryLine f line event
 unfolding entry_at
@@ -106,7 +106,7 @@ end-first : (f : Format) (n next : ℕ) (fields : Fields) (word : List ℕ) → 
 end-first One n next fields word e = cc
 end-first Two n next fields word e = cc
 
-pub end-no_entry : (f : Format) (n next actor : ℕ) (event : Event) → actor < 256 → IsEvent event → words (end_fields f n next) ≡ words (entry_fields actor event) → ⊥
+pub end-no_entry : (f : Format) (n next actor : ℕ) (event : Event) → actor < 256 → IsEvent event → spaced (end_fields f n next) ≡ spaced (entry_fields actor event) → ⊥
 end-no_entry f n next actor event small fits e =
     let same : end_fields f n next ≡ entry_fields actor event = sym (end-written f n next).read ∙ ap fields_of e ∙ (entry-written actor event small fits).read in
     let first : codes "end" ≡ decimal actor = end-first f n next (event_fields event) (decimal actor) same in
@@ -114,7 +114,7 @@ end-no_entry f n next actor event small fits e =
     cc
 
 -- A line is read as a board line exactly where it is written so.
-pub board-reads : (p g f : ℕ) → AreSizes p g → f < 2 ^ 64 → board_at (words (item_fields (Opening p g f))) ≡ Some (p, g, f)
+pub board-reads : (p g f : ℕ) → AreSizes p g → f < 2 ^ 64 → board_at (spaced (item_fields (Opening p g f))) ≡ Some (p, g, f)
 unfolding board_at
 board-reads p g f sizes given =
     let said = says-opening p g f (omega (arith, sizes.few_processors), omega (arith, sizes.few_pages), given) in
@@ -123,7 +123,7 @@ board-reads p g f sizes given =
     ∙ rw ((sizes-are p g).1 sizes) refl
 
 pub record BoardLine (line : List ℕ) (p : ℕ × ℕ × ℕ) : Type 0 where
-  pub text : line ≡ words (item_fields (Opening p.0 p.1 p.2))
+  pub text : line ≡ spaced (item_fields (Opening p.0 p.1 p.2))
   pub sizes : AreSizes p.0 p.1
   pub given : p.2 < 2 ^ 64
 
@@ -145,7 +145,7 @@ board-says line (word ∷ fields) q is e =
         let w = within-only p q e in
         let h = opening-says fields p said in
         let all : word ∷ fields ≡ item_fields (Opening p.0 p.1 p.2) = rw named h.same in
-        rw (← w.0) (record { text = whole line (word ∷ fields) is ∙ ap words all; sizes = w.1; given = h.fits.2 })
+        rw (← w.0) (record { text = whole line (word ∷ fields) is ∙ ap spaced all; sizes = w.1; given = h.fits.2 })
 
 pub board-only : (line : List ℕ) (q : ℕ × ℕ × ℕ) → board_at line ≡ Some q → BoardLine line q
 unfolding board_at

@@ -1,3 +1,3 @@
 pub mod Trace
-pub mod Stages
 pub mod Verdicts
+pub mod inside

@@ -1,5 +1,5 @@
 // The judge of a trace's lines.
-ghost use Rattle.board_trace.specs.Stages.{stage_of, IsGood, IsWrong, IsBehind};
+ghost use Rattle.board_trace.specs.inside.Stages.{stage_of, IsGood, IsWrong, IsBehind};
 
 use crate::stage::{Stage, take_line};
 use board_terms::Notices;

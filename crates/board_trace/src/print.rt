@@ -1,7 +1,7 @@
 // What is written of a history.
 ghost use Rattle.std.specs.Prelude.{◌≡◌, ◌++◌, [], ◌∷◌, OnOk};
 ghost use Rattle.std.specs.List.{All};
-ghost use Rattle.board_text.specs.Fields.{words, line_of};
+ghost use Rattle.board_text.specs.Fields.{spaced, line_of};
 ghost use Rattle.board_lines.specs.Items.{Opening, item_fields};
 ghost use Rattle.board_lines.specs.Printing.{text_of};
 ghost use Rattle.board_trace.specs.Trace.{IsEntry, end_fields, history_lines, trace_lines};
@@ -83,7 +83,7 @@ pub(crate) fn put_end(
     entries: u64,
     next: Ticket,
 ) -> Result<(), AllocError>
-    ensures { OnOk result (out.new.items ≡ out.old.items ++ words (end_fields format entries next)) }
+    ensures { OnOk result (out.new.items ≡ out.old.items ++ spaced (end_fields format entries next)) }
 {
     out.extend_from_slice(b"end ")?;
     put_decimal(out, entries)?;

@@ -1,11 +1,11 @@
 // What a trace may go on with, and the board that it tells of.
 ghost use Rattle.std.specs.Prelude.{◌≡◌, ◌<◌, ◌-◌, ◌^◌, [], IfOk};
 ghost use Rattle.std.specs.Str.{bytes_eq};
-ghost use Rattle.board_text.specs.Fields.{words};
+ghost use Rattle.board_text.specs.Fields.{spaced};
 ghost use Rattle.board_lines.specs.Printing.{reply_fields};
 ghost use Rattle.board_trace.specs.Trace.{end_fields};
-ghost use Rattle.line_driver.specs.Judging.{Takes};
-ghost use Rattle.board_trace.specs.Stages.{Title, Opening, Over, entry_at, board_at, stage_of, count, IsGood, IsWrong, Opens, Runs, IsOver};
+ghost use Rattle.line_driver.specs.Judging.{Judges};
+ghost use Rattle.board_trace.specs.inside.Stages.{Title, Opening, Over, entry_at, board_at, stage_of, count, IsGood, IsWrong, Opens, Runs, IsOver};
 
 use crate::format::Format;
 use crate::print::put_end;
@@ -60,7 +60,7 @@ pub(crate) fn take_line(
     out: &mut Vec<u8>,
 ) -> Taken<()>
     requires few { count (stage_of stage.old) < 2 ^ 64 - 1 }
-    ensures { Takes IsGood IsWrong result (stage_of stage.old) (stage_of stage.new) line.now [] }
+    ensures { Judges IsGood IsWrong result (stage_of stage.old) (stage_of stage.new) line.now [] }
 {
     match stage {
         Stage::Title => take_title(stage, line),
@@ -94,7 +94,7 @@ pub(crate) fn take_line(
 #[inline(never)]
 fn take_title(stage: &mut Stage, line: &[u8]) -> Taken<()>
     requires { stage_of stage.old ≡ Title }
-    ensures { Takes IsGood IsWrong result (stage_of stage.old) (stage_of stage.new) line.now [] }
+    ensures { Judges IsGood IsWrong result (stage_of stage.old) (stage_of stage.new) line.now [] }
 {
     let format = if line == b"trace 1".as_slice() {
         Format::One
@@ -111,7 +111,7 @@ fn take_title(stage: &mut Stage, line: &[u8]) -> Taken<()>
 #[inline(never)]
 fn take_opening(alloc: Global, stage: &mut Stage, format: Format, line: &[u8]) -> Taken<()>
     requires { stage_of stage.old ≡ Opening format }
-    ensures { Takes IsGood IsWrong result (stage_of stage.old) (stage_of stage.new) line.now [] }
+    ensures { Judges IsGood IsWrong result (stage_of stage.old) (stage_of stage.new) line.now [] }
 {
     match open(alloc, line) {
         Opened::Board(board) => {
@@ -147,7 +147,7 @@ pub(crate) fn entries_of(stage: &Stage) -> Option<u64>
 }
 
 /// Opens the board that a board line names.
-#[tactic(auto, unfolding(crate::specs::Stages::board_at))]
+#[tactic(auto, unfolding(crate::specs::inside::Stages::board_at))]
 fn open(alloc: Global, line: &[u8]) -> Opened
     ensures { (format : Format) → Opens result format line.now }
 {
@@ -207,7 +207,7 @@ fn run_line(
 
 /// Whether a line is that of this reply.
 fn is_reply(reply: &Reply, line: &[u8], out: &mut Vec<u8>) -> Result<bool, AllocError>
-    ensures { IfOk result (λ is. is ≡ bytes_eq line.now (words (reply_fields reply.now))) }
+    ensures { IfOk result (λ is. is ≡ bytes_eq line.now (spaced (reply_fields reply.now))) }
 {
     out.clear();
     put_reply(out, reply)?;
@@ -222,7 +222,7 @@ fn is_end(
     line: &[u8],
     out: &mut Vec<u8>,
 ) -> Result<bool, AllocError>
-    ensures { IfOk result (λ is. is ≡ bytes_eq line.now (words (end_fields format entries next))) }
+    ensures { IfOk result (λ is. is ≡ bytes_eq line.now (spaced (end_fields format entries next))) }
 {
     if line.first() != Some(&b'e') {
         return Ok(false);
@@ -233,7 +233,7 @@ fn is_end(
 }
 
 /// The event that a line names behind an actor's number, if it has a line in the format.
-#[tactic(auto, unfolding(crate::specs::Stages::entry_at))]
+#[tactic(auto, unfolding(crate::specs::inside::Stages::entry_at))]
 fn entry_of(format: Format, line: &[u8]) -> Option<Event>
     ensures { result ≡ entry_at format line.now }
 {

@@ -7,7 +7,7 @@ use Rattle.std.proofs.lemmas.List.Sums.{sum_by-append, sum_by-cons}
 use Rattle.board_threads.specs.Crew.{lists}
 use Rattle.board_threads.specs.declared.script.Step.{Step}
 use Rattle.crew_script.specs.Crew.{entries}
-use Rattle.crew_script.specs.View.{crew_of}
+use Rattle.crew_script.specs.inside.View.{crew_of}
 use Rattle.crew_script.specs.declared.held.CrewScript.{CrewScript}
 use Rattle.crew_script.specs.declared.held.Section.{Section}
 use Rattle.crew_script.specs.declared.held.Section.TheVariants as held

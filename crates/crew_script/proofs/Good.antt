@@ -11,7 +11,7 @@ use Rattle.std.proofs.lemmas.List.Sums.{sum_by_push}
 use Rattle.synic_board.specs.State.{AreSizes}
 use Rattle.synic_board.specs.declared.event.Event.{Event}
 use Rattle.board_text.specs.Fields.{fields_of}
-use Rattle.board_lines.specs.Reading.{Fields, taken, take_then, ended, u8_at, vector_at, event_say, opening_say}
+use Rattle.board_lines.specs.Reading.{Fields, first_read, take_then, none_left, u8_at, vector_at, event_say, opening_say}
 use Rattle.board_lines.specs.Sizes.{are_sizes}
 use Rattle.board_lines.specs.Faults.{is_skipped}
 use Rattle.board_lines.specs.declared.fault.ScriptFault.TheVariants as faults
@@ -21,13 +21,13 @@ use Rattle.board_threads.specs.Sweeps.{is_absorb}
 use Rattle.board_threads.specs.declared.script.Step.{Step}
 use Rattle.board_threads.specs.declared.script.Step.TheVariants.{Sweep}
 use Rattle.line_driver.specs.Judging.{Follows}
-use Rattle.crew_script.specs.Crew.{Section, InSetup, InActor, InLine, Crew, new_crew, over, closed, entries, IsGood}
+use Rattle.crew_script.specs.Crew.{Section, InSetup, InActor, InLine, Crew, new_crew, over, finished, entries, IsGood}
 use Rattle.crew_script.specs.Reading.{Read, no_absorb, act_say, sweep_say, on_board, raise_say, step_of, step_say, line_say, with_entry, with_event, with_step, with_raise, section_line, with_actor, with_line, with_board, fields_say, line_adds}
 use Rattle.crew_script.proofs.Reading.{Good}
 
 -- what was read, with its last section over, is good
 abbrev pub AllGood : Option Crew → Type 0
-AllGood crew = IfSome crew (λ c. IsGood (closed c))
+AllGood crew = IfSome crew (λ c. IsGood (finished c))
 
 abbrev Kept : Read → Type 0
 Kept read = IfOk read AllGood
@@ -115,12 +115,12 @@ act-step : (r : Option Event) → IfSome r (λ e. is_absorb e ≡ false) → IfS
 act-step None is = tt
 act-step (Some e) is = is
 
-swept-good : (vp part : ℕ) (fields : Fields) → IfSome (ended (Sweep vp part) fields) (λ s. is_bad_step s ≡ false)
+swept-good : (vp part : ℕ) (fields : Fields) → IfSome (none_left (Sweep vp part) fields) (λ s. is_bad_step s ≡ false)
 swept-good vp part [] = refl
 swept-good vp part (field ∷ fields) = tt
 
 sweep-good : (fields : Fields) → IfSome (sweep_say fields) (λ s. is_bad_step s ≡ false)
-sweep-good fields = then-good (λ vp. take_then u8_at (λ part. ended (Sweep vp part))) (λ s. is_bad_step s ≡ false) (λ vp more. then-good (λ part. ended (Sweep vp part)) (λ s. is_bad_step s ≡ false) (swept-good vp) (taken u8_at more)) (taken u8_at fields)
+sweep-good fields = then-good (λ vp. take_then u8_at (λ part. none_left (Sweep vp part))) (λ s. is_bad_step s ≡ false) (λ vp more. then-good (λ part. none_left (Sweep vp part)) (λ s. is_bad_step s ≡ false) (swept-good vp) (first_read u8_at more)) (first_read u8_at fields)
 
 step-good : (word : List ℕ) (fields : Fields) → IfSome (step_say word fields) (λ s. is_bad_step s ≡ false)
 step-good word fields = cond_both (bytes_eq word (codes "absorb")) (sweep_say fields) (option_and_then step_of (act_say (word ∷ fields))) (λ x. IfSome x (λ s. is_bad_step s ≡ false)) (λ _. sweep-good fields) (λ _. act-step (act_say (word ∷ fields)) (act-good (event_say (word ∷ fields))))
@@ -130,51 +130,51 @@ raise-good processors None = tt
 raise-good processors (Some r) = cond_both (nat_lt r.0 processors) (Some r) None (λ x. IfSome x (λ r. is_bad_raise processors r ≡ false)) (λ is. grind (arith, nat_tests)) (λ _. tt)
 
 line-good : (processors : ℕ) (word : List ℕ) (fields : Fields) → IfSome (line_say processors word fields) (λ r. is_bad_raise processors r ≡ false)
-line-good processors word fields = cond_both (bytes_eq word (codes "raise")) (raise_say processors fields) None (λ x. IfSome x (λ r. is_bad_raise processors r ≡ false)) (λ _. raise-good processors (take_then u8_at (λ vp. take_then vector_at (λ vector. ended (vp, vector))) fields)) (λ _. tt)
+line-good processors word fields = cond_both (bytes_eq word (codes "raise")) (raise_say processors fields) None (λ x. IfSome x (λ r. is_bad_raise processors r ≡ false)) (λ _. raise-good processors (take_then u8_at (λ vp. take_then vector_at (λ vector. none_left (vp, vector))) fields)) (λ _. tt)
 
 -- What a line adds is good.
-entry-kept : (crew more : Crew) → (entries crew < 65536 → IsGood (closed more)) → Kept (with_entry crew more)
+entry-kept : (crew more : Crew) → (entries crew < 65536 → IsGood (finished more)) → Kept (with_entry crew more)
 entry-kept crew more good = cond_both (nat_lt (entries crew) 65536) (Ok (Some more)) (Err faults.Many) Kept (λ is. good ((Decides-ltb (entries crew) 65536).0 is)) (λ _. tt)
 
-event-kept : (crew : Crew) (event : Option Event) → crew.section ≡ InSetup → IsGood (closed crew) → IfSome event (λ e. is_absorb e ≡ false) → Kept (with_event crew event)
+event-kept : (crew : Crew) (event : Option Event) → crew.section ≡ InSetup → IsGood (finished crew) → IfSome event (λ e. is_absorb e ≡ false) → Kept (with_event crew event)
 event-kept crew None is g good = tt
 event-kept crew (Some e) is g good =
     let more = record crew { setup = crew.setup ++ e ∷ [] } in
     entry-kept crew more (λ few. subst (λ (s : Section). IsGood (over s more)) (sym is)
     (event-more crew e (subst (λ (s : Section). IsGood (over s crew)) is g) good (subst (λ (s : Section). length crew.setup + steps_in (over s crew).actors + 4 * crew.processors < 65536) is few)))
 
-step-kept : (crew : Crew) (steps : List Step) (step : Option Step) → crew.section ≡ InActor steps → IsGood (closed crew) → IfSome step (λ s. is_bad_step s ≡ false) → Kept (with_step crew steps step)
+step-kept : (crew : Crew) (steps : List Step) (step : Option Step) → crew.section ≡ InActor steps → IsGood (finished crew) → IfSome step (λ s. is_bad_step s ≡ false) → Kept (with_step crew steps step)
 step-kept crew steps None is g good = tt
 step-kept crew steps (Some s) is g good =
     entry-kept crew (record crew { section = InActor (steps ++ s ∷ []) }) (λ few.
     step-more crew steps s (subst (λ (s : Section). IsGood (over s crew)) is g) good (subst (λ (s : Section). length crew.setup + steps_in (over s crew).actors + 4 * crew.processors < 65536) is few))
 
-raise-kept : (crew : Crew) (raises : List (ℕ × ℕ)) (raise : Option (ℕ × ℕ)) → crew.section ≡ InLine raises → IsGood (closed crew) → IfSome raise (λ r. is_bad_raise crew.processors r ≡ false) → Kept (with_raise crew raises raise)
+raise-kept : (crew : Crew) (raises : List (ℕ × ℕ)) (raise : Option (ℕ × ℕ)) → crew.section ≡ InLine raises → IsGood (finished crew) → IfSome raise (λ r. is_bad_raise crew.processors r ≡ false) → Kept (with_raise crew raises raise)
 raise-kept crew raises None is g good = tt
 raise-kept crew raises (Some r) is g good = raise-more crew raises r (subst (λ (s : Section). IsGood (over s crew)) is g) good
 
-section-kept : (section : Section) (crew : Crew) (word : List ℕ) (fields : Fields) → crew.section ≡ section → IsGood (closed crew) → Kept (section_line section crew word fields)
+section-kept : (section : Section) (crew : Crew) (word : List ℕ) (fields : Fields) → crew.section ≡ section → IsGood (finished crew) → Kept (section_line section crew word fields)
 section-kept InSetup crew word fields is g = event-kept crew (act_say (word ∷ fields)) is g (act-good (event_say (word ∷ fields)))
 section-kept (InActor steps) crew word fields is g = step-kept crew steps (step_say word fields) is g (step-good word fields)
 section-kept (InLine raises) crew word fields is g = raise-kept crew raises (line_say crew.processors word fields) is g (line-good crew.processors word fields)
 
-actor-kept : (crew : Crew) (fields : Fields) → IsGood (closed crew) → Kept (with_actor crew fields)
+actor-kept : (crew : Crew) (fields : Fields) → IsGood (finished crew) → Kept (with_actor crew fields)
 actor-kept crew [] g =
-    let all = length (closed crew).actors in
-    cond_both (nat_lt all 15) (Ok (Some (record (closed crew) { section = InActor [] }))) (Err faults.Many) Kept (λ is. actor-begun (closed crew) g ((Decides-ltb all 15).0 is)) (λ _. tt)
+    let all = length (finished crew).actors in
+    cond_both (nat_lt all 15) (Ok (Some (record (finished crew) { section = InActor [] }))) (Err faults.Many) Kept (λ is. actor-begun (finished crew) g ((Decides-ltb all 15).0 is)) (λ _. tt)
 actor-kept crew (field ∷ fields) g = tt
 
-line-kept : (crew : Crew) (fields : Fields) → IsGood (closed crew) → Kept (with_line crew fields)
+line-kept : (crew : Crew) (fields : Fields) → IsGood (finished crew) → Kept (with_line crew fields)
 line-kept crew [] g =
-    let all = length (closed crew).lines in
-    cond_both (nat_lt all 16) (Ok (Some (record (closed crew) { section = InLine [] }))) (Err faults.Many) Kept (λ is. line-begun (closed crew) g ((Decides-ltb all 16).0 is)) (λ _. tt)
+    let all = length (finished crew).lines in
+    cond_both (nat_lt all 16) (Ok (Some (record (finished crew) { section = InLine [] }))) (Err faults.Many) Kept (λ is. line-begun (finished crew) g ((Decides-ltb all 16).0 is)) (λ _. tt)
 line-kept crew (field ∷ fields) g = tt
 
 board-kept : (opening : Option (ℕ × ℕ × ℕ)) → Kept (with_board opening)
 board-kept None = tt
 board-kept (Some s) = cond_both (are_sizes s.0 s.1) (Ok (Some (new_crew s.0 s.1 s.2))) (Err faults.Size) Kept (λ is. new s.0 s.1 s.2 ((sizes-are s.0 s.1).0 is)) (λ _. tt)
   where
-    new : (processors pages ticket : ℕ) → AreSizes processors pages → IsGood (closed (new_crew processors pages ticket))
+    new : (processors pages ticket : ℕ) → AreSizes processors pages → IsGood (finished (new_crew processors pages ticket))
     new processors pages ticket sizes = record {
       board = sizes;
       few_actors = omega arith;

@@ -34,12 +34,12 @@ over InSetup crew = record crew { section = InSetup }
 over (InActor steps) crew = record crew { actors = crew.actors ++ steps ∷ []; section = InSetup }
 over (InLine raises) crew = record crew { lines = crew.lines ++ raises ∷ []; section = InSetup }
 
-abbrev pub closed : Crew → Crew
-closed crew = over crew.section crew
+abbrev pub finished : Crew → Crew
+finished crew = over crew.section crew
 
 -- how many entries its history has: the setup, the steps, and the last absorbs
 abbrev pub entries : Crew → ℕ
-entries crew = length crew.setup + sum_by (λ (s : List Step). length s) (closed crew).actors + 4 * crew.processors
+entries crew = length crew.setup + sum_by (λ (s : List Step). length s) (finished crew).actors + 4 * crew.processors
 
 -- All sections being over, the sizes are within the limits, and each step is one of a crew.
 pub record IsGood (crew : Crew) : Type 0 where

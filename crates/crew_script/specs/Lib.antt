@@ -1,4 +1,4 @@
 pub mod Crew
 pub mod Reading
 pub mod Running
-pub mod View
+pub mod inside

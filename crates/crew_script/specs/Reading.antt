@@ -5,7 +5,7 @@ use Rattle.std.specs.Str.{bytes_eq}
 use Rattle.board_text.specs.Fields.{fields_of}
 use Rattle.board_text.specs.Lines.{lines_of, rest_of}
 use Rattle.synic_board.specs.declared.event.Event.{Event}
-use Rattle.board_lines.specs.Reading.{Fields, take_then, ended, u8_at, vector_at, event_say, opening_say}
+use Rattle.board_lines.specs.Reading.{Fields, take_then, none_left, u8_at, vector_at, event_say, opening_say}
 use Rattle.board_lines.specs.Sizes.{are_sizes}
 use Rattle.board_lines.specs.Faults.{is_skipped, rest_fault}
 use Rattle.board_lines.specs.declared.fault.ScriptFault.{ScriptFault}
@@ -13,7 +13,7 @@ use Rattle.board_lines.specs.declared.fault.ScriptFault.TheVariants as faults
 use Rattle.board_threads.specs.Sweeps.{is_absorb}
 use Rattle.board_threads.specs.declared.script.Step.{Step}
 use Rattle.board_threads.specs.declared.script.Step.TheVariants.{Act, Sweep}
-use Rattle.crew_script.specs.Crew.{Section, InSetup, InActor, InLine, Crew, new_crew, closed, entries}
+use Rattle.crew_script.specs.Crew.{Section, InSetup, InActor, InLine, Crew, new_crew, finished, entries}
 
 -- what a script asks for, once its board is open, or a fault
 abbrev pub Read : Type 0
@@ -28,14 +28,14 @@ act_say fields = option_and_then no_absorb (event_say fields)
 
 -- `absorb <vp> <part>` sweeps a word
 abbrev pub sweep_say : Fields → Option Step
-sweep_say = take_then u8_at (λ vp. take_then u8_at (λ part. ended (Sweep vp part)))
+sweep_say = take_then u8_at (λ vp. take_then u8_at (λ part. none_left (Sweep vp part)))
 
 -- `raise <vp> <vector>`, at a processor of the board
 abbrev pub on_board : ℕ → ℕ × ℕ → Option (ℕ × ℕ)
 on_board processors raise = if nat_lt raise.0 processors then Some raise else None
 
 abbrev pub raise_say : ℕ → Fields → Option (ℕ × ℕ)
-raise_say processors fields = option_and_then (on_board processors) (take_then u8_at (λ vp. take_then vector_at (λ vector. ended (vp, vector))) fields)
+raise_say processors fields = option_and_then (on_board processors) (take_then u8_at (λ vp. take_then vector_at (λ vector. none_left (vp, vector))) fields)
 
 abbrev pub step_of : Event → Option Step
 step_of e = Some (Act e)
@@ -70,11 +70,11 @@ section_line (InLine raises) crew word fields = with_raise crew raises (line_say
 
 -- `actor` begins the script of the next actor, of 15 at most, and `line` that of the next line, of 16 at most
 abbrev pub with_actor : Crew → Fields → Read
-with_actor crew [] = if nat_lt (length (closed crew).actors) 15 then Ok (Some (record (closed crew) { section = InActor [] })) else Err faults.Many
+with_actor crew [] = if nat_lt (length (finished crew).actors) 15 then Ok (Some (record (finished crew) { section = InActor [] })) else Err faults.Many
 with_actor crew (field ∷ fields) = Err faults.Form
 
 abbrev pub with_line : Crew → Fields → Read
-with_line crew [] = if nat_lt (length (closed crew).lines) 16 then Ok (Some (record (closed crew) { section = InLine [] })) else Err faults.Many
+with_line crew [] = if nat_lt (length (finished crew).lines) 16 then Ok (Some (record (finished crew) { section = InLine [] })) else Err faults.Many
 with_line crew (field ∷ fields) = Err faults.Form
 
 -- the first item opens the board, within the limits

@@ -13,7 +13,7 @@ use Rattle.board_lines.specs.declared.fault.ScriptFault.{ScriptFault}
 use Rattle.line_driver.specs.Driving.{ReadsNear}
 use Rattle.board_trace.specs.Trace.{trace}
 use Rattle.board_trace.specs.declared.format.Format.TheVariants.{Two}
-use Rattle.crew_script.specs.Crew.{Crew, closed}
+use Rattle.crew_script.specs.Crew.{Crew, finished}
 use Rattle.crew_script.specs.Reading.{script_asks}
 use Rattle.crew_script.specs.declared.running.Outcome.{Outcome}
 use Rattle.crew_script.specs.declared.running.Outcome.TheVariants as outcomes
@@ -32,7 +32,7 @@ pub record IsHistory (crew : Crew) (history : List Entry) : Type 0 where
 
 -- the script has no fault, and asks for this crew
 abbrev pub Asks : List ℕ → Crew → Type 0
-Asks input crew = (last : Crew) × (script_asks input ≡ Ok (Some last)) × (crew ≡ closed last)
+Asks input crew = (last : Crew) × (script_asks input ≡ Ok (Some last)) × (crew ≡ finished last)
 
 -- what is written for an input at each end
 abbrev pub Tells : CrewRun → List ℕ → List ℕ → Type 0
@@ -50,9 +50,9 @@ Crews Writing r0 w0 w1 = (end : CrewRun) × (sent : List ℕ) × (unsent : List 
 Crews end r0 w0 w1 = (text : List ℕ) × IfSome r0 (λ input. Tells end input text) × Appends w0 w1 text
 
 -- the text of an end was written, or a beginning of it
-abbrev pub Says : CrewRun → (CrewRun → List ℕ → Type 0) → Option (List ℕ) → Option (List ℕ) → Type 0
-Says Writing tells w0 w1 = (end : CrewRun) × (sent : List ℕ) × (unsent : List ℕ) × tells end (sent ++ unsent) × Appends w0 w1 sent
-Says end tells w0 w1 = (text : List ℕ) × tells end text × Appends w0 w1 text
+abbrev pub Tells : CrewRun → (CrewRun → List ℕ → Type 0) → Option (List ℕ) → Option (List ℕ) → Type 0
+Tells Writing tells w0 w1 = (end : CrewRun) × (sent : List ℕ) × (unsent : List ℕ) × tells end (sent ++ unsent) × Appends w0 w1 sent
+Tells end tells w0 w1 = (text : List ℕ) × tells end text × Appends w0 w1 text
 
 -- what is written where a line has a fault
 abbrev pub Refusal : ℕ → ScriptFault → CrewRun → List ℕ → Type 0
@@ -61,7 +61,7 @@ Refusal line fault Memory text = text ≡ []
 Refusal line fault end text = ⊥
 
 abbrev pub Refuses : CrewRun → ℕ → ScriptFault → Option (List ℕ) → Option (List ℕ) → Type 0
-Refuses end line fault w0 w1 = Says end (Refusal line fault) w0 w1
+Refuses end line fault w0 w1 = Tells end (Refusal line fault) w0 w1
 
 -- what is written where a script asks for a crew
 abbrev pub Report : Crew → CrewRun → List ℕ → Type 0
@@ -72,7 +72,7 @@ Report crew Memory text = text ≡ []
 Report crew end text = ⊥
 
 abbrev pub Runs : CrewRun → Crew → Option (List ℕ) → Option (List ℕ) → Type 0
-Runs end crew w0 w1 = Says end (Report (closed crew)) w0 w1
+Runs end crew w0 w1 = Tells end (Report (finished crew)) w0 w1
 
 -- the crew was run, and its trace is ready
 abbrev pub Prepares : Outcome → Crew → List ℕ → Type 0

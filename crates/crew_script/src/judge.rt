@@ -1,7 +1,7 @@
 // The judge of a crew script's lines.
 ghost use Rattle.std.specs.Prelude.{◌≡◌, [], Ok, Err};
 ghost use Rattle.crew_script.specs.Reading.{line_adds};
-ghost use Rattle.crew_script.specs.View.{asked};
+ghost use Rattle.crew_script.specs.inside.View.{asked};
 
 use crate::held::CrewScript;
 use crate::script::read_line;

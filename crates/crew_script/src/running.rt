@@ -1,7 +1,7 @@
 // A crew script from a reader, the trace of its crew to a writer.
 ghost use Rattle.board_text.specs.Streams.{ReadsUpTo};
-ghost use Rattle.crew_script.specs.View.{crew_of};
-ghost use Rattle.crew_script.specs.Crew.{closed, IsGood};
+ghost use Rattle.crew_script.specs.inside.View.{crew_of};
+ghost use Rattle.crew_script.specs.Crew.{finished, IsGood};
 ghost use Rattle.crew_script.specs.Running.{Crews, most_read, StopsNear, Refuses, Runs, Prepares};
 ghost use Rattle.std.specs.Prelude.{◌≡◌, ◌≢◌, []};
 
@@ -91,7 +91,7 @@ fn run<T: Threads + Wait + Sync, W: Write, G: Gate + Sync>(
     writer: &mut W,
     gate: &G,
 ) -> CrewRun
-    requires good { IsGood (closed (crew_of script)) }
+    requires good { IsGood (finished (crew_of script)) }
     ensures { Runs result (crew_of script) (W.contents writer.old) (W.contents writer.new) }
 {
     let mut out = Vec::new(alloc);
@@ -131,8 +131,8 @@ fn prepare<T: Threads + Wait + Sync, G: Gate + Sync>(
     out: &mut Vec<u8>,
 ) -> Outcome
     requires empty { out.old.items ≡ [] }
-    requires good { IsGood (closed (crew_of script)) }
-    ensures { Prepares result (closed (crew_of script)) out.new.items }
+    requires good { IsGood (finished (crew_of script)) }
+    ensures { Prepares result (finished (crew_of script)) out.new.items }
 {
     if script.close().is_err() {
         return Outcome::Memory;

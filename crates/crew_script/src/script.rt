@@ -1,9 +1,9 @@
 // What a crew script has asked for.
 ghost use Rattle.std.specs.Prelude.{◌≡◌, ◌≤◌, ◌<◌, ◌↔◌, ◌∷◌, length, vec_len, nat_lt, IsTrue, OnOk, Some};
 ghost use Rattle.std.specs.List.{sum_by};
-ghost use Rattle.crew_script.specs.Crew.{closed, entries};
+ghost use Rattle.crew_script.specs.Crew.{finished, entries};
 ghost use Rattle.crew_script.specs.Reading.{act_say, step_say, line_say, sweep_say, crew_say, first_say, with_actor, with_line, section_line, line_adds};
-ghost use Rattle.crew_script.specs.View.{section_of, crew_of, asked, Adds, Puts};
+ghost use Rattle.crew_script.specs.inside.View.{section_of, crew_of, asked, Adds, Puts};
 
 use crate::held::{CrewScript, Section};
 use board_lines::{ScriptFault, event_of, opening_of, skips, u8_of, vector_of};
@@ -152,7 +152,7 @@ impl CrewScript {
 
     /// The present section is over.
     pub(crate) fn close(&mut self) -> Result<(), AllocError>
-        ensures { OnOk result (crew_of self.new ≡ closed (crew_of self.old)) }
+        ensures { OnOk result (crew_of self.new ≡ finished (crew_of self.old)) }
     {
         match mem::replace(&mut self.section, Section::Setup) {
             Section::Setup => {}

@@ -1,3 +1,3 @@
 pub mod Shapes
 pub mod Ports
-pub mod View
+pub mod inside

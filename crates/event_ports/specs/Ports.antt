@@ -1,6 +1,7 @@
 -- The ports of a partition (TLFS, "Ports").
 use Rattle.std.specs.Prelude.{ℕ, Bool, not, ◌+◌, ◌==◌, ◌&&◌, nat_lt, List, replicate, slice_index_or, slice_set, Option, None, Some, is_some, Result, Ok, Err, if◌then◌else◌}
 use Rattle.std.specs.Option.{option_map_or}
+use Rattle.board_terms.specs.Quantities.{Processor, Source, PortNumber, Flag}
 use Rattle.board_terms.specs.declared.messages.PortShape.{PortShape}
 use Rattle.board_terms.specs.declared.messages.PortShape.TheVariants.{Messages, Flags}
 use Rattle.board_terms.specs.declared.refusal.Refusal.{Refusal}
@@ -18,28 +19,28 @@ abbrev pub no_ports : ℕ → Ports
 no_ports n = record { processors = n; ports = replicate 16 None }
 
 -- an open port, none above 15
-abbrev pub port_at : Ports → ℕ → Option Port
+abbrev pub port_at : Ports → PortNumber → Option Port
 port_at s n = slice_index_or s.ports n None
 
-abbrev pub with_port : Ports → ℕ → Port → Ports
+abbrev pub with_port : Ports → PortNumber → Port → Ports
 with_port s n p = record s { ports = slice_set s.ports n (Some p) }
 
-abbrev pub without_port : Ports → ℕ → Ports
+abbrev pub without_port : Ports → PortNumber → Ports
 without_port s n = record s { ports = slice_set s.ports n None }
 
 -- a source of a processor on the board
-abbrev pub is_target : Ports → ℕ → ℕ → Bool
+abbrev pub is_target : Ports → Processor → Source → Bool
 is_target s vp sint = nat_lt vp s.processors && nat_lt sint 16
 
 -- why a port is not opened, in the order in which it is judged
-abbrev pub open_refusal : Ports → ℕ → ℕ → ℕ → PortShape → Option Refusal
+abbrev pub open_refusal : Ports → PortNumber → Processor → Source → PortShape → Option Refusal
 open_refusal s port vp sint shape =
     if nat_lt 15 port then Some UnknownPort
     else if is_some (port_at s port) then Some PortOpen
     else if not (is_target s vp sint && fits shape) then Some BadTarget
     else None
 
-abbrev pub target_of : Ports → ℕ → Result Port Refusal
+abbrev pub target_of : Ports → PortNumber → Result Port Refusal
 target_of s port = option_map_or (λ p. Ok p) (port_at s port) (Err UnknownPort)
 
 -- a type that a post may have: not 0, and bit 31 is the hypervisor's
@@ -50,12 +51,12 @@ abbrev pub message_target_at : ℕ → Port → PortShape → Result Port Refusa
 message_target_at kind p (Messages buffers) = if is_posted_type kind then Ok p else Err BadType
 message_target_at kind p (Flags base count) = Err WrongKind
 
-abbrev pub message_target_of : Ports → ℕ → ℕ → Result Port Refusal
+abbrev pub message_target_of : Ports → PortNumber → ℕ → Result Port Refusal
 message_target_of s port kind = option_map_or (λ p. message_target_at kind p p.shape) (port_at s port) (Err UnknownPort)
 
-abbrev pub flag_place_at : ℕ → Port → PortShape → Result (ℕ × ℕ × ℕ) Refusal
+abbrev pub flag_place_at : Flag → Port → PortShape → Result (Processor × Source × Flag) Refusal
 flag_place_at flag p (Messages buffers) = Err WrongKind
 flag_place_at flag p (Flags base count) = if nat_lt flag count then Ok (p.vp, p.sint, base + flag) else Err BadFlag
 
-abbrev pub flag_place_of : Ports → ℕ → ℕ → Result (ℕ × ℕ × ℕ) Refusal
+abbrev pub flag_place_of : Ports → PortNumber → Flag → Result (Processor × Source × Flag) Refusal
 flag_place_of s port flag = option_map_or (λ p. flag_place_at flag p p.shape) (port_at s port) (Err UnknownPort)

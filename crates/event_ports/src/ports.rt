@@ -32,7 +32,7 @@ impl Model for Ports {
 
     ghost Value = { Ports };
 
-    ghost use Rattle.event_ports.specs.View.{ports_of, IsKept};
+    ghost use Rattle.event_ports.specs.inside.View.{ports_of, IsKept};
 
     ghost view = { ports_of };
 

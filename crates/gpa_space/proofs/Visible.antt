@@ -7,7 +7,7 @@ use Rattle.std.proofs.lemmas.Bool.Decides.{nat_tests}
 use Rattle.std.proofs.lemmas.List.{get_or-set_same, get_or-set_other, get_or_past}
 use Rattle.std.proofs.lemmas.List.Sums.{position_or_len_is}
 use Rattle.gpa_space.specs.Space.{lies_at}
-use Rattle.gpa_space.specs.Lying.{AreLying, IsLowest, Marks}
+use Rattle.gpa_space.specs.inside.Lying.{AreLying, IsLowest, Marks}
 
 -- the overlay whose bit is the lowest is visible, and none where no bit is 1
 pub lowest-lies : (registers words : List ℕ) (page : ℕ) (first : Option ℕ) → AreLying registers words → page < length words → length registers ≤ 16 → IsLowest (get_or words page 0) first → first ≡ position (lies_at page) registers

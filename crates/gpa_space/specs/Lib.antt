@@ -1,5 +1,4 @@
 pub mod Page
 pub mod Space
-pub mod Lying
-pub mod View
 pub mod Laws
+pub mod inside

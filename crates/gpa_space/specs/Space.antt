@@ -1,7 +1,7 @@
 -- Guest pages, and the overlay pages above them (TLFS, "GPA Overlay Pages").
-use Rattle.std.specs.Prelude.{ℕ, Bool, ◌+◌, ◌*◌, ◌/◌, ◌%◌, ◌==◌, ◌&&◌, ◌||◌, not, nat_lt, List, [], Option, None, Some, Result, Ok, Err, position, slice_index_or, slice_set, take, drop, length, replicate, if◌then◌else◌, bit_and, refl}
+use Rattle.std.specs.Prelude.{ℕ, Bool, ◌+◌, ◌*◌, ◌/◌, ◌%◌, ◌==◌, ◌&&◌, ◌||◌, not, nat_lt, List, [], Option, None, Some, Result, Ok, Err, position, slice_index_or, slice_set, take, drop, length, replicate, if◌then◌else◌, bit_and}
 use Rattle.std.specs.Option.{option_map_or}
-use Rattle.std.specs.Coded.{Coded, code_by, coded×, coded_ℕ, coded_list}
+use Rattle.board_terms.specs.Quantities.{Processor, Source, Flag, PageNumber, Address}
 use Rattle.arrayvec.specs.ArrayVec.{ArrayVec}
 use Rattle.board_terms.specs.declared.refusal.Refusal.{Refusal}
 use Rattle.board_terms.specs.declared.refusal.Refusal.TheVariants.{BadLength, OutsideSpace, CrossesPage}
@@ -18,12 +18,6 @@ pub record Space : Type 0 where
   pub registers : List ℕ
   pub own : List (List ℕ)
 
--- stored as its three parts
-abbrev pub space_code : Coded Space
-space_code =
-    code_by (List (List ℕ) × (List ℕ × List (List ℕ))) (coded× (coded_list (coded_list coded_ℕ)) (coded× (coded_list coded_ℕ) (coded_list (coded_list coded_ℕ)))) (λ s. (s.pages, (s.registers, s.own)))
-    (λ p. record { pages = p.0; registers = p.1.0; own = p.1.1 }) (λ _. refl)
-
 -- all pages are zeros, and all overlays are disabled
 abbrev pub opened : ℕ → ℕ → Space
 opened processors pages = record { pages = replicate pages zero_page; registers = replicate (2 * processors) 0; own = replicate (2 * processors) zero_page }
@@ -32,39 +26,39 @@ abbrev pub processors_of : Space → ℕ
 processors_of s = length s.registers / 2
 
 -- the number of an overlay in the order of visibility
-abbrev pub overlay_of : ℕ → Kind → ℕ
+abbrev pub overlay_of : Processor → Kind → ℕ
 overlay_of vp kind.Sim = 2 * vp
 overlay_of vp kind.Sief = 2 * vp + 1
 
 -- an overlay's register is written
-abbrev pub with_register : Space → ℕ → Kind → ℕ → Space
+abbrev pub with_register : Space → Processor → Kind → ℕ → Space
 with_register s vp k register = record s { registers = slice_set s.registers (overlay_of vp k) register }
 
 -- an overlay that is enabled, by bit 0 of its register, lies at its page number, bits 63:12
-abbrev pub lies_at : ℕ → ℕ → Bool
+abbrev pub lies_at : PageNumber → ℕ → Bool
 lies_at page register = (bit_and register 1 == 1) && (register / 4096 == page)
 
 -- the overlay that is visible at a page: the first that lies there
-abbrev pub visible : Space → ℕ → Option ℕ
+abbrev pub visible : Space → PageNumber → Option ℕ
 visible s page = position (lies_at page) s.registers
 
 abbrev pub overlay_owner : ℕ → Owner
 overlay_owner overlay = if overlay % 2 == 0 then Sim (overlay / 2) else Sief (overlay / 2)
 
 -- whose page a guest sees
-abbrev pub owner_of : Space → ℕ → Owner
+abbrev pub owner_of : Space → PageNumber → Owner
 owner_of s page = if nat_lt page (length s.pages) then option_map_or overlay_owner (visible s page) Guest else Nothing
 
 -- the bytes that a guest sees at a page
-abbrev pub shown : Space → ℕ → List ℕ
+abbrev pub shown : Space → PageNumber → List ℕ
 shown s page = option_map_or (λ overlay. slice_index_or s.own overlay []) (visible s page) (slice_index_or s.pages page [])
 
 -- other bytes there: what is hidden below stays
-abbrev pub with_shown : Space → ℕ → List ℕ → Space
+abbrev pub with_shown : Space → PageNumber → List ℕ → Space
 with_shown s page bytes = option_map_or (λ overlay. record s { own = slice_set s.own overlay bytes }) (visible s page) (record s { pages = slice_set s.pages page bytes })
 
 -- why a load or a store is refused, in the order in which it is judged
-abbrev pub refusal_of : Space → ℕ → ℕ → Option Refusal
+abbrev pub refusal_of : Space → Address → ℕ → Option Refusal
 refusal_of s address count =
     if (count == 0) || nat_lt 8 count then Some BadLength
     else if not (nat_lt (address / 4096) (length s.pages)) then Some OutsideSpace
@@ -72,41 +66,41 @@ refusal_of s address count =
     else None
 
 -- the bytes that a guest loads
-abbrev pub loaded : Space → ℕ → ℕ → Result (ArrayVec ℕ) Refusal
+abbrev pub loaded : Space → Address → ℕ → Result (ArrayVec ℕ) Refusal
 loaded s address count = option_map_or (λ r. Err r) (refusal_of s address count) (Ok (record { items = take count (drop (address % 4096) (shown s (address / 4096))) }))
 
 -- the owner whose page a guest's store touches, and the space after it
-abbrev pub store_answer : Space → ℕ → List ℕ → Result Owner Refusal
+abbrev pub store_answer : Space → Address → List ℕ → Result Owner Refusal
 store_answer s address bytes = option_map_or (λ r. Err r) (refusal_of s address (length bytes)) (Ok (owner_of s (address / 4096)))
 
-abbrev pub after_store : Space → ℕ → List ℕ → Space
+abbrev pub after_store : Space → Address → List ℕ → Space
 after_store s address bytes =
     option_map_or (λ _. s) (refusal_of s address (length bytes))
     (with_shown s (address / 4096) (overwritten (shown s (address / 4096)) (address % 4096) bytes))
 
 -- an overlay's own page, visible or not
-abbrev pub own_page : Space → ℕ → Kind → List ℕ
+abbrev pub own_page : Space → Processor → Kind → List ℕ
 own_page s vp k = slice_index_or s.own (overlay_of vp k) []
 
 -- the hypervisor writes an overlay's own page, visible or not (profile)
-abbrev pub with_own_page : Space → ℕ → Kind → List ℕ → Space
+abbrev pub with_own_page : Space → Processor → Kind → List ℕ → Space
 with_own_page s vp k page = record s { own = slice_set s.own (overlay_of vp k) page }
 
-abbrev pub after_slot : Space → ℕ → ℕ → List ℕ → Space
+abbrev pub after_slot : Space → Processor → Source → List ℕ → Space
 after_slot s vp sint slot = with_own_page s vp kind.Sim (with_slot (own_page s vp kind.Sim) sint slot)
 
-abbrev pub is_pending : Space → ℕ → ℕ → Bool
+abbrev pub is_pending : Space → Processor → Source → Bool
 is_pending s vp sint = is_set (own_page s vp kind.Sim) (pending_place sint) 0
 
-abbrev pub after_pending : Space → ℕ → ℕ → Space
+abbrev pub after_pending : Space → Processor → Source → Space
 after_pending s vp sint = with_own_page s vp kind.Sim (with_bit (own_page s vp kind.Sim) (pending_place sint) 0)
 
-abbrev pub is_flag_set : Space → ℕ → ℕ → ℕ → Bool
+abbrev pub is_flag_set : Space → Processor → Source → Flag → Bool
 is_flag_set s vp sint flag = is_set (own_page s vp kind.Sief) (flag_place sint flag) (flag % 8)
 
-abbrev pub after_flag : Space → ℕ → ℕ → ℕ → Space
+abbrev pub after_flag : Space → Processor → Source → Flag → Space
 after_flag s vp sint flag = with_own_page s vp kind.Sief (with_bit (own_page s vp kind.Sief) (flag_place sint flag) (flag % 8))
 
 -- both own pages of a processor become zeros
-abbrev pub after_clearing : Space → ℕ → Space
+abbrev pub after_clearing : Space → Processor → Space
 after_clearing s vp = with_own_page (with_own_page s vp kind.Sim zero_page) vp kind.Sief zero_page

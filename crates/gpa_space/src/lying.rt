@@ -1,7 +1,7 @@
 // Which overlays lie at each guest page.
 ghost use Rattle.std.specs.Prelude.{◌≡◌, ◌≢◌, ◌==◌, ℕ, ◌<◌, length, replicate, IfOk, slice_index_or};
 ghost use Rattle.std.specs.Int.{bit_at};
-ghost use Rattle.gpa_space.specs.Lying.{IsLowest, Marks};
+ghost use Rattle.gpa_space.specs.inside.Lying.{IsLowest, Marks};
 
 use std::alloc::{AllocError, Global};
 

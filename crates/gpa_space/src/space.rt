@@ -28,13 +28,14 @@ pub struct Space {
 }
 
 impl Model for Space {
-    ghost use Rattle.gpa_space.specs.Space.{Space, space_code};
+    ghost use Rattle.gpa_space.specs.Space.{Space};
+    ghost use Rattle.gpa_space.specs.inside.Codes.{space_code};
 
     ghost Value = { Space };
 
     ghost coded = { space_code };
 
-    ghost use Rattle.gpa_space.specs.View.{space_of, IsKept};
+    ghost use Rattle.gpa_space.specs.inside.View.{space_of, IsKept};
 
     ghost view = { space_of };
 

@@ -1,8 +1,7 @@
 -- The interrupt priorities of a local APIC (SDM volume 3, "Interrupt, Task, and Processor Priority").
-use Rattle.std.specs.Prelude.{ℕ, ◌/◌, nat_lt, max, Option, None, Bool, false, if◌then◌else◌, refl}
+use Rattle.std.specs.Prelude.{ℕ, ◌/◌, nat_lt, max, Option, None, Bool, false, if◌then◌else◌}
 use Rattle.std.specs.Option.{option_map_or}
 use Rattle.std.specs.FinSet as set
-use Rattle.std.specs.Coded.{Coded, code_by, coded×, coded_ℕ, coded_bool}
 use Rattle.lapic_core.specs.Vectors.{Vectors, greatest}
 
 -- what is requested (IRR), what is in service (ISR), the task priority (TPR), and whether the processor is suspended
@@ -11,12 +10,6 @@ pub record Apic : Type 0 where
   pub in_service : Vectors
   pub task_priority : ℕ
   pub suspended : Bool
-
--- stored as its four parts
-abbrev pub apic_code : Coded Apic
-apic_code =
-    code_by (Vectors × (Vectors × (ℕ × Bool))) (coded× (set.code coded_ℕ) (coded× (set.code coded_ℕ) (coded× coded_ℕ coded_bool)))
-    (λ a. (a.requested, (a.in_service, (a.task_priority, a.suspended)))) (λ p. record { requested = p.0; in_service = p.1.0; task_priority = p.1.1.0; suspended = p.1.1.1 }) (λ _. refl)
 
 abbrev pub empty_apic : Apic
 empty_apic = record { requested = set.empty; in_service = set.empty; task_priority = 0; suspended = false }
@@ -53,8 +46,8 @@ abbrev pub with_task_priority : Apic → ℕ → Apic
 with_task_priority a value = record a { task_priority = value }
 
 -- the processor is suspended, or runs again
-abbrev pub with_mark : Apic → Bool → Apic
-with_mark a mark = record a { suspended = mark }
+abbrev pub with_suspension : Apic → Bool → Apic
+with_suspension a mark = record a { suspended = mark }
 
 -- the vector leaves the requests, and joins those in service unless it ends by itself
 abbrev pub take_vector : Bool → ℕ → Apic → Apic

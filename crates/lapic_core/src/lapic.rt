@@ -2,8 +2,8 @@
 ghost use Rattle.std.specs.Prelude.{◌≡◌, not, true, false};
 ghost use Rattle.std.specs.FinSet as set;
 ghost use Rattle.lapic_core.specs.Vectors.{Vectors, greatest};
-ghost use Rattle.lapic_core.specs.Apic.{class, empty_apic, next, request, with_task_priority, with_mark, after_take, after_end};
-ghost use Rattle.lapic_core.specs.Threshold.{last_of, threshold, to_exceed, above, serving};
+ghost use Rattle.lapic_core.specs.Apic.{class, empty_apic, next, request, with_task_priority, with_suspension, after_take, after_end};
+ghost use Rattle.lapic_core.specs.inside.Threshold.{last_of, threshold, to_exceed, above, serving};
 
 use crate::vector_set::VectorSet;
 use board_terms::Vector;
@@ -27,13 +27,14 @@ pub struct Lapic {
 }
 
 impl Model for Lapic {
-    ghost use Rattle.lapic_core.specs.Apic.{Apic, apic_code};
+    ghost use Rattle.lapic_core.specs.Apic.{Apic};
+    ghost use Rattle.lapic_core.specs.inside.Codes.{apic_code};
 
     ghost Value = { Apic };
 
     ghost coded = { apic_code };
 
-    ghost use Rattle.lapic_core.specs.View.{apic_of, IsKept};
+    ghost use Rattle.lapic_core.specs.inside.View.{apic_of, IsKept};
 
     ghost view = { apic_of };
 
@@ -134,14 +135,14 @@ impl Lapic {
 
     /// Suspends the processor: no vector is next until it is resumed, and requests still join.
     pub fn suspend(&mut self)
-        ensures { self.new ≡ with_mark self.old true }
+        ensures { self.new ≡ with_suspension self.old true }
     {
         self.suspended = true;
     }
 
     /// Resumes the processor: what was requested meanwhile counts again.
     pub fn resume(&mut self)
-        ensures { self.new ≡ with_mark self.old false }
+        ensures { self.new ≡ with_suspension self.old false }
     {
         self.suspended = false;
     }

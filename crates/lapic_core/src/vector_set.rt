@@ -18,7 +18,7 @@ impl Model for VectorSet {
     ghost use Rattle.std.specs.Coded.{coded_ℕ};
     ghost use Rattle.std.specs.FinSet as set;
     ghost use Rattle.lapic_core.specs.Vectors.{Vectors};
-    ghost use Rattle.lapic_core.specs.Words.{word_members, NoneBelow16};
+    ghost use Rattle.lapic_core.specs.inside.Words.{word_members, NoneBelow16};
 
     ghost Value = { Vectors };
 

@@ -4,10 +4,10 @@ use Rattle.line_driver.specs.declared.judge.Taken.{Taken}
 use Rattle.line_driver.specs.declared.judge.Taken.TheVariants as taken
 
 -- a line was good, or it has a fault
-abbrev pub Takes : {J F : Type 0} → (J → List ℕ → List ℕ → J → Type 0) → (J → List ℕ → F → Type 0) → Taken F → J → J → List ℕ → List ℕ → Type 0
-Takes good wrong taken.Good old new line out = good old line out new
-Takes good wrong (taken.Wrong fault) old new line out = wrong old line fault
-Takes good wrong taken.Memory old new line out = Unit {0}
+abbrev pub Judges : {J F : Type 0} → (J → List ℕ → List ℕ → J → Type 0) → (J → List ℕ → F → Type 0) → Taken F → J → J → List ℕ → List ℕ → Type 0
+Judges good wrong taken.Good old new line out = good old line out new
+Judges good wrong (taken.Wrong fault) old new line out = wrong old line fault
+Judges good wrong taken.Memory old new line out = Unit {0}
 
 -- behind a good line the judge may take another
 abbrev pub GoesOn : {J F : Type 0} → (ℕ → J → Type 0) → Taken F → J → J → Type 0

@@ -1,6 +1,6 @@
 // The judge of a text's lines.
 ghost use Rattle.std.specs.Prelude.{◌≡◌, ℕ, ◌<◌, ◌≤◌, List, [], length};
-ghost use Rattle.line_driver.specs.Judging.{Takes, GoesOn};
+ghost use Rattle.line_driver.specs.Judging.{Judges, GoesOn};
 
 /// What came of a line.
 #[derive(Clone, Copy)]
@@ -33,6 +33,6 @@ pub trait Judge {
         requires short { length line.now ≤ 640 }
         requires empty { out.old.items ≡ [] }
         requires ready { (lines : ℕ) × (lines < 1073741824) × ready lines self.old }
-        ensures taken { Takes good wrong result self.old self.new line.now out.new.items }
+        ensures taken { Judges good wrong result self.old self.new line.now out.new.items }
         ensures ready { GoesOn ready result self.old self.new };
 }

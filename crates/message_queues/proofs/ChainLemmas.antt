@@ -13,9 +13,9 @@ use Rattle.board_terms.specs.declared.messages.Message.{Message}
 use Rattle.message_queues.specs.declared.chains.Buffer.{Buffer}
 use Rattle.message_queues.specs.declared.chains.Chain.{Chain}
 use Rattle.message_queues.specs.Queues.{Queues}
-use Rattle.message_queues.specs.Chains.{Buffers, messages, queue_at, queues_at, keys_from, ReadsBothWays, Links, IsChain, Kept}
-use Rattle.message_queues.specs.Moves.{Pushed, Unlinked, with_behind, with_before, if_none}
-use Rattle.message_queues.specs.View.{total_of}
+use Rattle.message_queues.specs.inside.Chains.{Buffers, messages, queue_at, queues_at, keys_from, ReadsBothWays, Links, IsChain, Kept}
+use Rattle.message_queues.specs.inside.Moves.{Pushed, Unlinked, with_behind, with_before, if_none}
+use Rattle.message_queues.specs.inside.View.{total_of}
 
 -- the message at each key
 abbrev pub message_at : Buffers → ℕ → Option Message

@@ -8,7 +8,7 @@ use Rattle.std.proofs.lemmas.List.Sums.{sum_by-cons, sum_by_push, sum_by-set, ge
 use Rattle.board_terms.specs.declared.messages.Message.{Message}
 use Rattle.board_terms.specs.declared.messages.Message.TheVariants.{FromPort, FromTimer}
 use Rattle.message_queues.specs.Queues.{Queues, is_from_port, is_from_timer, port_used, timer_used, HasBuffer}
-use Rattle.message_queues.specs.Owners.{owner_of_timer, owner_of, HasOwner, used_by, share, IsCounted}
+use Rattle.message_queues.specs.inside.Owners.{owner_of_timer, owner_of, HasOwner, used_by, share, IsCounted}
 
 -- f 0 + .. + f (n - 1)
 sum_below : ℕ → (ℕ → ℕ) → ℕ

@@ -9,9 +9,9 @@ use Rattle.board_terms.specs.declared.messages.Message.{Message}
 use Rattle.message_queues.specs.declared.chains.Buffer.{Buffer}
 use Rattle.message_queues.specs.declared.chains.Chain.{Chain}
 use Rattle.message_queues.specs.Queues.{Queues}
-use Rattle.message_queues.specs.Owners.{owner_of, HasOwner, used_by}
-use Rattle.message_queues.specs.Chains.{queues_at, IsChain, Kept}
-use Rattle.message_queues.specs.View.{total_of}
+use Rattle.message_queues.specs.inside.Owners.{owner_of, HasOwner, used_by}
+use Rattle.message_queues.specs.inside.Chains.{queues_at, IsChain, Kept}
+use Rattle.message_queues.specs.inside.View.{total_of}
 use Rattle.message_queues.proofs.ChainLemmas.{both-ways}
 use Rattle.message_queues.proofs.Steps.{Step}
 

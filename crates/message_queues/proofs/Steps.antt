@@ -14,10 +14,10 @@ use Rattle.message_queues.specs.declared.chains.Buffer.{Buffer}
 use Rattle.message_queues.specs.declared.chains.Chain.{Chain}
 use Rattle.message_queues.specs.declared.queues.Queues.TheInside.{Inside}
 use Rattle.message_queues.specs.Queues.{Queues, HasBuffer, is_from_port, port_used, withdrawn_of, left_of}
-use Rattle.message_queues.specs.Owners.{owner_of, HasOwner, used_by, share, IsCounted}
-use Rattle.message_queues.specs.Chains.{Buffers, queue_at, queues_at, ReadsBothWays, Kept}
-use Rattle.message_queues.specs.Moves.{Pushed, Unlinked, Withdrawn}
-use Rattle.message_queues.specs.View.{queues_of, total_of, IsKept}
+use Rattle.message_queues.specs.inside.Owners.{owner_of, HasOwner, used_by, share, IsCounted}
+use Rattle.message_queues.specs.inside.Chains.{Buffers, queue_at, queues_at, ReadsBothWays, Kept}
+use Rattle.message_queues.specs.inside.Moves.{Pushed, Unlinked, Withdrawn}
+use Rattle.message_queues.specs.inside.View.{queues_of, total_of, IsKept}
 use Rattle.message_queues.proofs.Counts.{owner-below, has_room, all-within, buffer-left, share-le, each-owned, counted-append, counted-place, counted-set, head-used, at_place, at_place-other, count_of, count_of-cons, sum_by-same, is_from_port-owner, port_used-past, count-le-used}
 use Rattle.message_queues.proofs.ChainLemmas.{those, push-moved, unlink-moved, first-split, no-first, row-chain, chain_at, queue-is, length-chain, total-queues, total-set, len-le-total, both-ways}
 use Rattle.message_queues.proofs.Walks.{withdrawn-moved}

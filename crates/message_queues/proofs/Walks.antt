@@ -9,8 +9,8 @@ use Rattle.board_terms.specs.declared.messages.Message.{Message}
 use Rattle.message_queues.specs.declared.chains.Buffer.{Buffer}
 use Rattle.message_queues.specs.declared.chains.Chain.{Chain}
 use Rattle.message_queues.specs.Queues.{is_from_port, withdrawn_of, left_of}
-use Rattle.message_queues.specs.Chains.{Buffers, queue_at, Links, IsChain, Kept}
-use Rattle.message_queues.specs.Moves.{Unlinked, Withdrawn}
+use Rattle.message_queues.specs.inside.Chains.{Buffers, queue_at, Links, IsChain, Kept}
+use Rattle.message_queues.specs.inside.Moves.{Unlinked, Withdrawn}
 use Rattle.message_queues.proofs.ChainLemmas.{message_at, those, row-chain, links-cut, unlink-taken, length-chain, Moved, moved}
 
 abbrev pub first_of : List ℕ → Option ℕ

@@ -1,6 +1,3 @@
 pub mod Queues
 pub mod Image
-pub mod Owners
-pub mod Chains
-pub mod Moves
-pub mod View
+pub mod inside

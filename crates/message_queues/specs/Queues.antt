@@ -1,8 +1,10 @@
 -- The message queues: one for each source of each processor (TLFS, "Messages").
 use Rattle.std.specs.Prelude.{◌≡◌, ℕ, ◌+◌, ◌*◌, ◌<◌, ◌==◌, ◌&&◌, Bool, true, false, not, List, [], ◌∷◌, ◌++◌, map, filter, drop, replicate, slice_index_or, slice_set, sum_by, count_by}
+use Rattle.board_terms.specs.Quantities.{Processor, Source, PortNumber, Ticket}
 use Rattle.board_terms.specs.declared.messages.Message.{Message}
 use Rattle.board_terms.specs.declared.messages.Message.TheVariants.{FromPort, FromTimer}
 use Rattle.board_terms.specs.Messages.{ticket_of}
+use Rattle.board_terms.specs.Sources.{source_number}
 
 -- the queues, those of processor 0 first, each front first
 abbrev pub Queues : Type 0
@@ -11,18 +13,14 @@ Queues = List (List Message)
 abbrev pub no_messages : ℕ → Queues
 no_messages processors = replicate (16 * processors) []
 
--- where the queue of a source stands
-abbrev pub place_of : ℕ → ℕ → ℕ
-place_of p i = 16 * p + i
+abbrev pub queue_of : Queues → Processor → Source → List Message
+queue_of qs p i = slice_index_or qs (source_number p i) []
 
-abbrev pub queue_of : Queues → ℕ → ℕ → List Message
-queue_of qs p i = slice_index_or qs (place_of p i) []
-
-abbrev pub with_queue : Queues → ℕ → ℕ → List Message → Queues
-with_queue qs p i q = slice_set qs (place_of p i) q
+abbrev pub with_queue : Queues → Processor → Source → List Message → Queues
+with_queue qs p i q = slice_set qs (source_number p i) q
 
 -- whose message it is
-abbrev pub is_from_port : ℕ → Message → Bool
+abbrev pub is_from_port : PortNumber → Message → Bool
 is_from_port port (FromPort ticket n kind payload) = n == port
 is_from_port port (FromTimer ticket timer expiration) = false
 
@@ -31,7 +29,7 @@ is_from_timer timer (FromPort ticket n kind payload) = false
 is_from_timer timer (FromTimer ticket t expiration) = (t.0 == timer.0) && (t.1 == timer.1)
 
 -- how many buffers of a port are in use: its messages over all queues
-abbrev pub port_used : Queues → ℕ → ℕ
+abbrev pub port_used : Queues → PortNumber → ℕ
 port_used qs port = sum_by (count_by (is_from_port port)) qs
 
 -- the one buffer of a timer is free: no message of it is queued
@@ -47,19 +45,19 @@ HasBuffer qs (FromPort ticket port kind payload) = (port < 16) × (port_used qs 
 HasBuffer qs (FromTimer ticket timer expiration) = is_timer_free qs timer ≡ true
 
 -- a message joins the end of a queue
-abbrev pub appended : Queues → ℕ → ℕ → Message → Queues
+abbrev pub appended : Queues → Processor → Source → Message → Queues
 appended qs p i m = with_queue qs p i (queue_of qs p i ++ m ∷ [])
 
 -- the head of a queue, if there is one, leaves it
-abbrev pub after_place : Queues → ℕ → ℕ → Queues
+abbrev pub after_place : Queues → Processor → Source → Queues
 after_place qs p i = with_queue qs p i (drop 1 (queue_of qs p i))
 
 -- the messages of a port leave a queue: their tickets, front first, and the others in order
-abbrev pub withdrawn_of : ℕ → List Message → List ℕ
+abbrev pub withdrawn_of : PortNumber → List Message → List Ticket
 withdrawn_of port q = map ticket_of (filter (is_from_port port) q)
 
-abbrev pub left_of : ℕ → List Message → List Message
+abbrev pub left_of : PortNumber → List Message → List Message
 left_of port q = filter (λ m. not (is_from_port port m)) q
 
-abbrev pub after_withdrawal : Queues → ℕ → ℕ → ℕ → Queues
+abbrev pub after_withdrawal : Queues → Processor → Source → PortNumber → Queues
 after_withdrawal qs p i port = with_queue qs p i (left_of port (queue_of qs p i))

@@ -3,8 +3,8 @@ ghost use Rattle.std.specs.Prelude.{◌≡◌, ℕ, ◌+◌, ◌<◌, ◌≤◌,
 ghost use Rattle.slab.specs.Slab.{get, slab_len, ContainsKey, HasRoomFor};
 ghost use Rattle.message_queues.specs.declared.chains.Buffer.{Buffer};
 ghost use Rattle.message_queues.specs.Queues.{is_from_port, withdrawn_of};
-ghost use Rattle.message_queues.specs.Chains.{queue_at, IsChain};
-ghost use Rattle.message_queues.specs.Moves.{Sets, with_behind, with_before, Pushed, Unlinked, Withdrawn};
+ghost use Rattle.message_queues.specs.inside.Chains.{queue_at, IsChain};
+ghost use Rattle.message_queues.specs.inside.Moves.{Sets, with_behind, with_before, Pushed, Unlinked, Withdrawn};
 
 use arrayvec::ArrayVec;
 use board_terms::{Message, Ticket};

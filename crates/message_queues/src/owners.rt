@@ -1,6 +1,6 @@
 // Who owns a buffer.
 ghost use Rattle.std.specs.Prelude.{◌≡◌, ◌<◌};
-ghost use Rattle.message_queues.specs.Owners.{owner_of, owner_of_timer, HasOwner, IsPortOwned};
+ghost use Rattle.message_queues.specs.inside.Owners.{owner_of, owner_of_timer, HasOwner, IsPortOwned};
 
 use board_terms::{Message, TimerId};
 

@@ -1,12 +1,13 @@
 // The message queues.
 ghost use Rattle.std.specs.Prelude.{◌≡◌, ◌<◌, ◌≤◌, [], length, map, sum_by, IfOk, slice_get};
 ghost use Rattle.board_terms.specs.Messages.{ticket_of};
-ghost use Rattle.message_queues.specs.Queues.{no_messages, place_of, queue_of, with_queue, appended, after_place, after_withdrawal, withdrawn_of, port_used, is_timer_free, HasBuffer};
+ghost use Rattle.board_terms.specs.Sources.{source_number};
+ghost use Rattle.message_queues.specs.Queues.{no_messages, queue_of, with_queue, appended, after_place, after_withdrawal, withdrawn_of, port_used, is_timer_free, HasBuffer};
 
 use crate::chains::{Buffer, Chain, push, unlink, withdraw};
 use crate::owners::{OWNERS, PORTS, owner_of, owner_of_timer};
 use arrayvec::ArrayVec;
-use board_terms::{Message, Sint, Ticket, TimerId, Vp};
+use board_terms::{Message, Sint, Ticket, TimerId, Vp, source_number};
 use slab::Slab;
 use std::alloc::{AllocError, Global};
 use std::marker::Model;
@@ -34,19 +35,11 @@ impl Model for Queues {
 
     ghost Value = { List (List Message) };
 
-    ghost use Rattle.message_queues.specs.View.{queues_of, IsKept};
+    ghost use Rattle.message_queues.specs.inside.View.{queues_of, IsKept};
 
     ghost view = { queues_of };
 
     ghost invariant = { IsKept };
-}
-
-/// Where the queue of a source stands.
-#[inline]
-fn place_of(vp: Vp, sint: Sint) -> usize
-    ensures { result ≡ place_of vp sint }
-{
-    16 * vp.number() as usize + sint.number() as usize
 }
 
 impl Queues {
@@ -77,25 +70,25 @@ impl Queues {
     /// A message joins the end of a queue. It takes no memory.
     #[inline]
     pub fn append(&mut self, vp: Vp, sint: Sint, message: Message)
-        requires on_the_board { place_of vp sint < length self.old }
+        requires on_the_board { source_number vp sint < length self.old }
         requires buffer { HasBuffer self.old message }
         ensures queued { self.new ≡ appended self.old vp sint message }
         ensures as_many { length self.new ≡ length self.old }
     {
         self.in_use[owner_of(&message)] += 1;
-        let chain = &mut self.chains[place_of(vp, sint)];
+        let chain = &mut self.chains[source_number(vp, sint)];
         let _ = push(&mut self.buffers, chain, message);
     }
 
     /// Takes the head out of a queue, if there is one.
     #[inline]
     pub fn place(&mut self, vp: Vp, sint: Sint) -> Option<Message>
-        requires { place_of vp sint < length self.old }
+        requires { source_number vp sint < length self.old }
         ensures head { result ≡ slice_get (queue_of self.old vp sint) 0 }
         ensures rest { self.new ≡ after_place self.old vp sint }
         ensures as_many { length self.new ≡ length self.old }
     {
-        let chain = &mut self.chains[place_of(vp, sint)];
+        let chain = &mut self.chains[source_number(vp, sint)];
         let Some(key) = chain.first else {
             return None;
         };
@@ -107,7 +100,7 @@ impl Queues {
     /// Takes the messages of a port out of a queue, and answers their tickets, front first. The
     /// others stay in order.
     pub fn withdraw_port(&mut self, vp: Vp, sint: Sint, port: u8) -> ArrayVec<Ticket, 16>
-        requires { place_of vp sint < length self.old }
+        requires { source_number vp sint < length self.old }
         ensures tickets { result.items ≡ withdrawn_of port (queue_of self.old vp sint) }
         ensures rest { self.new ≡ after_withdrawal self.old vp sint port }
         ensures as_many { length self.new ≡ length self.old }
@@ -115,7 +108,7 @@ impl Queues {
         if self.port_used(port) == 0 {
             return ArrayVec::new();
         }
-        let chain = &mut self.chains[place_of(vp, sint)];
+        let chain = &mut self.chains[source_number(vp, sint)];
         let tickets = withdraw(&mut self.buffers, chain, port);
         self.in_use[port as usize] -= tickets.len() as u8;
         tickets
@@ -124,7 +117,7 @@ impl Queues {
     /// Takes all messages out of a queue, and answers their tickets, front first. It takes no memory.
     /// No more than 288 messages are in all queues.
     pub fn withdraw_all(&mut self, vp: Vp, sint: Sint) -> ArrayVec<Ticket, 288>
-        requires { place_of vp sint < length self.old }
+        requires { source_number vp sint < length self.old }
         ensures tickets { result.items ≡ map ticket_of (queue_of self.old vp sint) }
         ensures rest { self.new ≡ with_queue self.old vp sint [] }
         ensures as_many { length self.new ≡ length self.old }
@@ -142,12 +135,12 @@ impl Queues {
     /// How many messages are in a queue, at most 288, as there are in all.
     #[inline]
     pub fn count(&self, vp: Vp, sint: Sint) -> u16
-        requires { place_of vp sint < length self.now }
+        requires { source_number vp sint < length self.now }
         ensures value { result ≡ length (queue_of self.now vp sint) }
         ensures few { result ≤ 288 }
         ensures in_all { sum_by length self.now ≤ 288 }
     {
-        self.chains[place_of(vp, sint)].len
+        self.chains[source_number(vp, sint)].len
     }
 
     /// How many buffers of a port are in use: its messages over all queues, at most 16. None of a

@@ -1,7 +1,7 @@
 // Calls of the queues at concrete values.
 ghost use Rattle.std.specs.Prelude.{◌≡◌, ◌<◌, [], length};
 ghost use Rattle.board_terms.specs.declared.messages.Message.TheVariants.{FromPort, FromTimer};
-ghost use Rattle.message_queues.specs.Queues.{place_of};
+ghost use Rattle.board_terms.specs.Sources.{source_number};
 
 use crate::Queues;
 use board_terms::{Message, PayloadBytes, Sint, Ticket, TimerId, Vp};
@@ -35,7 +35,7 @@ fn timer_of(number: u8) -> Result<TimerId, Fail> {
 
 /// Posts to a port that must have a buffer left.
 fn join(queues: &mut Queues, vp: Vp, sint: Sint, ticket: Ticket, port: u8) -> Result<(), Fail>
-    requires { place_of vp sint < length queues.old }
+    requires { source_number vp sint < length queues.old }
     ensures { length queues.new ≡ length queues.old }
 {
     if port > 15 || queues.port_used(port) > 15 {

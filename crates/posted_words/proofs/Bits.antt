@@ -9,7 +9,7 @@ use Rattle.std.proofs.lemmas.Bool.Decides.{nat_tests}
 use Rattle.std.proofs.lemmas.Nat.Bits.{bit_at_set_same, bit_at_set_other, bit_at-lt, bit_at-zero}
 use Rattle.posted_words.specs.declared.rule.Did.TheVariants.{Raise, Sweep}
 use Rattle.posted_words.specs.Did.{is_fresh_at, takes_at, one_if}
-use Rattle.posted_words.specs.Posted.{mask_of}
+use Rattle.posted_words.specs.inside.Posted.{mask_of}
 
 -- a bit of a word is the one that is raised, or another
 pub same_bit : (x w b k : ℕ) → ((x ≡ w) × (b ≡ k) × (((x == w) && (b == k)) ≡ true)) ⊎ ((x ≡ w → b ≡ k → ⊥) × (((x == w) && (b == k)) ≡ false))

@@ -11,9 +11,9 @@ use native.Mathlib.Decide.{ℕ_discrete}
 use Rattle.atomic_table.specs.Table.{Final, Seen}
 use Rattle.posted_words.specs.declared.rule.Did.{Did}
 use Rattle.posted_words.specs.declared.rule.View.{View}
-use Rattle.posted_words.specs.Did.{raised, fresh, taken}
+use Rattle.posted_words.specs.Did.{times_raised, fresh, times_taken}
 use Rattle.posted_words.specs.Settled.{all_fresh, all_taken, Bounded, Settled}
-use Rattle.posted_words.specs.Posted.{view_of, views_fresh, views_taken, IsIdle, IsBounded, Posted}
+use Rattle.posted_words.specs.inside.Posted.{view_of, views_fresh, views_taken, IsIdle, IsBounded, Posted}
 use Rattle.posted_words.specs.Words.{Token, did_of}
 use Rattle.posted_words.proofs.Lists.{All-found, found-le-sum_by, Follows, sum_by-alone}
 use Rattle.posted_words.proofs.Steps.{fresh_of, taken_of, Bounded-more}
@@ -39,7 +39,7 @@ closes key id v words slots final whole =
 Settled-append_comm : (n : ℕ) (xs ys : List (List Did)) (words : List ℕ) → Settled n (xs ++ ys) words → Settled n (ys ++ xs) words
 Settled-append_comm n xs ys words h =
     let F : (w b : ℕ) → all_fresh (xs ++ ys) w b ≡ all_fresh (ys ++ xs) w b = λ w b. (let l = sum_by-append (fresh w b) xs ys in let r = sum_by-append (fresh w b) ys xs in omega arith) in
-    let T : (w b : ℕ) → all_taken (xs ++ ys) w b ≡ all_taken (ys ++ xs) w b = λ w b. (let l = sum_by-append (taken w b) xs ys in let r = sum_by-append (taken w b) ys xs in omega arith) in
+    let T : (w b : ℕ) → all_taken (xs ++ ys) w b ≡ all_taken (ys ++ xs) w b = λ w b. (let l = sum_by-append (times_taken w b) xs ys in let r = sum_by-append (times_taken w b) ys xs in omega arith) in
     let B = Bounded (all_fresh (ys ++ xs)) (all_taken (ys ++ xs)) in
     let both : All B (xs ++ ys) = All-weaker (Bounded (all_fresh (xs ++ ys)) (all_taken (xs ++ ys))) B
     (λ ds. Bounded-more (all_fresh (xs ++ ys)) (all_taken (xs ++ ys)) (all_fresh (ys ++ xs)) (all_taken (ys ++ xs)) ds (λ w b. (let p = F w b in omega arith)) (λ w b. (let p = T w b in omega arith)))
@@ -71,11 +71,11 @@ gathered key n tokens id seat v words slots sweepers lines m is final first last
     subst (λ ls. Settled n ls words) (sym (map-append did_of sweepers lines)) (Settled-append_comm n (map did_of lines) (map did_of sweepers) words all)
 
 -- where a token raised a bit at all, some raise of that bit was fresh
-pub some_fresh : (F T : ℕ → ℕ → ℕ) (w b : ℕ) (logs : List (List Did)) → All (Bounded F T) logs → 0 < sum_by (raised w b) logs → 0 < F w b
+pub some_fresh : (F T : ℕ → ℕ → ℕ) (w b : ℕ) (logs : List (List Did)) → All (Bounded F T) logs → 0 < sum_by (times_raised w b) logs → 0 < F w b
 some_fresh F T w b [] all some = absurd (omega arith)
 some_fresh F T w b (ds ∷ logs) all some =
-    let sum = sum_by-cons (raised w b) ds logs in
+    let sum = sum_by-cons (times_raised w b) ds logs in
     let here = All-head (Bounded F T) ds logs all in
-    dite (ℕ_discrete (raised w b ds) 0)
+    dite (ℕ_discrete (times_raised w b ds) 0)
     (λ none. some_fresh F T w b logs (All-tail (Bounded F T) ds logs all) (omega (arith, sum, none, some)))
     (λ did. let p = here.raises w b (omega (arith, did)) in omega (arith, p))

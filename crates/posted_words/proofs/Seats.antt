@@ -11,9 +11,9 @@ use lib.ListN.{get_elem?}
 use Rattle.atomic_table.specs.Table.{opening, Splits, Joins}
 use Rattle.atomic_table.proofs.Lists.{at_set}
 use Rattle.posted_words.specs.declared.rule.View.{View}
-use Rattle.posted_words.specs.Did.{taken, fresh}
+use Rattle.posted_words.specs.Did.{times_taken, fresh}
 use Rattle.posted_words.specs.Settled.{Bounded}
-use Rattle.posted_words.specs.Posted.{view_of, views_fresh, views_taken, IsIdle, IsBounded, Posted}
+use Rattle.posted_words.specs.inside.Posted.{view_of, views_fresh, views_taken, IsIdle, IsBounded, Posted}
 use Rattle.posted_words.proofs.Lists.{All-found, sum_by-set_found}
 use Rattle.posted_words.proofs.Steps.{fresh_of, taken_of, Bounded-nil, IsBounded-more, bounded_own}
 
@@ -51,7 +51,7 @@ joins key id v other w some_part s h at apart there =
     let last : List View = set views other gone in
     let was : get_elem? s.views other ≡ some w = ⊎_elim (λ x. absurd (apart x.0)) (λ x. x.1) (at_set s.views id other both w there) in
     let F : (x b : ℕ) → views_fresh last x b ≡ views_fresh s.views x b = λ x b. (let e = sum_by-set_found (fresh_of x b) s.views id v both at in let e' = sum_by-set_found (fresh_of x b) views other w gone there in let a = sum_by-append (fresh x b) w.logs v.logs in omega arith) in
-    let T : (x b : ℕ) → views_taken last x b ≡ views_taken s.views x b = λ x b. (let e = sum_by-set_found (taken_of x b) s.views id v both at in let e' = sum_by-set_found (taken_of x b) views other w gone there in let a = sum_by-append (taken x b) w.logs v.logs in omega arith) in
+    let T : (x b : ℕ) → views_taken last x b ≡ views_taken s.views x b = λ x b. (let e = sum_by-set_found (taken_of x b) s.views id v both at in let e' = sum_by-set_found (taken_of x b) views other w gone there in let a = sum_by-append (times_taken x b) w.logs v.logs in omega arith) in
     let B = Bounded (views_fresh last) (views_taken last) in
     let P = IsBounded (views_fresh last) (views_taken last) in
     let bounds : All P s.views = kept (views_fresh s.views) (views_taken s.views) (views_fresh last) (views_taken last) s.views F T h.bounded in

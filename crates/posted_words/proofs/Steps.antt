@@ -12,9 +12,9 @@ use Rattle.atomic_table.specs.Table.{State, Me, step, keeps, Allows}
 use Rattle.posted_words.specs.declared.rule.Did.{Did}
 use Rattle.posted_words.specs.declared.rule.Did.TheVariants.{Raise, Sweep}
 use Rattle.posted_words.specs.declared.rule.View.{View}
-use Rattle.posted_words.specs.Did.{raises_at, is_fresh_at, takes_at, swept, taken, taken_then, fresh, fresh_then, one_if}
+use Rattle.posted_words.specs.Did.{raises_at, is_fresh_at, takes_at, swept, times_taken, taken_then, fresh, fresh_then, one_if}
 use Rattle.posted_words.specs.Settled.{all_fresh, all_taken, Bounded}
-use Rattle.posted_words.specs.Posted.{view_of, views_fresh, views_taken, IsIdle, IsBounded, Posted, mask_of, raised_as, swept_as}
+use Rattle.posted_words.specs.inside.Posted.{view_of, views_fresh, views_taken, IsIdle, IsBounded, Posted, mask_of, raised_as, swept_as}
 use Rattle.posted_words.proofs.Lists.{All-found, sum_by-set_found, found-le-sum_by}
 use Rattle.posted_words.proofs.Bits.{same_bit, raised_stands, raised-bit, mask_of-injective, swept_is_clear, swept-bit}
 
@@ -91,10 +91,10 @@ raises key slots id w k ds in_words small s h _ at _ =
           let q = T x b in
           let o = found-le-sum_by (taken_of x b) s.views id (own ds) at in
           let stands : bit_at (slice_index words x) b ≡ 1 = raised_stands s.words w k x b n wide small t.0 t.1 in
-          let marked : taken_then x b (d ∷ ds) ≡ taken x b ds = ap (λ (c : Bool). if c then taken x b ds else taken_then x b ds) t.2 in
+          let marked : taken_then x b (d ∷ ds) ≡ times_taken x b ds = ap (λ (c : Bool). if c then times_taken x b ds else taken_then x b ds) t.2 in
           omega (arith, e, q, o, stands, marked))
           (λ t.
-          let marked : taken_then x b (d ∷ ds) ≡ taken_then x b ds = ap (λ (c : Bool). if c then taken x b ds else taken_then x b ds) t.1 in
+          let marked : taken_then x b (d ∷ ds) ≡ taken_then x b ds = ap (λ (c : Bool). if c then times_taken x b ds else taken_then x b ds) t.1 in
           let none_here : one_if (raises_at x b d) ≡ 0 = ap one_if t.1 in
           let p = before.raises x b (omega (arith, none_here, r)) in
           let q = F x b in

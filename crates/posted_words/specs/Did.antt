@@ -28,9 +28,9 @@ takes_at w b (Raise word bit fresh) = 0
 takes_at w b (Sweep word bits) = if w == word then bit_at bits b else 0
 
 -- how often a token raised the bit b of the word w
-abbrev pub raised : ℕ → ℕ → List Did → ℕ
-raised w b [] = 0
-raised w b (d ∷ ds) = one_if (raises_at w b d) + raised w b ds
+abbrev pub times_raised : ℕ → ℕ → List Did → ℕ
+times_raised w b [] = 0
+times_raised w b (d ∷ ds) = one_if (raises_at w b d) + times_raised w b ds
 
 -- how often it was answered Fresh there
 abbrev pub fresh : ℕ → ℕ → List Did → ℕ
@@ -43,14 +43,14 @@ swept w [] = 0
 swept w (d ∷ ds) = one_if (sweeps_at w d) + swept w ds
 
 -- how often it took the bit b of the word w
-abbrev pub taken : ℕ → ℕ → List Did → ℕ
-taken w b [] = 0
-taken w b (d ∷ ds) = takes_at w b d + taken w b ds
+abbrev pub times_taken : ℕ → ℕ → List Did → ℕ
+times_taken w b [] = 0
+times_taken w b (d ∷ ds) = takes_at w b d + times_taken w b ds
 
 -- how often it had taken the bit at its last raise of it
 abbrev pub taken_then : ℕ → ℕ → List Did → ℕ
 taken_then w b [] = 0
-taken_then w b (d ∷ ds) = if raises_at w b d then taken w b ds else taken_then w b ds
+taken_then w b (d ∷ ds) = if raises_at w b d then times_taken w b ds else taken_then w b ds
 
 -- how often it had been answered Fresh there at its last sweep of the word
 abbrev pub fresh_then : ℕ → ℕ → List Did → ℕ

@@ -1,5 +1,5 @@
 pub mod Did
 pub mod Settled
-pub mod Posted
 pub mod Words
 pub mod Answers
+pub mod inside

@@ -11,11 +11,11 @@ pub record Words : Type 0 where
   pub sweepers : ℕ
   pub lines : ℕ
 
-abbrev pub words : TableId → ℕ → ℕ → ℕ → Words
-words name processors sweepers lines = record { name = name; processors = processors; sweepers = sweepers; lines = lines }
+abbrev pub shared_words : TableId → ℕ → ℕ → ℕ → Words
+shared_words name processors sweepers lines = record { name = name; processors = processors; sweepers = sweepers; lines = lines }
 
 -- the sizes that words may be opened with
-pub record AreSizes (processors sweepers lines : ℕ) : Type 0 where
+pub record AreWordSizes (processors sweepers lines : ℕ) : Type 0 where
   pub some_processor : 1 ≤ processors
   pub few_processors : processors ≤ 8
   pub some_sweeper : 1 ≤ sweepers
@@ -35,8 +35,8 @@ abbrev pub IsOf : TableId → Token → Type 0
 IsOf name t = t.of ≡ name
 
 -- a token after one step more
-abbrev pub after : Token → Did → Token
-after t d = token t.of (d ∷ t.did)
+abbrev pub with_last_step : Token → Did → Token
+with_last_step t d = token t.of (d ∷ t.did)
 
 abbrev pub did_of : Token → List Did
 did_of t = t.did

@@ -1,6 +1,6 @@
 // The tokens that raise and sweep.
 ghost use Rattle.std.specs.Prelude.{◌≡◌, [], ◌∷◌};
-ghost use Rattle.posted_words.specs.Posted.{view_of};
+ghost use Rattle.posted_words.specs.inside.Posted.{view_of};
 ghost use Rattle.posted_words.specs.Words.{token};
 
 use crate::rule::View;
@@ -29,7 +29,7 @@ pub type Sweeper = Line;
 impl Model for Line {
     ghost use Rattle.std.specs.Prelude.{◌≡◌, [], ◌∷◌};
     ghost use Rattle.posted_words.specs.Words.{Token, token, first_log};
-    ghost use Rattle.posted_words.specs.Posted.{view_of};
+    ghost use Rattle.posted_words.specs.inside.Posted.{view_of};
 
     ghost Value = { Token };
 

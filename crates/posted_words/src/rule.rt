@@ -22,7 +22,7 @@ pub struct View {
 pub struct Counted;
 
 impl TableRule<(), View, (u64, u64)> for Counted {
-    ghost use Rattle.posted_words.specs.Posted.{Posted, view_of};
+    ghost use Rattle.posted_words.specs.inside.Posted.{Posted, view_of};
     ghost use Rattle.std.specs.Prelude.{[], ◌∷◌};
 
     ghost holds = { Posted };
@@ -34,7 +34,7 @@ impl TableRule<(), View, (u64, u64)> for Counted {
 pub struct Raises;
 
 impl Play<(), View> for Raises {
-    ghost use Rattle.posted_words.specs.Posted.{raised_as};
+    ghost use Rattle.posted_words.specs.inside.Posted.{raised_as};
 
     ghost then = { raised_as };
 }
@@ -43,7 +43,7 @@ impl Play<(), View> for Raises {
 pub struct Sweeps;
 
 impl Play<(), View> for Sweeps {
-    ghost use Rattle.posted_words.specs.Posted.{swept_as};
+    ghost use Rattle.posted_words.specs.inside.Posted.{swept_as};
 
     ghost then = { swept_as };
 }
@@ -52,7 +52,7 @@ impl Play<(), View> for Sweeps {
 pub struct Deals;
 
 impl Split<View> for Deals {
-    ghost use Rattle.posted_words.specs.Posted.{view_of};
+    ghost use Rattle.posted_words.specs.inside.Posted.{view_of};
     ghost use Rattle.std.specs.Prelude.{◌-◌, [], ◌∷◌};
 
     ghost left = { λ v. view_of (v.parts - 1) v.logs };
@@ -64,7 +64,7 @@ impl Split<View> for Deals {
 pub struct Gathers;
 
 impl Join<View> for Gathers {
-    ghost use Rattle.posted_words.specs.Posted.{view_of};
+    ghost use Rattle.posted_words.specs.inside.Posted.{view_of};
     ghost use Rattle.std.specs.Prelude.{◌+◌, [], ◌++◌};
 
     ghost both = { λ v w. view_of (v.parts + w.parts) (w.logs ++ v.logs) };

@@ -1,9 +1,9 @@
 // The words, and the four kinds of step at them.
 ghost use Rattle.std.specs.Prelude.{◌≡◌, ◌+◌, ◌*◌, ◌-◌, ◌<◌, ◌≤◌, ◌⊎◌, ◌↔◌, [], ◌∷◌, ◌++◌, map, replicate, All, IfOk, IsErrOf, vec_len, length};
 ghost use Rattle.std.specs.Mem.Slots.{slots_items, IsFull};
-ghost use Rattle.posted_words.specs.Posted.{view_of};
+ghost use Rattle.posted_words.specs.inside.Posted.{view_of};
 ghost use Rattle.posted_words.specs.Settled.{Settled};
-ghost use Rattle.posted_words.specs.Words.{words, AreSizes, token, IsOf, after, did_of, word_of, raise_of, sweep_of};
+ghost use Rattle.posted_words.specs.Words.{shared_words, AreWordSizes, token, IsOf, with_last_step, did_of, word_of, raise_of, sweep_of};
 ghost use Rattle.posted_words.specs.Answers.{is_fresh};
 
 use crate::line::{Line, Raised, Sweeper};
@@ -47,13 +47,13 @@ pub struct PostedWords {
 
 impl Model for PostedWords {
     ghost use Rattle.std.specs.Prelude.{◌≡◌, ◌+◌, ◌*◌};
-    ghost use Rattle.posted_words.specs.Words.{Words, words, AreSizes};
+    ghost use Rattle.posted_words.specs.Words.{Words, shared_words, AreWordSizes};
 
     ghost Value = { Words };
 
-    ghost view = { λ p. words p.table.shared.table_id p.processors p.sweepers p.lines };
+    ghost view = { λ p. shared_words p.table.shared.table_id p.processors p.sweepers p.lines };
 
-    ghost invariant = { λ p. (p.table.shared.key ≡ (4 * p.processors, p.sweepers + p.lines)) × (p.table.shared.table_id.words ≡ 4 * p.processors) × (p.table.shared.table_id.slots ≡ 0) × AreSizes p.processors p.sweepers p.lines };
+    ghost invariant = { λ p. (p.table.shared.key ≡ (4 * p.processors, p.sweepers + p.lines)) × (p.table.shared.table_id.words ≡ 4 * p.processors) × (p.table.shared.table_id.slots ≡ 0) × AreWordSizes p.processors p.sweepers p.lines };
 }
 
 type Places = Shared<(), View, (u64, u64), Counted>;
@@ -126,9 +126,9 @@ impl PostedWords {
         sweepers: u8,
         lines: u8,
     ) -> Result<(PostedWords, Vec<Sweeper>, Vec<Line>), PostedFault>
-        ensures size { IsErrOf result PostedFault.BadSize ↔ (¬ AreSizes processors sweepers lines) }
-        ensures sizes { IfOk result (λ _. AreSizes processors sweepers lines) }
-        ensures words { IfOk result (λ r. r.0 ≡ words r.0.name processors sweepers lines) }
+        ensures size { IsErrOf result PostedFault.BadSize ↔ (¬ AreWordSizes processors sweepers lines) }
+        ensures sizes { IfOk result (λ _. AreWordSizes processors sweepers lines) }
+        ensures words { IfOk result (λ r. r.0 ≡ shared_words r.0.name processors sweepers lines) }
         ensures sweepers { IfOk result (λ r. r.1.items ≡ replicate sweepers (token r.0.name [])) }
         ensures lines { IfOk result (λ r. r.2.items ≡ replicate lines (token r.0.name [])) }
     {
@@ -147,8 +147,8 @@ impl PostedWords {
         sweepers: u8,
         lines: u8,
     ) -> Result<(PostedWords, Vec<Sweeper>, Vec<Line>), AllocError>
-        requires { AreSizes processors sweepers lines }
-        ensures words { IfOk result (λ r. r.0 ≡ words r.0.name processors sweepers lines) }
+        requires { AreWordSizes processors sweepers lines }
+        ensures words { IfOk result (λ r. r.0 ≡ shared_words r.0.name processors sweepers lines) }
         ensures sweepers { IfOk result (λ r. r.1.items ≡ replicate sweepers (token r.0.name [])) }
         ensures lines { IfOk result (λ r. r.2.items ≡ replicate lines (token r.0.name [])) }
     {
@@ -187,7 +187,7 @@ impl PostedWords {
     pub fn raise(&self, line: &mut Line, vp: Vp, vector: Vector) -> Raised
         requires own { line.old.of ≡ self.now.name }
         requires there { vp < self.now.processors }
-        ensures { line.new ≡ after line.old (raise_of vp vector (is_fresh result)) }
+        ensures { line.new ≡ with_last_step line.old (raise_of vp vector (is_fresh result)) }
     {
         let number = vector.number();
         let bit = number % 64;
@@ -210,7 +210,7 @@ impl PostedWords {
         requires own { sweeper.old.of ≡ self.now.name }
         requires there { vp < self.now.processors }
         requires part { part < 4 }
-        ensures { sweeper.new ≡ after sweeper.old (sweep_of vp part result) }
+        ensures { sweeper.new ≡ with_last_step sweeper.old (sweep_of vp part result) }
     {
         self.table
             .shared

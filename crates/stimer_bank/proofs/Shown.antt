@@ -7,7 +7,7 @@ use Rattle.std.proofs.lemmas.List.FromFn.{length-map-range_with_len, get_or-map-
 use Rattle.board_terms.specs.Dues.{Dues, number_of, timer_of}
 use Rattle.timer_heap.specs.Heap.{no_dues, without_processor}
 use Rattle.stimer_bank.specs.declared.timer.Timer.{Timer}
-use Rattle.stimer_bank.specs.Bank.{Bank, idle_timer, opened, timer_in, with_timer, is_suspended, with_mark, reset, shown_due, dues, is_due_in}
+use Rattle.stimer_bank.specs.Bank.{Bank, idle_timer, opened, timer_in, with_timer, is_suspended, with_suspension, reset, shown_due, dues, is_due_in}
 use Rattle.stimer_bank.specs.Timer.{is_due}
 use Rattle.std.specs.Option.{option_map_or}
 
@@ -95,16 +95,16 @@ abbrev pub due_by_number : Bank → ℕ → Option ℕ
 due_by_number b k = (get_or b.timers k idle_timer).due
 
 module _ (b : Bank) (p : ℕ) where
-  pub mark-other : (k : ℕ) (mark : Bool) → k / 4 ≢ p → shown_due (with_mark b p mark) k ≡ shown_due b k
+  pub mark-other : (k : ℕ) (mark : Bool) → k / 4 ≢ p → shown_due (with_suspension b p mark) k ≡ shown_due b k
   mark-other k mark n = ap (λ o. shown o (due_by_number b k)) (get_or-set_other b.suspended p (k / 4) mark false n)
 
-  pub dues-mark-other : (k : ℕ) (mark : Bool) → k / 4 ≢ p → get_or (dues (with_mark b p mark)) k None ≡ get_or (dues b) k None
-  dues-mark-other k mark n = dues-alike (with_mark b p mark) b k (mark-other k mark n)
+  pub dues-mark-other : (k : ℕ) (mark : Bool) → k / 4 ≢ p → get_or (dues (with_suspension b p mark)) k None ≡ get_or (dues b) k None
+  dues-mark-other k mark n = dues-alike (with_suspension b p mark) b k (mark-other k mark n)
 
   -- a processor that is suspended
-  pub dues-suspended : p < length b.suspended → dues (with_mark b p true) ≡ without_processor (dues b) p
-  dues-suspended l = dues-are (without_processor (dues b) p) (with_mark b p true) (length-four (dues b) p (λ _. None) ∙ length-dues b) (λ k low.
-      elim (cases_eq (k / 4) p) as (λ _. get_or (without_processor (dues b) p) k None ≡ shown_due (with_mark b p true) k) [
+  pub dues-suspended : p < length b.suspended → dues (with_suspension b p true) ≡ without_processor (dues b) p
+  dues-suspended l = dues-are (without_processor (dues b) p) (with_suspension b p true) (length-four (dues b) p (λ _. None) ∙ length-dues b) (λ k low.
+      elim (cases_eq (k / 4) p) as (λ _. get_or (without_processor (dues b) p) k None ≡ shown_due (with_suspension b p true) k) [
         | inl e ↦
             let mark : get_or (set b.suspended p true) (k / 4) false ≡ true = ap (λ i. get_or (set b.suspended p true) i false) e ∙ get_or-set_same b.suspended p true false l in
             four-here (dues b) p (λ _. None) k None e (omega (arith, length-dues b)) ∙ sym (ap (λ o. shown o (due_by_number b k)) mark)
@@ -112,9 +112,9 @@ module _ (b : Bank) (p : ℕ) where
       ])
 
   -- a processor that is resumed
-  pub dues-resumed : dues (with_mark b p false) ≡ four (dues b) p (λ i. due_by_number b (4 * p + i))
-  dues-resumed = let f = λ (i : ℕ). due_by_number b (4 * p + i) in dues-are (four (dues b) p f) (with_mark b p false) (length-four (dues b) p f ∙ length-dues b) (λ k low.
-      elim (cases_eq (k / 4) p) as (λ _. get_or (four (dues b) p f) k None ≡ shown_due (with_mark b p false) k) [
+  pub dues-resumed : dues (with_suspension b p false) ≡ four (dues b) p (λ i. due_by_number b (4 * p + i))
+  dues-resumed = let f = λ (i : ℕ). due_by_number b (4 * p + i) in dues-are (four (dues b) p f) (with_suspension b p false) (length-four (dues b) p f ∙ length-dues b) (λ k low.
+      elim (cases_eq (k / 4) p) as (λ _. get_or (four (dues b) p f) k None ≡ shown_due (with_suspension b p false) k) [
         | inl e ↦
             let mark : get_or (set b.suspended p false) (k / 4) false ≡ false = ap (λ i. get_or (set b.suspended p false) i false) e ∙ set-default b.suspended p false in
             let same : 4 * p + k % 4 ≡ k = omega arith in
@@ -181,7 +181,7 @@ pub restored : (b : Bank) (p : ℕ) (h : Dues) → h ≡ dues b
     → (h1 : Dues) → h1 ≡ set h0 (4 * p + 1) (due_by_number b (4 * p + 1))
     → (h2 : Dues) → h2 ≡ set h1 (4 * p + 2) (due_by_number b (4 * p + 2))
     → (h3 : Dues) → h3 ≡ set h2 (4 * p + 3) (due_by_number b (4 * p + 3))
-    → h3 ≡ dues (with_mark b p false)
+    → h3 ≡ dues (with_suspension b p false)
 restored b p h was h0 e0 h1 e1 h2 e2 h3 e3 =
     let d = λ (i : ℕ). due_by_number b (4 * p + i) in
     e3 ∙ ap (λ m. set m (4 * p + 3) (d 3)) (e2 ∙ ap (λ m. set m (4 * p + 2) (d 2)) (e1 ∙ ap (λ m. set m (4 * p + 1) (d 1)) (e0 ∙ ap (λ m. set m (4 * p + 0) (d 0)) was))) ∙ sym (dues-resumed b p)

@@ -2,6 +2,7 @@
 use Rattle.std.specs.Prelude.{ℕ, zero, suc, ◌/◌, Bool, false, nat_lt, nat_le, List, [], map, replicate, slice_index_or, slice_set, Option, None, if◌then◌else◌}
 use Rattle.std.specs.List.{insert, position_or_len, range_with_len}
 use Rattle.std.specs.Option.{option_map_or}
+use Rattle.board_terms.specs.Quantities.{Processor, TimerId, Moment, Word}
 use Rattle.board_terms.specs.Dues.{Dues, number_of, timer_of, due_of}
 use Rattle.timer_heap.specs.Heap.{is_due_by}
 use Rattle.stimer_bank.specs.declared.timer.Timer.{Timer}
@@ -20,32 +21,32 @@ idle_timer = record { config = 0; count = 0; due = None }
 abbrev pub opened : Bank
 opened = record { timers = replicate 32 idle_timer; suspended = replicate 8 false }
 
-abbrev pub timer_in : Bank → ℕ × ℕ → Timer
+abbrev pub timer_in : Bank → TimerId → Timer
 timer_in b t = slice_index_or b.timers (number_of t) idle_timer
 
-abbrev pub with_timer : Bank → ℕ × ℕ → Timer → Bank
+abbrev pub with_timer : Bank → TimerId → Timer → Bank
 with_timer b t x = record b { timers = slice_set b.timers (number_of t) x }
 
 -- a timer after a write of its configuration, and after one of its count, at a moment
-abbrev pub with_config : Bank → ℕ × ℕ → ℕ → ℕ → Bank
+abbrev pub with_config : Bank → TimerId → Word → Moment → Bank
 with_config b t value moment = with_timer b t (after_config (timer_in b t) value moment)
 
-abbrev pub with_count : Bank → ℕ × ℕ → ℕ → ℕ → Bank
+abbrev pub with_count : Bank → TimerId → Word → Moment → Bank
 with_count b t value moment = with_timer b t (after_count (timer_in b t) value moment)
 
 -- processor p is suspended
-abbrev pub is_suspended : Bank → ℕ → Bool
+abbrev pub is_suspended : Bank → Processor → Bool
 is_suspended b p = slice_index_or b.suspended p false
 
-abbrev pub with_mark : Bank → ℕ → Bool → Bank
-with_mark b p mark = record b { suspended = slice_set b.suspended p mark }
+abbrev pub with_suspension : Bank → Processor → Bool → Bank
+with_suspension b p mark = record b { suspended = slice_set b.suspended p mark }
 
 -- the timers of processor p are idle, and it is not suspended
-abbrev pub reset : Bank → ℕ → Bank
-reset b p = with_mark (with_timer (with_timer (with_timer (with_timer b (p, 0) idle_timer) (p, 1) idle_timer) (p, 2) idle_timer) (p, 3) idle_timer) p false
+abbrev pub reset : Bank → Processor → Bank
+reset b p = with_suspension (with_timer (with_timer (with_timer (with_timer b (p, 0) idle_timer) (p, 1) idle_timer) (p, 2) idle_timer) (p, 3) idle_timer) p false
 
 -- when the timer of number n is due: one of a suspended processor is not
-abbrev pub shown_due : Bank → ℕ → Option ℕ
+abbrev pub shown_due : Bank → ℕ → Option Moment
 shown_due b n = if is_suspended b (n / 4) then None else (slice_index_or b.timers n idle_timer).due
 
 -- when each timer is due
@@ -53,25 +54,25 @@ unfoldable pub dues : Bank → Dues
 dues b = map (shown_due b) (range_with_len 0 32)
 
 -- a timer is due at the moment
-abbrev pub is_due_in : Bank → ℕ × ℕ → ℕ → Bool
+abbrev pub is_due_in : Bank → TimerId → Moment → Bool
 is_due_in b t moment = is_due_by (dues b) moment (number_of t)
 
-abbrev pub after_expiry_of : Bank → ℕ × ℕ → ℕ → Bank × Expiry
+abbrev pub after_expiry_of : Bank → TimerId → Moment → Bank × Expiry
 after_expiry_of b t moment = let r = after_expiry (timer_in b t) moment in (with_timer b t r.0, r.1)
 
 -- a timer is due later than d
-abbrev pub is_later : Dues → ℕ → ℕ × ℕ → Bool
+abbrev pub is_later : Dues → Moment → TimerId → Bool
 is_later m d t = option_map_or (λ e. nat_lt d e) (due_of m t) false
 
 -- the timer of number n joins a list, if it is due at the moment, before the first timer that is due later
-abbrev pub listed : Dues → ℕ → ℕ → List (ℕ × ℕ) → List (ℕ × ℕ)
+abbrev pub listed : Dues → Moment → ℕ → List TimerId → List TimerId
 listed m moment n ts =
     option_map_or (λ d. if nat_le d moment then insert ts (position_or_len (is_later m d) ts) (timer_of n) else ts) (slice_index_or m n None) ts
 
 -- the timers of numbers below n that are due at the moment, by (due, processor, index)
-unfoldable pub due_below : Dues → ℕ → ℕ → List (ℕ × ℕ)
+unfoldable pub due_below : Dues → Moment → ℕ → List TimerId
 due_below m moment zero = []
 due_below m moment (suc n) = listed m moment n (due_below m moment n)
 
-unfoldable pub due_list : Dues → ℕ → List (ℕ × ℕ)
+unfoldable pub due_list : Dues → Moment → List TimerId
 due_list m moment = due_below m moment 32

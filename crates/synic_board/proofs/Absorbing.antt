@@ -5,7 +5,7 @@ use Rattle.std.specs.Int.{bit_at}
 use Rattle.std.proofs.lemmas.Nat.Bits.{bit_at-zero}
 use Rattle.board_terms.specs.declared.notices.Notice.{Notice}
 use Rattle.synic_board.specs.State.{State}
-use Rattle.synic_board.specs.Effects.{nothing, appended}
+use Rattle.synic_board.specs.Effects.{nothing, preceded}
 use Rattle.synic_board.specs.Interrupts.{requested}
 use Rattle.synic_board.specs.Absorbing.{absorbed_bit, absorbed_below}
 use Rattle.synic_board.proofs.Words.{IsNext, bit_at-left}
@@ -25,22 +25,22 @@ set-bit s p part bits i set = ap (λ k. if (k == 1 && nat_le 16 (64 * part + i))
 skipped : (s : State) (p part bits i k : ℕ) → ((j : ℕ) → j < k → bit_at bits (i + j) ≡ 0) → absorbed_below s p part bits (i + k) ≡ absorbed_below s p part bits i
 skipped s p part bits i k clear = fold_skip (absorbs p part bits) s i k (λ j h. clear-bit (absorbed_below s p part bits i).0 p part bits (i + j) (clear j h))
 
-pub absorbed_none : (s : State) (p part bits : ℕ) (before : List Notice) → (s, before) ≡ appended before (absorbed_below s p part bits 0)
+pub absorbed_none : (s : State) (p part bits : ℕ) (before : List Notice) → (s, before) ≡ preceded before (absorbed_below s p part bits 0)
 absorbed_none s p part bits before = fold_none (absorbs p part bits) s before
 
 pub absorbed_more : (s now next : State) (p part bits behind bit skip number : ℕ) (before told more : List Notice) → IsNext 64 bits behind skip → bit ≡ behind + skip → number ≡ 64 * part + bit →
-    (now, told) ≡ appended before (absorbed_below s p part bits behind) → (next, more) ≡ appended told (if nat_le 16 number then requested now p number else nothing now) →
-    (next, more) ≡ appended before (absorbed_below s p part bits (bit + 1))
+    (now, told) ≡ preceded before (absorbed_below s p part bits behind) → (next, more) ≡ preceded told (if nat_le 16 number then requested now p number else nothing now) →
+    (next, more) ≡ preceded before (absorbed_below s p part bits (bit + 1))
 absorbed_more s now next p part bits behind bit skip number before told more is at named so_far step =
     let set : bit_at bits bit ≡ 1 = ap (bit_at bits) at ∙ is.set in
     fold_more (absorbs p part bits) s now next bit bit before told more
-    (so_far ∙ ap (appended before) (sym (skipped s p part bits behind skip is.clear) ∙ ap (absorbed_below s p part bits) (sym at)))
+    (so_far ∙ ap (preceded before) (sym (skipped s p part bits behind skip is.clear) ∙ ap (absorbed_below s p part bits) (sym at)))
     refl
-    (step ∙ ap (appended told) (ap (λ k. if nat_le 16 k then requested now p k else nothing now) named ∙ sym (set-bit now p part bits bit set)))
+    (step ∙ ap (preceded told) (ap (λ k. if nat_le 16 k then requested now p k else nothing now) named ∙ sym (set-bit now p part bits bit set)))
 
-pub absorbed_whole : (s now : State) (p part bits behind : ℕ) (before told : List Notice) → behind ≤ 64 → 0 ≡ bits / 2 ^ behind → (now, told) ≡ appended before (absorbed_below s p part bits behind) →
-    (now, told) ≡ appended before (absorbed_below s p part bits 64)
+pub absorbed_whole : (s now : State) (p part bits behind : ℕ) (before told : List Notice) → behind ≤ 64 → 0 ≡ bits / 2 ^ behind → (now, told) ≡ preceded before (absorbed_below s p part bits behind) →
+    (now, told) ≡ preceded before (absorbed_below s p part bits 64)
 absorbed_whole s now p part bits behind before told few none so_far =
     let clear : (j : ℕ) → bit_at bits (behind + j) ≡ 0 = λ j. sym (bit_at-left bits behind j) ∙ ap (λ n. bit_at n j) (sym none) ∙ bit_at-zero j in
     let all : behind + (64 - behind) ≡ 64 = omega arith in
-    so_far ∙ ap (appended before) (sym (skipped s p part bits behind (64 - behind) (λ j _. clear j)) ∙ ap (absorbed_below s p part bits) all)
+    so_far ∙ ap (preceded before) (sym (skipped s p part bits behind (64 - behind) (λ j _. clear j)) ∙ ap (absorbed_below s p part bits) all)

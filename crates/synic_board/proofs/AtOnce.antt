@@ -7,14 +7,16 @@ use Rattle.board_terms.specs.declared.messages.Message.{Message}
 use Rattle.board_terms.specs.declared.messages.Message.TheVariants.{FromPort}
 use Rattle.board_terms.specs.Messages.{ticket_of}
 use Rattle.board_terms.specs.declared.notices.Notice.TheVariants.{Accepted, Placed}
-use Rattle.message_queues.specs.Queues.{Queues, place_of, queue_of}
+use Rattle.board_terms.specs.Sources.{source_number}
+use Rattle.message_queues.specs.Queues.{Queues, queue_of}
 use Rattle.message_queues.specs.Image.{image, header}
 use Rattle.gpa_space.specs.Page.{message_bytes}
 use Rattle.gpa_space.specs.Space.{after_slot}
 use Rattle.synic_board.specs.State.{State, space_of, with_space, with_slot_ticket}
 use Rattle.synic_board.specs.Effects.{Effect, nothing, after}
 use Rattle.synic_board.specs.Interrupts.{raised}
-use Rattle.synic_board.specs.Delivery.{delivers, is_slot_empty, delivers_at_once, placed_head, placed_at_once, marked, tried, accepted, delivered}
+use Rattle.synic_board.specs.Delivery.{delivers, is_slot_empty, placed_head, marked, tried, accepted, delivered}
+use Rattle.synic_board.specs.inside.AtOnce.{delivers_at_once, placed_at_once}
 
 -- an empty queue
 nothing-queued : (q : List Message) → nat_lt 0 (length q) ≡ false → q ≡ []
@@ -38,13 +40,13 @@ delivering s p i h =
     let all = parts (delivers s p) (nat_lt 0 (length (queue_of s.queues p i))) (is_slot_empty s p i) h in
     record { enabled = all.0; none = nothing-queued (queue_of s.queues p i) all.1; empty = all.2 }
 
-pub at-once : (s : State) (p i : ℕ) (m : Message) → delivers_at_once s p i ≡ true → place_of p i < length s.queues → delivered s p i m ≡ after (placed_at_once s p i m) (raised (placed_at_once s p i m).0 p i)
+pub at-once : (s : State) (p i : ℕ) (m : Message) → delivers_at_once s p i ≡ true → source_number p i < length s.queues → delivered s p i m ≡ after (placed_at_once s p i m) (raised (placed_at_once s p i m).0 p i)
 unfolding tried
 at-once s p i m free within =
     let h = delivering s p i free in
     let a : State = (accepted s p i m).0 in
-    let one : queue_of a.queues p i ≡ m ∷ [] = get_or-set_same s.queues (place_of p i) (queue_of s.queues p i ++ m ∷ []) [] within ∙ ap (λ (q : List Message). q ++ m ∷ []) h.none in
-    let back : set a.queues (place_of p i) [] ≡ s.queues = set-set s.queues (place_of p i) (queue_of s.queues p i ++ m ∷ []) [] ∙ ap (set s.queues (place_of p i)) (sym h.none) ∙ set-get_or s.queues (place_of p i) [] in
+    let one : queue_of a.queues p i ≡ m ∷ [] = get_or-set_same s.queues (source_number p i) (queue_of s.queues p i ++ m ∷ []) [] within ∙ ap (λ (q : List Message). q ++ m ∷ []) h.none in
+    let back : set a.queues (source_number p i) [] ≡ s.queues = set-set s.queues (source_number p i) (queue_of s.queues p i ++ m ∷ []) [] ∙ ap (set s.queues (source_number p i)) (sym h.none) ∙ set-get_or s.queues (source_number p i) [] in
     let tries : tried a p i ≡ after (placed_head a p i (m ∷ [])) (raised (placed_head a p i (m ∷ [])).0 p i) =
     (λ j. if h.enabled j && nat_lt 0 (length (one j)) then (if h.empty j then after (placed_head a p i (one j)) (raised (placed_head a p i (one j)).0 p i) else marked a p i) else nothing a) in
     ap (after (accepted s p i m)) tries ∙ ap told back

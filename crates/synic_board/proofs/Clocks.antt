@@ -7,7 +7,7 @@ use Rattle.lapic_core.specs.Vectors.{Vectors}
 use Rattle.board_terms.specs.declared.pages.Owner.{Owner}
 use Rattle.board_terms.specs.Dues.{Dues, number_of, timer_of, earlier, least, least_below}
 use Rattle.stimer_bank.specs.declared.timer.Timer.{Timer}
-use Rattle.stimer_bank.specs.Bank.{Bank, with_timer, with_mark, reset, dues, due_list}
+use Rattle.stimer_bank.specs.Bank.{Bank, with_timer, with_suspension, reset, dues, due_list}
 use Rattle.stimer_bank.specs.DueList.{Each, IsDueBy}
 use Rattle.stimer_bank.proofs.Sorted.{sorted}
 use Rattle.stimer_bank.proofs.Shown.{dues-timer-other, dues-mark-other, dues-reset-other}
@@ -23,7 +23,7 @@ pub idle-written : (b now : Bank) (t : ℕ × ℕ) (x : Timer) (m : ℕ) → now
 idle-written b now t x m is low idle k h = ap (λ (y : Bank). get_or (dues y) k None) is ∙ dues-timer-other b t x k (λ e. omega arith) ∙ idle k h
 
 -- and so where a processor on the board is suspended, goes on or is reset
-pub idle-marked : (b : Bank) (p m : ℕ) (mark : Bool) → p < m → ((k : ℕ) → 4 * m ≤ k → get_or (dues b) k None ≡ None) → (k : ℕ) → 4 * m ≤ k → get_or (dues (with_mark b p mark)) k None ≡ None
+pub idle-marked : (b : Bank) (p m : ℕ) (mark : Bool) → p < m → ((k : ℕ) → 4 * m ≤ k → get_or (dues b) k None ≡ None) → (k : ℕ) → 4 * m ≤ k → get_or (dues (with_suspension b p mark)) k None ≡ None
 idle-marked b p m mark low idle k h = dues-mark-other b p k mark (λ e. omega (arith, e, low, h)) ∙ idle k h
 
 pub idle-reset : (b : Bank) (p m : ℕ) → p < m → ((k : ℕ) → 4 * m ≤ k → get_or (dues b) k None ≡ None) → (k : ℕ) → 4 * m ≤ k → get_or (dues (reset b p)) k None ≡ None

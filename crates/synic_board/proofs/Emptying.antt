@@ -11,9 +11,10 @@ use Rattle.board_terms.specs.Messages.{ticket_of}
 use Rattle.board_terms.specs.declared.messages.Message.{Message}
 use Rattle.board_terms.specs.declared.notices.Notice.{Notice}
 use Rattle.board_terms.specs.declared.notices.Notice.TheVariants.{Withdrawn}
-use Rattle.message_queues.specs.Queues.{place_of, queue_of}
+use Rattle.board_terms.specs.Sources.{source_number}
+use Rattle.message_queues.specs.Queues.{queue_of}
 use Rattle.synic_board.specs.State.{State, processors, slot_of}
-use Rattle.synic_board.specs.Effects.{Effect, nothing, appended}
+use Rattle.synic_board.specs.Effects.{Effect, nothing, preceded}
 use Rattle.synic_board.specs.Resetting.{withdrawn_ticket, slot_emptied, queue_emptied, source_emptied, emptied_below}
 use Rattle.synic_board.proofs.Folds.{IsFold, fold_none, fold_more, chained}
 
@@ -21,12 +22,12 @@ empties : (p : ℕ) → IsFold (λ s n. emptied_below s p n) (λ s i. source_emp
 unfolding emptied_below
 empties p = record { none = λ s. refl; more = λ s i. refl }
 
-pub emptied_none : (s : State) (p : ℕ) (before : List Notice) → (s, before) ≡ appended before (emptied_below s p 0)
+pub emptied_none : (s : State) (p : ℕ) (before : List Notice) → (s, before) ≡ preceded before (emptied_below s p 0)
 emptied_none s p before = fold_none (empties p) s before
 
 -- the slot of a source, and then its queue
-pub emptied_more : (s now between next : State) (p i v : ℕ) (before told half more : List Notice) → (now, told) ≡ appended before (emptied_below s p i) → v ≡ i → (between, half) ≡ appended told (slot_emptied now p v) →
-    (next, more) ≡ appended half (queue_emptied between p v) → (next, more) ≡ appended before (emptied_below s p (i + 1))
+pub emptied_more : (s now between next : State) (p i v : ℕ) (before told half more : List Notice) → (now, told) ≡ preceded before (emptied_below s p i) → v ≡ i → (between, half) ≡ preceded told (slot_emptied now p v) →
+    (next, more) ≡ preceded half (queue_emptied between p v) → (next, more) ≡ preceded before (emptied_below s p (i + 1))
 emptied_more s now between next p i v before told half more so_far same first second =
     fold_more (empties p) s now next i v before told more so_far same (chained between next told half more (slot_emptied now p v) (λ t. queue_emptied t p v) first second)
 
@@ -36,16 +37,16 @@ total s = sum_by (λ (q : List Message). length q) s.queues
 
 -- each message that is withdrawn from a queue has left it
 queue-room : (s : State) (p i : ℕ) → length (queue_emptied s p i).1 + total (queue_emptied s p i).0 ≡ total s
-queue-room s p i = by (cases_lt (place_of p i) (length s.queues))
+queue-room s p i = by (cases_lt (source_number p i) (length s.queues))
   where
     told : length (queue_emptied s p i).1 ≡ length (queue_of s.queues p i)
     told = length-map (map ticket_of (queue_of s.queues p i)) (λ t. Withdrawn t p i) ∙ length-map (queue_of s.queues p i) ticket_of
 
-    by : (place_of p i < length s.queues) ⊎ (length s.queues ≤ place_of p i) → length (queue_emptied s p i).1 + total (queue_emptied s p i).0 ≡ total s
-    by (inl inside) = omega (arith, told, sum_by-set (λ (q : List Message). length q) s.queues (place_of p i) [] [] inside)
+    by : (source_number p i < length s.queues) ⊎ (length s.queues ≤ source_number p i) → length (queue_emptied s p i).1 + total (queue_emptied s p i).0 ≡ total s
+    by (inl inside) = omega (arith, told, sum_by-set (λ (q : List Message). length q) s.queues (source_number p i) [] [] inside)
     by (inr past) =
         let none : queue_of s.queues p i ≡ [] = get_or-eq_default s.queues [] past in
-        let same : total (queue_emptied s p i).0 ≡ total s = ap (sum_by (λ (q : List Message). length q)) (set_past s.queues (place_of p i) [] past) in
+        let same : total (queue_emptied s p i).0 ≡ total s = ap (sum_by (λ (q : List Message). length q)) (set_past s.queues (source_number p i) [] past) in
         omega (arith, told, ap length none, same)
 
 -- and of the slot there is one notice at most

@@ -6,16 +6,18 @@ use Rattle.std.proofs.lemmas.List.{get_or-set_same, get_or-set_other, set-get_or
 use Rattle.std.proofs.lemmas.List.Folds.{position_or_len-set}
 use Rattle.std.proofs.lemmas.List.FromFn.{fill_by_all, get_or-map-range_with_len, length-map-range_with_len}
 use Rattle.std.proofs.lemmas.Bool.Decides.{nat_tests}
+use Rattle.board_terms.specs.declared.pages.Kind.{Kind}
+use Rattle.board_terms.specs.declared.pages.Kind.TheVariants as kind
 use Rattle.board_terms.specs.declared.pages.Owner.{Owner}
 use Rattle.board_terms.specs.declared.pages.Owner.TheVariants.{Guest, Nothing}
 use Rattle.std.proofs.Math.Seq.{map-set_same}
 use Rattle.lapic_core.specs.Vectors.{Vectors}
 use Rattle.synic_regs.specs.declared.register.Register.TheVariants.{Source}
-use Rattle.synic_regs.specs.Regs.{Regs, reset_regs, is_refused, with_value, after_write, auto_vectors}
-use Rattle.gpa_space.specs.Space.{Space, lies_at, visible, owner_of, overlay_owner}
+use Rattle.synic_regs.specs.Regs.{Regs, reset_regs, stores, is_refused, with_value, after_write, value_of, auto_vectors}
+use Rattle.gpa_space.specs.Space.{Space, overlay_of, lies_at, visible, owner_of, overlay_owner}
 use Rattle.synic_board.specs.State.{overlay_registers}
 use Rattle.synic_board.specs.Scratch.{Values, owners_of}
-use Rattle.synic_board.specs.Moves.{looked_up, with_owners}
+use Rattle.synic_board.specs.inside.Moves.{overlay_register, looked_up, with_owners}
 
 pub length-overlays : (rs : List Regs) → length (overlay_registers rs) ≡ 2 * length rs
 length-overlays [] = refl
@@ -135,14 +137,27 @@ scratch-moved b t rs n k u v w nexts queued earliest before between after tied m
     let l : after.earliest ≡ earliest = ap (λ (x : Values). x.earliest) (second ∙ ap (λ (x : Values). with_owners x (looked_up t between.owners (v / 4096))) (first ∙ ap (λ (x : Values). with_owners x (looked_up t before.owners (u / 4096))) start)) in
     (λ i. record { nexts = g i; autos = f i; owners = e i; queued = j i; earliest = l i })
 
--- the space after a move of a SIM page, and after one of a SIEF page, has the registers of the processors
-pub sim-tied : (b t : Space) (rs : List Regs) (n v : ℕ) (u w : Regs) → n < length rs → b.registers ≡ overlay_registers rs → u ≡ get_or rs n reset_regs → w ≡ record u { sim = v } → t ≡ record b { registers = set b.registers (2 * n) v } → t.registers ≡ overlay_registers (set rs n w)
-sim-tied b t rs n v u w h tied was now moved =
-    ap (λ (s : Space). s.registers) moved ∙ ap (λ xs. set xs (2 * n) v) tied ∙ sym (overlays-sim rs n v h) ∙ ap (λ r. overlay_registers (set rs n r)) (sym (now ∙ ap (λ (r : Regs). record r { sim = v }) was))
+-- where an overlay lies, as the registers of its processor say it
+pub overlay-read : (rs : List Regs) (p : ℕ) (k : Kind) → p < length rs → get_or (overlay_registers rs) (overlay_of p k) 0 ≡ value_of (get_or rs p reset_regs) (overlay_register k)
+overlay-read rs p kind.Sim h = sim-overlay rs p h
+overlay-read rs p kind.Sief h = sief-overlay rs p h
 
-pub sief-tied : (b t : Space) (rs : List Regs) (n v : ℕ) (u w : Regs) → n < length rs → b.registers ≡ overlay_registers rs → u ≡ get_or rs n reset_regs → w ≡ record u { sief = v } → t ≡ record b { registers = set b.registers (2 * n + 1) v } → t.registers ≡ overlay_registers (set rs n w)
-sief-tied b t rs n v u w h tied was now moved =
-    ap (λ (s : Space). s.registers) moved ∙ ap (λ xs. set xs (2 * n + 1) v) tied ∙ sym (overlays-sief rs n v h) ∙ ap (λ r. overlay_registers (set rs n r)) (sym (now ∙ ap (λ (r : Regs). record r { sief = v }) was))
+pub overlay-stores : (k : Kind) → stores (overlay_register k) ≡ true
+overlay-stores kind.Sim = refl
+overlay-stores kind.Sief = refl
+
+pub overlay-auto : (u : Regs) (k : Kind) (v : ℕ) → auto_vectors (after_write u (overlay_register k) v) ≡ auto_vectors u
+overlay-auto u kind.Sim v = refl
+overlay-auto u kind.Sief v = refl
+
+overlays-moved : (rs : List Regs) (p v : ℕ) (k : Kind) → p < length rs → overlay_registers (set rs p (after_write (get_or rs p reset_regs) (overlay_register k) v)) ≡ set (overlay_registers rs) (overlay_of p k) v
+overlays-moved rs p v kind.Sim h = overlays-sim rs p v h
+overlays-moved rs p v kind.Sief h = overlays-sief rs p v h
+
+-- the space after an overlay has moved has the registers of the processors
+pub overlay-tied : (b t : Space) (rs : List Regs) (n v : ℕ) (k : Kind) (u w : Regs) → n < length rs → b.registers ≡ overlay_registers rs → u ≡ get_or rs n reset_regs → w ≡ after_write u (overlay_register k) v → t ≡ record b { registers = set b.registers (overlay_of n k) v } → t.registers ≡ overlay_registers (set rs n w)
+overlay-tied b t rs n v k u w h tied was now moved =
+    ap (λ (s : Space). s.registers) moved ∙ ap (λ xs. set xs (overlay_of n k) v) tied ∙ sym (overlays-moved rs n v k h) ∙ ap (λ r. overlay_registers (set rs n r)) (sym (now ∙ ap (λ (r : Regs). after_write r (overlay_register k) v) was))
 
 -- the summary after a write of a register that moves no overlay
 pub scratch-kept : (pages own : List (List ℕ)) (rs : List Regs) (n : ℕ) (w : Regs) (nexts : List (Option ℕ)) (queued : List ℕ) (earliest : Option (ℕ × (ℕ × ℕ))) (before : Values) →

@@ -10,7 +10,8 @@ use Rattle.board_terms.specs.declared.messages.Message.{Message}
 use Rattle.board_terms.specs.Messages.{ticket_of}
 use Rattle.board_terms.specs.declared.notices.Notice.{Notice}
 use Rattle.board_terms.specs.declared.notices.Notice.TheVariants.{Accepted, Placed, Pending, Withdrawn, Expired, Skipped}
-use Rattle.message_queues.specs.Queues.{Queues, place_of, queue_of, is_from_port, withdrawn_of, left_of}
+use Rattle.board_terms.specs.Sources.{source_number}
+use Rattle.message_queues.specs.Queues.{Queues, queue_of, is_from_port, withdrawn_of, left_of}
 use Rattle.gpa_space.specs.Space.{is_pending, after_pending}
 use Rattle.synic_board.specs.declared.event.Event.{Event}
 use Rattle.synic_board.specs.declared.event.Reply.{Reply}
@@ -91,24 +92,24 @@ replaced qs k q = by (nat_lt k (length qs)) refl
         subst (λ l. StandsAmong (map ticket_of l) (map ticket_of q)) (sym beyond) tt
 
 -- the queue of one source is replaced
-moved : (p i q j : ℕ) (s now : State) (next : List Message) (told : List Notice) → now.queues ≡ set s.queues (place_of q j) next →
-    (place_of q j ≡ place_of p i → StandsAmong (placed_at p i told ++ map ticket_of next) (map ticket_of (queue_of s.queues q j) ++ accepted_at p i told)) →
-    (place_of q j ≢ place_of p i → (placed_at p i told ≡ []) × (accepted_at p i told ≡ [])) → KeepsOrder p i s now told
-moved p i q j s now next told is here away = by (cases_eq (place_of q j) (place_of p i))
+moved : (p i q j : ℕ) (s now : State) (next : List Message) (told : List Notice) → now.queues ≡ set s.queues (source_number q j) next →
+    (source_number q j ≡ source_number p i → StandsAmong (placed_at p i told ++ map ticket_of next) (map ticket_of (queue_of s.queues q j) ++ accepted_at p i told)) →
+    (source_number q j ≢ source_number p i → (placed_at p i told ≡ []) × (accepted_at p i told ≡ [])) → KeepsOrder p i s now told
+moved p i q j s now next told is here away = by (cases_eq (source_number q j) (source_number p i))
   where
     at : ℕ → List Message
-    at k = get_or (set s.queues (place_of q j) next) k []
+    at k = get_or (set s.queues (source_number q j) next) k []
 
-    by : (place_of q j ≡ place_of p i) ⊎ (place_of q j ≢ place_of p i) → KeepsOrder p i s now told
+    by : (source_number q j ≡ source_number p i) ⊎ (source_number q j ≢ source_number p i) → KeepsOrder p i s now told
     by (inl e) =
-        let ends : queued_at now p i ≡ map ticket_of (at (place_of q j)) = ap (λ (qs : Queues). map ticket_of (queue_of qs p i)) is ∙ ap (λ k. map ticket_of (at k)) (sym e) in
+        let ends : queued_at now p i ≡ map ticket_of (at (source_number q j)) = ap (λ (qs : Queues). map ticket_of (queue_of qs p i)) is ∙ ap (λ k. map ticket_of (at k)) (sym e) in
         let starts : map ticket_of (queue_of s.queues q j) ≡ queued_at s p i = ap (λ k. map ticket_of (get_or s.queues k [])) e in
         subst (λ l. StandsAmong (placed_at p i told ++ l) (queued_at s p i ++ accepted_at p i told)) (sym ends)
-        (through (placed_at p i told ++ map ticket_of (at (place_of q j))) (placed_at p i told ++ map ticket_of next) (queued_at s p i ++ accepted_at p i told)
-        (behind (placed_at p i told) (map ticket_of (at (place_of q j))) (map ticket_of next) (replaced s.queues (place_of q j) next))
+        (through (placed_at p i told ++ map ticket_of (at (source_number q j))) (placed_at p i told ++ map ticket_of next) (queued_at s p i ++ accepted_at p i told)
+        (behind (placed_at p i told) (map ticket_of (at (source_number q j))) (map ticket_of next) (replaced s.queues (source_number q j) next))
         (subst (λ l. StandsAmong (placed_at p i told ++ map ticket_of next) (l ++ accepted_at p i told)) starts (here e)))
     by (inr ne) =
-        let other : queued_at now p i ≡ queued_at s p i = ap (λ (qs : Queues). map ticket_of (queue_of qs p i)) is ∙ ap (map ticket_of) (get_or-set_other s.queues (place_of q j) (place_of p i) next [] (λ e. ne (sym e))) in
+        let other : queued_at now p i ≡ queued_at s p i = ap (λ (qs : Queues). map ticket_of (queue_of qs p i)) is ∙ ap (map ticket_of) (get_or-set_other s.queues (source_number q j) (source_number p i) next [] (λ e. ne (sym e))) in
         equal _ _ (ap (λ l. l ++ queued_at now p i) (away ne).0 ∙ other ∙ sym (append-nil (queued_at s p i)) ∙ ap (λ l. queued_at s p i ++ l) (sym (away ne).1))
 
 -- what one notice tells of
@@ -123,9 +124,9 @@ told-away a b ticket ne = either (λ o. o ≡ None) (a == b) (Some ticket) None 
 
 in-order-accepted : (p i : ℕ) (s : State) (q j : ℕ) (m : Message) → KeepsOrder p i s (accepted s q j m).0 (accepted s q j m).1
 in-order-accepted p i s q j m = moved p i q j s (accepted s q j m).0 (queue_of s.queues q j ++ m ∷ []) (accepted s q j m).1 refl
-    (λ e. let ticket = one (accepted_ticket p i) (Accepted (ticket_of m) q j) (Some (ticket_of m)) (told-here (place_of q j) (place_of p i) (ticket_of m) e) in
+    (λ e. let ticket = one (accepted_ticket p i) (Accepted (ticket_of m) q j) (Some (ticket_of m)) (told-here (source_number q j) (source_number p i) (ticket_of m) e) in
     equal _ _ (map-append ticket_of (queue_of s.queues q j) (m ∷ []) ∙ ap (λ l. map ticket_of (queue_of s.queues q j) ++ l) (sym ticket)))
-    (λ ne. (refl, one (accepted_ticket p i) (Accepted (ticket_of m) q j) None (told-away (place_of q j) (place_of p i) (ticket_of m) ne)))
+    (λ ne. (refl, one (accepted_ticket p i) (Accepted (ticket_of m) q j) None (told-away (source_number q j) (source_number p i) (ticket_of m) ne)))
 
 in-order-placed : (p i : ℕ) (s : State) (q j : ℕ) (m : Message) (rest : List Message) → queue_of s.queues q j ≡ m ∷ rest → KeepsOrder p i s (placement s q j m rest).0 (placement s q j m rest).1
 in-order-placed p i s q j m rest is =
@@ -136,9 +137,9 @@ in-order-placed p i s q j m rest is =
         let notice : Notice = Placed (ticket_of m) q j in
         let after_first : placed_at p i (notice ∷ more) ≡ placed_at p i (notice ∷ []) = filter_map-append (placed_ticket p i) (notice ∷ []) more ∙ ap (λ l. placed_at p i (notice ∷ []) ++ l) none ∙ append-nil (placed_at p i (notice ∷ [])) in
         moved p i q j s (placed_state s q j m rest) rest (notice ∷ more) refl
-        (λ e. let ticket = after_first ∙ one (placed_ticket p i) notice (Some (ticket_of m)) (told-here (place_of q j) (place_of p i) (ticket_of m) e) in
+        (λ e. let ticket = after_first ∙ one (placed_ticket p i) notice (Some (ticket_of m)) (told-here (source_number q j) (source_number p i) (ticket_of m) e) in
         equal _ _ (ap (λ l. l ++ map ticket_of rest) ticket ∙ ap (map ticket_of) (sym is) ∙ sym (append-nil (map ticket_of (queue_of s.queues q j))) ∙ ap (λ l. map ticket_of (queue_of s.queues q j) ++ l) (sym no_more)))
-        (λ ne. (after_first ∙ one (placed_ticket p i) notice None (told-away (place_of q j) (place_of p i) (ticket_of m) ne), no_more))
+        (λ ne. (after_first ∙ one (placed_ticket p i) notice None (told-away (source_number q j) (source_number p i) (ticket_of m) ne), no_more))
 
 none-withdrawn : (tells : Notice → Option ℕ) (q j : ℕ) → ((ticket : ℕ) → tells (Withdrawn ticket q j) ≡ None) → (tickets : List ℕ) → filter_map tells (map (λ t. Withdrawn t q j) tickets) ≡ []
 none-withdrawn tells q j never [] = refl

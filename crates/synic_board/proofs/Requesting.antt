@@ -9,7 +9,7 @@ use Rattle.std.specs.FinSet.{contains-insert, contains-remove, nat_cmp-IsAntisym
 use Rattle.std.proofs.lemmas.Cmp.{nat_cmp_total}
 use Rattle.std.proofs.lemmas.Bool.{cases_eq}
 use Rattle.std.proofs.lemmas.List.{length-set, get_or-set_same, get_or-set_other}
-use Rattle.lapic_core.specs.Apic.{Apic, empty_apic, request, with_mark, awaited, next, class, priority, deliverable}
+use Rattle.lapic_core.specs.Apic.{Apic, empty_apic, request, with_suspension as apic_with_suspension, awaited, next, class, priority, deliverable}
 use Rattle.lapic_core.proofs.Members.{IsGreatest, Tells as Greatest, greatest_tells}
 use Rattle.board_terms.specs.declared.refusal.Refusal.TheVariants.{NoSuchProcessor}
 use Rattle.board_terms.specs.Messages.{ticket_of}
@@ -215,7 +215,7 @@ steps s event = throughout Tells IsTold told (record {
   counts = λ s p n number value e _ h. tells s _ _ _ e refl h;
   repeats = λ s port flag p i f _ _. quiet s (with_flag s p i f) _ _ refl (λ _ _ _ e. e);
   signals = λ s port flag p i f _ _ h. let lit : State = with_flag s p i f in tells s s _ _ (after (flagged s p i f) (raised lit p i)) refl (tells-after s (flagged s p i f) (raised lit p i) (mute s _ refl (λ _ _. refl)) h);
-  pauses = λ s event p mark _. quiet s (with_suspension s p mark) event _ (length-set s.apics p (with_mark (apic_of s p) mark)) (fewer s p (with_mark (apic_of s p) mark) (λ v is. is));
+  pauses = λ s event p mark _. quiet s (with_suspension s p mark) event _ (length-set s.apics p (apic_with_suspension (apic_of s p) mark)) (fewer s p (apic_with_suspension (apic_of s p) mark) (λ v is. is));
   resets = resets;
 }) s event
 

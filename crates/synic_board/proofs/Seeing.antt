@@ -14,7 +14,8 @@ use Rattle.board_terms.specs.declared.messages.Message.TheVariants.{FromPort, Fr
 use Rattle.synic_regs.specs.Registers.{number_of_register}
 use Rattle.synic_regs.specs.Regs.{raised_by}
 use Rattle.synic_regs.specs.declared.register.Register.TheVariants.{Eom}
-use Rattle.message_queues.specs.Queues.{place_of, queue_of}
+use Rattle.board_terms.specs.Sources.{source_number}
+use Rattle.message_queues.specs.Queues.{queue_of}
 use Rattle.message_queues.specs.Image.{image, slot_type}
 use Rattle.message_queues.proofs.WrittenSlots.{length-image, slot_type-other, inside, outside}
 use Rattle.gpa_space.specs.Page.{is_set, with_bit, with_slot, pending_place}
@@ -103,7 +104,7 @@ alike-placed n s p j i h below inside_ under ne = head (queue_of s.queues p j) r
         let here = own n s p (with_slot (page_of s p) j bytes) h below in
         record {
           regs = refl;
-          queue = get_or-set_other s.queues (place_of p j) (place_of p i) rest [] (λ e. other_place p j p i inside_ under (λ _ same. ne (sym same)) (sym e));
+          queue = get_or-set_other s.queues (source_number p j) (source_number p i) rest [] (λ e. other_place p j p i inside_ under (λ _ same. ne (sym same)) (sym e));
           slot = ap (λ page. slot_type page i) here ∙ slot_type-other (page_of s p) bytes j i long size inside_ under ne;
           pending = ap (λ page. is_set page (pending_place i) 0) here ∙ pending-other (page_of s p) bytes j i long size inside_ under ne;
         }
@@ -132,7 +133,7 @@ seen-placed n s p i h below under = head (queue_of s.queues p i) refl
   where
     head : (q : List Message) → queue_of s.queues p i ≡ q → IsSeen (placed_head s p i q).0 p i
     head [] is = inl is
-    head (m ∷ []) is = inl (get_or-set_same s.queues (place_of p i) [] [] (omega (arith, h.whole.queues, below, under)))
+    head (m ∷ []) is = inl (get_or-set_same s.queues (source_number p i) [] [] (omega (arith, h.whole.queues, below, under)))
     head (m ∷ next ∷ rest) is =
         let good = (tail-good m (next ∷ rest) (subst (λ q. All IsMessage q) is (queue-good n s p i h.whole below under))).0 in
         let more : nat_lt 0 (length (next ∷ rest)) ≡ true = grind (arith, nat_tests) in

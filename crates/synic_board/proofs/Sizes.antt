@@ -6,7 +6,7 @@ use Rattle.synic_regs.specs.Regs.{auto_vectors}
 use Rattle.synic_board.specs.declared.machine.Machine.TheInside.{Inside}
 use Rattle.synic_board.specs.State.{processors, space_of}
 use Rattle.synic_board.specs.Scratch.{scratch, TellsOf}
-use Rattle.synic_board.specs.View.{state_of, IsKept}
+use Rattle.synic_board.specs.inside.View.{state_of, IsKept}
 use Rattle.synic_board.proofs.Overlays.{length-owners}
 
 pub tells_of : (b : Inside) → IsKept b → TellsOf (processors (state_of b)) (length (state_of b).pages) (scratch (state_of b))

@@ -10,7 +10,7 @@ use Rattle.gpa_space.specs.Space.{Space, refusal_of, owner_of, visible, lies_at,
 use Rattle.synic_board.specs.State.{State, processors, space_of, with_space}
 use Rattle.board_terms.specs.declared.notices.Notice.{Notice}
 use Rattle.synic_board.specs.declared.event.Reply.TheVariants.{Done}
-use Rattle.synic_board.specs.Effects.{appended, answered, refused}
+use Rattle.synic_board.specs.Effects.{preceded, answered, refused}
 use Rattle.synic_board.specs.Stores.{IsOn, consumed_in, with_bytes, stored_bytes}
 
 -- a store that is answered by an owner was not refused, and touches the visible page
@@ -38,10 +38,10 @@ owner_on s space page owner h e =
 
 -- the fields after a store that is not refused, and what it consumed, are those of the definition
 pub stored_is : (s now : State) (address : ℕ) (bytes : List ℕ) (b t : Space) (owner : Owner) (before told : List Notice) →
-    b ≡ space_of s → Ok owner ≡ store_answer b address bytes → t ≡ after_store b address bytes → before ≡ [] → (now, told) ≡ appended before (consumed_in (with_space s t) owner) →
+    b ≡ space_of s → Ok owner ≡ store_answer b address bytes → t ≡ after_store b address bytes → before ≡ [] → (now, told) ≡ preceded before (consumed_in (with_space s t) owner) →
     (now, Done, told) ≡ stored_bytes s address bytes
 stored_is s now address bytes b t owner before told space answer after empty effect =
     let good = store_is_good (space_of s) address bytes owner (answer ∙ ap (λ x. store_answer x address bytes) space) in
     let e : (now, told) ≡ consumed_in (with_bytes s address bytes) (owner_of (space_of s) (address / 4096)) =
-    effect ∙ (λ i. appended (empty i) (consumed_in (with_space s ((after ∙ ap (λ x. after_store x address bytes) space) i)) (good.1 i))) in
+    effect ∙ (λ i. preceded (empty i) (consumed_in (with_space s ((after ∙ ap (λ x. after_store x address bytes) space) i)) (good.1 i))) in
     ap (answered Done) e ∙ ap (λ o. option_map_or (refused s) o (answered Done (consumed_in (with_bytes s address bytes) (owner_of (space_of s) (address / 4096))))) (sym good.0)

@@ -44,7 +44,7 @@ use Rattle.synic_board.specs.Stores.{consumed_ticket, consumed, consumed_below, 
 use Rattle.synic_board.specs.Timers.{mode_at, is_ready_for, is_ready, expiry_notices, signalled_by, expired_state, expiry_at, fired, attempted, attempted_all, at_moment, ticked}
 use Rattle.synic_board.specs.Suspending.{is_suspended, with_suspension, suspended, resumed}
 use Rattle.synic_board.specs.Resetting.{withdrawn_ticket, slot_emptied, queue_emptied, source_emptied, emptied_below, emptied, reset}
-use Rattle.synic_board.specs.Replies.{IsReply}
+use Rattle.synic_board.specs.inside.Replies.{IsReply}
 use Rattle.synic_board.specs.Refusals.{IsRefusal}
 use Rattle.synic_board.specs.Requests.{is_requested}
 use Rattle.synic_board.specs.Step.{step}

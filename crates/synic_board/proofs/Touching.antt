@@ -8,7 +8,7 @@ use Rattle.std.proofs.lemmas.List.{get_or-set_same, get_or-set_other}
 use Rattle.std.proofs.lemmas.List.Quantifiers.{position-Some}
 use Rattle.board_terms.specs.declared.refusal.Refusal.{Refusal}
 use Rattle.board_terms.specs.declared.pages.Owner.{Owner}
-use Rattle.message_queues.specs.Queues.{place_of}
+use Rattle.board_terms.specs.Sources.{source_number}
 use Rattle.message_queues.specs.Image.{slot_type}
 use Rattle.gpa_space.specs.Page.{overwritten}
 use Rattle.gpa_space.specs.Space.{Space, refusal_of, owner_of, visible, lies_at, overlay_owner, shown, with_shown, store_answer, after_store}
@@ -17,7 +17,7 @@ use Rattle.synic_board.specs.Effects.{Effect, nothing, after}
 use Rattle.synic_board.specs.Delivery.{is_slot_empty}
 use Rattle.synic_board.specs.Stores.{consumed_ticket, consumed, consumed_below}
 use Rattle.synic_board.specs.Sound.{IsFree, IsSound}
-use Rattle.synic_board.specs.Touches.{touched, OthersFree}
+use Rattle.synic_board.specs.inside.Touches.{touched, OthersFree}
 use Rattle.synic_board.proofs.Folds.{fold_skip, consumes}
 use Rattle.synic_board.proofs.Storing.{store_is_good}
 use Rattle.synic_board.proofs.Overlays.{length-overlays}
@@ -54,7 +54,7 @@ free-behind t p k i low under ne free =
   where
     held : (o : Option ℕ) → IsFree (consumed_ticket t p k o).0 p i
     held None = free
-    held (Some x) = λ z. get_or-set_other t.slots (place_of p k) (place_of p i) None None (λ e. ne (omega (arith, e))) ∙ free z
+    held (Some x) = λ z. get_or-set_other t.slots (source_number p k) (source_number p i) None None (λ e. ne (omega (arith, e))) ∙ free z
 
 none-below : (t : State) (p k : ℕ) → ((i : ℕ) → i < k → IsFree t p i) → consumed_below t p k ≡ nothing t
 none-below t p k free =

@@ -1,5 +1,6 @@
 -- Delivery attempts: a queued message goes into the slot of its source (TLFS, "Message Delivery").
-use Rattle.std.specs.Prelude.{ℕ, zero, suc, ◌==◌, ◌&&◌, ◌+◌, Bool, false, not, nat_lt, List, [], ◌∷◌, length, Some, if◌then◌else◌}
+use Rattle.std.specs.Prelude.{ℕ, zero, suc, ◌==◌, ◌&&◌, ◌+◌, Bool, nat_lt, List, [], ◌∷◌, length, Some, if◌then◌else◌}
+use Rattle.board_terms.specs.Quantities.{Processor, Source, PortNumber, Ticket}
 use Rattle.board_terms.specs.declared.messages.Message.{Message}
 use Rattle.board_terms.specs.declared.messages.Message.TheVariants.{FromPort}
 use Rattle.board_terms.specs.Messages.{ticket_of}
@@ -15,68 +16,52 @@ use Rattle.synic_board.specs.Effects.{Effect, nothing, after}
 use Rattle.synic_board.specs.Interrupts.{raised}
 
 -- the SynIC and its message page are enabled
-abbrev pub delivers : State → ℕ → Bool
+abbrev pub delivers : State → Processor → Bool
 delivers s p = has (regs_of s p).control enable && has (regs_of s p).sim enable
 
 -- a slot is empty exactly where its type is 0
-abbrev pub is_slot_empty : State → ℕ → ℕ → Bool
+abbrev pub is_slot_empty : State → Processor → Source → Bool
 is_slot_empty s p i = slot_type (own_page (space_of s) p Sim) i == 0
 
--- a message would go into its slot at once: nothing is queued before it
-abbrev pub delivers_at_once : State → ℕ → ℕ → Bool
-delivers_at_once s p i = delivers s p && not (nat_lt 0 (length (queue_of s.queues p i))) && is_slot_empty s p i
-
 -- the head of the queue is placed in the slot, with the rest left behind
-abbrev pub placed_state : State → ℕ → ℕ → Message → List Message → State
+abbrev pub placed_state : State → Processor → Source → Message → List Message → State
 placed_state s p i m rest =
     with_slot_ticket (record (with_space s (after_slot (space_of s) p i (image m (nat_lt 0 (length rest)) s.moment))) { queues = with_queue s.queues p i rest }) p i (Some (ticket_of m))
 
-abbrev pub placed_notices : ℕ → ℕ → ℕ → Bool → List Notice
+abbrev pub placed_notices : Ticket → Processor → Source → Bool → List Notice
 placed_notices ticket p i pending = Placed ticket p i ∷ (if pending then Pending p i ∷ [] else [])
 
-abbrev pub placed_head : State → ℕ → ℕ → List Message → Effect
+abbrev pub placed_head : State → Processor → Source → List Message → Effect
 placed_head s p i [] = nothing s
 placed_head s p i (m ∷ rest) = (placed_state s p i m rest, placed_notices (ticket_of m) p i (nat_lt 0 (length rest)))
 
-abbrev pub placed : State → ℕ → ℕ → Effect
+abbrev pub placed : State → Processor → Source → Effect
 placed s p i = placed_head s p i (queue_of s.queues p i)
 
 -- MessagePending is set in an occupied slot, with a notice if it was clear
-abbrev pub marked : State → ℕ → ℕ → Effect
+abbrev pub marked : State → Processor → Source → Effect
 marked s p i = (with_space s (after_pending (space_of s) p i), if is_pending (space_of s) p i then [] else Pending p i ∷ [])
 
 -- a delivery attempt
-unfoldable pub tried : State → ℕ → ℕ → Effect
+unfoldable pub tried : State → Processor → Source → Effect
 tried s p i =
     if delivers s p && nat_lt 0 (length (queue_of s.queues p i))
     then (if is_slot_empty s p i then after (placed s p i) (raised (placed s p i).0 p i) else marked s p i)
     else nothing s
 
 -- one for each source below n, in order
-unfoldable pub tried_below : State → ℕ → ℕ → Effect
+unfoldable pub tried_below : State → Processor → ℕ → Effect
 tried_below s p zero = nothing s
 tried_below s p (suc i) = after (tried_below s p i) (tried (tried_below s p i).0 p i)
 
 -- a message takes the next ticket and joins the end of its queue
-abbrev pub accepted : State → ℕ → ℕ → Message → Effect
+abbrev pub accepted : State → Processor → Source → Message → Effect
 accepted s p i m = (record s { queues = joined s.queues p i m; next_ticket = s.next_ticket + 1 }, Accepted (ticket_of m) p i ∷ [])
 
 -- accepted, then tried
-abbrev pub delivered : State → ℕ → ℕ → Message → Effect
+abbrev pub delivered : State → Processor → Source → Message → Effect
 delivered s p i m = after (accepted s p i m) (tried (accepted s p i m).0 p i)
 
--- a message that stands in its slot takes the next ticket, which the slot holds
-abbrev pub slot_taken : State → ℕ → ℕ → ℕ → Effect
-slot_taken s p i ticket = (with_slot_ticket (record s { next_ticket = s.next_ticket + 1 }) p i (Some ticket), Accepted ticket p i ∷ Placed ticket p i ∷ [])
-
--- these bytes are written into its slot before
-abbrev pub filled_at_once : State → ℕ → ℕ → List ℕ → ℕ → Effect
-filled_at_once s p i bytes ticket = slot_taken (with_space s (after_slot (space_of s) p i bytes)) p i ticket
-
--- what `delivered` comes to where nothing is queued before the message and its slot is empty, before its vector is raised
-abbrev pub placed_at_once : State → ℕ → ℕ → Message → Effect
-placed_at_once s p i m = filled_at_once s p i (image m false s.moment) (ticket_of m)
-
 -- the message of a post, with the next ticket
-abbrev pub posted_message : State → ℕ → ℕ → List ℕ → Message
+abbrev pub posted_message : State → PortNumber → ℕ → List ℕ → Message
 posted_message s port kind payload = FromPort s.next_ticket port kind (record { items = payload })

@@ -1,5 +1,6 @@
 -- What an event comes to: effects, and outcomes with a reply.
-use Rattle.std.specs.Prelude.{ℕ, nat_lt, List, [], ◌++◌, if◌then◌else◌}
+use Rattle.std.specs.Prelude.{nat_lt, List, [], ◌++◌, if◌then◌else◌}
+use Rattle.board_terms.specs.Quantities.{Processor}
 use Rattle.board_terms.specs.declared.notices.Notice.{Notice}
 use Rattle.board_terms.specs.declared.refusal.Refusal.{Refusal}
 use Rattle.board_terms.specs.declared.refusal.Refusal.TheVariants.{NoSuchProcessor}
@@ -20,8 +21,8 @@ abbrev pub after : Effect → Effect → Effect
 after e f = (f.0, e.1 ++ f.1)
 
 -- an effect whose notices stand behind others
-abbrev pub appended : List Notice → Effect → Effect
-appended before e = (e.0, before ++ e.1)
+abbrev pub preceded : List Notice → Effect → Effect
+preceded before e = (e.0, before ++ e.1)
 
 -- the state after an event, the reply and the notices
 abbrev pub Outcome : Type 0
@@ -38,5 +39,5 @@ abbrev pub refused : State → Refusal → Outcome
 refused s r = unchanged s (Refused r)
 
 -- an event of processor p, refused where it is not on the board
-abbrev pub at_processor : State → ℕ → Outcome → Outcome
+abbrev pub at_processor : State → Processor → Outcome → Outcome
 at_processor s p outcome = if nat_lt p (processors s) then outcome else refused s NoSuchProcessor

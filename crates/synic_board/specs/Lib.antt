@@ -1,10 +1,6 @@
 pub mod State
 pub mod Scratch
-pub mod Entries
-pub mod Waiting
-pub mod Moves
 pub mod Effects
-pub mod Effected
 pub mod Interrupts
 pub mod Absorbing
 pub mod Delivery
@@ -17,7 +13,6 @@ pub mod Suspending
 pub mod Resetting
 pub mod Step
 pub mod Bounds
-pub mod Replies
 pub mod Refusals
 pub mod Timely
 pub mod Requests
@@ -30,6 +25,5 @@ pub mod Places
 pub mod Run
 pub mod History
 pub mod Sound
-pub mod Touches
 pub mod Leaving
-pub mod View
+pub mod inside

@@ -4,16 +4,17 @@ use Rattle.std.specs.List.{filter_map}
 use Rattle.board_terms.specs.Messages.{ticket_of}
 use Rattle.board_terms.specs.declared.notices.Notice.{Notice}
 use Rattle.board_terms.specs.declared.notices.Notice.TheVariants.{Accepted, Placed}
-use Rattle.message_queues.specs.Queues.{place_of, queue_of}
+use Rattle.board_terms.specs.Sources.{source_number}
+use Rattle.message_queues.specs.Queues.{queue_of}
 use Rattle.synic_board.specs.State.{State}
 
 -- the ticket that a notice tells of as accepted for a source, and as placed in its slot
 abbrev pub accepted_ticket : ℕ → ℕ → Notice → Option ℕ
-accepted_ticket p i (Accepted ticket q j) = if place_of q j == place_of p i then Some ticket else None
+accepted_ticket p i (Accepted ticket q j) = if source_number q j == source_number p i then Some ticket else None
 accepted_ticket p i notice = None
 
 abbrev pub placed_ticket : ℕ → ℕ → Notice → Option ℕ
-placed_ticket p i (Placed ticket q j) = if place_of q j == place_of p i then Some ticket else None
+placed_ticket p i (Placed ticket q j) = if source_number q j == source_number p i then Some ticket else None
 placed_ticket p i notice = None
 
 -- all that are told of, in order

@@ -21,8 +21,8 @@ tells_end t (Withdrawn ticket p i) = ticket == t
 tells_end t _ = false
 
 -- how often a ticket's message was consumed or withdrawn
-abbrev pub ended : ℕ → List Notice → ℕ
-ended t notices = count_by (tells_end t) notices
+abbrev pub times_ended : ℕ → List Notice → ℕ
+times_ended t notices = count_by (tells_end t) notices
 
 -- 1 for a ticket that was given between two states
 abbrev pub given : ℕ → State → State → ℕ
@@ -30,7 +30,7 @@ given t s now = if nat_le s.next_ticket t && nat_lt t now.next_ticket then 1 els
 
 -- each accepted message is queued, in a slot, consumed or withdrawn, exactly once
 abbrev pub Conserves : State → State → List Notice → Type 0
-Conserves s now notices = (t : ℕ) → times t (places now) + ended t notices ≡ times t (places s) + given t s now
+Conserves s now notices = (t : ℕ) → times t (places now) + times_ended t notices ≡ times t (places s) + given t s now
 
 -- a ticket stands in one place at most, and none that was not given
 pub record AreTickets (s : State) : Type 0 where

@@ -6,7 +6,7 @@ use Rattle.synic_board.specs.declared.event.Reply.{Reply}
 use Rattle.synic_board.specs.State.{State}
 use Rattle.synic_board.specs.Effects.{Outcome}
 use Rattle.synic_board.specs.Step.{step}
-use Rattle.synic_board.specs.Places.{places, times, ended, given}
+use Rattle.synic_board.specs.Places.{places, times, times_ended, given}
 
 -- the state at the end, the replies in order, and all notices joined
 abbrev pub Run : Type 0
@@ -27,4 +27,4 @@ told_behind before r = (r.0, r.1, before ++ r.2)
 -- each ticket that was given since s stands in one queue or slot at the end, or ended once, and no other ticket does
 pub record Accounts (s : State) (r : Run) : Type 0 where
   pub once : (t : ℕ) → times t (places r.0) ≤ 1
-  pub account : (t : ℕ) → times t (places r.0) + ended t r.2 ≡ given t s r.0
+  pub account : (t : ℕ) → times t (places r.0) + times_ended t r.2 ≡ given t s r.0

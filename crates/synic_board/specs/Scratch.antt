@@ -1,8 +1,5 @@
 -- The summary of a state, computed from scratch.
-use Rattle.std.specs.Prelude.{◌≡◌, ◌*◌, ℕ, List, Option, map, length, refl}
-use Rattle.std.specs.FinSet as set
-use Rattle.std.specs.Coded.{Coded, code_by, coded×, coded_ℕ, coded_list, coded_option}
-use Rattle.board_terms.specs.contracts.pages.Owner as owner
+use Rattle.std.specs.Prelude.{◌≡◌, ◌*◌, ℕ, List, Option, map, length}
 use Rattle.std.specs.List.{range_with_len}
 use Rattle.lapic_core.specs.Vectors.{Vectors}
 use Rattle.lapic_core.specs.Apic.{next}
@@ -44,14 +41,6 @@ pub record TellsOf (processors pages : ℕ) (values : Values) : Type 0 where
 pub record Kept : Type 0 where
   pub values : Values
   pub writes : ℕ
-
--- stored as its parts
-abbrev pub kept_code : Coded Kept
-kept_code =
-    code_by (List (Option ℕ) × (List Vectors × (List Owner × (List ℕ × (Option (ℕ × (ℕ × ℕ)) × ℕ)))))
-    (coded× (coded_list (coded_option coded_ℕ)) (coded× (coded_list (set.code coded_ℕ)) (coded× (coded_list owner.the_row.coded) (coded× (coded_list coded_ℕ) (coded× (coded_option (coded× coded_ℕ (coded× coded_ℕ coded_ℕ))) coded_ℕ)))))
-    (λ k. (k.values.nexts, (k.values.autos, (k.values.owners, (k.values.queued, (k.values.earliest, k.writes))))))
-    (λ p. record { values = record { nexts = p.0; autos = p.1.0; owners = p.1.1.0; queued = p.1.1.1.0; earliest = p.1.1.1.1.0 }; writes = p.1.1.1.1.1 }) (λ _. refl)
 
 abbrev pub kept : Values → ℕ → Kept
 kept v n = record { values = v; writes = n }

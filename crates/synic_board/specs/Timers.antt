@@ -1,6 +1,7 @@
 -- Timers that are written, that are tried, and the clock (TLFS, "Synthetic Timers"; the rules on late and lazy timers are this profile's).
 use Rattle.std.specs.Prelude.{ℕ, Bool, true, false, ◌==◌, ◌&&◌, ◌<◌, nat_lt, nat_le, List, [], ◌∷◌, ◌++◌, length, slice_index_or, Option, if◌then◌else◌}
 use Rattle.std.specs.Option.{option_map_or}
+use Rattle.board_terms.specs.Quantities.{TimerId, Moment}
 use Rattle.board_terms.specs.declared.messages.Message.TheVariants.{FromTimer}
 use Rattle.board_terms.specs.declared.notices.Notice.{Notice}
 use Rattle.board_terms.specs.declared.notices.Notice.TheVariants.{Expired, Skipped}
@@ -20,72 +21,72 @@ use Rattle.synic_board.specs.Delivery.{delivered}
 use Rattle.synic_board.specs.Posts.{are_tickets_left}
 
 -- whom a timer tells
-abbrev pub mode_at : State → ℕ × ℕ → Mode
+abbrev pub mode_at : State → TimerId → Mode
 mode_at s t = mode_of (timer_in (bank_of s) t).config
 
 -- a timer in message mode needs the SynIC, its buffer and a ticket
-abbrev pub is_ready_for : State → ℕ × ℕ → Mode → Bool
+abbrev pub is_ready_for : State → TimerId → Mode → Bool
 is_ready_for s t (Direct v) = true
 is_ready_for s t (Posted i) = has (regs_of s t.0).control enable && is_timer_free s.queues t && are_tickets_left s
 
 -- a timer that is due at the present moment and can tell of it
-abbrev pub is_ready : State → ℕ × ℕ → Bool
+abbrev pub is_ready : State → TimerId → Bool
 is_ready s t = is_due_in (bank_of s) t s.moment && is_ready_for s t (mode_at s t)
 
 -- what an expiry tells
-abbrev pub expired_notices : ℕ × ℕ → Option ℕ → List Notice
+abbrev pub expired_notices : TimerId → Option Moment → List Notice
 expired_notices t signal = option_map_or (λ d. Expired t.0 t.1 d ∷ []) signal []
 
-abbrev pub skipped_notices : ℕ × ℕ → ℕ → List Notice
+abbrev pub skipped_notices : TimerId → ℕ → List Notice
 skipped_notices t skipped = if skipped == 0 then [] else Skipped t.0 t.1 skipped ∷ []
 
-abbrev pub expiry_notices : ℕ × ℕ → Option ℕ → ℕ → List Notice
+abbrev pub expiry_notices : TimerId → Option Moment → ℕ → List Notice
 expiry_notices t signal skipped = expired_notices t signal ++ skipped_notices t skipped
 
 -- a timer tells that it expired for a moment: a request, or a message that is delivered
-abbrev pub told_by : State → ℕ × ℕ → Mode → ℕ → Effect
+abbrev pub told_by : State → TimerId → Mode → Moment → Effect
 told_by s t (Direct v) d = requested s t.0 v
 told_by s t (Posted i) d = delivered s t.0 i (FromTimer s.next_ticket t d)
 
-abbrev pub signalled_by : State → ℕ × ℕ → Mode → Option ℕ → Effect
+abbrev pub signalled_by : State → TimerId → Mode → Option Moment → Effect
 signalled_by s t mode signal = option_map_or (told_by s t mode) signal (nothing s)
 
 -- a ready timer expires
-abbrev pub expired_state : State → ℕ × ℕ → State
+abbrev pub expired_state : State → TimerId → State
 expired_state s t = with_bank s (after_expiry_of (bank_of s) t s.moment).0
 
-abbrev pub expiry_at : State → ℕ × ℕ → Expiry
+abbrev pub expiry_at : State → TimerId → Expiry
 expiry_at s t = (after_expiry_of (bank_of s) t s.moment).1
 
-abbrev pub fired : State → ℕ × ℕ → Mode → Effect
+abbrev pub fired : State → TimerId → Mode → Effect
 fired s t mode = after (expired_state s t, expiry_notices t (expiry_at s t).signal (expiry_at s t).skipped) (signalled_by (expired_state s t) t mode (expiry_at s t).signal)
 
 -- a timer is tried: one that is not ready stays as it is
-unfoldable pub attempted : State → ℕ × ℕ → Effect
+unfoldable pub attempted : State → TimerId → Effect
 attempted s t = if is_ready s t then fired s t (mode_at s t) else nothing s
 
 -- several timers, one after another, each judged at its turn
-unfoldable pub attempted_all : State → List (ℕ × ℕ) → Effect
+unfoldable pub attempted_all : State → List TimerId → Effect
 attempted_all s [] = nothing s
 attempted_all s (t ∷ ts) = after (attempted s t) (attempted_all (attempted s t).0 ts)
 
 -- timers of processors on the board
-abbrev pub AllOn : State → List (ℕ × ℕ) → Type 0
+abbrev pub AllOn : State → List TimerId → Type 0
 AllOn s ts = (k : ℕ) → k < length ts → (slice_index_or ts k (0, 0)).0 < processors s
 
 -- a timer that is written is tried once, if it is due then
-abbrev pub written_timer : State → Bank → ℕ × ℕ → Outcome
+abbrev pub written_timer : State → Bank → TimerId → Outcome
 written_timer s b t = answered Done (attempted (with_bank s b) t)
 
 -- the earliest timer is due at the moment, so that some timer is
-abbrev pub is_any_due : Option (ℕ × (ℕ × ℕ)) → ℕ → Bool
+abbrev pub is_any_due : Option (Moment × TimerId) → Moment → Bool
 is_any_due first moment = option_map_or (λ e. nat_le e.0 moment) first false
 
 -- the clock goes on, and the timers that are due then are tried in the order of (due, processor, index)
-abbrev pub at_moment : State → ℕ → State
+abbrev pub at_moment : State → Moment → State
 at_moment s moment = record s { moment = moment }
 
-abbrev pub ticked : State → ℕ → Outcome
+abbrev pub ticked : State → Moment → Outcome
 ticked s moment =
     if nat_lt moment s.moment then refused s ClockBack
     else if moment == s.moment then unchanged s Done

@@ -14,3 +14,4 @@ pub use event::{Event, Reply};
 pub use history::Entry;
 pub use runs::{Stopped, run};
 pub use summary::Summary;
+pub use synic_regs::msr;

@@ -48,13 +48,14 @@ pub(crate) struct Machine {
 }
 
 impl Model for Machine {
-    ghost use Rattle.synic_board.specs.State.{Held, held_code};
+    ghost use Rattle.synic_board.specs.State.{Held};
+    ghost use Rattle.synic_board.specs.inside.Codes.{held_code};
 
     ghost Value = { Held };
 
     ghost coded = { held_code };
 
-    ghost use Rattle.synic_board.specs.View.{held_of, IsKept};
+    ghost use Rattle.synic_board.specs.inside.View.{held_of, IsKept};
 
     ghost view = { held_of };
 

@@ -3,11 +3,11 @@ ghost use Rattle.std.specs.Prelude.{◌≡◌, ◌≢◌, ◌==◌, ℕ, ◌+◌
 ghost use Rattle.std.specs.FinSet as set;
 ghost use Rattle.std.specs.Int.{bit_at};
 ghost use Rattle.board_terms.specs.declared.pages.Owner.TheVariants.{Guest, Nothing};
-ghost use Rattle.message_queues.specs.Queues.{place_of};
+ghost use Rattle.board_terms.specs.Sources.{source_number};
 ghost use Rattle.synic_board.specs.Scratch.{kept};
-ghost use Rattle.synic_board.specs.Waiting.{IsFirstWaiting};
+ghost use Rattle.synic_board.specs.inside.Waiting.{IsFirstWaiting};
 
-use board_terms::{Owner, Sint, TimerId, Vector, Vp};
+use board_terms::{Owner, Sint, TimerId, Vector, Vp, source_number};
 use counter::Count;
 use lapic_core::VectorSet;
 use std::alloc::{AllocError, Global};
@@ -46,7 +46,8 @@ pub struct Summary {
 }
 
 impl Model for Summary {
-    ghost use Rattle.synic_board.specs.Scratch.{Kept, kept, kept_code};
+    ghost use Rattle.synic_board.specs.Scratch.{Kept, kept};
+    ghost use Rattle.synic_board.specs.inside.Codes.{kept_code};
 
     ghost Value = { Kept };
 
@@ -54,13 +55,13 @@ impl Model for Summary {
 
     ghost view = { λ a. kept (record { nexts = a.nexts.items; autos = a.autos.items; owners = a.owners.items; queued = a.queued.items; earliest = a.earliest }) a.writes.number };
 
-    ghost use Rattle.synic_board.specs.Waiting.{AreWaiting};
+    ghost use Rattle.synic_board.specs.inside.Waiting.{AreWaiting};
 
     ghost invariant = { λ a. AreWaiting a.queued.items a.waiting };
 }
 
 impl Summary {
-    ghost use Rattle.synic_board.specs.Entries.{HasEntry, with_entry};
+    ghost use Rattle.synic_board.specs.inside.Entries.{HasEntry, with_entry};
 
     /// The summary of a board as it is opened.
     pub(crate) fn open(alloc: Global, processors: u8, pages: u8) -> Result<Summary, AllocError>
@@ -102,7 +103,7 @@ impl Summary {
             Entry::Owns(page, owner) => self.owners[page as usize] = owner,
             Entry::Queued(vp, sint, count) => {
                 let at = vp.number() as usize;
-                self.queued[place_of(vp, sint)] = count;
+                self.queued[source_number(vp, sint)] = count;
                 self.waiting[at] = with_source(self.waiting[at], sint, count > 0);
             }
             Entry::Earliest(earliest) => self.earliest = earliest,
@@ -165,9 +166,9 @@ impl Summary {
     /// How many messages are queued for a source of a processor, 0 for a processor that is not on
     /// the board.
     pub fn queued(&self, vp: Vp, sint: Sint) -> u16
-        ensures { result ≡ slice_index_or self.now.values.queued (place_of vp sint) 0 }
+        ensures { result ≡ slice_index_or self.now.values.queued (source_number vp sint) 0 }
     {
-        match self.queued.get(place_of(vp, sint)) {
+        match self.queued.get(source_number(vp, sint)) {
             Some(count) => *count,
             None => 0,
         }
@@ -181,12 +182,4 @@ fn with_source(word: u16, sint: Sint, waits: bool) -> u16
 {
     let bit = 1 << sint.number();
     if waits { word | bit } else { word & !bit }
-}
-
-/// Where the values of a source stand, those of processor 0 first.
-pub(crate) fn place_of(vp: Vp, sint: Sint) -> usize
-    ensures value { result ≡ place_of vp sint }
-    ensures range { result < 128 }
-{
-    16 * vp.number() as usize + sint.number() as usize
 }

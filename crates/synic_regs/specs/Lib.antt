@@ -1,3 +1,3 @@
 pub mod Registers
 pub mod Regs
-pub mod View
+pub mod inside

@@ -1,8 +1,7 @@
 -- What the registers of the synthetic interrupt controller store (TLFS, "SCONTROL Register", "SIEFP
 -- Register", "SIMP Register" and "SINTx Registers").
-use Rattle.std.specs.Prelude.{ℕ, Bool, true, false, ◌<◌, ◌==◌, ◌%◌, ◌&&◌, ◌||◌, not, nat_lt, bit_and, List, IsTrue, Option, None, Some, if◌then◌else◌, replicate, slice_index_or, slice_set, refl}
+use Rattle.std.specs.Prelude.{ℕ, Bool, true, false, ◌<◌, ◌==◌, ◌%◌, ◌&&◌, ◌||◌, not, nat_lt, bit_and, List, IsTrue, Option, None, Some, if◌then◌else◌, replicate, slice_index_or, slice_set}
 use Rattle.std.specs.List.{list_any}
-use Rattle.std.specs.Coded.{Coded, code_by, coded×, coded_ℕ, coded_list}
 use Rattle.lapic_core.specs.Vectors.{Vectors, numbers_where}
 use Rattle.synic_regs.specs.declared.register.Register.{Register}
 use Rattle.synic_regs.specs.declared.register.Register.TheVariants.{Control, Sief, Sim, Source}
@@ -15,12 +14,6 @@ pub record Regs : Type 0 where
   pub sief : ℕ
   pub sim : ℕ
   pub sints : List ℕ
-
--- stored as its four parts
-abbrev pub regs_code : Coded Regs
-regs_code =
-    code_by (ℕ × (ℕ × (ℕ × List ℕ))) (coded× coded_ℕ (coded× coded_ℕ (coded× coded_ℕ (coded_list coded_ℕ)))) (λ r. (r.control, (r.sief, (r.sim, r.sints))))
-    (λ p. record { control = p.0; sief = p.1.0; sim = p.1.1.0; sints = p.1.1.1 }) (λ _. refl)
 
 -- the bits: enable of SCONTROL, SIEFP and SIMP; masked, AutoEOI and polling of a source
 abbrev pub enable : ℕ

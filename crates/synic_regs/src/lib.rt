@@ -3,6 +3,7 @@
 #![tactic(auto)]
 
 mod laws;
+pub mod msr;
 mod register;
 mod regs;
 #[cfg(test)]

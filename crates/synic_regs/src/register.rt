@@ -2,31 +2,8 @@
 ghost use Rattle.std.specs.Prelude.{◌≡◌};
 ghost use Rattle.synic_regs.specs.Registers.{register_of, timer_register};
 
+use crate::msr;
 use board_terms::Sint;
-
-const REFERENCE_COUNTER: u32 = 0x4000_0020;
-
-const EOI: u32 = 0x4000_0070;
-
-const TPR: u32 = 0x4000_0072;
-
-const CONTROL: u32 = 0x4000_0080;
-
-const VERSION: u32 = 0x4000_0081;
-
-const SIEF: u32 = 0x4000_0082;
-
-const SIM: u32 = 0x4000_0083;
-
-const EOM: u32 = 0x4000_0084;
-
-const FIRST_SOURCE: u32 = 0x4000_0090;
-
-const LAST_SOURCE: u32 = 0x4000_009f;
-
-const FIRST_TIMER: u32 = 0x4000_00b0;
-
-const LAST_TIMER: u32 = 0x4000_00b7;
 
 /// A synthetic register of a processor.
 #[derive(Clone, Copy, PartialEq, Eq, Debug)]
@@ -61,18 +38,21 @@ pub fn decode(number: u32) -> Option<Register>
     ensures { result ≡ register_of number }
 {
     match number {
-        REFERENCE_COUNTER => Some(Register::ReferenceCounter),
-        EOI => Some(Register::Eoi),
-        TPR => Some(Register::Tpr),
-        CONTROL => Some(Register::Control),
-        VERSION => Some(Register::Version),
-        SIEF => Some(Register::Sief),
-        SIM => Some(Register::Sim),
-        EOM => Some(Register::Eom),
-        FIRST_SOURCE..=LAST_SOURCE => {
-            Sint::new((number - FIRST_SOURCE) as u8).map(|sint| Register::Source(sint))
+        msr::TIME_REF_COUNT => Some(Register::ReferenceCounter),
+        msr::EOI => Some(Register::Eoi),
+        msr::TPR => Some(Register::Tpr),
+        msr::SCONTROL => Some(Register::Control),
+        msr::SVERSION => Some(Register::Version),
+        msr::SIEFP => Some(Register::Sief),
+        msr::SIMP => Some(Register::Sim),
+        msr::EOM => Some(Register::Eom),
+        msr::SINT0..=msr::SINT15 => {
+            Sint::new((number - msr::SINT0) as u8).map(|sint| Register::Source(sint))
         }
-        FIRST_TIMER..=LAST_TIMER => Some(timer_register((number - FIRST_TIMER) as u8)),
+        msr::STIMER0_CONFIG..=msr::STIMER3_COUNT => {
+            let place = number - msr::STIMER0_CONFIG;
+            Some(timer_register(place as u8))
+        }
         _ => None,
     }
 }

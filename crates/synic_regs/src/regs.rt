@@ -32,13 +32,14 @@ pub struct SynicRegs {
 }
 
 impl Model for SynicRegs {
-    ghost use Rattle.synic_regs.specs.Regs.{Regs, regs_code};
+    ghost use Rattle.synic_regs.specs.Regs.{Regs};
+    ghost use Rattle.synic_regs.specs.inside.Codes.{regs_code};
 
     ghost Value = { Regs };
 
     ghost coded = { regs_code };
 
-    ghost use Rattle.synic_regs.specs.View.{regs_of, IsKept};
+    ghost use Rattle.synic_regs.specs.inside.View.{regs_of, IsKept};
 
     ghost view = { regs_of };
 

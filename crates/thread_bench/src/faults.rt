@@ -4,7 +4,7 @@ use std::alloc::AllocError;
 use std::io;
 use thiserror::Error;
 
-const USAGE_FAULT: u8 = 2;
+pub(crate) const USAGE_FAULT: u8 = 2;
 
 const UNSETTLED: u8 = 3;
 
@@ -12,24 +12,11 @@ const NO_MEMORY: u8 = 4;
 
 const STREAM_FAULT: u8 = 5;
 
-/// What is wrong with the command line.
-#[derive(Clone, Copy, PartialEq, Eq, Debug, Drop, Error)]
-pub(crate) enum Wrong {
-    #[error("there is no such workload; --help names them")]
-    Workload,
-    #[error("the number of calls is no number from 1 to 4294967295")]
-    Count,
-    #[error("there are more words than a workload and a number of calls")]
-    TooMany,
-    #[error("an argument is not UTF-8")]
-    NotText,
-}
-
 /// Why nothing, or not all, was measured.
 #[derive(Clone, Copy, PartialEq, Eq, Debug, Drop, Error)]
 pub(crate) enum Fault {
-    #[error("{0}")]
-    Usage(Wrong),
+    #[error("an argument is not UTF-8")]
+    NotText,
     #[error("out of memory")]
     Memory,
     #[error("no board was opened: {0}")]
@@ -46,17 +33,11 @@ impl Fault {
     /// The status that the program ends with.
     pub(crate) fn status(&self) -> u8 {
         match self {
-            Fault::Usage(_) => USAGE_FAULT,
+            Fault::NotText => USAGE_FAULT,
             Fault::Call(_) | Fault::Settling(_) => UNSETTLED,
             Fault::Memory | Fault::Opening(_) => NO_MEMORY,
             Fault::Stream => STREAM_FAULT,
         }
-    }
-}
-
-impl From<Wrong> for Fault {
-    fn from(wrong: Wrong) -> Fault {
-        Fault::Usage(wrong)
     }
 }
 

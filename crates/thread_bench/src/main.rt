@@ -7,9 +7,12 @@ mod worker;
 mod workers;
 mod workload;
 
-use crate::faults::{Fault, Wrong};
+use crate::faults::{Fault, USAGE_FAULT};
 use crate::measure::measure;
 use crate::workload::{Job, ThreadCount, Workload};
+use clap::error::ErrorKind;
+use clap::{Arg, Command, Error};
+use std::alloc::{AllocError, Global};
 use std::process::ExitCode;
 use std::sync::Wait;
 use std::thread::Threads;
@@ -18,29 +21,23 @@ use std::{env, io};
 /// How many calls each thread makes where nobody says.
 const FEW_CALLS: u32 = 40_000;
 
-const HELP: &str = "Runs threads on a shared board, and tells what a call costs
-
-Usage: thread_bench [WORKLOAD] [CALLS]
-
-Standard output: each workload, the calls of a thread, those of all threads, and where there is one
-thread, how many of them counted: raises that were fresh, or interrupts that were taken. Standard
-error: each workload, the calls of a thread, and nanoseconds a call, by the time in which all
-threads made theirs.
-
-Workloads: raise-1, raise-4, perform-1, perform-4 (all, if none is named)
-Calls: 40000, if no number is given";
+const OUTPUT: &str = "\
+Standard output: each workload, the calls of a thread, those of all threads, and where there is
+one thread, how many of them counted: raises that were fresh, or interrupts that were taken.
+Standard error: each workload, the calls of a thread, and nanoseconds a call, by the time in
+which all threads made theirs.";
 
 /// What the command line asks for.
-#[derive(Clone, Copy)]
 enum Asked {
-    Help,
     /// One workload, or all of them, of that many calls.
     Measurements(Option<Workload>, u32),
+    /// Nothing more: help was shown, or what is wrong was said.
+    Nothing(ExitCode),
 }
 
 fn main(rt: HostRuntime) -> ExitCode {
     match run(&rt, &rt) {
-        Ok(()) => ExitCode::SUCCESS,
+        Ok(code) => code,
         Err(fault) => {
             // That the message may fail too changes no status.
             let _ = eprintln!(rt; "thread_bench: {fault}");
@@ -49,10 +46,25 @@ fn main(rt: HostRuntime) -> ExitCode {
     }
 }
 
+/// The command line of the program.
+fn command<'a>(alloc: Global, names: &'a [&'a str]) -> Result<Command<'a>, AllocError> {
+    let workload = Arg::new(alloc, "workload")
+        .help("What is measured [default: all]")
+        .value_parser(names);
+    let calls = Arg::new(alloc, "calls")
+        .help("How many calls each thread makes [default: 40000]")
+        .value_parser(clap::value_parser!(u32).range(1..));
+    Command::new(alloc, "thread_bench")
+        .about("Runs threads on a shared board, and tells what a call costs")
+        .after_help(OUTPUT)
+        .arg(workload)?
+        .arg(calls)
+}
+
 /// Does what the command line asks for.
-fn run<R: Threads + Wait + Sync>(rt: &HostRuntime, threads: &R) -> Result<(), Fault> {
+fn run<R: Threads + Wait + Sync>(rt: &HostRuntime, threads: &R) -> Result<ExitCode, Fault> {
     match read_command_line(rt)? {
-        Asked::Help => println!(rt; "{HELP}")?,
+        Asked::Nothing(code) => return Ok(code),
         Asked::Measurements(Some(workload), calls) => show(rt, threads, workload, calls)?,
         Asked::Measurements(None, calls) => {
             for workload in Workload::ALL {
@@ -60,50 +72,38 @@ fn run<R: Threads + Wait + Sync>(rt: &HostRuntime, threads: &R) -> Result<(), Fa
             }
         }
     }
-    Ok(())
+    Ok(ExitCode::SUCCESS)
 }
 
 fn read_command_line(rt: &HostRuntime) -> Result<Asked, Fault> {
     let words = match env::args(rt) {
         Ok(words) => words.collect::<Vec<String>>(rt.alloc())?,
-        Err(error) if error.kind() == io::ErrorKind::InvalidData => {
-            return Err(Fault::Usage(Wrong::NotText));
-        }
+        Err(error) if error.kind() == io::ErrorKind::InvalidData => return Err(Fault::NotText),
         Err(error) => return Err(Fault::from(error)),
     };
-    // The first word is the program's name.
-    let asked = match words.as_slice() {
-        [] | [_] => Asked::Measurements(None, FEW_CALLS),
-        [_, word] => read_word(word.as_str())?,
-        [_, name, count] => {
-            let workload = Workload::named(name.as_str()).ok_or(Wrong::Workload)?;
-            Asked::Measurements(Some(workload), read_count(count.as_str())?)
-        }
-        _ => return Err(Fault::Usage(Wrong::TooMany)),
+    let names = Workload::ALL.map(|workload| workload.name());
+    let command = command(rt.alloc(), names.as_slice())?;
+    let matches = match command.try_get_matches_from(words.as_slice()) {
+        Ok(matches) => matches,
+        Err(error) => return say(rt, error),
     };
-    Ok(asked)
+    let workload = matches.get_str("workload").and_then(Workload::named);
+    let calls = matches.get_one::<u32>("calls").unwrap_or(FEW_CALLS);
+    Ok(Asked::Measurements(workload, calls))
 }
 
-/// What a word asks for that stands alone.
-fn read_word(word: &str) -> Result<Asked, Wrong> {
-    if word == "--help" {
-        return Ok(Asked::Help);
+/// Says what the parser of the command line says: help, or what is wrong.
+fn say(rt: &HostRuntime, error: Error) -> Result<Asked, Fault> {
+    if error.kind() == ErrorKind::OutOfMemory {
+        return Err(Fault::Memory);
     }
-    if let Some(workload) = Workload::named(word) {
-        return Ok(Asked::Measurements(Some(workload), FEW_CALLS));
-    }
-    match word.as_bytes().first() {
-        Some(b'0'..=b'9') => Ok(Asked::Measurements(None, read_count(word)?)),
-        _ => Err(Wrong::Workload),
-    }
-}
-
-/// A number of calls, at least one.
-fn read_count(word: &str) -> Result<u32, Wrong> {
-    match word.parse::<u32>() {
-        Ok(0) | Err(_) => Err(Wrong::Count),
-        Ok(count) => Ok(count),
-    }
+    error.print(rt)?;
+    let code = if error.use_stderr() {
+        ExitCode::from(USAGE_FAULT)
+    } else {
+        ExitCode::SUCCESS
+    };
+    Ok(Asked::Nothing(code))
 }
 
 /// Measures a workload and shows it: what is the same each time on standard output, the time on

@@ -6,13 +6,11 @@ use crate::workload::Job;
 use board_terms::{Moment, Vector, Vp};
 use board_threads::{Actor, CallFault, Line, Raised, SharedBoard};
 use std::sync::Wait;
+use synic_board::msr::EOI;
 use synic_board::{Event, Reply};
 
 /// How many processors a board has.
 pub(crate) const PROCESSORS: u8 = 8;
-
-/// The end of interrupt.
-const EOI: u32 = 0x4000_0070;
 
 /// The vector that is asserted.
 const ASSERTED: u8 = 0x60;

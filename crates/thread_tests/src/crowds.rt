@@ -7,6 +7,7 @@ use board_terms::{Vector, Vp};
 use board_threads::{Entry, Scripts, Setup, Standing, Step, Worker, run_crew};
 use std::alloc::{AllocError, Global};
 use std::test::Fail;
+use synic_board::msr::EOI;
 use synic_board::{Event, Reply};
 
 const ACTORS: u8 = 15;
@@ -44,7 +45,7 @@ fn any_step(numbers: &mut Numbers) -> Step {
         3 => Event::Tick {
             moment: u64::from(numbers.below(200)),
         },
-        4 => write(vp, 0x4000_0070, 0),
+        4 => write(vp, EOI, 0),
         5 => Event::Load {
             address: 0x2200,
             length: port,

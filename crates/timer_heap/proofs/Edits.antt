@@ -6,8 +6,8 @@ use Rattle.std.proofs.lemmas.Option.{none-some, same_Some}
 use Rattle.std.proofs.lemmas.List.{get_or-set_same, get_or-set_other, get_or_past, get_or-map, same_lists, length-set, length-map, get_or_default, get_or_append_left, get_or_push, get_or-take, length-take-le, length_push, set-get_or, set-set, set_comm, set_at, take-set}
 use Rattle.timer_heap.specs.declared.entry.Entry.{Entry}
 use Rattle.timer_heap.specs.declared.table.Table.{Table}
-use Rattle.timer_heap.specs.Table.{size, dues, due_through, number_at, moment_of, entry_of, entry_at, place_of, key, rank, parent, with_number, with_moment, IsInverse, IsOrdered}
-use Rattle.timer_heap.specs.Moves.{IsNear, IsMoving}
+use Rattle.timer_heap.specs.inside.Table.{size, dues, due_through, number_at, moment_of, entry_of, entry_at, place_of, key, rank, parent, with_number, with_moment, IsInverse, IsOrdered}
+use Rattle.timer_heap.specs.inside.Moves.{IsNear, IsMoving}
 use Rattle.timer_heap.proofs.Inverse.{in_table, size_with, IsExchanged, exchanged_numbers, exchange_inverse, exchange_dues}
 
 -- when a timer is due

@@ -5,7 +5,7 @@ use Rattle.std.proofs.lemmas.Bool.{cases_eq, cases_lt}
 use Rattle.std.proofs.lemmas.Option.{none-some, same_Some}
 use Rattle.std.proofs.lemmas.List.{get_or-set_same, get_or-set_other, get_or_past, get_or-map, same_lists, length-set, length-map, set-set, set_comm}
 use Rattle.timer_heap.specs.declared.table.Table.{Table}
-use Rattle.timer_heap.specs.Table.{size, dues, due_through, number_at, entry_of, entry_at, place_of, key, rank, is_before, with_number, IsInverse}
+use Rattle.timer_heap.specs.inside.Table.{size, dues, due_through, number_at, entry_of, entry_at, place_of, key, rank, is_before, with_number, IsInverse}
 use Rattle.timer_heap.proofs.Order.{IsSwapped, rank_before, rank_not_before}
 
 -- a timer with a place has a number in the table

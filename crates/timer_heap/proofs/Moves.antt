@@ -3,8 +3,8 @@ use Rattle.std.proofs.Common.{◌≡◌, ◌≢◌, ℕ, ◌+◌, ◌-◌, ◌*�
 use Rattle.std.specs.Prelude.{if◌then◌else◌}
 use Rattle.std.proofs.lemmas.Bool.{cases_eq}
 use Rattle.timer_heap.specs.declared.table.Table.{Table}
-use Rattle.timer_heap.specs.Table.{size, dues, key, parent, number_at, entry_of, entry_at, is_before, with_number, first_of, IsInverse, IsOrdered}
-use Rattle.timer_heap.specs.Moves.{IsMoving, IsNear, IsAbove, IsBelow}
+use Rattle.timer_heap.specs.inside.Table.{size, dues, key, parent, number_at, entry_of, entry_at, is_before, with_number, first_of, IsInverse, IsOrdered}
+use Rattle.timer_heap.specs.inside.Moves.{IsMoving, IsNear, IsAbove, IsBelow}
 use Rattle.timer_heap.proofs.Order.{IsClimb, IsWithin, none_within, rise_near, rise_below, sink_near, ordered, climbs, climbed, lower}
 use Rattle.timer_heap.proofs.Inverse.{passing, passes, size_with, with_here, with_other, number_in, key_before, key_not_before}
 

@@ -3,8 +3,8 @@ use Rattle.std.proofs.Common.{◌≡◌, ◌≢◌, ℕ, zero, suc, ◌+◌, ◌
 use Rattle.std.proofs.lemmas.Bool.{cases_eq}
 use Rattle.std.proofs.lemmas.Bool.Decides.{nat_tests}
 use Rattle.timer_heap.specs.declared.entry.Entry.{Entry}
-use Rattle.timer_heap.specs.Table.{parent, is_before, rank, IsOrdered}
-use Rattle.timer_heap.specs.Moves.{IsNear, IsAbove, IsBelow}
+use Rattle.timer_heap.specs.inside.Table.{parent, is_before, rank, IsOrdered}
+use Rattle.timer_heap.specs.inside.Moves.{IsNear, IsAbove, IsBelow}
 
 -- two keys change places
 pub record IsSwapped (k k' : ℕ → ℕ) (a b : ℕ) : Type 0 where

@@ -8,7 +8,7 @@ use Rattle.std.proofs.lemmas.Bool.{cases_eq, cases_lt}
 use Rattle.std.proofs.lemmas.Bool.Decides.{nat_tests}
 use Rattle.std.proofs.lemmas.Nat.Bits.{bit_at_set_same, bit_at_set_other, bit_at-zero}
 use Rattle.timer_heap.specs.declared.table.Table.{Table}
-use Rattle.timer_heap.specs.Table.{size, dues, due_through, number_at, entry_at, place_of, key, parent, IsInverse, IsOrdered}
+use Rattle.timer_heap.specs.inside.Table.{size, dues, due_through, number_at, entry_at, place_of, key, parent, IsInverse, IsOrdered}
 use Rattle.timer_heap.specs.Heap.{MarksDue}
 use Rattle.timer_heap.proofs.Inverse.{number_in}
 use Rattle.timer_heap.proofs.Edits.{dues_at}

@@ -8,8 +8,8 @@ use Rattle.std.proofs.lemmas.List.Sums.{sum_by-set, get_or-le-sum_by}
 use Rattle.timer_heap.specs.declared.table.Table.{Table}
 use Rattle.board_terms.specs.Dues.{Dues, least, number_of, timer_of}
 use Rattle.timer_heap.specs.Heap.{no_dues}
-use Rattle.timer_heap.specs.View.{idle}
-use Rattle.timer_heap.specs.Table.{size, dues, due_through, number_at, entry_at, place_of, key, IsInverse, IsOrdered}
+use Rattle.timer_heap.specs.inside.View.{idle}
+use Rattle.timer_heap.specs.inside.Table.{size, dues, due_through, number_at, entry_at, place_of, key, IsInverse, IsOrdered}
 use Rattle.timer_heap.proofs.Order.{root_first}
 use Rattle.timer_heap.proofs.Inverse.{number_in}
 use Rattle.timer_heap.proofs.Edits.{dues_at, length-dues}

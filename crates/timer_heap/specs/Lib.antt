@@ -1,5 +1,3 @@
 pub mod Heap
-pub mod Table
-pub mod Moves
-pub mod View
 pub mod Laws
+pub mod inside

@@ -1,6 +1,6 @@
 // The one place where entries are compared.
 ghost use Rattle.std.specs.Prelude.{◌≡◌, ◌+◌, ◌/◌, ◌%◌, ◌^◌, ◌<◌};
-ghost use Rattle.timer_heap.specs.Table.{is_before};
+ghost use Rattle.timer_heap.specs.inside.Table.{is_before};
 
 use crate::entry::Entry;
 use std::marker::Model;

@@ -22,7 +22,7 @@ impl Model for TimerHeap {
 
     ghost coded = { coded_list (coded_option coded_ℕ) };
 
-    ghost use Rattle.timer_heap.specs.View.{dues_of, IsKept};
+    ghost use Rattle.timer_heap.specs.inside.View.{dues_of, IsKept};
 
     ghost view = { dues_of };
 

@@ -1,8 +1,8 @@
 // Timers in heap order, and the place and the due moment of each.
 ghost use Rattle.std.specs.Prelude.{◌≡◌, ◌+◌, ◌-◌, ◌*◌, ◌<◌, ◌≤◌, length, slice_set, Option, Some, None};
-ghost use Rattle.timer_heap.specs.Table.{size, dues, number_at, moment_of, entry_of, place_of, key, with_number, with_moment, first_of, IsInverse, IsOrdered};
+ghost use Rattle.timer_heap.specs.inside.Table.{size, dues, number_at, moment_of, entry_of, place_of, key, with_number, with_moment, first_of, IsInverse, IsOrdered};
 ghost use Rattle.timer_heap.specs.Heap.{MarksDue};
-ghost use Rattle.timer_heap.specs.Moves.{IsMoving, IsAbove, IsBelow};
+ghost use Rattle.timer_heap.specs.inside.Moves.{IsMoving, IsAbove, IsBelow};
 
 use crate::comparer::{Comparer, high, low};
 use crate::entry::Entry;

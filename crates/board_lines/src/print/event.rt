@@ -1,7 +1,7 @@
 // The line of an event.
 ghost use Rattle.std.specs.Prelude.{◌≡◌, ◌++◌, ◌∷◌, [], OnOk, decimal};
 ghost use Rattle.board_text.specs.Numbers.{hex};
-ghost use Rattle.board_text.specs.Fields.{words};
+ghost use Rattle.board_text.specs.Fields.{spaced};
 ghost use Rattle.synic_board.specs.declared.event.Event.TheVariants.{OpenPort, Write, Read, Post, Signal, Assert, Absorb, Store, Load};
 ghost use Rattle.board_lines.specs.Events.{event_fields, IsEvent, FewBytes};
 
@@ -13,7 +13,7 @@ use synic_board::Event;
 
 /// Writes an event at the end of `out`, without a line feed.
 pub fn put_event(out: &mut Vec<u8>, event: &Event) -> Result<(), AllocError>
-    ensures written { OnOk result (out.new.items ≡ out.old.items ++ words (event_fields event.now)) }
+    ensures written { OnOk result (out.new.items ≡ out.old.items ++ spaced (event_fields event.now)) }
     ensures fits { IsEvent event.now }
 {
     match event {
@@ -66,7 +66,7 @@ fn put_hex_field(out: &mut Vec<u8>, number: u64) -> Result<(), AllocError>
 
 /// Writes a word and a number.
 fn put_named(out: &mut Vec<u8>, word: &[u8], number: u64) -> Result<(), AllocError>
-    ensures { OnOk result (out.new.items ≡ out.old.items ++ words (word.now ∷ decimal number ∷ [])) }
+    ensures { OnOk result (out.new.items ≡ out.old.items ++ spaced (word.now ∷ decimal number ∷ [])) }
 {
     put(out, word)?;
     put_decimal_field(out, number)
@@ -80,7 +80,7 @@ fn put_open(
     sint: u8,
     shape: PortShape,
 ) -> Result<(), AllocError>
-    ensures written { OnOk result (out.new.items ≡ out.old.items ++ words (event_fields (OpenPort port vp sint shape))) }
+    ensures written { OnOk result (out.new.items ≡ out.old.items ++ spaced (event_fields (OpenPort port vp sint shape))) }
     ensures fits { IsEvent (OpenPort port vp sint shape) }
 {
     put_named(out, b"open", u64::from(port))?;
@@ -101,7 +101,7 @@ fn put_open(
 
 /// Writes two more fields, a processor and a source.
 fn put_place(out: &mut Vec<u8>, vp: u8, sint: u8) -> Result<(), AllocError>
-    ensures { OnOk result (out.new.items ≡ out.old.items ++ 32 ∷ words (decimal vp ∷ decimal sint ∷ [])) }
+    ensures { OnOk result (out.new.items ≡ out.old.items ++ 32 ∷ spaced (decimal vp ∷ decimal sint ∷ [])) }
 {
     put_decimal_field(out, u64::from(vp))?;
     put_decimal_field(out, u64::from(sint))
@@ -109,7 +109,7 @@ fn put_place(out: &mut Vec<u8>, vp: u8, sint: u8) -> Result<(), AllocError>
 
 /// Writes that a register is written.
 fn put_write(out: &mut Vec<u8>, vp: u8, register: u32, value: u64) -> Result<(), AllocError>
-    ensures { OnOk result (out.new.items ≡ out.old.items ++ words (event_fields (Write vp register value))) }
+    ensures { OnOk result (out.new.items ≡ out.old.items ++ spaced (event_fields (Write vp register value))) }
 {
     put_named(out, b"write", u64::from(vp))?;
     put_hex_field(out, u64::from(register))?;
@@ -118,7 +118,7 @@ fn put_write(out: &mut Vec<u8>, vp: u8, register: u32, value: u64) -> Result<(),
 
 /// Writes that a register is read.
 fn put_read(out: &mut Vec<u8>, vp: u8, register: u32) -> Result<(), AllocError>
-    ensures { OnOk result (out.new.items ≡ out.old.items ++ words (event_fields (Read vp register))) }
+    ensures { OnOk result (out.new.items ≡ out.old.items ++ spaced (event_fields (Read vp register))) }
 {
     put_named(out, b"read", u64::from(vp))?;
     put_hex_field(out, u64::from(register))
@@ -131,7 +131,7 @@ fn put_post(
     kind: u32,
     payload: &PayloadBytes,
 ) -> Result<(), AllocError>
-    ensures written { OnOk result (out.new.items ≡ out.old.items ++ words (event_fields (Post port kind payload.now))) }
+    ensures written { OnOk result (out.new.items ≡ out.old.items ++ spaced (event_fields (Post port kind payload.now))) }
     ensures fits { FewBytes 240 payload.now.items }
 {
     let bytes = payload.as_slice();
@@ -143,7 +143,7 @@ fn put_post(
 
 /// Writes that a flag is signalled.
 fn put_signal(out: &mut Vec<u8>, port: u8, flag: u16) -> Result<(), AllocError>
-    ensures { OnOk result (out.new.items ≡ out.old.items ++ words (event_fields (Signal port flag))) }
+    ensures { OnOk result (out.new.items ≡ out.old.items ++ spaced (event_fields (Signal port flag))) }
 {
     put_named(out, b"signal", u64::from(port))?;
     put_decimal_field(out, u64::from(flag))
@@ -151,7 +151,7 @@ fn put_signal(out: &mut Vec<u8>, port: u8, flag: u16) -> Result<(), AllocError>
 
 /// Writes that a vector is asserted.
 fn put_assert(out: &mut Vec<u8>, vp: u8, vector: u8) -> Result<(), AllocError>
-    ensures { OnOk result (out.new.items ≡ out.old.items ++ words (event_fields (Assert vp vector))) }
+    ensures { OnOk result (out.new.items ≡ out.old.items ++ spaced (event_fields (Assert vp vector))) }
 {
     put_named(out, b"assert", u64::from(vp))?;
     put(out, b" ")?;
@@ -160,7 +160,7 @@ fn put_assert(out: &mut Vec<u8>, vp: u8, vector: u8) -> Result<(), AllocError>
 
 /// Writes that posted vectors are taken in.
 fn put_absorb(out: &mut Vec<u8>, vp: u8, part: u8, bits: u64) -> Result<(), AllocError>
-    ensures { OnOk result (out.new.items ≡ out.old.items ++ words (event_fields (Absorb vp part bits))) }
+    ensures { OnOk result (out.new.items ≡ out.old.items ++ spaced (event_fields (Absorb vp part bits))) }
 {
     put_named(out, b"absorb", u64::from(vp))?;
     put_decimal_field(out, u64::from(part))?;
@@ -169,7 +169,7 @@ fn put_absorb(out: &mut Vec<u8>, vp: u8, part: u8, bits: u64) -> Result<(), Allo
 
 /// Writes that bytes are stored.
 fn put_store(out: &mut Vec<u8>, address: u64, bytes: &Bytes8) -> Result<(), AllocError>
-    ensures written { OnOk result (out.new.items ≡ out.old.items ++ words (event_fields (Store address bytes.now))) }
+    ensures written { OnOk result (out.new.items ≡ out.old.items ++ spaced (event_fields (Store address bytes.now))) }
     ensures fits { FewBytes 8 bytes.now.items }
 {
     let bytes = bytes.as_slice();
@@ -181,7 +181,7 @@ fn put_store(out: &mut Vec<u8>, address: u64, bytes: &Bytes8) -> Result<(), Allo
 
 /// Writes that bytes are loaded.
 fn put_load(out: &mut Vec<u8>, address: u64, length: u8) -> Result<(), AllocError>
-    ensures { OnOk result (out.new.items ≡ out.old.items ++ words (event_fields (Load address length))) }
+    ensures { OnOk result (out.new.items ≡ out.old.items ++ spaced (event_fields (Load address length))) }
 {
     put(out, b"load")?;
     put_hex_field(out, address)?;

@@ -1,6 +1,6 @@
 // The line of a reply.
 ghost use Rattle.std.specs.Prelude.{◌≡◌, ◌++◌, OnOk};
-ghost use Rattle.board_text.specs.Fields.{words};
+ghost use Rattle.board_text.specs.Fields.{spaced};
 ghost use Rattle.board_lines.specs.Printing.{reply_fields};
 
 use crate::print::{put, put_data, put_vector};
@@ -10,7 +10,7 @@ use synic_board::Reply;
 
 /// Writes a reply at the end of `out`, without a line feed.
 pub fn put_reply(out: &mut Vec<u8>, reply: &Reply) -> Result<(), AllocError>
-    ensures { OnOk result (out.new.items ≡ out.old.items ++ words (reply_fields reply.now)) }
+    ensures { OnOk result (out.new.items ≡ out.old.items ++ spaced (reply_fields reply.now)) }
 {
     match reply {
         Reply::Done => put(out, b"= done"),

@@ -11,7 +11,8 @@ use Rattle.board_terms.specs.declared.messages.Message.{Message}
 use Rattle.board_terms.specs.Messages.{ticket_of}
 use Rattle.board_terms.specs.declared.notices.Notice.{Notice}
 use Rattle.board_terms.specs.declared.notices.Notice.TheVariants.{Accepted, Pending, Withdrawn}
-use Rattle.message_queues.specs.Queues.{place_of, queue_of, is_from_port, withdrawn_of, left_of}
+use Rattle.board_terms.specs.Sources.{source_number}
+use Rattle.message_queues.specs.Queues.{queue_of, is_from_port, withdrawn_of, left_of}
 use Rattle.message_queues.specs.Image.{slot_type}
 use Rattle.gpa_space.specs.Page.{with_bit, pending_place}
 use Rattle.gpa_space.specs.Space.{is_pending}
@@ -19,7 +20,7 @@ use Rattle.synic_board.specs.State.{State, space_of}
 use Rattle.synic_board.specs.Interrupts.{raised}
 use Rattle.synic_board.specs.Delivery.{delivers, is_slot_empty, placed, marked, tried, tried_below, accepted, delivered}
 use Rattle.synic_board.specs.Posts.{withdrawn}
-use Rattle.synic_board.specs.Places.{times, tells_end, ended}
+use Rattle.synic_board.specs.Places.{times, tells_end, times_ended}
 use Rattle.synic_board.specs.Sound.{IsWhole, IsMessage}
 use Rattle.synic_board.proofs.keeping.Counts.{in_queue, one, times-places, in_queue-cons, in_queue-push, given-none, given-one}
 use Rattle.synic_board.proofs.keeping.Left.{leaves-same, leaves-marked}
@@ -98,16 +99,16 @@ keeps-accepted n s p i m h below under good next =
           registers = h.whole.registers;
           own = h.whole.own;
           pages = h.whole.pages;
-          queues = length-set s.queues (place_of p i) q ∙ h.whole.queues;
+          queues = length-set s.queues (source_number p i) q ∙ h.whole.queues;
           slots = h.whole.slots;
           ports = h.whole.ports;
           idle = h.whole.idle;
-          messages = All-set (All IsMessage) s.queues (place_of p i) q more h.whole.messages;
+          messages = All-set (All IsMessage) s.queues (source_number p i) q more h.whole.messages;
         };
         empty = h.empty;
       };
       later = omega arith;
-      conserves = λ t. omega (arith, times-places t s, times-places t (accepted s p i m).0, sum_by-set (in_queue t) s.queues (place_of p i) q [] (omega (arith, h.whole.queues)), in_queue-push t (queue_of s.queues p i) m, ap (λ x. one x t) next, given-one t s (accepted s p i m).0 refl, accepted-ends t);
+      conserves = λ t. omega (arith, times-places t s, times-places t (accepted s p i m).0, sum_by-set (in_queue t) s.queues (source_number p i) q [] (omega (arith, h.whole.queues)), in_queue-push t (queue_of s.queues p i) m, ap (λ x. one x t) next, given-one t s (accepted s p i m).0 refl, accepted-ends t);
       leaves = leaves-same n s (accepted s p i m).0 refl refl;
     }
   where
@@ -120,7 +121,7 @@ keeps-delivered n s p i m h below under good next =
     keeps-after n s (accepted s p i m) (tried (accepted s p i m).0 p i) first (keeps-tried n (accepted s p i m).0 p i first.kept below under)
 
 -- the messages of a port are withdrawn from a queue
-pub ends-each : (t p i : ℕ) (tickets : List ℕ) → ended t (map (λ x. Withdrawn x p i) tickets) ≡ times t tickets
+pub ends-each : (t p i : ℕ) (tickets : List ℕ) → times_ended t (map (λ x. Withdrawn x p i) tickets) ≡ times t tickets
 ends-each t p i [] = refl
 ends-each t p i (x ∷ tickets) =
     let more = ends-each t p i tickets in
@@ -145,15 +146,15 @@ keeps-withdrawn n s p i port h below under =
           registers = h.whole.registers;
           own = h.whole.own;
           pages = h.whole.pages;
-          queues = length-set s.queues (place_of p i) q ∙ h.whole.queues;
+          queues = length-set s.queues (source_number p i) q ∙ h.whole.queues;
           slots = h.whole.slots;
           ports = h.whole.ports;
           idle = h.whole.idle;
-          messages = All-set (All IsMessage) s.queues (place_of p i) q (All-filter (λ m. not (is_from_port port m)) IsMessage (queue_of s.queues p i) (queue-good n s p i h.whole below under)) h.whole.messages;
+          messages = All-set (All IsMessage) s.queues (source_number p i) q (All-filter (λ m. not (is_from_port port m)) IsMessage (queue_of s.queues p i) (queue-good n s p i h.whole below under)) h.whole.messages;
         };
         empty = h.empty;
       };
       later = omega arith;
-      conserves = λ t. omega (arith, times-places t s, times-places t (withdrawn s p i port).0, sum_by-set (in_queue t) s.queues (place_of p i) q [] (omega (arith, h.whole.queues)), parted t port (queue_of s.queues p i), ends-each t p i (withdrawn_of port (queue_of s.queues p i)), given-none t s (withdrawn s p i port).0 refl);
+      conserves = λ t. omega (arith, times-places t s, times-places t (withdrawn s p i port).0, sum_by-set (in_queue t) s.queues (source_number p i) q [] (omega (arith, h.whole.queues)), parted t port (queue_of s.queues p i), ends-each t p i (withdrawn_of port (queue_of s.queues p i)), given-none t s (withdrawn s p i port).0 refl);
       leaves = leaves-same n s (withdrawn s p i port).0 refl refl;
     }

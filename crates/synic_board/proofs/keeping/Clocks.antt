@@ -14,7 +14,7 @@ use Rattle.stimer_bank.specs.Bank.{timer_in, is_due_in, dues, due_list, with_con
 use Rattle.synic_board.specs.State.{State, bank_of, with_bank}
 use Rattle.synic_board.specs.declared.event.Reply.TheVariants.{Done, Refused}
 use Rattle.synic_board.specs.Timers.{mode_at, is_ready_for, is_ready, expired_notices, skipped_notices, expiry_notices, told_by, signalled_by, expired_state, expiry_at, fired, attempted, attempted_all, written_timer, at_moment, ticked}
-use Rattle.synic_board.specs.Places.{ended}
+use Rattle.synic_board.specs.Places.{times_ended}
 use Rattle.synic_board.proofs.keeping.Counts.{ended-append}
 use Rattle.synic_board.proofs.keeping.Left.{leaves-same}
 use Rattle.synic_board.proofs.keeping.Wholes.{IsIntact, Keeps, KeepsOutcome, EndsNone, keeps-still, keeps-nothing, keeps-unchanged, keeps-after}
@@ -35,12 +35,12 @@ due-on n s t h due = split (cases_lt (number_of t) (4 * n))
 expiry-ends : (t : ℕ × ℕ) (signal : Option ℕ) (skipped : ℕ) → EndsNone (expiry_notices t signal skipped)
 expiry-ends t signal skipped ticket = omega (arith, ended-append ticket (expired_notices t signal) (skipped_notices t skipped), expired signal, skips)
   where
-    expired : (o : Option ℕ) → ended ticket (expired_notices t o) ≡ 0
+    expired : (o : Option ℕ) → times_ended ticket (expired_notices t o) ≡ 0
     expired None = refl
     expired (Some d) = refl
 
-    skips : ended ticket (skipped_notices t skipped) ≡ 0
-    skips = either (λ ns. ended ticket ns ≡ 0) (skipped == 0) _ _ (λ _. refl) (λ _. refl)
+    skips : times_ended ticket (skipped_notices t skipped) ≡ 0
+    skips = either (λ ns. times_ended ticket ns ≡ 0) (skipped == 0) _ _ (λ _. refl) (λ _. refl)
 
 -- a mode that names a source names one of the sixteen
 abbrev pub Names : Mode → Type 0

@@ -11,7 +11,7 @@ use Rattle.board_terms.specs.Messages.{ticket_of}
 use Rattle.board_terms.specs.declared.notices.Notice.{Notice}
 use Rattle.message_queues.specs.Queues.{Queues}
 use Rattle.synic_board.specs.State.{State}
-use Rattle.synic_board.specs.Places.{places, times, tells_end, ended, given}
+use Rattle.synic_board.specs.Places.{places, times, tells_end, times_ended, given}
 
 -- 1 where two tickets are the same
 abbrev pub one : ℕ → ℕ → ℕ
@@ -55,7 +55,7 @@ pub in_queue-cons : (t : ℕ) (m : Message) (q : List Message) → in_queue t (m
 in_queue-cons t m q = sum_by-cons (λ y. one y t) (ticket_of m) (map ticket_of q)
 
 -- notices one after another
-pub ended-append : (t : ℕ) (xs ys : List Notice) → ended t (xs ++ ys) ≡ ended t xs + ended t ys
+pub ended-append : (t : ℕ) (xs ys : List Notice) → times_ended t (xs ++ ys) ≡ times_ended t xs + times_ended t ys
 ended-append t xs ys = sum_by-append (λ n. cond (tells_end t n) 1 0) xs ys
 
 -- the tickets that are given one after another

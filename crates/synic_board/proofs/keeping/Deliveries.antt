@@ -6,7 +6,8 @@ use Rattle.std.specs.FinSet as finset
 use Rattle.board_terms.specs.declared.messages.Message.{Message}
 use Rattle.board_terms.specs.declared.messages.Message.TheVariants.{FromTimer}
 use Rattle.synic_regs.specs.Regs.{has, enable, raised_by}
-use Rattle.message_queues.specs.Queues.{is_timer_free, place_of, queue_of}
+use Rattle.board_terms.specs.Sources.{source_number}
+use Rattle.message_queues.specs.Queues.{is_timer_free, queue_of}
 use Rattle.stimer_bank.specs.Bank.{timer_in, is_due_in}
 use Rattle.stimer_bank.specs.declared.timer.Mode.{Mode}
 use Rattle.stimer_bank.specs.declared.timer.Mode.TheVariants.{Direct, Posted}
@@ -44,7 +45,7 @@ buffers-placed s p i h = go (queue_of s.queues p i) refl
     go : (q : List Message) → queue_of s.queues p i ≡ q → HasBuffers (placed_head s p i q).0
     go [] is = h
     go (m ∷ rest) is =
-        fewer-queued s _ (place_of p i) rest refl refl (subst (IsPart rest) (sym is) (part-rest m rest)) h
+        fewer-queued s _ (source_number p i) rest refl refl (subst (IsPart rest) (sym is) (part-rest m rest)) h
 
 buffers-tried : (s : State) (p i : ℕ) → HasBuffers s → HasBuffers (tried s p i).0
 unfolding tried

@@ -13,7 +13,8 @@ use Rattle.board_terms.specs.Messages.{ticket_of}
 use Rattle.board_terms.specs.declared.messages.Message.{Message}
 use Rattle.board_terms.specs.declared.messages.Message.TheVariants.{FromPort, FromTimer}
 use Rattle.board_terms.specs.declared.notices.Notice.TheVariants.{Withdrawn}
-use Rattle.message_queues.specs.Queues.{Queues, is_from_port, is_from_timer, place_of, queue_of}
+use Rattle.board_terms.specs.Sources.{source_number}
+use Rattle.message_queues.specs.Queues.{Queues, is_from_port, is_from_timer, queue_of}
 use Rattle.synic_board.specs.State.{State, slot_of}
 use Rattle.synic_board.specs.Effects.{Effect, nothing}
 use Rattle.synic_board.specs.Resetting.{withdrawn_ticket, slot_emptied, queue_emptied, emptied_below, emptied, reset}
@@ -103,17 +104,17 @@ all-found p (m ∷ q) h =
 
 -- so each message that is withdrawn from a queue was one of them
 queue-told : (s : State) (p i : ℕ) → i < 16 → HasBuffers s → length (queue_emptied s p i).1 + homes p (queue_emptied s p i).0.queues ≤ homes p s.queues
-queue-told s p i below h = by (cases_lt (place_of p i) (length s.queues))
+queue-told s p i below h = by (cases_lt (source_number p i) (length s.queues))
   where
     told : length (queue_emptied s p i).1 ≡ length (queue_of s.queues p i)
     told = length-map (map ticket_of (queue_of s.queues p i)) (λ t. Withdrawn t p i) ∙ length-map (queue_of s.queues p i) ticket_of
 
-    by : (place_of p i < length s.queues) ⊎ (length s.queues ≤ place_of p i) → length (queue_emptied s p i).1 + homes p (queue_emptied s p i).0.queues ≤ homes p s.queues
+    by : (source_number p i < length s.queues) ⊎ (length s.queues ≤ source_number p i) → length (queue_emptied s p i).1 + homes p (queue_emptied s p i).0.queues ≤ homes p s.queues
     by (inl inside) =
-        omega (arith, told, all-found p (queue_of s.queues p i) (h.home p i below), sum_by-set (count_by (is_of_ports 16)) s.queues (place_of p i) [] [] inside, sum_by-set (count_by (is_of_timers p 4)) s.queues (place_of p i) [] [] inside)
+        omega (arith, told, all-found p (queue_of s.queues p i) (h.home p i below), sum_by-set (count_by (is_of_ports 16)) s.queues (source_number p i) [] [] inside, sum_by-set (count_by (is_of_timers p 4)) s.queues (source_number p i) [] [] inside)
     by (inr past) =
         let none : queue_of s.queues p i ≡ [] = get_or-eq_default s.queues [] past in
-        let same : homes p (queue_emptied s p i).0.queues ≡ homes p s.queues = ap (homes p) (set_past s.queues (place_of p i) [] past) in
+        let same : homes p (queue_emptied s p i).0.queues ≡ homes p s.queues = ap (homes p) (set_past s.queues (source_number p i) [] past) in
         omega (arith, told, ap length none, same)
 
 slot-told : (s : State) (p i : ℕ) → length (slot_emptied s p i).1 + homes p (slot_emptied s p i).0.queues ≤ 1 + homes p s.queues

@@ -7,7 +7,7 @@ use Rattle.std.proofs.lemmas.Bool.{cases_eq, cases_lt}
 use Rattle.std.proofs.lemmas.List.{get_or-set_same, get_or-set_other, set_past}
 use Rattle.std.proofs.lemmas.Nat.Bits.{bit_at_or, bit_at-pow_other}
 use Rattle.board_terms.specs.declared.pages.Kind.TheVariants.{Sim, Sief}
-use Rattle.message_queues.specs.Queues.{place_of}
+use Rattle.board_terms.specs.Sources.{source_number}
 use Rattle.gpa_space.specs.Page.{with_slot, with_bit, pending_place, flag_place}
 use Rattle.gpa_space.specs.Space.{own_page}
 use Rattle.synic_board.specs.State.{State, space_of, slot_of}
@@ -43,7 +43,7 @@ leaves-page s now p i page ticket = record {
 }
 
 pub leaves-same : (n : ℕ) (s now : State) → now.own ≡ s.own → now.slots ≡ s.slots → Leaves n s now
-leaves-same n s now own slots p i _ _ _ = leaves-page s now p i (ap (λ (l : List (List ℕ)). get_or l (2 * p) []) own) (ap (λ (l : List (Option ℕ)). get_or l (place_of p i) None) slots)
+leaves-same n s now own slots p i _ _ _ = leaves-page s now p i (ap (λ (l : List (List ℕ)). get_or l (2 * p) []) own) (ap (λ (l : List (Option ℕ)). get_or l (source_number p i) None) slots)
 
 -- event flags stand in other pages
 pub leaves-flag : (n : ℕ) (s : State) (q j flag : ℕ) → Leaves n s (with_flag s q j flag)

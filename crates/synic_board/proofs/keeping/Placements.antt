@@ -11,7 +11,8 @@ use Rattle.std.proofs.lemmas.List.Sums.{sum_by-set}
 use Rattle.board_terms.specs.declared.messages.Message.{Message}
 use Rattle.board_terms.specs.Messages.{ticket_of}
 use Rattle.board_terms.specs.declared.pages.Kind.TheVariants.{Sim}
-use Rattle.message_queues.specs.Queues.{place_of, queue_of}
+use Rattle.board_terms.specs.Sources.{source_number}
+use Rattle.message_queues.specs.Queues.{queue_of}
 use Rattle.message_queues.specs.Image.{image, slot_type}
 use Rattle.message_queues.proofs.WrittenSlots.{length-image, slot_type-written, slot_type-other}
 use Rattle.gpa_space.specs.Page.{with_slot}
@@ -35,7 +36,7 @@ page-long n s p h below = h.pages (2 * p) [] (omega (arith, h.own))
 
 -- a message of a queue
 pub queue-good : (n : ℕ) (s : State) (p i : ℕ) → IsWhole n s → p < n → i < 16 → All IsMessage (queue_of s.queues p i)
-queue-good n s p i h below under = h.messages (place_of p i) [] (omega (arith, h.queues))
+queue-good n s p i h below under = h.messages (source_number p i) [] (omega (arith, h.queues))
 
 pub tail-good : (m : Message) (rest : List Message) → All IsMessage (m ∷ rest) → IsMessage m × All IsMessage rest
 tail-good m rest h = (h 0 m (omega arith), λ k d below. h (suc k) d (omega arith))
@@ -49,17 +50,17 @@ placed-whole n s p i m rest h below under good more = record {
   registers = h.registers;
   own = length-set s.own (2 * p) (with_slot (page_of s p) i (image_of s m rest)) ∙ h.own;
   pages = All-set (λ page. length page ≡ 4096) s.own (2 * p) (with_slot (page_of s p) i (image_of s m rest)) (length-with_slot (page_of s p) (image_of s m rest) i (page-long n s p h below) (length-image m (nat_lt 0 (length rest)) s.moment good.2) under) h.pages;
-  queues = length-set s.queues (place_of p i) rest ∙ h.queues;
-  slots = length-set s.slots (place_of p i) (Some (ticket_of m)) ∙ h.slots;
+  queues = length-set s.queues (source_number p i) rest ∙ h.queues;
+  slots = length-set s.slots (source_number p i) (Some (ticket_of m)) ∙ h.slots;
   ports = h.ports;
   idle = h.idle;
-  messages = All-set (All IsMessage) s.queues (place_of p i) rest more h.messages;
+  messages = All-set (All IsMessage) s.queues (source_number p i) rest more h.messages;
 }
 
 -- the slots of other sources stay as they are, and that of the source is occupied
 free-other : (n : ℕ) (s : State) (p i q j : ℕ) (m : Message) (rest : List Message) → IsIntact n s → p < n → i < 16 → q < n → j < 16 → IsMessage m → (p ≡ q → i ≢ j) → IsFree (placed_state s p i m rest) q j
 free-other n s p i q j m rest h below under within inside good apart e =
-    get_or-set_other s.slots (place_of p i) (place_of q j) (Some (ticket_of m)) None (λ same. other_place p i q j under inside apart (sym same))
+    get_or-set_other s.slots (source_number p i) (source_number q j) (Some (ticket_of m)) None (λ same. other_place p i q j under inside apart (sym same))
     ∙ h.empty q j within inside (sym (same_type (cases_eq q p)) ∙ e)
   where
     same_type : (q ≡ p) ⊎ (q ≢ p) → slot_type (page_of (placed_state s p i m rest) q) j ≡ slot_type (page_of s q) j
@@ -89,8 +90,8 @@ placed-moves : (n : ℕ) (s : State) (p i : ℕ) (m : Message) (rest : List Mess
 placed-moves n s p i m rest h below under is free t =
     let a = times-places t s in
     let b = times-places t (placed_state s p i m rest) in
-    let c = sum_by-set (in_queue t) s.queues (place_of p i) rest [] (omega (arith, h.queues)) in
-    let d = sum_by-set (in_slot t) s.slots (place_of p i) (Some (ticket_of m)) None (omega (arith, h.slots)) in
+    let c = sum_by-set (in_queue t) s.queues (source_number p i) rest [] (omega (arith, h.queues)) in
+    let d = sum_by-set (in_slot t) s.slots (source_number p i) (Some (ticket_of m)) None (omega (arith, h.slots)) in
     let e : in_queue t (queue_of s.queues p i) ≡ one (ticket_of m) t + in_queue t rest = ap (in_queue t) is ∙ in_queue-cons t m rest in
     let f : in_slot t (slot_of s p i) ≡ 0 = ap (in_slot t) free in
     omega (arith, a, b, c, d, e, f)
@@ -116,7 +117,7 @@ leaves-placed n s p i m rest h below under good empty q j within inside full = b
     apart same e = let filled : slot_type (page_of s q) j ≡ 0 = (λ k. slot_type (page_of s (sym same k)) (sym e k)) ∙ empty in absurd (grind (arith, nat_tests))
 
     ticket : slot_of now q j ≡ slot_of s q j
-    ticket = get_or-set_other s.slots (place_of p i) (place_of q j) (Some (ticket_of m)) None (λ same. other_place p i q j under inside apart (sym same))
+    ticket = get_or-set_other s.slots (source_number p i) (source_number q j) (Some (ticket_of m)) None (λ same. other_place p i q j under inside apart (sym same))
 
     by : (q ≡ p) ⊎ (q ≢ p) → LeavesSlot s now q j
     by (inr ne) = leaves-page s now q j (get_or-set_other s.own (2 * p) (2 * q) new [] (λ e. ne (omega (arith, e)))) ticket

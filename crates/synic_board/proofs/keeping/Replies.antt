@@ -16,7 +16,7 @@ use Rattle.synic_board.specs.Effects.{Outcome}
 use Rattle.synic_board.specs.Registers.{read_register, read}
 use Rattle.synic_board.specs.Stores.{load_reply, read_bytes}
 use Rattle.synic_board.specs.Step.{step}
-use Rattle.synic_board.specs.Replies.{IsReply}
+use Rattle.synic_board.specs.inside.Replies.{IsReply}
 use Rattle.synic_board.proofs.Throughout.{Any, any, throughout}
 
 -- the reply of an outcome

@@ -10,18 +10,19 @@ use Rattle.std.proofs.lemmas.List.Sums.{sum_by-set}
 use Rattle.board_terms.specs.Messages.{ticket_of}
 use Rattle.board_terms.specs.declared.notices.Notice.TheVariants.{Withdrawn}
 use Rattle.board_terms.specs.declared.pages.Kind.TheVariants.{Sim}
-use Rattle.lapic_core.specs.Apic.{Apic, empty_apic, with_mark}
+use Rattle.lapic_core.specs.Apic.{Apic, empty_apic, with_suspension as apic_with_suspension}
 use Rattle.synic_regs.specs.Regs.{reset_regs}
-use Rattle.message_queues.specs.Queues.{place_of, queue_of}
+use Rattle.board_terms.specs.Sources.{source_number}
+use Rattle.message_queues.specs.Queues.{queue_of}
 use Rattle.message_queues.specs.Image.{slot_type}
 use Rattle.gpa_space.specs.Page.{zero_page}
 use Rattle.gpa_space.specs.Space.{own_page}
-use Rattle.stimer_bank.specs.Bank.{with_mark as bank_with_mark}
+use Rattle.stimer_bank.specs.Bank.{with_suspension as bank_with_suspension}
 use Rattle.synic_board.specs.State.{State, space_of, bank_of, apic_of, with_apic, slot_of, with_slot_ticket}
 use Rattle.synic_board.specs.Effects.{Effect, nothing}
 use Rattle.synic_board.specs.Suspending.{with_suspension}
 use Rattle.synic_board.specs.Resetting.{withdrawn_ticket, slot_emptied, queue_emptied, source_emptied, emptied_below, emptied, cleared, reset}
-use Rattle.synic_board.specs.Places.{ended}
+use Rattle.synic_board.specs.Places.{times_ended}
 use Rattle.synic_board.specs.Slots.{LeavesSlot}
 use Rattle.synic_board.specs.Sound.{IsMessage}
 use Rattle.synic_board.proofs.Clocks.{idle-marked, idle-reset}
@@ -35,10 +36,10 @@ use Rattle.synic_board.proofs.keeping.Stores.{without-whole, without-slot}
 -- a mark
 pub keeps-suspension : (n : ℕ) (s : State) (p : ℕ) (mark : Bool) → IsIntact n s → p < n → Keeps n s (with_suspension s p mark, [])
 keeps-suspension n s p mark h below =
-    let apic : Apic = with_mark (apic_of s p) mark in
+    let apic : Apic = apic_with_suspension (apic_of s p) mark in
     let marked : State = with_apic s p apic in
     keeps-still n s (with_suspension s p mark, [])
-    (kept-bank n marked (bank_with_mark (bank_of s) p mark) (idle-marked (bank_of s) p n mark below h.whole.idle) (kept-apic n s p apic h))
+    (kept-bank n marked (bank_with_suspension (bank_of s) p mark) (idle-marked (bank_of s) p n mark below h.whole.idle) (kept-apic n s p apic h))
     (record { queues = refl; slots = refl; next = refl }) (leaves-same n s (with_suspension s p mark) refl refl) (λ t. refl)
 
 -- a slot loses its ticket, which is withdrawn
@@ -46,10 +47,10 @@ keeps-freed : (n : ℕ) (s : State) (p i x : ℕ) → IsIntact n s → p < n →
 keeps-freed n s p i x h below under is = record {
   kept = record { count = h.count; whole = without-whole n s p i h.whole; empty = λ q j within inside z. without-slot n s p i q j h.whole below under inside (λ _. h.empty q j within inside z) };
   later = omega arith;
-  conserves = λ t. omega (arith, times-places t s, times-places t (with_slot_ticket s p i None), sum_by-set (in_slot t) s.slots (place_of p i) None None (omega (arith, h.whole.slots)), ap (in_slot t) is, given-none t s (with_slot_ticket s p i None) refl, told t);
+  conserves = λ t. omega (arith, times-places t s, times-places t (with_slot_ticket s p i None), sum_by-set (in_slot t) s.slots (source_number p i) None None (omega (arith, h.whole.slots)), ap (in_slot t) is, given-none t s (with_slot_ticket s p i None) refl, told t);
 }
   where
-    told : (t : ℕ) → ended t (Withdrawn x p i ∷ []) ≡ one x t
+    told : (t : ℕ) → times_ended t (Withdrawn x p i ∷ []) ≡ one x t
     told t = zero-add (one x t)
 
 keeps-slot : (n : ℕ) (s : State) (p i : ℕ) → IsIntact n s → p < n → i < 16 → KeepsMessages n s (slot_emptied s p i)
@@ -68,16 +69,16 @@ keeps-queue n s p i h below under = record {
       registers = h.whole.registers;
       own = h.whole.own;
       pages = h.whole.pages;
-      queues = length-set s.queues (place_of p i) [] ∙ h.whole.queues;
+      queues = length-set s.queues (source_number p i) [] ∙ h.whole.queues;
       slots = h.whole.slots;
       ports = h.whole.ports;
       idle = h.whole.idle;
-      messages = All-set (All IsMessage) s.queues (place_of p i) [] (All-nil IsMessage) h.whole.messages;
+      messages = All-set (All IsMessage) s.queues (source_number p i) [] (All-nil IsMessage) h.whole.messages;
     };
     empty = h.empty;
   };
   later = omega arith;
-  conserves = λ t. omega (arith, times-places t s, times-places t (queue_emptied s p i).0, sum_by-set (in_queue t) s.queues (place_of p i) [] [] (omega (arith, h.whole.queues)), ends-each t p i (map ticket_of (queue_of s.queues p i)), given-none t s (queue_emptied s p i).0 refl);
+  conserves = λ t. omega (arith, times-places t s, times-places t (queue_emptied s p i).0, sum_by-set (in_queue t) s.queues (source_number p i) [] [] (omega (arith, h.whole.queues)), ends-each t p i (map ticket_of (queue_of s.queues p i)), given-none t s (queue_emptied s p i).0 refl);
 }
 
 -- what was done for the sources below i: their slots hold no ticket
@@ -151,7 +152,7 @@ left-slot s p i q under ne = held (slot_of s p i)
   where
     held : (o : Option ℕ) → IsLeft s (option_map_or (withdrawn_ticket s p i) o (nothing s)).0 q
     held None = record { page = refl; slots = λ j _. refl }
-    held (Some x) = record { page = refl; slots = λ j inside. get_or-set_other s.slots (place_of p i) (place_of q j) None None (λ e. ne (omega (arith, e, inside, under))) }
+    held (Some x) = record { page = refl; slots = λ j inside. get_or-set_other s.slots (source_number p i) (source_number q j) None None (λ e. ne (omega (arith, e, inside, under))) }
 
 left-below : (s : State) (p i q : ℕ) → i ≤ 16 → q ≢ p → IsLeft s (emptied_below s p i).0 q
 unfolding emptied_below

@@ -2,7 +2,7 @@
 use Rattle.std.proofs.Common.{◌≡◌, ◌≢◌, ◌⊎◌, inl, inr, ℕ, ◌+◌, ◌-◌, ◌*◌, ◌^◌, ◌<◌, ◌≤◌, get_or, ap, ◌∙◌, List, ◌++◌, length, take, drop, refl, sym, arith, length-append, length-take, length-drop}
 use Rattle.std.specs.Prelude.{slice_index_or, bit_or}
 use Rattle.std.proofs.lemmas.List.{get_or-set_other, get_or_append_left, get_or-append_right, get_or-take, get_or-drop}
-use Rattle.message_queues.specs.Queues.{place_of}
+use Rattle.board_terms.specs.Sources.{source_number}
 use Rattle.message_queues.specs.Image.{slot_type}
 use Rattle.gpa_space.specs.Page.{overwritten, with_slot, with_bit, pending_place}
 
@@ -21,7 +21,7 @@ pub slot_type-pending : (page : List ℕ) (j i : ℕ) → slot_type (with_bit pa
 slot_type-pending page j i = slot_type-bit page (256 * j + 5) 0 i ((λ e. omega (arith, e)), (λ e. omega (arith, e)), (λ e. omega (arith, e)), (λ e. omega (arith, e)))
 
 -- sources have slots of their own
-pub other_place : (p i q j : ℕ) → i < 16 → j < 16 → (p ≡ q → i ≢ j) → place_of p i ≢ place_of q j
+pub other_place : (p i q j : ℕ) → i < 16 → j < 16 → (p ≡ q → i ≢ j) → source_number p i ≢ source_number q j
 other_place p i q j below under apart e = let same : p ≡ q = omega (arith, e) in apart same (omega (arith, e, same))
 
 -- the bytes of a page that are not written stay

@@ -11,7 +11,7 @@ use Rattle.std.proofs.lemmas.List.Sums.{sum_by-set}
 use Rattle.board_terms.specs.declared.notices.Notice.TheVariants.{Consumed}
 use Rattle.board_terms.specs.declared.refusal.Refusal.{Refusal}
 use Rattle.board_terms.specs.declared.pages.Owner.TheVariants.{Guest, Nothing}
-use Rattle.message_queues.specs.Queues.{place_of}
+use Rattle.board_terms.specs.Sources.{source_number}
 use Rattle.message_queues.specs.Image.{slot_type}
 use Rattle.gpa_space.specs.Page.{overwritten}
 use Rattle.gpa_space.specs.Space.{Space, refusal_of, overlay_owner, visible, lies_at}
@@ -20,7 +20,7 @@ use Rattle.synic_board.specs.Effects.{Effect, nothing}
 use Rattle.synic_board.specs.Delivery.{is_slot_empty}
 use Rattle.synic_board.specs.Stores.{consumed_ticket, consumed, consumed_below, consumed_in, stored_bytes}
 use Rattle.synic_board.specs.declared.event.Reply.TheVariants.{Refused}
-use Rattle.synic_board.specs.Places.{ended, Conserves}
+use Rattle.synic_board.specs.Places.{times_ended, Conserves}
 use Rattle.synic_board.proofs.Overlays.{length-overlays}
 use Rattle.synic_board.proofs.keeping.Counts.{in_slot, one, times-places, given-none}
 use Rattle.synic_board.specs.Sound.{IsWhole, IsFree}
@@ -47,27 +47,27 @@ without-whole n s p i h = record {
   own = h.own;
   pages = h.pages;
   queues = h.queues;
-  slots = length-set s.slots (place_of p i) None ∙ h.slots;
+  slots = length-set s.slots (source_number p i) None ∙ h.slots;
   ports = h.ports;
   idle = h.idle;
   messages = h.messages;
 }
 
 pub without-slot : (n : ℕ) (s : State) (p i q j : ℕ) → IsWhole n s → p < n → i < 16 → j < 16 → ((p ≡ q → i ≢ j) → slot_of s q j ≡ None) → slot_of (with_slot_ticket s p i None) q j ≡ None
-without-slot n s p i q j h below under inside free = split (cases_eq (place_of q j) (place_of p i))
+without-slot n s p i q j h below under inside free = split (cases_eq (source_number q j) (source_number p i))
   where
-    split : (place_of q j ≡ place_of p i) ⊎ (place_of q j ≢ place_of p i) → slot_of (with_slot_ticket s p i None) q j ≡ None
-    split (inl same) = ap (λ k. slice_index_or (slice_set s.slots (place_of p i) None) k None) same ∙ get_or-set_same s.slots (place_of p i) None None (omega (arith, h.slots))
-    split (inr ne) = get_or-set_other s.slots (place_of p i) (place_of q j) None None ne ∙ free (λ a b. ne (omega (arith, a, b)))
+    split : (source_number q j ≡ source_number p i) ⊎ (source_number q j ≢ source_number p i) → slot_of (with_slot_ticket s p i None) q j ≡ None
+    split (inl same) = ap (λ k. slice_index_or (slice_set s.slots (source_number p i) None) k None) same ∙ get_or-set_same s.slots (source_number p i) None None (omega (arith, h.slots))
+    split (inr ne) = get_or-set_other s.slots (source_number p i) (source_number q j) None None ne ∙ free (λ a b. ne (omega (arith, a, b)))
 
 consumes-ticket : (n : ℕ) (s : State) (p i x : ℕ) → IsPartly n p i s → p < n → i < 16 → slot_of s p i ≡ Some x → Consumes n p (suc i) s (consumed_ticket s p i (Some x))
 consumes-ticket n s p i x h below under is = record {
   partly = record { count = h.count; whole = without-whole n s p i h.whole; empty = λ q j within inside low z. without-slot n s p i q j h.whole below under inside (λ apart. h.empty q j within inside (λ e. omega (arith, low e, apart (sym e))) z) };
   next = refl;
-  conserves = λ t. omega (arith, times-places t s, times-places t (with_slot_ticket s p i None), sum_by-set (in_slot t) s.slots (place_of p i) None None (omega (arith, h.whole.slots)), ap (in_slot t) is, given-none t s (with_slot_ticket s p i None) refl, told t);
+  conserves = λ t. omega (arith, times-places t s, times-places t (with_slot_ticket s p i None), sum_by-set (in_slot t) s.slots (source_number p i) None None (omega (arith, h.whole.slots)), ap (in_slot t) is, given-none t s (with_slot_ticket s p i None) refl, told t);
 }
   where
-    told : (t : ℕ) → ended t (Consumed x p i ∷ []) ≡ one x t
+    told : (t : ℕ) → times_ended t (Consumed x p i ∷ []) ≡ one x t
     told t = zero-add (one x t)
 
 consumes-nothing : (n : ℕ) (s : State) (p i : ℕ) → IsPartly n p i s → IsFree s p i → Consumes n p (suc i) s (nothing s)

@@ -11,7 +11,8 @@ use Rattle.std.proofs.lemmas.List.Sums.{sum_by-set, sum_by-cons, sum_by_push}
 use Rattle.arrayvec.specs.ArrayVec.{ArrayVec}
 use Rattle.board_terms.specs.declared.messages.Message.{Message}
 use Rattle.board_terms.specs.declared.messages.Message.TheVariants.{FromPort, FromTimer}
-use Rattle.message_queues.specs.Queues.{Queues, is_from_port, is_from_timer, port_used, timer_used, is_timer_free, place_of, queue_of, left_of}
+use Rattle.board_terms.specs.Sources.{source_number}
+use Rattle.message_queues.specs.Queues.{Queues, is_from_port, is_from_timer, port_used, timer_used, is_timer_free, queue_of, left_of}
 use Rattle.synic_board.specs.State.{State, slot_of}
 use Rattle.synic_board.specs.Effects.{Effect, nothing}
 use Rattle.synic_board.specs.Delivery.{accepted}
@@ -43,12 +44,12 @@ used-set f qs j d q few = split (cases_lt j (length qs))
 abbrev AreHome : Queues → Type 0
 AreHome qs = (p i : ℕ) → i < 16 → All (IsHome p) (queue_of qs p i)
 
-home-set : (qs : Queues) (j : ℕ) (q : List Message) → ((p i : ℕ) → i < 16 → place_of p i ≡ j → All (IsHome p) q) → AreHome qs → AreHome (set qs j q)
-home-set qs j q new home p i below = split (cases_eq (place_of p i) j) (cases_lt j (length qs))
+home-set : (qs : Queues) (j : ℕ) (q : List Message) → ((p i : ℕ) → i < 16 → source_number p i ≡ j → All (IsHome p) q) → AreHome qs → AreHome (set qs j q)
+home-set qs j q new home p i below = split (cases_eq (source_number p i) j) (cases_lt j (length qs))
   where
-    split : (place_of p i ≡ j) ⊎ (place_of p i ≢ j) → (j < length qs) ⊎ (length qs ≤ j) → All (IsHome p) (queue_of (set qs j q) p i)
+    split : (source_number p i ≡ j) ⊎ (source_number p i ≢ j) → (j < length qs) ⊎ (length qs ≤ j) → All (IsHome p) (queue_of (set qs j q) p i)
     split (inl same) (inl inside) = subst (All (IsHome p)) (sym (ap (λ k. get_or (set qs j q) k []) same ∙ get_or-set_same qs j q [] inside)) (new p i below same)
-    split (inr other) _ = subst (All (IsHome p)) (sym (get_or-set_other qs j (place_of p i) q [] other)) (home p i below)
+    split (inr other) _ = subst (All (IsHome p)) (sym (get_or-set_other qs j (source_number p i) q [] other)) (home p i below)
     split _ (inr past) = subst (λ xs. All (IsHome p) (queue_of xs p i)) (sym (set_past qs j q past)) (home p i below)
 
 -- messages of a queue, some of which may be missing
@@ -92,7 +93,7 @@ fewer-queued s now j q is ports part h = alike written now is ports (record {
 pub record Fits (s : State) (p i : ℕ) (m : Message) : Type 0 where
   pub ports : (k : ℕ) → is_from_port k m ≡ true → port_used s.queues k < 16
   pub timers : (t : ℕ × ℕ) → is_from_timer t m ≡ true → timer_used s.queues t < 1
-  pub home : (q j : ℕ) → j < 16 → place_of q j ≡ place_of p i → IsHome q m
+  pub home : (q j : ℕ) → j < 16 → source_number q j ≡ source_number p i → IsHome q m
 
 pub port-fits : (s : State) (p i ticket port kind : ℕ) (payload : ArrayVec ℕ) → port < 16 → port_used s.queues port < 16 → Fits s p i (FromPort ticket port kind payload)
 port-fits s p i ticket port kind payload below low = record {
@@ -134,13 +135,13 @@ more-found f s p i m d few free = elim (f m) as (λ b. f m ≡ b → found_in f 
 ] refl
   where
     more : found_in f (accepted s p i m).0.queues ≤ found_in f s.queues + cond (f m) 1 0
-    more = used-set f s.queues (place_of p i) (cond (f m) 1 0) (queue_of s.queues p i ++ m ∷ []) (omega (arith, sum_by_push (λ x. cond (f x) 1 0) (queue_of s.queues p i) m))
+    more = used-set f s.queues (source_number p i) (cond (f m) 1 0) (queue_of s.queues p i ++ m ∷ []) (omega (arith, sum_by_push (λ x. cond (f x) 1 0) (queue_of s.queues p i) m))
 
 pub buffers-accepted : (s : State) (p i : ℕ) (m : Message) → Fits s p i m → HasBuffers s → HasBuffers (accepted s p i m).0
 buffers-accepted s p i m fit h = record {
   room = λ k. more-found (is_from_port k) s p i m 16 (h.room k) (fit.ports k);
   one_each = λ t. more-found (is_from_timer t) s p i m 1 (h.one_each t) (fit.timers t);
-  home = home-set s.queues (place_of p i) (queue_of s.queues p i ++ m ∷ []) (λ q j below same. All-push (IsHome q) (queue_of s.queues p i) m (subst (λ k. All (IsHome q) (get_or s.queues k [])) same (h.home q j below)) (fit.home q j below same)) h.home;
+  home = home-set s.queues (source_number p i) (queue_of s.queues p i ++ m ∷ []) (λ q j below same. All-push (IsHome q) (queue_of s.queues p i) m (subst (λ k. All (IsHome q) (get_or s.queues k [])) same (h.home q j below)) (fit.home q j below same)) h.home;
   ports = h.ports;
   shapes = h.shapes;
 }
@@ -154,7 +155,7 @@ buffers-slot s p i h = held (slot_of s p i)
     held (Some t) = alike s _ refl refl h
 
 pub buffers-queue : (s : State) (p i : ℕ) → HasBuffers s → HasBuffers (queue_emptied s p i).0
-buffers-queue s p i h = fewer-queued s (queue_emptied s p i).0 (place_of p i) [] refl refl (part-none (queue_of s.queues p i)) h
+buffers-queue s p i h = fewer-queued s (queue_emptied s p i).0 (source_number p i) [] refl refl (part-none (queue_of s.queues p i)) h
 
 pub buffers-emptied_below : (s : State) (p n : ℕ) → HasBuffers s → HasBuffers (emptied_below s p n).0
 unfolding emptied_below

@@ -6,7 +6,7 @@ use Rattle.lapic_core.specs.Apic.{Apic}
 use Rattle.synic_board.specs.State.{State, processors, with_apic}
 use Rattle.synic_board.specs.declared.event.Reply.{Reply}
 use Rattle.synic_board.specs.Effects.{Effect, Outcome, nothing, after, unchanged}
-use Rattle.synic_board.specs.Places.{places, times, ended, Conserves, AreTickets}
+use Rattle.synic_board.specs.Places.{places, times, times_ended, Conserves, AreTickets}
 use Rattle.synic_board.specs.Sound.{IsWhole, IsFree, IsSound}
 use Rattle.synic_board.proofs.keeping.Left.{Leaves, leaves-after, leaves-same}
 use Rattle.synic_board.proofs.keeping.Counts.{in_queues, in_slots, times-places, ended-append, given-after, given-none, given-low, given-high, given-le}
@@ -41,7 +41,7 @@ messages-kept n s e h = record { kept = h.kept; later = h.later; conserves = h.c
 
 -- no message ends
 abbrev pub EndsNone : List Notice → Type 0
-EndsNone notices = (t : ℕ) → ended t notices ≡ 0
+EndsNone notices = (t : ℕ) → times_ended t notices ≡ 0
 
 -- no message moves
 pub record AreStill (s now : State) : Type 0 where

@@ -1,9 +1,8 @@
 // Overlay pages that are enabled, disabled and moved.
 ghost use Rattle.std.specs.Prelude.{◌≡◌, ◌<◌, ◌≤◌, ◌+◌, length};
-ghost use Rattle.synic_regs.specs.declared.register.Register.TheVariants as register;
-ghost use Rattle.synic_regs.specs.Regs.{with_value};
+ghost use Rattle.synic_regs.specs.Regs.{after_write};
 ghost use Rattle.synic_board.specs.State.{processors, regs_of, with_regs};
-ghost use Rattle.synic_board.specs.Moves.{looked_up, with_owners};
+ghost use Rattle.synic_board.specs.inside.Moves.{overlay_register, looked_up, with_owners};
 
 use crate::machine::Machine;
 use crate::summary::{Entry, Summary};
@@ -11,43 +10,29 @@ use board_terms::{Kind, Vp};
 use gpa_space::Space;
 use synic_regs::Register;
 
-impl Machine {
-    /// Writes SIMP. Only the page that it left and the page that it reached can have another owner.
-    pub(crate) fn write_sim(&mut self, vp: Vp, value: u64)
-        requires { vp < processors self.old.state }
-        ensures state { self.new.state ≡ with_regs self.old.state vp (with_value (regs_of self.old.state vp) register.Sim value) }
-        ensures rises { self.old.writes ≤ self.new.writes }
-        ensures few { self.new.writes ≤ self.old.writes + 2 }
-    {
-        let regs = &mut self.regs[vp.number() as usize];
-        let before = regs.read(Register::Sim);
-        let _ = regs.write(Register::Sim, value);
-        self.space.set_overlay(vp, Kind::Sim, value);
-        look_up(
-            &self.space,
-            self.page_count,
-            &mut self.summary,
-            before / 4096,
-        );
-        look_up(
-            &self.space,
-            self.page_count,
-            &mut self.summary,
-            value / 4096,
-        );
+/// The register of an overlay.
+fn overlay_register(kind: Kind) -> Register
+    ensures { result ≡ overlay_register kind }
+{
+    match kind {
+        Kind::Sim => Register::Sim,
+        Kind::Sief => Register::Sief,
     }
+}
 
-    /// Writes SIEFP. Only the page that it left and the page that it reached can have another owner.
-    pub(crate) fn write_sief(&mut self, vp: Vp, value: u64)
+impl Machine {
+    /// Writes SIMP or SIEFP. Only the page that it left and the page that it reached can have another
+    /// owner.
+    pub(crate) fn write_overlay(&mut self, vp: Vp, kind: Kind, value: u64)
         requires { vp < processors self.old.state }
-        ensures state { self.new.state ≡ with_regs self.old.state vp (with_value (regs_of self.old.state vp) register.Sief value) }
+        ensures state { self.new.state ≡ with_regs self.old.state vp (after_write (regs_of self.old.state vp) (overlay_register kind) value) }
         ensures rises { self.old.writes ≤ self.new.writes }
         ensures few { self.new.writes ≤ self.old.writes + 2 }
     {
         let regs = &mut self.regs[vp.number() as usize];
-        let before = regs.read(Register::Sief);
-        let _ = regs.write(Register::Sief, value);
-        self.space.set_overlay(vp, Kind::Sief, value);
+        let before = regs.read(overlay_register(kind));
+        let _ = regs.write(overlay_register(kind), value);
+        self.space.set_overlay(vp, kind, value);
         look_up(
             &self.space,
             self.page_count,

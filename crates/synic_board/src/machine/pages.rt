@@ -1,15 +1,14 @@
 // Guest loads and stores, and the messages that a store consumes.
 ghost use Rattle.std.specs.Prelude.{◌≡◌, ◌<◌, ◌≤◌, ◌+◌, [], length, IfSome};
 ghost use Rattle.synic_board.specs.State.{processors};
-ghost use Rattle.synic_board.specs.Effects.{appended};
+ghost use Rattle.synic_board.specs.Effects.{preceded};
 ghost use Rattle.synic_board.specs.Stores.{stored_bytes, read_bytes, consumed, consumed_in, IsOn};
 ghost use Rattle.synic_board.specs.Sound.{IsSound};
-ghost use Rattle.synic_board.specs.Touches.{touched, OthersFree};
+ghost use Rattle.synic_board.specs.inside.Touches.{touched, OthersFree};
 
 use crate::event::Reply;
 use crate::machine::Machine;
-use crate::summary::place_of;
-use board_terms::{Bytes8, Notice, Notices, Owner, Sint, Vp};
+use board_terms::{Bytes8, Notice, Notices, Owner, Sint, Vp, source_number};
 
 /// The number of bytes of a page.
 const PAGE_SIZE: u64 = 4096;
@@ -54,7 +53,7 @@ impl Machine {
         requires others { OthersFree self.old.state owner slot }
         requires range { IfSome slot (λ sint. sint < 16) }
         requires room { length notices.old < 320 }
-        ensures effect { (self.new.state, notices.new) ≡ appended notices.old (consumed_in self.old.state owner) }
+        ensures effect { (self.new.state, notices.new) ≡ preceded notices.old (consumed_in self.old.state owner) }
         ensures writes { self.new.writes ≡ self.old.writes }
     {
         match owner {
@@ -73,12 +72,12 @@ impl Machine {
     fn consume(&mut self, vp: Vp, sint: Sint, notices: &mut Notices)
         requires on { vp < processors self.old.state }
         requires room { length notices.old < 320 }
-        ensures effect { (self.new.state, notices.new) ≡ appended notices.old (consumed self.old.state vp sint) }
+        ensures effect { (self.new.state, notices.new) ≡ preceded notices.old (consumed self.old.state vp sint) }
         ensures writes { self.new.writes ≡ self.old.writes }
         ensures told { length notices.new ≤ length notices.old + 1 }
         ensures same { processors self.new.state ≡ processors self.old.state }
     {
-        let at = place_of(vp, sint);
+        let at = source_number(vp, sint);
         let Some(ticket) = self.slots[at] else {
             return;
         };

@@ -3,7 +3,7 @@ ghost use Rattle.std.specs.Prelude.{◌≡◌, ◌<◌, ◌≤◌, ◌+◌, [], 
 ghost use Rattle.event_ports.specs.Shapes.{fits};
 ghost use Rattle.message_queues.specs.Queues.{port_used};
 ghost use Rattle.synic_board.specs.State.{processors};
-ghost use Rattle.synic_board.specs.Effects.{appended};
+ghost use Rattle.synic_board.specs.Effects.{preceded};
 ghost use Rattle.synic_board.specs.Posts.{opened_port, closed, withdrawn, post_refusal, posted, signalled};
 
 use crate::event::Reply;
@@ -44,7 +44,7 @@ impl Machine {
     fn withdraw(&mut self, vp: Vp, sint: Sint, port: u8, notices: &mut Notices)
         requires on { vp < processors self.old.state }
         requires room { length notices.old + 16 ≤ 320 }
-        ensures effect { (self.new.state, notices.new) ≡ appended notices.old (withdrawn self.old.state vp sint port) }
+        ensures effect { (self.new.state, notices.new) ≡ preceded notices.old (withdrawn self.old.state vp sint port) }
         ensures writes { self.new.writes ≡ self.old.writes + 1 }
     {
         let tickets = self.queues.withdraw_port(vp, sint, port);

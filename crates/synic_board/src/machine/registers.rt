@@ -7,7 +7,7 @@ ghost use Rattle.synic_board.specs.Registers.{written, stored, read};
 use crate::event::Reply;
 use crate::machine::Machine;
 use crate::summary::Entry;
-use board_terms::{Notices, Sint, TimerId, Vp};
+use board_terms::{Kind, Notices, Sint, TimerId, Vp};
 use synic_regs::{Outcome, Register, decode};
 
 /// The version of the SynIC that SVERSION reads.
@@ -29,8 +29,8 @@ impl Machine {
             Register::Eoi => self.end(vp),
             Register::Tpr => self.set_priority(vp, value),
             Register::Control => self.write_control(vp, value),
-            Register::Sief => self.write_sief(vp, value),
-            Register::Sim => self.write_sim(vp, value),
+            Register::Sief => self.write_overlay(vp, Kind::Sief, value),
+            Register::Sim => self.write_overlay(vp, Kind::Sim, value),
             Register::Eom => self.try_all(vp, notices),
             Register::Source(sint) => return self.write_source(vp, sint, value),
             Register::TimerConfig(index) => match TimerId::new(vp, index) {

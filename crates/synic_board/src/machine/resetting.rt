@@ -6,15 +6,15 @@ ghost use Rattle.synic_regs.specs.Regs.{reset_regs};
 ghost use Rattle.gpa_space.specs.Space.{after_clearing};
 ghost use Rattle.stimer_bank.specs.Bank.{reset as bank_reset};
 ghost use Rattle.synic_board.specs.State.{processors, regs_of, space_of, bank_of, with_apic, with_regs, with_space, with_bank};
-ghost use Rattle.synic_board.specs.Effects.{appended};
-ghost use Rattle.synic_board.specs.Effected.{Effected};
+ghost use Rattle.synic_board.specs.Effects.{preceded};
+ghost use Rattle.synic_board.specs.inside.Effected.{Effected};
 ghost use Rattle.synic_board.specs.Resetting.{slot_emptied, queue_emptied, source_emptied, emptied, cleared, reset};
 
 use crate::event::Reply;
 use crate::machine::Machine;
 use crate::machine::posts::tell_withdrawn;
-use crate::summary::{Entry, place_of};
-use board_terms::{Notice, Notices, Sint, Vp};
+use crate::summary::Entry;
+use board_terms::{Kind, Notice, Notices, Sint, Vp, source_number};
 use lapic_core::{Lapic, VectorSet};
 use synic_regs::SynicRegs;
 
@@ -50,10 +50,10 @@ impl Machine {
     fn empty_slot(&mut self, vp: Vp, sint: Sint, notices: &mut Notices)
         requires on { vp < processors self.old.state }
         requires room { length notices.old < 320 }
-        ensures effect { (self.new.state, notices.new) ≡ appended notices.old (slot_emptied self.old.state vp sint) }
+        ensures effect { (self.new.state, notices.new) ≡ preceded notices.old (slot_emptied self.old.state vp sint) }
         ensures writes { self.new.writes ≡ self.old.writes }
     {
-        let slot = &mut self.slots[place_of(vp, sint)];
+        let slot = &mut self.slots[source_number(vp, sint)];
         if let Some(ticket) = *slot {
             *slot = None;
             notices.push(Notice::Withdrawn { ticket, vp, sint });
@@ -84,8 +84,8 @@ impl Machine {
     {
         // The overlays leave the pages at which they lay before the registers are replaced, so that
         // the space has the registers' values all along.
-        self.write_sim(vp, 0);
-        self.write_sief(vp, 0);
+        self.write_overlay(vp, Kind::Sim, 0);
+        self.write_overlay(vp, Kind::Sief, 0);
         self.clear_registers(vp);
         self.clear_lapic(vp);
         self.clear_timers(vp);

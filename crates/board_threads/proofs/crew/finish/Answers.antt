@@ -7,7 +7,7 @@ use Rattle.board_threads.specs.History.{calls_by}
 use Rattle.board_threads.specs.Sharing.{Acting, start}
 use Rattle.board_threads.specs.Settling.{IsSettled, AreAbsorbed}
 use Rattle.board_threads.specs.Crew.{EachFollows, lists}
-use Rattle.board_threads.specs.Work.{InPlace}
+use Rattle.board_threads.specs.inside.Work.{InPlace}
 use Rattle.board_threads.proofs.Placing.{crewed, stand, each-stands, numbers-are, StandsIn}
 use Rattle.board_threads.proofs.Crewing.{all-of, all-lines-of, all-only-raise, logs-are, each-answered}
 use Rattle.board_threads.proofs.crew.finish.Goals as goal

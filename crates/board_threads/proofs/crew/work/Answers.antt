@@ -2,8 +2,8 @@ use Rattle.std.proofs.Common.{rules, ◌≡◌, ◌+◌, [], ◌∷◌, ◌++◌
 use Rattle.std.specs.List.{range_with_len}
 use Rattle.std.proofs.lemmas.List.FromFn.{length-map-range_with_len}
 use Rattle.board_threads.specs.Sharing.{Acting, new_actor}
-use Rattle.board_threads.specs.Crew.{Follows, last_steps}
-use Rattle.board_threads.specs.Work.{IsNewActor}
+use Rattle.board_threads.specs.Crew.{AreSteps, last_steps}
+use Rattle.board_threads.specs.inside.Work.{IsNewActor}
 use Rattle.board_threads.proofs.Crewing.{all-new, new-numbers, cut, single}
 use Rattle.board_threads.proofs.crew.work.Goals as goal
 
@@ -46,7 +46,7 @@ returns g c =
           after = more.0;
           calls = more.1;
           begins = search rules;
-          ends = subst (λ k. Follows (last_steps k) more.0) c.requires.board more.2;
+          ends = subst (λ k. AreSteps (last_steps k) more.0) c.requires.board more.2;
         };
         numbers = ran.numbers ∙ ap (map (λ (a : Acting). a.number)) (c.in-Ok.ensures.tail ∙ parts.1) ∙ new-numbers name (range_with_len 1 n) ∙ ap (λ k. range_with_len 1 k) (omega (arith, scripts.ok.0));
         acted = ran.acted;

@@ -1,5 +1,5 @@
 use Rattle.std.proofs.Common.{[], refl, inl}
-use Rattle.board_trace.specs.Stages.{Stage, stage_of}
+use Rattle.board_trace.specs.inside.Stages.{Stage, stage_of}
 use Rattle.board_trace.specs.declared.judge.TraceJudge.{TraceJudge}
 use Rattle.line_driver.specs.declared.driving.End.TheVariants as ends
 use Rattle.board_trace.proofs.Limits.{said-limit, refused-within, at-near, legal-near, refused-near}

@@ -1,7 +1,7 @@
 use Rattle.std.proofs.Common.{◌∙◌, ℕ, sym, ap, None, Some}
 use Rattle.std.specs.Option.{option_map}
 use Rattle.synic_board.specs.State.{State, opened}
-use Rattle.board_trace.specs.Stages.{Running}
+use Rattle.board_trace.specs.inside.Stages.{Running}
 use Rattle.board_trace.proofs.Written.{board-opened, same-word}
 use Rattle.board_trace.proofs.stage.open.Goals as goal
 

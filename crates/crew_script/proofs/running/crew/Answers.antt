@@ -2,8 +2,8 @@ use Rattle.std.proofs.Common.{rules, ◌≡◌, [], Option, None, Some, refl, sy
 use Rattle.std.specs.Io.KnownBytes.{Appends}
 use Rattle.line_driver.specs.declared.driving.End.TheVariants as ends
 use Rattle.board_lines.specs.declared.fault.ScriptFault.TheVariants as faults
-use Rattle.crew_script.specs.Crew.{Crew, closed, IsGood}
-use Rattle.crew_script.specs.View.{crew_of, asked}
+use Rattle.crew_script.specs.Crew.{Crew, finished, IsGood}
+use Rattle.crew_script.specs.inside.View.{crew_of, asked}
 use Rattle.crew_script.specs.Running.{Refusal, Report, Runs}
 use Rattle.crew_script.specs.declared.judge.CrewJudge.{CrewJudge}
 use Rattle.crew_script.specs.declared.running.CrewRun.TheVariants.{Memory}
@@ -19,7 +19,7 @@ seen judge = asked judge.script
 pub run-requires-clause-good : goal.run-requires-clause-good
 run-requires-clause-good g c =
     let d = c.in-Last.ensures.lines.read in
-    let good : IsGood (closed (crew_of c.in-Some.script)) = subst AllGood (ap seen (sym d.ends.1) ∙ ap asked c.in-Some.is) (all-good seen _ d.state d.lines _ tt d.follows) in
+    let good : IsGood (finished (crew_of c.in-Some.script)) = subst AllGood (ap seen (sym d.ends.1) ∙ ap asked c.in-Some.is) (all-good seen _ d.state d.lines _ tt d.follows) in
     search (rules, good)
 
 pub returns-in-Some-clause-text : goal.returns-in-Some-clause-text
@@ -29,7 +29,7 @@ returns-in-Some-clause-text g c =
     let here : seen c.drive.new.judge ≡ Some last = ap asked c.in-Some.is in
     let first = subst (Appends _ _) (sym d.sends ∙ nothing-sent seen _ _ refl (ends.Last c.in-Last.line) _ _ d.read) d.writes in
     let ran : Runs c.run.result last (g.W.Write.contents c.drive.new.writer) (g.W.Write.contents c.run.new.writer) = rw c.in-Some.is at c.run.ensures in
-    spoken (Report (closed last)) _ _ _ _ _ (λ input p. tells-report last input (asked-for seen _ _ refl c.in-Last.line d.answers input last here p)) d.whole first c.run.result ran
+    spoken (Report (finished last)) _ _ _ _ _ (λ input p. tells-report last input (asked-for seen _ _ refl c.in-Last.line d.answers input last here p)) d.whole first c.run.result ran
 
 pub returns-in-Last-clause-text : goal.returns-in-Last-clause-text
 returns-in-Last-clause-text g c =
@@ -49,7 +49,7 @@ returns-in-Wrong-clause-text g c =
 pub returns-in-Some-clause-limit : goal.returns-in-Some-clause-limit
 returns-in-Some-clause-limit g c =
     let ran : Runs c.run.result (crew_of c.in-Some.script) (g.W.Write.contents c.drive.new.writer) (g.W.Write.contents c.run.new.writer) = rw c.in-Some.is at c.run.ensures in
-    within c.run.result (Report (closed (crew_of c.in-Some.script))) _ _ _ _ (λ _ none. none) ran c.in-Last.ensures.limit
+    within c.run.result (Report (finished (crew_of c.in-Some.script))) _ _ _ _ (λ _ none. none) ran c.in-Last.ensures.limit
 
 pub returns-in-Some-clause-near : goal.returns-in-Some-clause-near
 returns-in-Some-clause-near g c =

@@ -6,8 +6,8 @@ use Rattle.synic_board.specs.State.{State, opened}
 use Rattle.synic_board.specs.History.{leads_to}
 use Rattle.board_trace.specs.declared.format.Format.TheVariants.{Two}
 use Rattle.board_trace.specs.Trace.{trace}
-use Rattle.crew_script.specs.Crew.{Crew, closed, IsGood}
-use Rattle.crew_script.specs.View.{crew_of}
+use Rattle.crew_script.specs.Crew.{Crew, finished, IsGood}
+use Rattle.crew_script.specs.inside.View.{crew_of}
 use Rattle.crew_script.specs.Running.{IsHistory, Report}
 use Rattle.crew_script.specs.declared.running.CrewRun.TheVariants.{Done}
 use Rattle.crew_script.proofs.Judged.{sized, none-bad}
@@ -16,13 +16,13 @@ use Rattle.crew_script.proofs.running.prepare.Goals as goal
 pub outcome_of-requires-clause-size : goal.outcome_of-requires-clause-size
 outcome_of-requires-clause-size g c =
     let s = c.close.new.self in
-    let over : crew_of s ≡ closed (crew_of c.args.script) = search rules in
+    let over : crew_of s ≡ finished (crew_of c.args.script) = search rules in
     λ bad. c.run_crew.ensures.size.0 (c.in-Err.is ∙ ap Err bad) (sized s (subst IsGood (sym over) c.requires.good))
 
 pub outcome_of-requires-clause-step : goal.outcome_of-requires-clause-step
 outcome_of-requires-clause-step g c =
     let s = c.close.new.self in
-    let over : crew_of s ≡ closed (crew_of c.args.script) = search rules in
+    let over : crew_of s ≡ finished (crew_of c.args.script) = search rules in
     λ bad. both_ways (has_bad_step s.setup s.scripts) (none-bad s (subst IsGood (sym over) c.requires.good)) (c.run_crew.ensures.step.0 (c.in-Err.is ∙ ap Err bad)).1
 
 pub returns-in-Ok-put_trace : goal.returns-in-Ok-put_trace
@@ -30,7 +30,7 @@ returns-in-Ok-put_trace g c =
     let s = c.close.new.self in
     let e = c.in-Ok.ensures in
     let h = c.in-Ok.end.ended.history.items in
-    let over : crew_of s ≡ closed (crew_of c.args.script) = search rules in
+    let over : crew_of s ≡ finished (crew_of c.args.script) = search rules in
     let is : IsHistory (crew_of s) h = record {
       legal = e.settled.legal;
       crewed = e.crewed;

@@ -1,6 +1,6 @@
 use Rattle.std.proofs.Common.{◌≡◌, ℕ, ◌+◌, length}
 use Rattle.slab.specs.Slab.{get, slab_len}
-use Rattle.message_queues.specs.Chains.{IsChain}
+use Rattle.message_queues.specs.inside.Chains.{IsChain}
 use Rattle.message_queues.proofs.Walks.{Walk}
 use Rattle.message_queues.proofs.chains.withdraw.Given as goal
 

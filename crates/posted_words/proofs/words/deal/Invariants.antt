@@ -1,5 +1,5 @@
 use Rattle.std.proofs.Common.{◌≡◌, ◌-◌, [], ◌∷◌, replicate}
-use Rattle.posted_words.specs.Posted.{view_of}
+use Rattle.posted_words.specs.inside.Posted.{view_of}
 use Rattle.posted_words.specs.Words.{token}
 use Rattle.posted_words.proofs.words.deal.Given as goal
 

@@ -2,7 +2,7 @@ use Rattle.std.proofs.Common.{sym, ap, ◌∙◌, subst, arith, Some}
 use Rattle.std.specs.Int.{bit_at, trailing_zeros, w16}
 use Rattle.std.proofs.lemmas.List.{get_or_default}
 use Rattle.std.proofs.lemmas.Nat.Bits.{bit_at-zero, bit_at-trailing_zeros}
-use Rattle.gpa_space.specs.Lying.{IsLowest}
+use Rattle.gpa_space.specs.inside.Lying.{IsLowest}
 use Rattle.gpa_space.proofs.lying.Lying.first.Goals as goal
 
 pub returns-then-word-eq0 : goal.returns-then-word-eq0

@@ -1,6 +1,6 @@
 use Rattle.std.proofs.Common.{rules, ◌<◌, ◌/◌, false, length, ap, ◌∙◌, subst}
 use Rattle.std.proofs.lemmas.List.{get_or_default}
-use Rattle.gpa_space.specs.Lying.{Marks}
+use Rattle.gpa_space.specs.inside.Lying.{Marks}
 use Rattle.gpa_space.proofs.Visible.{keeps}
 use Rattle.gpa_space.proofs.space.Space.set_overlay.Goals as goal
 

@@ -1,4 +1,4 @@
-use Rattle.lapic_core.specs.Threshold.{serving}
+use Rattle.lapic_core.specs.inside.Threshold.{serving}
 use Rattle.lapic_core.proofs.Priority.{awaited_kept}
 use Rattle.lapic_core.proofs.lapic.Lapic.end.Goals as goal
 

@@ -1,5 +1,5 @@
 use Rattle.std.proofs.Common.{arith}
-use Rattle.lapic_core.specs.View.{apic_of}
+use Rattle.lapic_core.specs.inside.View.{apic_of}
 use Rattle.lapic_core.proofs.Priority.{awaited_request-above, awaited_request-same}
 use Rattle.lapic_core.proofs.lapic.Lapic.request.Goals as goal
 

@@ -1,8 +1,8 @@
 use Rattle.std.proofs.Common.{◌≡◌, ◌∙◌, sym, ap}
 use Rattle.std.specs.Prelude.{Some}
 use Rattle.lapic_core.specs.Apic.{class, awaited, next}
-use Rattle.lapic_core.specs.Threshold.{last_of}
-use Rattle.lapic_core.specs.View.{apic_of}
+use Rattle.lapic_core.specs.inside.Threshold.{last_of}
+use Rattle.lapic_core.specs.inside.View.{apic_of}
 use Rattle.lapic_core.proofs.Priority.{next-some, awaited_taken, threshold_taken}
 use Rattle.lapic_core.proofs.lapic.Lapic.take.Goals as goal
 

@@ -1,5 +1,5 @@
 use Rattle.std.proofs.Common.{◌≡◌, ◌*◌, [], ℕ, ◌∙◌, ap, replicate, arith}
-use Rattle.message_queues.specs.Chains.{queues_at}
+use Rattle.message_queues.specs.inside.Chains.{queues_at}
 use Rattle.slab.specs.Slab.{get}
 use Rattle.message_queues.proofs.Opening.{opened, opened-queues}
 use Rattle.message_queues.proofs.queues.Queues.open.Goals as goal

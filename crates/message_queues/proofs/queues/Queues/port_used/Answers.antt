@@ -1,6 +1,6 @@
 use Rattle.std.proofs.Common.{◌<◌, ap, ◌∙◌, sym, arith}
 use Rattle.message_queues.specs.Queues.{Queues, port_used}
-use Rattle.message_queues.specs.View.{queues_of}
+use Rattle.message_queues.specs.inside.View.{queues_of}
 use Rattle.message_queues.proofs.Counts.{each-owned, port_used-owner, port_used-past, share-le}
 use Rattle.message_queues.proofs.queues.Queues.port_used.Goals as goal
 

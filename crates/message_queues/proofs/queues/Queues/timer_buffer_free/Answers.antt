@@ -1,7 +1,7 @@
 use Rattle.std.proofs.Common.{ℕ, ap, ◌∙◌, sym, nat_eq}
 use Rattle.message_queues.specs.Queues.{Queues, timer_used}
-use Rattle.message_queues.specs.View.{queues_of}
-use Rattle.message_queues.specs.Owners.{used_by}
+use Rattle.message_queues.specs.inside.View.{queues_of}
+use Rattle.message_queues.specs.inside.Owners.{used_by}
 use Rattle.message_queues.proofs.Counts.{each-owned, timer_used-owner}
 use Rattle.message_queues.proofs.queues.Queues.timer_buffer_free.Goals as goal
 

@@ -3,19 +3,20 @@ use Rattle.std.specs.Prelude.{Some, slice_get}
 use Rattle.std.proofs.lemmas.List.{take_more, drop_more, get_or-set_same, set-set, map_push}
 use Rattle.board_terms.specs.declared.messages.Message.{Message}
 use Rattle.board_terms.specs.Messages.{ticket_of}
-use Rattle.message_queues.specs.Queues.{Queues, place_of, queue_of, with_queue, after_place}
+use Rattle.board_terms.specs.Sources.{source_number}
+use Rattle.message_queues.specs.Queues.{Queues, queue_of, with_queue, after_place}
 use Rattle.message_queues.proofs.queues.Queues.withdraw_all.Goals as goal
 
 -- one more message is taken out
-taken : (qs now : Queues) (p i k : ℕ) (m : Message) → place_of p i < length qs → k < length (queue_of qs p i) → now ≡ with_queue qs p i (drop k (queue_of qs p i)) → Some m ≡ slice_get (queue_of now p i) 0 →
+taken : (qs now : Queues) (p i k : ℕ) (m : Message) → source_number p i < length qs → k < length (queue_of qs p i) → now ≡ with_queue qs p i (drop k (queue_of qs p i)) → Some m ≡ slice_get (queue_of now p i) 0 →
     (after_place now p i ≡ with_queue qs p i (drop (k + 1) (queue_of qs p i))) × (take (k + 1) (queue_of qs p i) ≡ take k (queue_of qs p i) ++ m ∷ [])
 taken qs now p i k m within less is head =
     let q : List Message = queue_of qs p i in
-    let at : queue_of now p i ≡ drop k q = ap (λ (x : Queues). queue_of x p i) is ∙ get_or-set_same qs (place_of p i) (drop k q) [] within in
+    let at : queue_of now p i ≡ drop k q = ap (λ (x : Queues). queue_of x p i) is ∙ get_or-set_same qs (source_number p i) (drop k q) [] within in
     let more : drop k q ≡ get_or q k m ∷ drop (k + 1) q = drop_more q k m less in
     let one : Some m ≡ Some (get_or q k m) = head ∙ ap (λ (x : List Message). slice_get x 0) (at ∙ more) in
     let same : get_or q k m ≡ m = cc in (
-      ap (λ (x : List Message). with_queue now p i (drop 1 x)) (at ∙ more) ∙ ap (λ (x : Queues). with_queue x p i (drop (k + 1) q)) is ∙ set-set qs (place_of p i) (drop k q) (drop (k + 1) q),
+      ap (λ (x : List Message). with_queue now p i (drop 1 x)) (at ∙ more) ∙ ap (λ (x : Queues). with_queue x p i (drop (k + 1) q)) is ∙ set-set qs (source_number p i) (drop k q) (drop (k + 1) q),
       take_more q k m less ∙ ap (λ (x : Message). take k q ++ x ∷ []) same,
     )
 

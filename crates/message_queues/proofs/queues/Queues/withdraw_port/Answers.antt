@@ -16,16 +16,16 @@ returns-then-port_used-eq0-clause-rest c =
 
 pub withdraw-tickets-requires-clause-linked : goal.withdraw-tickets-requires-clause-linked
 withdraw-tickets-requires-clause-linked c =
-    let within : c.place_of.result < length c.args.self.now = omega (arith, c.place_of.ensures, c.requires) in
-    let h = here c.self.inside c.args.self.now c.place_of.result c.index_mut-chain.result.now c.self.invariant c.self.view_is within c.index_mut-chain.ensures.value in
+    let within : c.source_number.result < length c.args.self.now = omega (arith, c.source_number.ensures.value, c.requires) in
+    let h = here c.self.inside c.args.self.now c.source_number.result c.index_mut-chain.result.now c.self.invariant c.self.view_is within c.index_mut-chain.ensures.value in
     let k = c.self.invariant.linked in
-    (k.owner, k.rank, c.place_of.result, k.each c.place_of.result c.index_mut-chain.result.now h.at)
+    (k.owner, k.rank, c.source_number.result, k.each c.source_number.result c.index_mut-chain.result.now h.at)
 
 pub withdraw-tickets-requires-clause-few : goal.withdraw-tickets-requires-clause-few
 withdraw-tickets-requires-clause-few c =
-    let within : c.place_of.result < length c.args.self.now = omega (arith, c.place_of.ensures, c.requires) in
+    let within : c.source_number.result < length c.args.self.now = omega (arith, c.source_number.ensures.value, c.requires) in
     let below = port-below c.self.inside c.args.self.now c.args.port c.self.invariant c.self.view_is (λ none. c.if-port_used-eq0.false (c.port_used.ensures.value ∙ none)) in
-    let f = found c.self.inside c.args.self.now c.place_of.result c.index_mut-chain.result.now c.args.port c.self.invariant c.self.view_is within c.index_mut-chain.ensures.value below in
+    let f = found c.self.inside c.args.self.now c.source_number.result c.index_mut-chain.result.now c.args.port c.self.invariant c.self.view_is within c.index_mut-chain.ensures.value below in
     omega (arith, f.few, f.in_use)
 
 pub bounds-self-inside-port : goal.bounds-self-inside-port
@@ -35,12 +35,12 @@ bounds-self-inside-port c =
 
 pub overflow_sub-self : goal.overflow_sub-self
 overflow_sub-self c =
-    let within : c.place_of.result < length c.args.self.now = omega (arith, c.place_of.ensures, c.requires) in
+    let within : c.source_number.result < length c.args.self.now = omega (arith, c.source_number.ensures.value, c.requires) in
     let below = port-below c.self.inside c.args.self.now c.args.port c.self.invariant c.self.view_is (λ none. c.if-port_used-eq0.false (c.port_used.ensures.value ∙ none)) in
-    let h = here c.self.inside c.args.self.now c.place_of.result c.index_mut-chain.result.now c.self.invariant c.self.view_is within c.index_mut-chain.ensures.value in
+    let h = here c.self.inside c.args.self.now c.source_number.result c.index_mut-chain.result.now c.self.invariant c.self.view_is within c.index_mut-chain.ensures.value in
     let k = c.self.invariant.linked in
-    let w = c.withdraw-tickets.ensures.withdrawn k.owner k.rank c.place_of.result (k.each c.place_of.result c.index_mut-chain.result.now h.at) in
-    let f = found c.self.inside c.args.self.now c.place_of.result c.index_mut-chain.result.now c.args.port c.self.invariant c.self.view_is within c.index_mut-chain.ensures.value below in
+    let w = c.withdraw-tickets.ensures.withdrawn k.owner k.rank c.source_number.result (k.each c.source_number.result c.index_mut-chain.result.now h.at) in
+    let f = found c.self.inside c.args.self.now c.source_number.result c.index_mut-chain.result.now c.args.port c.self.invariant c.self.view_is within c.index_mut-chain.ensures.value below in
     omega (arith, f.few, c.len.ensures.value, ap length w.tickets_are)
 
 pub bounds-self-inside-port-2 : goal.bounds-self-inside-port-2
@@ -50,28 +50,28 @@ bounds-self-inside-port-2 c =
 
 pub invariant_of-self : goal.invariant_of-self
 invariant_of-self c =
-    let within : c.place_of.result < length c.args.self.now = omega (arith, c.place_of.ensures, c.requires) in
+    let within : c.source_number.result < length c.args.self.now = omega (arith, c.source_number.ensures.value, c.requires) in
     let below = port-below c.self.inside c.args.self.now c.args.port c.self.invariant c.self.view_is (λ none. c.if-port_used-eq0.false (c.port_used.ensures.value ∙ none)) in
-    let h = here c.self.inside c.args.self.now c.place_of.result c.index_mut-chain.result.now c.self.invariant c.self.view_is within c.index_mut-chain.ensures.value in
+    let h = here c.self.inside c.args.self.now c.source_number.result c.index_mut-chain.result.now c.self.invariant c.self.view_is within c.index_mut-chain.ensures.value in
     let k = c.self.invariant.linked in
-    let w = c.withdraw-tickets.ensures.withdrawn k.owner k.rank c.place_of.result (k.each c.place_of.result c.index_mut-chain.result.now h.at) in
-    let s = withdrawn-step c.self.inside c.args.self.now c.place_of.result c.index_mut-chain.result.now c.withdraw-tickets.new.chain c.args.port c.len.result c.withdraw-tickets.result.items c.withdraw-tickets.new.buffers c.self.invariant c.self.view_is within c.index_mut-chain.ensures.value below w c.withdraw-tickets.ensures.len c.withdraw-tickets.ensures.capacity c.len.ensures.value in
+    let w = c.withdraw-tickets.ensures.withdrawn k.owner k.rank c.source_number.result (k.each c.source_number.result c.index_mut-chain.result.now h.at) in
+    let s = withdrawn-step c.self.inside c.args.self.now c.source_number.result c.index_mut-chain.result.now c.withdraw-tickets.new.chain c.args.port c.len.result c.withdraw-tickets.result.items c.withdraw-tickets.new.buffers c.self.invariant c.self.view_is within c.index_mut-chain.ensures.value below w c.withdraw-tickets.ensures.len c.withdraw-tickets.ensures.capacity c.len.ensures.value in
     record { linked = s.linked; held = s.held; both_ways = s.both_ways; room = s.room; owned = s.owned; counts = s.counts }
 
 pub returns-clause-tickets : goal.returns-clause-tickets
 returns-clause-tickets c =
-    let within : c.place_of.result < length c.args.self.now = omega (arith, c.place_of.ensures, c.requires) in
-    let h = here c.self.inside c.args.self.now c.place_of.result c.index_mut-chain.result.now c.self.invariant c.self.view_is within c.index_mut-chain.ensures.value in
+    let within : c.source_number.result < length c.args.self.now = omega (arith, c.source_number.ensures.value, c.requires) in
+    let h = here c.self.inside c.args.self.now c.source_number.result c.index_mut-chain.result.now c.self.invariant c.self.view_is within c.index_mut-chain.ensures.value in
     let k = c.self.invariant.linked in
-    let w = c.withdraw-tickets.ensures.withdrawn k.owner k.rank c.place_of.result (k.each c.place_of.result c.index_mut-chain.result.now h.at) in
-    w.tickets_are ∙ ap (withdrawn_of c.args.port) (sym h.shown_row) ∙ ap (λ (k : ℕ). withdrawn_of c.args.port (slice_index_or c.args.self.now k [])) c.place_of.ensures
+    let w = c.withdraw-tickets.ensures.withdrawn k.owner k.rank c.source_number.result (k.each c.source_number.result c.index_mut-chain.result.now h.at) in
+    w.tickets_are ∙ ap (withdrawn_of c.args.port) (sym h.shown_row) ∙ ap (λ (k : ℕ). withdrawn_of c.args.port (slice_index_or c.args.self.now k [])) c.source_number.ensures.value
 
 pub returns-clause-rest : goal.returns-clause-rest
 returns-clause-rest c =
-    let within : c.place_of.result < length c.args.self.now = omega (arith, c.place_of.ensures, c.requires) in
+    let within : c.source_number.result < length c.args.self.now = omega (arith, c.source_number.ensures.value, c.requires) in
     let below = port-below c.self.inside c.args.self.now c.args.port c.self.invariant c.self.view_is (λ none. c.if-port_used-eq0.false (c.port_used.ensures.value ∙ none)) in
-    let h = here c.self.inside c.args.self.now c.place_of.result c.index_mut-chain.result.now c.self.invariant c.self.view_is within c.index_mut-chain.ensures.value in
+    let h = here c.self.inside c.args.self.now c.source_number.result c.index_mut-chain.result.now c.self.invariant c.self.view_is within c.index_mut-chain.ensures.value in
     let k = c.self.invariant.linked in
-    let w = c.withdraw-tickets.ensures.withdrawn k.owner k.rank c.place_of.result (k.each c.place_of.result c.index_mut-chain.result.now h.at) in
-    let s = withdrawn-step c.self.inside c.args.self.now c.place_of.result c.index_mut-chain.result.now c.withdraw-tickets.new.chain c.args.port c.len.result c.withdraw-tickets.result.items c.withdraw-tickets.new.buffers c.self.invariant c.self.view_is within c.index_mut-chain.ensures.value below w c.withdraw-tickets.ensures.len c.withdraw-tickets.ensures.capacity c.len.ensures.value in
-    s.view_is ∙ ap (λ (k : ℕ). slice_set c.args.self.now k (left_of c.args.port (slice_index_or c.args.self.now k []))) c.place_of.ensures
+    let w = c.withdraw-tickets.ensures.withdrawn k.owner k.rank c.source_number.result (k.each c.source_number.result c.index_mut-chain.result.now h.at) in
+    let s = withdrawn-step c.self.inside c.args.self.now c.source_number.result c.index_mut-chain.result.now c.withdraw-tickets.new.chain c.args.port c.len.result c.withdraw-tickets.result.items c.withdraw-tickets.new.buffers c.self.invariant c.self.view_is within c.index_mut-chain.ensures.value below w c.withdraw-tickets.ensures.len c.withdraw-tickets.ensures.capacity c.len.ensures.value in
+    s.view_is ∙ ap (λ (k : ℕ). slice_set c.args.self.now k (left_of c.args.port (slice_index_or c.args.self.now k []))) c.source_number.ensures.value

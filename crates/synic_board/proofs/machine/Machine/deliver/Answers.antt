@@ -1,7 +1,7 @@
 use Rattle.std.proofs.Common.{ap, sym, ◌∙◌, arith}
-use Rattle.synic_board.specs.Effects.{appended}
+use Rattle.synic_board.specs.Effects.{preceded}
 use Rattle.synic_board.specs.Interrupts.{raised}
-use Rattle.synic_board.specs.Delivery.{placed_at_once}
+use Rattle.synic_board.specs.inside.AtOnce.{placed_at_once}
 use Rattle.synic_board.proofs.AtOnce.{at-once}
 use Rattle.synic_board.proofs.Folds.{chained}
 use Rattle.synic_board.proofs.machine.Machine.deliver.Goals as goal
@@ -13,7 +13,7 @@ returns-then-delivers_at_once c =
     let second = c.raise.ensures in
     let once = at-once s c.args.vp c.args.sint c.args.message (sym c.delivers_at_once.ensures.answer ∙ c.if-delivers_at_once.true) c.delivers_at_once.ensures.queue in
     record {
-      effect = chained _ _ _ _ _ (placed_at_once s c.args.vp c.args.sint c.args.message) (λ t. raised t c.args.vp c.args.sint) first.effect second.effect ∙ ap (appended c.args.notices.now) (sym once);
+      effect = chained _ _ _ _ _ (placed_at_once s c.args.vp c.args.sint c.args.message) (λ t. raised t c.args.vp c.args.sint) first.effect second.effect ∙ ap (preceded c.args.notices.now) (sym once);
       rises = omega (arith, first.rises, second.rises);
       few = omega (arith, first.few, second.few);
     }

@@ -1,9 +1,10 @@
 use Rattle.std.proofs.Common.{false, ℕ, List, length, ap, sym, ◌∙◌, arith}
 use Rattle.message_queues.specs.Image.{header}
 use Rattle.gpa_space.specs.Page.{message_bytes}
-use Rattle.synic_board.specs.Effects.{Effect, appended, after}
+use Rattle.synic_board.specs.Effects.{Effect, preceded, after}
 use Rattle.synic_board.specs.Interrupts.{raised}
-use Rattle.synic_board.specs.Delivery.{filled_at_once, posted_message}
+use Rattle.synic_board.specs.Delivery.{posted_message}
+use Rattle.synic_board.specs.inside.AtOnce.{filled_at_once}
 use Rattle.synic_board.proofs.AtOnce.{at-once, post-image}
 use Rattle.synic_board.proofs.Folds.{chained}
 use Rattle.synic_board.proofs.machine.Machine.deliver_post.Goals as goal
@@ -21,7 +22,7 @@ returns-then-delivers_at_once c =
     let image = sym (post-image s.next_ticket c.args.port c.args.kind s.moment payload) in
     let once = at-once s p i (posted_message s c.args.port c.args.kind payload) (sym c.delivers_at_once.ensures.answer ∙ c.if-delivers_at_once.true) c.delivers_at_once.ensures.queue in
     record {
-      effect = chained _ _ _ _ _ (filled bytes) (λ t. raised t p i) first.effect second.effect ∙ ap (λ b. appended c.args.notices.now (after (filled b) (raised (filled b).0 p i))) image ∙ ap (appended c.args.notices.now) (sym once);
+      effect = chained _ _ _ _ _ (filled bytes) (λ t. raised t p i) first.effect second.effect ∙ ap (λ b. preceded c.args.notices.now (after (filled b) (raised (filled b).0 p i))) image ∙ ap (preceded c.args.notices.now) (sym once);
       rises = omega (arith, first.rises, second.rises);
       few = omega (arith, first.few, second.few);
     }

@@ -1,5 +1,5 @@
 use Rattle.std.proofs.Common.{◌≤◌, ◌<◌}
-use Rattle.synic_board.specs.Effected.{Effected}
+use Rattle.synic_board.specs.inside.Effected.{Effected}
 use Rattle.synic_board.specs.Resetting.{emptied_below}
 use Rattle.synic_board.proofs.Emptying.{total}
 use Rattle.synic_board.proofs.machine.Machine.empty.Given as goal

@@ -3,8 +3,8 @@ use Rattle.gpa_space.specs.Space.{store_answer, after_store}
 use Rattle.synic_board.specs.State.{Held, State, space_of, with_space}
 use Rattle.synic_board.specs.Stores.{stored_bytes}
 use Rattle.synic_board.specs.Sound.{IsSound}
-use Rattle.synic_board.specs.Touches.{touched, OthersFree}
-use Rattle.synic_board.specs.View.{state_of}
+use Rattle.synic_board.specs.inside.Touches.{touched, OthersFree}
+use Rattle.synic_board.specs.inside.View.{state_of}
 use Rattle.synic_board.proofs.Storing.{stored_is}
 use Rattle.synic_board.proofs.Touching.{others-free}
 use Rattle.synic_board.proofs.machine.Machine.store.Goals as goal

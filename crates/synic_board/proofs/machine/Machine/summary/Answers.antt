@@ -1,7 +1,7 @@
 use Rattle.std.proofs.Common.{length, sym, subst}
 use Rattle.synic_board.specs.State.{Held, processors}
 use Rattle.synic_board.specs.Scratch.{Values, TellsOf}
-use Rattle.synic_board.specs.View.{state_of}
+use Rattle.synic_board.specs.inside.View.{state_of}
 use Rattle.synic_board.proofs.Sizes.{tells_of}
 use Rattle.synic_board.proofs.machine.Machine.summary.Goals as goal
 

@@ -4,7 +4,7 @@ use Rattle.board_terms.specs.Dues.{least}
 use Rattle.synic_board.specs.declared.event.Reply.TheVariants.{Done}
 use Rattle.synic_board.specs.Timers.{AllOn, is_any_due, at_moment, ticked}
 use Rattle.synic_board.specs.State.{State, Held, bank_of}
-use Rattle.synic_board.specs.View.{state_of}
+use Rattle.synic_board.specs.inside.View.{state_of}
 use Rattle.synic_board.proofs.Clocks.{listed_on, ticked_before}
 use Rattle.synic_board.proofs.machine.Machine.tick.Goals as goal
 

@@ -1,7 +1,7 @@
 use Rattle.std.proofs.Common.{div-le_self, ◌/◌, ◌^◌, ◌<◌, get_or, sym, ap, ◌∙◌, subst, arith}
 use Rattle.std.specs.Int.{w32}
 use Rattle.synic_board.specs.Scratch.{Kept}
-use Rattle.synic_board.specs.Waiting.{AreWaiting}
+use Rattle.synic_board.specs.inside.Waiting.{AreWaiting}
 use Rattle.synic_board.proofs.Waiting.{none-waits, first-waits}
 use Rattle.synic_board.proofs.Words.{next-bit}
 use Rattle.synic_board.proofs.summary.Summary.waiting_from.Goals as goal

@@ -2,7 +2,7 @@ use Rattle.std.proofs.Common.{◌≡◌, ◌≢◌, ℕ, slice_index_or, sym, ap
 use Rattle.std.specs.Prelude.{Some, None}
 use Rattle.std.proofs.lemmas.Option.{none-some, same_Some}
 use Rattle.board_terms.specs.Dues.{number_of, least}
-use Rattle.timer_heap.specs.Table.{dues, place_of}
+use Rattle.timer_heap.specs.inside.Table.{dues, place_of}
 use Rattle.timer_heap.proofs.Whole.{kept_removed, cleared_same, only_one, due_there, front, three, one_more}
 use Rattle.timer_heap.proofs.heap.TimerHeap.clear.Goals as goal
 

@@ -1,7 +1,7 @@
 use Rattle.std.proofs.Common.{◌≡◌, sym, ap, ◌∙◌}
 use Rattle.std.specs.Prelude.{Some, None, slice_index_or}
 use Rattle.board_terms.specs.Dues.{number_of}
-use Rattle.timer_heap.specs.Table.{moment_of, place_of}
+use Rattle.timer_heap.specs.inside.Table.{moment_of, place_of}
 use Rattle.timer_heap.proofs.Whole.{due_there, due_nowhere}
 use Rattle.timer_heap.proofs.heap.TimerHeap.due_of.Goals as goal
 

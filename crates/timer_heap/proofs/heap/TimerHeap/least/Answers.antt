@@ -1,7 +1,7 @@
 use Rattle.std.proofs.Common.{◌≡◌, ◌<◌, sym, ap, ◌∙◌, arith}
 use Rattle.std.specs.Prelude.{Some}
 use Rattle.board_terms.specs.Dues.{least, timer_of}
-use Rattle.timer_heap.specs.Table.{size, moment_of}
+use Rattle.timer_heap.specs.inside.Table.{size, moment_of}
 use Rattle.timer_heap.proofs.Whole.{heap_least, heap_none}
 use Rattle.timer_heap.proofs.heap.TimerHeap.least.Goals as goal
 

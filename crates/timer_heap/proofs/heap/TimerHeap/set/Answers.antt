@@ -1,7 +1,7 @@
 use Rattle.std.proofs.Common.{◌≡◌, ◌≢◌, ℕ, slice_index_or, ap, ◌∙◌}
 use Rattle.std.specs.Prelude.{Some, None}
 use Rattle.board_terms.specs.Dues.{number_of}
-use Rattle.timer_heap.specs.Table.{dues, place_of}
+use Rattle.timer_heap.specs.inside.Table.{dues, place_of}
 use Rattle.timer_heap.proofs.Whole.{kept_changed, kept_added, room_for, only_one, only_none, two, one_more}
 use Rattle.timer_heap.proofs.heap.TimerHeap.set.Goals as goal
 

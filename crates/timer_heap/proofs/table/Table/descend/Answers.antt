@@ -1,5 +1,5 @@
 use Rattle.std.proofs.Common.{◌≡◌, ◌+◌, ◌*◌, ◌<◌, arith}
-use Rattle.timer_heap.specs.Table.{size}
+use Rattle.timer_heap.specs.inside.Table.{size}
 use Rattle.timer_heap.proofs.Moves.{starts_descending, descends, first_child, only_child, IsFirstChild, passed_number}
 use Rattle.timer_heap.proofs.table.Table.descend.Goals as goal
 

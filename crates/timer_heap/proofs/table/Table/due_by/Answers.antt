@@ -1,5 +1,5 @@
 use Rattle.std.proofs.Common.{◌≡◌, ◌≤◌, ◌<◌, ap, ◌∙◌, arith}
-use Rattle.timer_heap.specs.Table.{entry_at, number_at, moment_of}
+use Rattle.timer_heap.specs.inside.Table.{entry_at, number_at, moment_of}
 use Rattle.timer_heap.proofs.Sweeps.{starts_sweep, sweeps_due, sweeps_past, swept_all}
 use Rattle.timer_heap.proofs.table.Table.due_by.Goals as goal
 use Rattle.timer_heap.proofs.table.Table.due_by.Goals.{then-moment, else-moment}

@@ -1,5 +1,5 @@
 use Rattle.std.proofs.Common.{◌-◌}
-use Rattle.timer_heap.specs.Table.{size}
+use Rattle.timer_heap.specs.inside.Table.{size}
 use Rattle.timer_heap.proofs.Sweeps.{IsSwept}
 use Rattle.timer_heap.proofs.table.Table.due_by.Given as goal
 

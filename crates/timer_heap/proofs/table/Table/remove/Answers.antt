@@ -1,7 +1,7 @@
 use Rattle.std.proofs.Common.{◌≡◌, ◌-◌, ◌<◌, set, take, refl, ap, sym, ◌∙◌, arith}
 use Rattle.std.specs.Prelude.{None}
 use Rattle.timer_heap.specs.declared.table.Table.{Table}
-use Rattle.timer_heap.specs.Table.{size, dues, number_at, with_number}
+use Rattle.timer_heap.specs.inside.Table.{size, dues, number_at, with_number}
 use Rattle.timer_heap.proofs.Edits.{remove_moving, remove_dues, drop_inverse, drop_dues, drop_shorter, removed_last}
 use Rattle.timer_heap.proofs.table.Table.remove.Goals as goal
 

@@ -1,5 +1,5 @@
 use Rattle.std.proofs.Common.{◌≡◌, ◌<◌, true, false, sym, ap, ◌∙◌, arith}
-use Rattle.timer_heap.specs.Table.{size, parent, entry_of, entry_at, is_before}
+use Rattle.timer_heap.specs.inside.Table.{size, parent, entry_of, entry_at, is_before}
 use Rattle.timer_heap.proofs.Inverse.{entry_before, entry_not_before}
 use Rattle.timer_heap.proofs.Moves.{starts_rising, rises, same_entry_of, moving_room, moving_number, passed_number}
 use Rattle.timer_heap.proofs.table.Table.rise.Goals as goal

@@ -1,0 +1,7 @@
+-- The synthetic interrupt sources of all processors (TLFS, "Synthetic Interrupt Sources").
+use Rattle.std.specs.Prelude.{ℕ, ◌+◌, ◌*◌}
+use Rattle.board_terms.specs.Quantities.{Processor, Source}
+
+-- the number of source i of processor p: those of processor 0 come first, sixteen of each
+abbrev pub source_number : Processor → Source → ℕ
+source_number p i = 16 * p + i

@@ -1,0 +1,5 @@
+-- How the fields stand for what the contracts speak of, and what they keep: nothing that a caller reads.
+pub mod Codes
+pub mod Words
+pub mod Threshold
+pub mod View

@@ -1,0 +1,5 @@
+-- How the fields stand for what the contracts speak of, and what they keep: nothing that a caller reads.
+pub mod Owners
+pub mod Chains
+pub mod Moves
+pub mod View

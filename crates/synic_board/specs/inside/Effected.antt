@@ -1,0 +1,11 @@
+-- What a call on a machine leaves when it has an effect.
+use Rattle.std.specs.Prelude.{◌≡◌, ◌≤◌, ◌+◌, List, length}
+use Rattle.board_terms.specs.declared.notices.Notice.{Notice}
+use Rattle.synic_board.specs.State.{Held}
+use Rattle.synic_board.specs.Effects.{Effect, preceded}
+
+-- from `before` with the notices `told` the call leads to `now` with the notices `telling`: the effect e, whose notices stand behind, and no more writes of the summary than notices
+pub record Effected (before : Held) (told : List Notice) (now : Held) (telling : List Notice) (e : Effect) : Type 0 where
+  pub effect : (now.state, telling) ≡ preceded told e
+  pub rises : before.writes ≤ now.writes
+  pub few : now.writes + length told ≤ before.writes + length telling

@@ -1,0 +1,48 @@
+//! The numbers of the registers, as the standard has them (TLFS, "Virtual Interrupt Controller",
+//! "Synthetic Timers" and "Partition Reference Counter"), without the prefix `HV_X64_MSR_`. SINT0 to
+//! SINT15 follow one another, and so do STIMER0_CONFIG, STIMER0_COUNT, STIMER1_CONFIG and so on.
+
+/// The partition reference counter, in units of 100 ns.
+pub const TIME_REF_COUNT: u32 = 0x4000_0020;
+
+/// End of interrupt.
+pub const EOI: u32 = 0x4000_0070;
+
+/// The task priority.
+pub const TPR: u32 = 0x4000_0072;
+
+/// The control of the SynIC.
+pub const SCONTROL: u32 = 0x4000_0080;
+
+/// The version of the SynIC.
+pub const SVERSION: u32 = 0x4000_0081;
+
+/// The page of event flags.
+pub const SIEFP: u32 = 0x4000_0082;
+
+/// The page of messages.
+pub const SIMP: u32 = 0x4000_0083;
+
+/// End of message.
+pub const EOM: u32 = 0x4000_0084;
+
+/// The first synthetic interrupt source.
+pub const SINT0: u32 = 0x4000_0090;
+
+/// The source that most guests give to messages.
+pub const SINT2: u32 = 0x4000_0092;
+
+/// The last synthetic interrupt source.
+pub const SINT15: u32 = 0x4000_009f;
+
+/// The configuration of the first timer.
+pub const STIMER0_CONFIG: u32 = 0x4000_00b0;
+
+/// The count of the first timer.
+pub const STIMER0_COUNT: u32 = 0x4000_00b1;
+
+/// The configuration of the last timer.
+pub const STIMER3_CONFIG: u32 = 0x4000_00b6;
+
+/// The count of the last timer.
+pub const STIMER3_COUNT: u32 = 0x4000_00b7;

@@ -1,0 +1,20 @@
+-- What the heap's field stands for, and what it keeps.
+use Rattle.std.specs.Prelude.{◌≡◌, ◌+◌, ℕ, is_none, count_by}
+use Rattle.board_terms.specs.Dues.{Dues}
+use Rattle.timer_heap.specs.inside.Table.{size, dues, key, IsInverse, IsOrdered}
+use Rattle.timer_heap.specs.declared.heap.TimerHeap.TheInside.{Inside}
+
+abbrev pub dues_of : Inside → Dues
+dues_of a = dues a.table
+
+-- how many timers are not due
+abbrev pub idle : Dues → ℕ
+idle m = count_by is_none m
+
+pub record IsKept (a : Inside) : Type 0 where
+  -- the entry at each place has that place in the table back, and each place in it is that of the timer's entry
+  pub inverse : IsInverse a.table
+  -- no entry comes before its parent
+  pub ordered : IsOrdered (key a.table) (size a.table)
+  -- there is an entry for each timer that is due
+  pub full : idle (dues a.table) + size a.table ≡ 32
