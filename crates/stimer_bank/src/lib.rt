@@ -2,6 +2,7 @@
 #![tactic(auto)]
 
 mod bank;
+mod config;
 mod laws;
 #[cfg(test)]
 mod tests;

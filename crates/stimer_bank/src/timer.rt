@@ -1,27 +1,11 @@
 // One timer: its registers, when it is due, and how it expires.
 ghost use Rattle.std.specs.Prelude.{◌≡◌, true, false, ◌+◌, ◌*◌, ◌^◌, ◌-◌, ◌<◌, ◌≤◌, Option, Some, None, IsSome, IsTrue};
-ghost use Rattle.stimer_bank.specs.Timer.{has_bit, is_periodic, vector_of, sint_of, is_direct, is_mute, disabled, ruled, written_count, started, after_config, after_count, is_due, IsSound, IsRuled, mode_of, expired, once, catching_up, lazily, late, expiry_of, after_expiry};
+ghost use Rattle.stimer_bank.specs.Timer.{is_periodic, started, after_config, after_count, is_due, IsSound, IsRuled, mode_of, expired, once, catching_up, lazily, late, expiry_of, after_expiry};
 ghost use Rattle.stimer_bank.specs.Bank.{idle_timer};
 
+use crate::config::ConfigWord;
+use bitflags::Flags;
 use board_terms::{Moment, Sint, Vector};
-
-// The bits of STIMERn_CONFIG (TLFS, "STIMERx_CONFIG Register"), by their places.
-const ENABLED: u32 = 0;
-
-const PERIODIC: u32 = 1;
-
-const LAZY: u32 = 2;
-
-const AUTO_ENABLE: u32 = 3;
-
-const VECTOR: u32 = 4;
-
-const DIRECT: u32 = 12;
-
-const SINTX: u32 = 16;
-
-/// What is kept of a configuration that is written: all other bits are dropped (profile).
-const KEPT: u64 = 0xf1fff;
 
 /// How many periods a late periodic timer makes up one by one (profile).
 const CATCHES_UP: u64 = 8;
@@ -52,97 +36,14 @@ pub(crate) struct Timer {
     pub(crate) due: Option<u128>,
 }
 
-fn is_enabled(config: u64) -> bool
-    ensures { result ≡ has_bit 0 config }
-{
-    (config >> ENABLED) % 2 == 1
-}
-
-fn is_periodic(config: u64) -> bool
-    ensures { result ≡ has_bit 1 config }
-{
-    (config >> PERIODIC) % 2 == 1
-}
-
-fn is_lazy(config: u64) -> bool
-    ensures { result ≡ has_bit 2 config }
-{
-    (config >> LAZY) % 2 == 1
-}
-
-fn is_auto(config: u64) -> bool
-    ensures { result ≡ has_bit 3 config }
-{
-    (config >> AUTO_ENABLE) % 2 == 1
-}
-
-fn is_direct(config: u64) -> bool
-    ensures { result ≡ has_bit 12 config }
-{
-    (config >> DIRECT) % 2 == 1
-}
-
-fn vector_of(config: u64) -> u8
-    ensures { result ≡ vector_of config }
-{
-    ((config >> VECTOR) % 256) as u8
-}
-
-fn sint_of(config: u64) -> u8
-    ensures value { result ≡ sint_of config }
-    ensures range { result < 16 }
-{
-    ((config >> SINTX) % 16) as u8
-}
-
-/// Whether a timer of this configuration has nobody to tell.
-fn is_mute(config: u64) -> bool
-    ensures { result ≡ is_mute config }
-{
-    if is_direct(config) {
-        vector_of(config) < 16
-    } else {
-        sint_of(config) == 0
-    }
-}
-
-fn disabled(config: u64) -> u64
-    ensures { result ≡ disabled config }
-{
-    config - config % 2
-}
-
-/// A timer that has nobody to tell is not enabled.
-fn ruled(config: u64) -> u64
-    ensures { result ≡ ruled config }
-{
-    if is_mute(config) {
-        disabled(config)
-    } else {
-        config
-    }
-}
-
-/// The configuration after a write of the count.
-fn written_count(config: u64, count: u64) -> u64
-    ensures { result ≡ written_count config count }
-{
-    if count == 0 {
-        disabled(config)
-    } else if is_auto(config) {
-        ruled(disabled(config) + 1)
-    } else {
-        config
-    }
-}
-
 /// When a timer that is written at `moment` is due.
 fn started(config: u64, count: u64, moment: Moment) -> Option<u128>
     ensures { result ≡ started config count moment }
 {
-    if !is_enabled(config) || count == 0 {
+    let word = ConfigWord::new(config);
+    if !word.is_enabled() || count == 0 {
         None
-    } else if is_periodic(config) {
+    } else if word.is_periodic() {
         Some(moment as u128 + count as u128)
     } else {
         Some(count as u128)
@@ -166,7 +67,7 @@ impl Timer {
         ensures after { result ≡ after_config self value moment }
         ensures sound { IsSound result }
     {
-        let config = ruled(value & KEPT);
+        let config = ConfigWord::kept(value).ruled().bits();
         Timer {
             config,
             count: self.count,
@@ -179,7 +80,7 @@ impl Timer {
         ensures after { result ≡ after_count self value moment }
         ensures sound { IsSound result }
     {
-        let config = written_count(self.config, value);
+        let config = ConfigWord::new(self.config).after_count(value).bits();
         Timer {
             config,
             count: value,
@@ -201,10 +102,11 @@ impl Timer {
         requires running { IsSome self.due }
         ensures { result ≡ mode_of self.config }
     {
-        if is_direct(self.config) {
-            Mode::Direct(Vector::new(vector_of(self.config)).unwrap())
+        let word = ConfigWord::new(self.config);
+        if word.is_direct() {
+            Mode::Direct(Vector::new(word.vector_number()).unwrap())
         } else {
-            Mode::Posted(Sint::new(sint_of(self.config)).unwrap())
+            Mode::Posted(Sint::new(word.sint_number()).unwrap())
         }
     }
 
@@ -229,11 +131,11 @@ impl Timer {
         ensures expiry { result.0 ≡ expiry_of (expired self due moment) }
         ensures next { result.1 ≡ (expired self due moment).next }
     {
-        if !is_periodic(self.config) {
+        if !ConfigWord::new(self.config).is_periodic() {
             return expire_once(due);
         }
         let missed = self.missed(due, moment);
-        if is_lazy(self.config) {
+        if ConfigWord::new(self.config).is_lazy() {
             let last = due + missed * self.count;
             return expire_lazily(self.count, last, missed, moment);
         }
@@ -249,8 +151,9 @@ impl Timer {
     {
         let due = self.due.unwrap() as u64;
         let (expiry, next) = self.expiry(due, moment);
-        if !is_periodic(self.config) {
-            self.config = disabled(self.config);
+        let word = ConfigWord::new(self.config);
+        if !word.is_periodic() {
+            self.config = word.disabled().bits();
         }
         self.due = next;
         expiry

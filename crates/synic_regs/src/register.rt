@@ -1,6 +1,6 @@
 // The numbers of the synthetic registers.
-ghost use Rattle.std.specs.Prelude.{◌≡◌};
-ghost use Rattle.synic_regs.specs.Registers.{register_of, timer_register};
+ghost use Rattle.std.specs.Prelude.{◌≡◌, IfSome};
+ghost use Rattle.synic_regs.specs.Registers.{Exists, register_of, timer_register};
 
 use crate::msr;
 use board_terms::Sint;
@@ -35,7 +35,8 @@ pub enum Register {
 /// The register of a number (TLFS, "Virtual Interrupt Controller" and "Synthetic Timers"), `None`
 /// for any other number.
 pub fn decode(number: u32) -> Option<Register>
-    ensures { result ≡ register_of number }
+    ensures register { result ≡ register_of number }
+    ensures exists { IfSome result Exists }
 {
     match number {
         msr::TIME_REF_COUNT => Some(Register::ReferenceCounter),

@@ -33,14 +33,12 @@ impl Machine {
             Register::Sim => self.write_overlay(vp, Kind::Sim, value),
             Register::Eom => self.try_all(vp, notices),
             Register::Source(sint) => return self.write_source(vp, sint, value),
-            Register::TimerConfig(index) => match TimerId::new(vp, index) {
-                Some(timer) => self.write_timer_config(timer, value, notices),
-                None => return Reply::GeneralProtection,
-            },
-            Register::TimerCount(index) => match TimerId::new(vp, index) {
-                Some(timer) => self.write_timer_count(timer, value, notices),
-                None => return Reply::GeneralProtection,
-            },
+            Register::TimerConfig(index) => {
+                self.write_timer_config(TimerId::new(vp, index).unwrap(), value, notices);
+            }
+            Register::TimerCount(index) => {
+                self.write_timer_count(TimerId::new(vp, index).unwrap(), value, notices);
+            }
             Register::ReferenceCounter | Register::Version => return Reply::GeneralProtection,
         }
         Reply::Done
@@ -91,14 +89,12 @@ impl Machine {
             Register::Control | Register::Sief | Register::Sim | Register::Source(_) => {
                 Reply::Value(self.regs[at].read(register))
             }
-            Register::TimerConfig(index) => match TimerId::new(vp, index) {
-                Some(timer) => Reply::Value(self.timers.read_config(timer)),
-                None => Reply::GeneralProtection,
-            },
-            Register::TimerCount(index) => match TimerId::new(vp, index) {
-                Some(timer) => Reply::Value(self.timers.read_count(timer)),
-                None => Reply::GeneralProtection,
-            },
+            Register::TimerConfig(index) => {
+                Reply::Value(self.timers.read_config(TimerId::new(vp, index).unwrap()))
+            }
+            Register::TimerCount(index) => {
+                Reply::Value(self.timers.read_count(TimerId::new(vp, index).unwrap()))
+            }
             Register::Eoi => Reply::GeneralProtection,
         }
     }

@@ -1,0 +1,6 @@
+use Rattle.std.proofs.Common.{arith, ◌∙◌}
+use Rattle.stimer_bank.proofs.ConfigBits.{has-bit}
+use Rattle.stimer_bank.proofs.config.ConfigWord.enables_itself.Goals as goal
+
+pub returns : goal.returns
+returns c = c.contains.ensures tt ∙ has-bit c.args.self.0 3 (omega arith)

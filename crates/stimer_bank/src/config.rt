@@ -1,0 +1,160 @@
+// The word of STIMERn_CONFIG.
+ghost use Rattle.std.specs.Prelude.{◌≡◌, ◌<◌, bit_and};
+ghost use Rattle.stimer_bank.specs.Timer.{is_enabled, is_periodic, is_lazy, enables_itself, is_direct, vector_of, sint_of, is_mute, disabled, ruled, written_count};
+
+use bitflags::{Flag, Flags, bitflag_items};
+
+/// What is kept of a configuration that is written: all other bits are dropped (profile).
+const KEPT: u64 = 0xf1fff;
+
+/// The vector of the direct mode stands in bits 4 to 11.
+const VECTOR: u32 = 4;
+
+/// The source of the message mode stands in bits 16 to 19.
+const SINTX: u32 = 16;
+
+/// The word of STIMERn_CONFIG (TLFS, "STIMERx_CONFIG Register").
+#[derive(Clone, Copy, PartialEq, Eq, Debug)]
+pub struct ConfigWord(u64);
+
+bitflag_items! {
+    impl ConfigWord: u64 {
+        const ENABLED = 0x1;
+        const PERIODIC = 0x2;
+        const LAZY = 0x4;
+        const AUTO_ENABLE = 0x8;
+        const DIRECT = 0x1000;
+    }
+}
+
+impl Flags for ConfigWord {
+    ghost use Rattle.std.specs.Prelude.{⊤, [], ◌∷◌, codes};
+
+    type Bits = u64;
+
+    ghost exact = { ⊤ };
+
+    ghost table = { (codes "ENABLED", 0x1) ∷ (codes "PERIODIC", 0x2) ∷ (codes "LAZY", 0x4) ∷ (codes "AUTO_ENABLE", 0x8) ∷ (codes "DIRECT", 0x1000) ∷ [] };
+
+    ghost set_of = { λ p. p.0 };
+
+    fn flags<'a>() -> &'a [Flag<ConfigWord>] {
+        ConfigWord::FLAGS
+    }
+
+    fn bits(&self) -> u64 {
+        self.0
+    }
+
+    fn from_bits_retain(bits: u64) -> ConfigWord {
+        ConfigWord(bits)
+    }
+}
+
+impl ConfigWord {
+    /// The word of these bits.
+    pub fn new(bits: u64) -> ConfigWord
+        ensures { result.0 ≡ bits }
+    {
+        ConfigWord(bits)
+    }
+
+    /// What is kept of a value that is written.
+    pub fn kept(value: u64) -> ConfigWord
+        ensures { result.0 ≡ bit_and value 0xf1fff }
+    {
+        ConfigWord(value & KEPT)
+    }
+
+    /// Whether the timer is enabled.
+    pub fn is_enabled(self) -> bool
+        ensures { result ≡ is_enabled self.0 }
+    {
+        self.contains(ConfigWord::ENABLED)
+    }
+
+    /// Whether it is due again and again.
+    pub fn is_periodic(self) -> bool
+        ensures { result ≡ is_periodic self.0 }
+    {
+        self.contains(ConfigWord::PERIODIC)
+    }
+
+    /// Whether it makes up no period that it missed.
+    pub fn is_lazy(self) -> bool
+        ensures { result ≡ is_lazy self.0 }
+    {
+        self.contains(ConfigWord::LAZY)
+    }
+
+    /// Whether a count that is written enables it.
+    pub fn enables_itself(self) -> bool
+        ensures { result ≡ enables_itself self.0 }
+    {
+        self.contains(ConfigWord::AUTO_ENABLE)
+    }
+
+    /// Whether it requests a vector and posts no message (TLFS, "Direct Synthetic Timers").
+    pub fn is_direct(self) -> bool
+        ensures { result ≡ is_direct self.0 }
+    {
+        self.contains(ConfigWord::DIRECT)
+    }
+
+    /// The number in its vector field, which is no vector below 16.
+    pub fn vector_number(self) -> u8
+        ensures { result ≡ vector_of self.0 }
+    {
+        ((self.0 >> VECTOR) % 256) as u8
+    }
+
+    /// The number of its source.
+    pub fn sint_number(self) -> u8
+        ensures value { result ≡ sint_of self.0 }
+        ensures range { result < 16 }
+    {
+        ((self.0 >> SINTX) % 16) as u8
+    }
+
+    /// Whether it has nobody to tell.
+    fn is_mute(self) -> bool
+        ensures { result ≡ is_mute self.0 }
+    {
+        if self.is_direct() {
+            self.vector_number() < 16
+        } else {
+            self.sint_number() == 0
+        }
+    }
+
+    /// The same, not enabled.
+    pub fn disabled(self) -> ConfigWord
+        ensures { result.0 ≡ disabled self.0 }
+    {
+        ConfigWord(self.0 - self.0 % 2)
+    }
+
+    /// A timer that has nobody to tell is not enabled.
+    pub fn ruled(self) -> ConfigWord
+        ensures { result.0 ≡ ruled self.0 }
+    {
+        if self.is_mute() {
+            self.disabled()
+        } else {
+            self
+        }
+    }
+
+    /// The configuration after a write of the count.
+    pub fn after_count(self, count: u64) -> ConfigWord
+        ensures { result.0 ≡ written_count self.0 count }
+    {
+        if count == 0 {
+            self.disabled()
+        } else if self.enables_itself() {
+            ConfigWord(self.disabled().0 + 1).ruled()
+        } else {
+            self
+        }
+    }
+}
