@@ -9,7 +9,7 @@ use Rattle.synic_board.specs.declared.event.Event.{Event}
 use Rattle.synic_board.specs.declared.event.Reply.{Reply}
 use Rattle.synic_board.specs.declared.history.Entry.{Entry}
 use Rattle.synic_board.proofs.Progress.{run_of-push}
-use Rattle.board_threads.specs.History.{entry}
+use Rattle.entry_log.specs.Log.{entry}
 
 events-push : (h now : List Entry) (n : ℕ) (e : Event) (r : Reply) → now ≡ h ++ entry n e r ∷ [] → events_of now ≡ events_of h ++ e ∷ []
 events-push h now n e r is = ap events_of is ∙ map-append (λ (x : Entry). x.event) h (entry n e r ∷ [])

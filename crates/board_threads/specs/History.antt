@@ -8,9 +8,6 @@ use Rattle.synic_board.specs.declared.history.Entry.{Entry}
 abbrev pub Call : Type 0
 Call = Event × Reply
 
-abbrev pub entry : ℕ → Event → Reply → Entry
-entry actor event reply = record { actor = actor; event = event; reply = reply }
-
 abbrev pub call_of : Entry → Call
 call_of e = (e.event, e.reply)
 

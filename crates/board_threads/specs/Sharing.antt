@@ -3,7 +3,7 @@ use Rattle.std.specs.Prelude.{ℕ, List, []}
 use Rattle.atomic_table.specs.Seated.{TableId}
 use Rattle.posted_words.specs.declared.rule.Did.{Did}
 use Rattle.posted_words.specs.Words.{Words, AreWordSizes}
-use Rattle.synic_board.specs.State.{State, opened, AreSharedSizes as AreBoardSizes}
+use Rattle.synic_board.specs.State.{State, opened, AreSizes as AreBoardSizes}
 use Rattle.board_threads.specs.History.{Call}
 
 -- the posted words, and what else the board was opened with

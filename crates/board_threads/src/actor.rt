@@ -2,7 +2,7 @@
 ghost use Rattle.std.specs.Prelude.{◌≡◌, ℕ, ◌<◌, true, false, Err, [], ◌∷◌, ◌++◌, IfOk, OnErr, IsErrOf, if◌then◌else◌, nat_lt, nat_le, ◌&&◌};
 ghost use Rattle.posted_words.specs.Words.{token, sweep_of};
 ghost use Rattle.synic_board.specs.declared.event.Event.TheVariants.{Absorb};
-ghost use Rattle.board_threads.specs.History.{entry};
+ghost use Rattle.entry_log.specs.Log.{entry};
 ghost use Rattle.board_threads.specs.Sweeps.{is_absorb, is_refusal, sweep_in, sweeps_of};
 ghost use Rattle.board_threads.specs.Sharing.{acting};
 
@@ -101,15 +101,15 @@ impl Actor {
     ) -> Result<Reply, CallFault>
         requires { is_absorb event ≡ false }
         ensures ok { IfOk result (λ r. self.new ≡ acting self.old.of self.old.number (self.old.calls ++ (event, r) ∷ []) self.old.did) }
-        ensures history { IfOk result (λ r. recorded.new.history.items ≡ recorded.old.history.items ++ entry self.old.number event r ∷ []) }
+        ensures history { IfOk result (λ r. recorded.new.history.entries ≡ recorded.old.history.entries ++ entry self.old.number event r ∷ []) }
         ensures fault { OnErr result (self.new ≡ self.old) }
-        ensures unchanged { OnErr result (recorded.new.history.items ≡ recorded.old.history.items) }
+        ensures unchanged { OnErr result (recorded.new.history.entries ≡ recorded.old.history.entries) }
         ensures event { ¬ (IsErrOf result CallFault.AbsorbEvent) }
     {
         if recorded.history.len() >= MOST {
             return Err(CallFault::Full);
         }
-        if recorded.history.reserve(1).is_err() || self.calls.reserve(1).is_err() {
+        if recorded.history.reserve().is_err() || self.calls.reserve(1).is_err() {
             return Err(CallFault::Memory);
         }
         let reply = recorded.perform(self.number, &event);
@@ -129,7 +129,7 @@ impl Actor {
         ensures ok { IfOk result (λ r. (bits : ℕ) × (self.new ≡ acting self.old.of self.old.number (self.old.calls ++ (Absorb vp part bits, r) ∷ []) (sweep_in (Absorb vp part bits) r ++ self.old.did))) }
         ensures refused { IfOk result (λ r. is_refusal r ≡ true → self.new.calls ≡ self.old.calls ++ (Absorb vp part 0, r) ∷ []) }
         ensures fault { OnErr result (self.new ≡ self.old) }
-        ensures unchanged { OnErr result (recorded.new.history.items ≡ recorded.old.history.items) }
+        ensures unchanged { OnErr result (recorded.new.history.entries ≡ recorded.old.history.entries) }
         ensures event { ¬ (IsErrOf result CallFault.AbsorbEvent) }
     {
         // The lock tells nothing of what it holds but a legal history, so this looks that the board is
@@ -137,7 +137,7 @@ impl Actor {
         if recorded.history.len() >= MOST || recorded.board.processors() != words.processors() {
             return Err(CallFault::Full);
         }
-        if recorded.history.reserve(1).is_err() || self.calls.reserve(1).is_err() {
+        if recorded.history.reserve().is_err() || self.calls.reserve(1).is_err() {
             return Err(CallFault::Memory);
         }
         let bits = sweep_if_there(words, &mut self.sweeper, vp, part);

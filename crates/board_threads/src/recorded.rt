@@ -1,15 +1,16 @@
 // What lies under the lock.
 ghost use base.Stored.{Coded-set};
-ghost use Rattle.std.specs.Prelude.{◌≡◌, ◌<◌, [], ◌∷◌, ◌++◌, vec_len, vec_capacity, IfOk};
+ghost use Rattle.std.specs.Prelude.{◌≡◌, true, [], ◌∷◌, ◌++◌, IfOk};
 ghost use Rattle.synic_board.specs.State.{AreSizes, opened};
 ghost use Rattle.synic_board.specs.inside.Codes.{state_code};
 ghost use Rattle.synic_board.specs.Step.{step};
 ghost use Rattle.synic_board.specs.History.{IsLegal, leads_to};
-ghost use Rattle.board_threads.specs.History.{entry};
+ghost use Rattle.entry_log.specs.Log.{entry};
 
 use board_terms::{Notices, Ticket};
+use entry_log::EntryLog;
 use std::alloc::{AllocError, Global};
-use synic_board::{Board, Entry, Event, Reply};
+use synic_board::{Board, Event, Reply};
 
 /// How many entries a history has at most.
 pub(crate) const MOST: usize = 65_536;
@@ -28,10 +29,10 @@ pub(crate) struct Opening {
 pub(crate) struct Recorded {
     pub(crate) opening: Opening,
     pub(crate) board: Board,
-    pub(crate) history: Vec<Entry>,
+    pub(crate) history: EntryLog,
     notices: Notices,
-    ghost legal: { IsLegal (opened opening.processors opening.pages opening.first_ticket) history.items },
-    ghost leads: { board.state ≡ leads_to (opened opening.processors opening.pages opening.first_ticket) history.items } by { Coded-set state_code _ _ },
+    ghost legal: { IsLegal (opened opening.processors opening.pages opening.first_ticket) history.entries },
+    ghost leads: { board.state ≡ leads_to (opened opening.processors opening.pages opening.first_ticket) history.entries } by { Coded-set state_code _ _ },
 }
 
 impl Recorded {
@@ -39,7 +40,7 @@ impl Recorded {
     pub(crate) fn open(alloc: Global, opening: Opening) -> Result<Recorded, AllocError>
         requires { AreSizes opening.processors opening.pages }
         ensures opening { IfOk result (λ r. r.opening ≡ opening) }
-        ensures history { IfOk result (λ r. r.history.items ≡ []) }
+        ensures history { IfOk result (λ r. r.history.entries ≡ []) }
     {
         let Ok(board) = Board::open(
             alloc,
@@ -53,7 +54,7 @@ impl Recorded {
         Ok(Recorded {
             opening,
             board,
-            history: Vec::new(alloc),
+            history: EntryLog::new(alloc),
             notices,
         })
     }
@@ -61,17 +62,13 @@ impl Recorded {
     /// Performs an event for an actor, and enters it in room that was made before: an event that is
     /// performed is always told of.
     pub(crate) fn perform(&mut self, actor: u8, event: &Event) -> Reply
-        requires room { vec_len self.old.history < vec_capacity self.old.history }
-        ensures history { self.new.history.items ≡ self.old.history.items ++ entry actor event.now result ∷ [] }
+        requires room { self.old.history.has_room ≡ true }
+        ensures history { self.new.history.entries ≡ self.old.history.entries ++ entry actor event.now result ∷ [] }
         ensures reply { result ≡ (step self.old.board.state event.now).1 }
         ensures opening { self.new.opening ≡ self.old.opening }
     {
         let reply = self.board.perform(event, &mut self.notices);
-        self.history.push_reserved(Entry {
-            actor,
-            event: event.copy(),
-            reply: reply.copy(),
-        });
+        self.history.push(actor, event, &reply);
         reply
     }
 }

@@ -195,10 +195,13 @@ impl SharedBoard {
         if recorded.opening != opening {
             return Err(SettleFault::Mismatch);
         }
+        let Ok(history) = recorded.history.to_entries(alloc) else {
+            return Err(SettleFault::Memory);
+        };
         let Ok((sweepers, actors)) = split_all(alloc, actors) else {
             return Err(SettleFault::Memory);
         };
-        if !are_all_of(recorded.history.as_slice(), actors.as_slice()) {
+        if !are_all_of(history.as_slice(), actors.as_slice()) {
             return Err(SettleFault::Mismatch);
         }
         let standing = match words.gather(sweepers, lines) {
@@ -206,7 +209,7 @@ impl SharedBoard {
             Err(GatherFault::Missing) => return Err(SettleFault::Mismatch),
             Err(GatherFault::Memory) => return Err(SettleFault::Memory),
         };
-        let Recorded { board, history, .. } = recorded;
+        let Recorded { board, .. } = recorded;
         Ok(Ended {
             board,
             history,

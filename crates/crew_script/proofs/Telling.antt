@@ -5,7 +5,7 @@ use Rattle.std.proofs.KnownBytes.{Appends-trans}
 use Rattle.board_lines.specs.declared.fault.ScriptFault.{ScriptFault}
 use Rattle.crew_script.specs.Crew.{Crew, finished}
 use Rattle.crew_script.specs.Reading.{script_asks}
-use Rattle.crew_script.specs.Running.{Tells, Crews, Tells, Refusal, Report}
+use Rattle.crew_script.specs.Running.{Tells, Crews, IsSaid, Refusal, Report}
 use Rattle.crew_script.specs.declared.running.CrewRun.{CrewRun}
 use Rattle.crew_script.specs.declared.running.CrewRun.TheVariants.{Done, Script, Unsettled, Memory, NoThread, Reading, Writing}
 
@@ -18,7 +18,7 @@ module _ (tells : CrewRun → List ℕ → Type 0) (r0 w0 w w1 : Option (List �
   plain : (end : CrewRun) → (text : List ℕ) × tells end text × Appends w w1 text → (text : List ℕ) × IfSome r0 (λ input. Tells end input text) × Appends w0 w1 text
   plain end h = (h.0, known r0 P (λ input. Tells end input h.0) (λ input p. step input p end h.0 h.1) read, Appends-trans w0 w w1 [] h.0 first h.2)
 
-  pub spoken : (end : CrewRun) → Tells end tells w w1 → Crews end r0 w0 w1
+  pub spoken : (end : CrewRun) → IsSaid end tells w w1 → Crews end r0 w0 w1
   spoken Done h = plain Done h
   spoken (Script line fault) h = plain (Script line fault) h
   spoken Unsettled h = plain Unsettled h

@@ -50,9 +50,9 @@ Crews Writing r0 w0 w1 = (end : CrewRun) × (sent : List ℕ) × (unsent : List 
 Crews end r0 w0 w1 = (text : List ℕ) × IfSome r0 (λ input. Tells end input text) × Appends w0 w1 text
 
 -- the text of an end was written, or a beginning of it
-abbrev pub Tells : CrewRun → (CrewRun → List ℕ → Type 0) → Option (List ℕ) → Option (List ℕ) → Type 0
-Tells Writing tells w0 w1 = (end : CrewRun) × (sent : List ℕ) × (unsent : List ℕ) × tells end (sent ++ unsent) × Appends w0 w1 sent
-Tells end tells w0 w1 = (text : List ℕ) × tells end text × Appends w0 w1 text
+abbrev pub IsSaid : CrewRun → (CrewRun → List ℕ → Type 0) → Option (List ℕ) → Option (List ℕ) → Type 0
+IsSaid Writing tells w0 w1 = (end : CrewRun) × (sent : List ℕ) × (unsent : List ℕ) × tells end (sent ++ unsent) × Appends w0 w1 sent
+IsSaid end tells w0 w1 = (text : List ℕ) × tells end text × Appends w0 w1 text
 
 -- what is written where a line has a fault
 abbrev pub Refusal : ℕ → ScriptFault → CrewRun → List ℕ → Type 0
@@ -61,7 +61,7 @@ Refusal line fault Memory text = text ≡ []
 Refusal line fault end text = ⊥
 
 abbrev pub Refuses : CrewRun → ℕ → ScriptFault → Option (List ℕ) → Option (List ℕ) → Type 0
-Refuses end line fault w0 w1 = Tells end (Refusal line fault) w0 w1
+Refuses end line fault w0 w1 = IsSaid end (Refusal line fault) w0 w1
 
 -- what is written where a script asks for a crew
 abbrev pub Report : Crew → CrewRun → List ℕ → Type 0
@@ -72,7 +72,7 @@ Report crew Memory text = text ≡ []
 Report crew end text = ⊥
 
 abbrev pub Runs : CrewRun → Crew → Option (List ℕ) → Option (List ℕ) → Type 0
-Runs end crew w0 w1 = Tells end (Report (finished crew)) w0 w1
+Runs end crew w0 w1 = IsSaid end (Report (finished crew)) w0 w1
 
 -- the crew was run, and its trace is ready
 abbrev pub Prepares : Outcome → Crew → List ℕ → Type 0

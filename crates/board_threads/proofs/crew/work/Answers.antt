@@ -1,10 +1,11 @@
-use Rattle.std.proofs.Common.{rules, ◌≡◌, ◌+◌, [], ◌∷◌, ◌++◌, All, length, map, vec_len, ap, sym, subst, ◌∙◌, arith}
+use Rattle.std.proofs.Common.{rules, ◌≡◌, ℕ, ◌+◌, [], ◌∷◌, ◌++◌, All, length, map, Vec, vec_len, ap, sym, subst, ◌∙◌, arith}
+use Rattle.std.specs.Global.{Global}
 use Rattle.std.specs.List.{range_with_len}
 use Rattle.std.proofs.lemmas.List.FromFn.{length-map-range_with_len}
 use Rattle.board_threads.specs.Sharing.{Acting, new_actor}
 use Rattle.board_threads.specs.Crew.{AreSteps, last_steps}
-use Rattle.board_threads.specs.inside.Work.{IsNewActor}
-use Rattle.board_threads.proofs.Crewing.{all-new, new-numbers, cut, single}
+use Rattle.board_threads.specs.inside.Work.{IsNewActor, IsThere}
+use Rattle.board_threads.proofs.Crewing.{all-new, all-there, new-numbers, cut, single}
 use Rattle.board_threads.proofs.crew.work.Goals as goal
 
 pub run_all-requires-clause-new_actors : goal.run_all-requires-clause-new_actors
@@ -19,6 +20,11 @@ run_all-requires-clause-each_actor g c κs within =
     let name = c.args.board.now.words.name in
     let n = vec_len c.args.scripts.now.actors in
     omega (arith, c.in-Ok.ensures.tail_len, c.args.actors.ok.0, ap (λ l. length l) c.requires.actors, length-map-range_with_len (new_actor name) 0 (n + 1))
+
+pub run_all-requires-clause-there : goal.run_all-requires-clause-there
+run_all-requires-clause-there g c κs within =
+    let all = all-there c.args.setup.now c.args.scripts.now c.requires.step in
+    subst (λ n. All (λ (s : Vec (ℕ × ℕ) Global). IsThere n s.items) c.args.scripts.now.lines.items) (sym c.requires.board) all
 
 pub returns : goal.returns
 returns g c =

@@ -1,7 +1,6 @@
-use Rattle.std.proofs.Common.{◌≡◌, [], ◌∷◌, ◌++◌, ap, ◌∙◌}
+use Rattle.std.proofs.Common.{ap}
 use Rattle.synic_board.specs.State.{opened}
 use Rattle.synic_board.specs.Effects.{Outcome}
-use Rattle.board_threads.specs.History.{entry}
 use Rattle.board_threads.proofs.Runs.{legal-push, leads-push}
 use Rattle.board_threads.proofs.recorded.Recorded.perform.Goals as goal
 
@@ -10,9 +9,8 @@ invariant_of-self c =
     let s = c.args.self.now in
     let start = opened s.opening.processors s.opening.pages s.opening.first_ticket in
     let is = c.perform-reply.ensures.step in
-    let now : c.push_reserved.new.self.items ≡ s.history.items ++ entry c.args.actor c.args.event.now c.perform-reply.result ∷ [] =
-    c.push_reserved.ensures.items ∙ (λ i. s.history.items ++ entry c.args.actor (c.copy.ensures i) (c.copy-2.ensures i) ∷ []) in
+    let now = c.push.ensures in
     record {
-      legal = legal-push start s.board.state s.history.items c.push_reserved.new.self.items c.args.actor c.args.event.now c.perform-reply.result s.legal s.leads now (ap (λ (o : Outcome). o.1) is);
-      leads = leads-push start s.board.state c.perform-reply.new.self.state s.history.items c.push_reserved.new.self.items c.args.actor c.args.event.now c.perform-reply.result s.leads now (ap (λ (o : Outcome). o.0) is);
+      legal = legal-push start s.board.state s.history.entries c.push.new.self.entries c.args.actor c.args.event.now c.perform-reply.result s.legal s.leads now (ap (λ (o : Outcome). o.1) is);
+      leads = leads-push start s.board.state c.perform-reply.new.self.state s.history.entries c.push.new.self.entries c.args.actor c.args.event.now c.perform-reply.result s.leads now (ap (λ (o : Outcome). o.0) is);
     }

@@ -13,7 +13,7 @@ pub gather-requires-clause-sweepers : goal.gather-requires-clause-sweepers
 gather-requires-clause-sweepers c =
     let name = ap (λ (s : Sharing). s.words.name) c.self.view_is in
     let own = All-map (λ (t : Token). t.of ≡ c.args.self.words.name) (λ (a : Acting). token a.of a.did) c.args.actors.items c.requires.actors in
-    let all = subst (All (λ (t : Token). t.of ≡ c.args.self.words.name)) (sym c.in-Ok.ensures.sweepers) own in
+    let all = subst (All (λ (t : Token). t.of ≡ c.args.self.words.name)) (sym c.in-Ok-split_all.ensures.sweepers) own in
     λ k d lt. all k d lt ∙ sym name
 
 pub gather-requires-clause-lines : goal.gather-requires-clause-lines
@@ -23,20 +23,21 @@ pub returns-clause-settled : goal.returns-clause-settled
 returns-clause-settled c =
     let r = c.into_inner-recorded.result in
     let v = c.self.view_is in
+    let h = c.in-Ok.ensures in
     let same : r.opening ≡ c.self.inside.opening = search rules in
     let number = ap (λ (o : Opening). o.processors) same ∙ sym c.self.invariant ∙ ap (λ (s : Sharing). s.words.processors) v in
     let pages = ap (λ (o : Opening). o.pages) same ∙ ap (λ (s : Sharing). s.pages) v in
     let ticket = ap (λ (o : Opening). o.first_ticket) same ∙ ap (λ (s : Sharing). s.first_ticket) v in
     let begins : opened r.opening.processors r.opening.pages r.opening.first_ticket ≡ start c.args.self = λ i. opened (number i) (pages i) (ticket i) in
     record {
-      legal = subst (λ (s : State). IsLegal s r.history.items) begins r.legal;
-      leads = r.leads ∙ ap (λ (s : State). leads_to s r.history.items) begins;
+      legal = subst (IsLegal (start c.args.self)) (sym h) (subst (λ (s : State). IsLegal s r.history.entries) begins r.legal);
+      leads = r.leads ∙ ap (λ (s : State). leads_to s r.history.entries) begins ∙ ap (leads_to (start c.args.self)) (sym h);
       actors = search rules;
     }
 
 pub returns-clause-raises : goal.returns-clause-raises
 returns-clause-raises c =
-    let h = c.into_inner-recorded.result.history.items in
-    let all : AreAllOf h c.in-Ok.actors.items = search rules in
+    let h = c.in-Ok.history.items in
+    let all : AreAllOf h c.in-Ok-split_all.actors.items = search rules in
     subst (λ n. AreAbsorbed (4 * n) (map did_of c.args.lines.items) h c.in-Ok-gather.standing) (ap (λ (s : Sharing). s.words.processors) c.self.view_is)
-    (are-absorbed _ c.in-Ok.sweepers.items c.args.actors.items c.in-Ok.actors.items c.args.lines.items h c.in-Ok-gather.standing c.in-Ok.ensures.sweepers c.in-Ok.ensures.actors c.in-Ok.ensures.sweeps c.requires.raises all c.in-Ok-gather.ensures.width c.in-Ok-gather.ensures.settled)
+    (are-absorbed _ c.in-Ok-split_all.sweepers.items c.args.actors.items c.in-Ok-split_all.actors.items c.args.lines.items h c.in-Ok-gather.standing c.in-Ok-split_all.ensures.sweepers c.in-Ok-split_all.ensures.actors c.in-Ok-split_all.ensures.sweeps c.requires.raises all c.in-Ok-gather.ensures.width c.in-Ok-gather.ensures.settled)

@@ -1,0 +1,10 @@
+//! A list of entries that is kept small: the numbers of each entry lie in 40 bytes, and the bytes of
+//! payloads, stores and loads one behind another.
+#![tactic(auto)]
+
+mod compact;
+mod log;
+#[cfg(test)]
+mod tests;
+
+pub use log::EntryLog;
