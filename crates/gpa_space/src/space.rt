@@ -1,5 +1,6 @@
 // Guest pages, and the overlay pages above them.
-ghost use Rattle.std.specs.Prelude.{◌≡◌, ◌==◌, ◌<◌, ◌≤◌, ◌*◌, ◌/◌, length, not, IfOk, replicate, bit_and};
+ghost use Rattle.std.specs.Prelude.{◌≡◌, ◌==◌, ◌<◌, ◌≤◌, ◌*◌, ◌/◌, length, not, IfOk, IfSome, replicate, slice_get, bit_and};
+ghost use Rattle.std.specs.Option.{option_copied};
 ghost use Rattle.board_terms.specs.declared.pages.Kind.TheVariants as kind;
 ghost use Rattle.gpa_space.specs.Page.{zero_page, message_bytes};
 ghost use Rattle.gpa_space.specs.Space.{opened, processors_of, overlay_of, with_register, visible, overlay_owner, owner_of, refusal_of, loaded, store_answer, after_store, own_page, after_slot, is_pending, after_pending, is_flag_set, after_flag, after_clearing};
@@ -172,6 +173,28 @@ impl Space {
         ensures len { length result.now ≡ 4096 }
     {
         self.own[overlay_of(vp, Kind::Sief)].as_slice()
+    }
+
+    /// An overlay's own page, 4096 bytes, visible or not; `None` for a processor that is not there.
+    pub fn own_page(&self, vp: Vp, kind: Kind) -> Option<&[u8]>
+        ensures value { option_copied result ≡ slice_get self.now.own (overlay_of vp kind) }
+        ensures len { IfSome result (λ page. length page.now ≡ 4096) }
+    {
+        match self.own.get(overlay_of(vp, kind)) {
+            Some(page) => Some(page.as_slice()),
+            None => None,
+        }
+    }
+
+    /// A guest page, 4096 bytes, without what lies above it; `None` where there is no such page.
+    pub fn guest_page(&self, number: u64) -> Option<&[u8]>
+        ensures value { option_copied result ≡ slice_get self.now.pages number }
+        ensures len { IfSome result (λ page. length page.now ≡ 4096) }
+    {
+        match self.pages.get(number as usize) {
+            Some(page) => Some(page.as_slice()),
+            None => None,
+        }
     }
 
     /// Writes the slot of a source in the page of messages, visible or not.

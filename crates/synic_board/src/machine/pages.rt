@@ -1,5 +1,7 @@
 // Guest loads and stores, and the messages that a store consumes.
-ghost use Rattle.std.specs.Prelude.{◌≡◌, ◌<◌, ◌≤◌, ◌+◌, [], length, IfSome};
+ghost use Rattle.std.specs.Prelude.{◌≡◌, ◌<◌, ◌≤◌, ◌+◌, [], length, IfSome, slice_get};
+ghost use Rattle.std.specs.Option.{option_copied};
+ghost use Rattle.gpa_space.specs.Space.{overlay_of};
 ghost use Rattle.synic_board.specs.State.{processors};
 ghost use Rattle.synic_board.specs.Effects.{preceded};
 ghost use Rattle.synic_board.specs.Stores.{stored_bytes, read_bytes, consumed, consumed_in, IsOn};
@@ -8,7 +10,7 @@ ghost use Rattle.synic_board.specs.inside.Touches.{touched, OthersFree};
 
 use crate::event::Reply;
 use crate::machine::Machine;
-use board_terms::{Bytes8, Notice, Notices, Owner, Sint, Vp, source_number};
+use board_terms::{Bytes8, Kind, Notice, Notices, Owner, Sint, Vp, source_number};
 
 /// The number of bytes of a page.
 const PAGE_SIZE: u64 = 4096;
@@ -19,6 +21,22 @@ const SLOT_SIZE: usize = 256;
 const TYPE_SIZE: usize = 4;
 
 impl Machine {
+    /// An overlay's own page, visible or not.
+    pub(crate) fn own_page(&self, vp: Vp, kind: Kind) -> Option<&[u8]>
+        ensures value { option_copied result ≡ slice_get self.now.state.own (overlay_of vp kind) }
+        ensures len { IfSome result (λ page. length page.now ≡ 4096) }
+    {
+        self.space.own_page(vp, kind)
+    }
+
+    /// A guest page, without what lies above it.
+    pub(crate) fn guest_page(&self, number: u64) -> Option<&[u8]>
+        ensures value { option_copied result ≡ slice_get self.now.state.pages number }
+        ensures len { IfSome result (λ page. length page.now ≡ 4096) }
+    {
+        self.space.guest_page(number)
+    }
+
     /// Loads bytes from the page that the guest sees at the address.
     pub(crate) fn load(&self, address: u64, length: u8) -> Reply
         ensures { result ≡ read_bytes self.now.state address length }
