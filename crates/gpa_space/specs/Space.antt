@@ -34,9 +34,16 @@ overlay_of vp kind.Sief = 2 * vp + 1
 abbrev pub with_register : Space → Processor → Kind → ℕ → Space
 with_register s vp k register = record s { registers = slice_set s.registers (overlay_of vp k) register }
 
--- an overlay that is enabled, by bit 0 of its register, lies at its page number, bits 63:12
+-- the word of an overlay's register: bit 0 enables it, and bits 63:12 are a page number
+abbrev pub is_enabled : ℕ → Bool
+is_enabled word = bit_and word 1 == 1
+
+abbrev pub page_of : ℕ → PageNumber
+page_of word = word / 4096
+
+-- an overlay that is enabled lies at its page number
 abbrev pub lies_at : PageNumber → ℕ → Bool
-lies_at page register = (bit_and register 1 == 1) && (register / 4096 == page)
+lies_at page word = is_enabled word && (page_of word == page)
 
 -- the overlay that is visible at a page: the first that lies there
 abbrev pub visible : Space → PageNumber → Option ℕ

@@ -4,6 +4,7 @@
 
 mod laws;
 mod lying;
+mod overlay;
 mod page;
 mod space;
 #[cfg(test)]

@@ -1,18 +1,16 @@
 // Guest pages, and the overlay pages above them.
-ghost use Rattle.std.specs.Prelude.{◌≡◌, ◌==◌, ◌<◌, ◌≤◌, ◌*◌, ◌/◌, length, not, IfOk, IfSome, replicate, slice_get, bit_and};
+ghost use Rattle.std.specs.Prelude.{◌≡◌, ◌<◌, ◌≤◌, ◌*◌, length, not, IfOk, IfSome, replicate, slice_get};
 ghost use Rattle.std.specs.Option.{option_copied};
 ghost use Rattle.board_terms.specs.declared.pages.Kind.TheVariants as kind;
 ghost use Rattle.gpa_space.specs.Page.{zero_page, message_bytes};
 ghost use Rattle.gpa_space.specs.Space.{opened, processors_of, overlay_of, with_register, visible, overlay_owner, owner_of, refusal_of, loaded, store_answer, after_store, own_page, after_slot, is_pending, after_pending, is_flag_set, after_flag, after_clearing};
 
 use crate::lying::Lying;
+use crate::overlay::OverlayWord;
 use crate::page::{HEADER_SIZE, MESSAGE_FLAGS, Page, SIZE, SLOT_SIZE};
 use board_terms::{Bytes8, Kind, Owner, Refusal, Sint, Vp};
 use std::alloc::{AllocError, Global};
 use std::marker::Model;
-
-/// The enable bit of an overlay's register.
-const ENABLE: u64 = 1;
 
 /// Guest pages, shared by all processors, and for each processor two overlay pages that may lie
 /// above them: the page of messages (SIM) and that of event flags (SIEF). An overlay page has bytes
@@ -73,12 +71,12 @@ impl Space {
         ensures { self.new ≡ with_register self.old vp kind register }
     {
         let overlay = overlay_of(vp, kind);
-        let before = self.registers[overlay];
+        let before = OverlayWord::new(self.registers[overlay]);
+        let word = OverlayWord::new(register);
         self.registers[overlay] = register;
         // At any other page it lies no more than before.
-        self.lying.mark(page_of(before), overlay, false);
-        self.lying
-            .mark(page_of(register), overlay, is_enabled(register));
+        self.lying.mark(before.page(), overlay, false);
+        self.lying.mark(word.page(), overlay, word.is_enabled());
     }
 
     /// The number of the overlay that is visible at a guest page.
@@ -247,20 +245,6 @@ impl Space {
         self.own[overlay_of(vp, Kind::Sim)].erase();
         self.own[overlay_of(vp, Kind::Sief)].erase();
     }
-}
-
-/// The page number of an overlay's register.
-fn page_of(register: u64) -> u64
-    ensures { result ≡ register / 4096 }
-{
-    register / SIZE as u64
-}
-
-/// Whether the register of an overlay enables it.
-fn is_enabled(register: u64) -> bool
-    ensures { result ≡ (bit_and register 1 == 1) }
-{
-    register & ENABLE == ENABLE
 }
 
 /// The number of an overlay in the order of visibility.
