@@ -11,7 +11,7 @@ use Rattle.line_driver.specs.declared.driving.End.{End}
 use Rattle.line_driver.specs.declared.driving.End.TheVariants as ends
 use Rattle.board_script.specs.Script.{line_fault, rest_fault, first_fault}
 use Rattle.board_script.specs.Output.{Machine, output_from, output_of, fault_of, fault_text, text}
-use Rattle.board_script.specs.Streams.{Begun, Replays, Finishes, IsAnswered, IsFaulty}
+use Rattle.board_script.specs.Streams.{BegunText, Replays, Finishes, IsAnswered, IsFaulty}
 use Rattle.board_lines.specs.declared.fault.ScriptFault.{ScriptFault}
 use Rattle.board_lines.specs.declared.fault.ScriptFault.TheVariants as faults
 use Rattle.board_script.specs.declared.stream.ReplayEnd.{ReplayEnd}
@@ -137,16 +137,16 @@ module _ {J : Type 0} (seen : J → Machine) (old new : J) (start : seen old ≡
       }
 
   -- What was sent begins what is answered to the bytes that came.
-  pub replays-begun : (end : End ScriptFault) (r0 r1 w0 w1 : Option (List ℕ)) (d : Driven end r0 r1 w0 w1) → d.answers ≡ d.sent → Begun output_of r0 r1 w0 w1
+  pub replays-begun : (end : End ScriptFault) (r0 r1 w0 w1 : Option (List ℕ)) (d : Driven end r0 r1 w0 w1) → d.answers ≡ d.sent → BegunText output_of r0 r1 w0 w1
   replays-begun end r0 r1 w0 w1 d sent = record { taken = d.taken; sent = d.sent; unsent = output_from (seen d.read.state) d.read.left; reads = d.reads; writes = d.writes; begins = (on-text end d.answers d.taken d.read).0 ∙ ap (λ (x : List ℕ). x ++ output_from (seen d.read.state) d.read.left) sent }
 
   -- A write failed.
-  pub replays-writing : (r0 r1 w0 w1 : Option (List ℕ)) → Driven ends.Writing r0 r1 w0 w1 → Begun text r0 r1 w0 w1
+  pub replays-writing : (r0 r1 w0 w1 : Option (List ℕ)) → Driven ends.Writing r0 r1 w0 w1 → BegunText text r0 r1 w0 w1
   replays-writing r0 r1 w0 w1 d =
       let more = output_from (seen d.read.state) d.read.left in
       let tail = fault_text (fault_of d.taken) in
       record { taken = d.taken; sent = d.sent; unsent = (d.sends.0 ++ more) ++ tail; reads = d.reads; writes = d.writes; begins = ap (λ (x : List ℕ). x ++ tail) ((on-text ends.Writing d.answers d.taken d.read).0 ∙ ap (λ (x : List ℕ). x ++ more) d.sends.1) ∙ simp append_assoc }
 
 -- Before anything was read.
-pub replays-nothing : (r w : Option (List ℕ)) → Begun output_of r r w w
+pub replays-nothing : (r w : Option (List ℕ)) → BegunText output_of r r w w
 replays-nothing r w = record { taken = []; sent = []; unsent = output_of []; reads = Consumes-nil r; writes = Appends-nil w; begins = refl }

@@ -14,7 +14,7 @@ use Rattle.board_script.specs.declared.stream.ReplayEnd.{ReplayEnd}
 use Rattle.board_script.specs.declared.stream.ReplayEnd.TheVariants.{Done, Script, Memory, Reading, Writing}
 
 -- These bytes were read, and what was written begins what is written for them.
-pub record Begun (of : List ℕ → List ℕ) (r0 r1 w0 w1 : Option (List ℕ)) : Type 0 where
+pub record BegunText (of : List ℕ → List ℕ) (r0 r1 w0 w1 : Option (List ℕ)) : Type 0 where
   pub taken : List ℕ
   pub sent : List ℕ
   pub unsent : List ℕ
@@ -26,9 +26,9 @@ pub record Begun (of : List ℕ → List ℕ) (r0 r1 w0 w1 : Option (List ℕ)) 
 abbrev pub Replays : ReplayEnd → Option (List ℕ) → Option (List ℕ) → Option (List ℕ) → Option (List ℕ) → Type 0
 Replays Done r0 r1 w0 w1 = IfSome r0 (λ input. (fault_of input ≡ None) × Appends w0 w1 (text input))
 Replays (Script line fault) r0 r1 w0 w1 = IfSome r0 (λ input. (fault_of input ≡ Some (line, fault)) × Appends w0 w1 (text input))
-Replays Memory r0 r1 w0 w1 = Begun output_of r0 r1 w0 w1
-Replays Reading r0 r1 w0 w1 = Begun output_of r0 r1 w0 w1
-Replays Writing r0 r1 w0 w1 = Begun text r0 r1 w0 w1
+Replays Memory r0 r1 w0 w1 = BegunText output_of r0 r1 w0 w1
+Replays Reading r0 r1 w0 w1 = BegunText output_of r0 r1 w0 w1
+Replays Writing r0 r1 w0 w1 = BegunText text r0 r1 w0 w1
 
 -- how many bytes are read at most: the byte behind the limit only where reading ends for it
 abbrev pub most_read : ReplayEnd → ℕ

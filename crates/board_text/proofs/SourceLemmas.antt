@@ -7,12 +7,12 @@ use Rattle.std.specs.List.{copy_within}
 use borrow.Rule.Slice.PartMut.{put_mid}
 use Rattle.std.proofs.lemmas.List.{take_all, length-take, take-append-drop, take-take, drop-take, drop-drop, drop-append-le, length-drop, length-take-le}
 use Rattle.std.specs.Io.KnownBytes.{Consumes, Keeps}
-use Rattle.board_text.specs.Held.{Held}
+use Rattle.board_text.specs.Buffered.{Buffered}
 use Rattle.board_text.specs.Lines.{IsOneLine}
 use Rattle.board_text.specs.Streams.{Grows}
 
 -- more came, and was put behind what waited
-pub record SearchedSoFar (r0 r w0 w : Option (List ℕ)) (old now : Held) : Type 0 where
+pub record SearchedSoFar (r0 r w0 w : Option (List ℕ)) (old now : Buffered) : Type 0 where
   pub came : List ℕ
   pub reads : Consumes r0 r came
   pub writes : Keeps w0 w

@@ -1,5 +1,5 @@
 pub mod Numbers
 pub mod Fields
 pub mod Lines
-pub mod Held
+pub mod Buffered
 pub mod Streams

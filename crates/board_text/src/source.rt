@@ -2,7 +2,7 @@
 ghost use Rattle.std.specs.Prelude.{◌≡◌, ℕ, ◌+◌, ◌≤◌, ◌<◌, List, [], MatchOption, IfOk, length, take, get_or, slice_range};
 ghost use Rattle.std.specs.Io.KnownBytes.{Consumes, Keeps, IsAtEnd};
 ghost use Rattle.board_text.specs.Lines.{IsOneLine};
-ghost use Rattle.board_text.specs.Held.{at_start};
+ghost use Rattle.board_text.specs.Buffered.{at_start};
 ghost use Rattle.board_text.specs.Streams.{Refills, Fills, Scans, Finds};
 
 use memchr::memchr;
@@ -31,9 +31,9 @@ pub struct Source {
 
 impl Model for Source {
     ghost use Rattle.std.specs.Prelude.{◌≡◌, ◌≤◌, slice_range, vec_len};
-    ghost use Rattle.board_text.specs.Held.{Held};
+    ghost use Rattle.board_text.specs.Buffered.{Buffered};
 
-    ghost Value = { Held };
+    ghost Value = { Buffered };
 
     ghost view = { λ s. record {
       line = slice_range s.bytes.items s.line_at s.line_end;

@@ -29,7 +29,7 @@ verdict_text (verdicts.Legal n) = line_of (codes "legal" ∷ decimal n ∷ [])
 verdict_text (verdicts.Refused k) = line_of (codes "refused" ∷ decimal k ∷ [])
 
 -- Nothing was written, or a beginning of the text's verdict.
-pub record Begun (r0 w0 w1 : Option (List ℕ)) : Type 0 where
+pub record BegunVerdict (r0 w0 w1 : Option (List ℕ)) : Type 0 where
   pub sent : List ℕ
   pub writes : Appends w0 w1 sent
   pub begins : (sent ≡ []) ⊎ ((verdict : Verdict) × (rest : List ℕ) × IfSome r0 (Judges verdict) × (verdict_text verdict ≡ sent ++ rest))
@@ -40,7 +40,7 @@ Checks (Legal n) r0 w0 w1 = IfSome r0 (Judges (verdicts.Legal n)) × Appends w0 
 Checks (Refused k) r0 w0 w1 = IfSome r0 (Judges (verdicts.Refused k)) × Appends w0 w1 (verdict_text (verdicts.Refused k))
 Checks Memory r0 w0 w1 = Appends w0 w1 []
 Checks Reading r0 w0 w1 = Appends w0 w1 []
-Checks Writing r0 w0 w1 = Begun r0 w0 w1
+Checks Writing r0 w0 w1 = BegunVerdict r0 w0 w1
 
 -- the verdict was written, or a beginning of it
 abbrev pub Says : CheckEnd → Verdict → Option (List ℕ) → Option (List ℕ) → Type 0

@@ -3,7 +3,7 @@ use Rattle.std.proofs.Common.{◌≡◌, ℕ, ◌+◌, ◌<◌, ◌≤◌, zero,
 use Rattle.std.proofs.Math.Seq.{take-append_seam}
 use Rattle.std.specs.Io.KnownBytes.{Consumes, Appends, IsAtEnd}
 use Rattle.std.proofs.KnownBytes.{Consumes-nil, Consumes-trans, Consumes-whole, Appends-nil}
-use Rattle.board_text.specs.Held.{Held, at_start}
+use Rattle.board_text.specs.Buffered.{Buffered, at_start}
 use Rattle.board_text.specs.Lines.{IsOneLine, lines_of, rest_of, joined}
 use Rattle.board_text.specs.Streams.{ReadsUpTo}
 use Rattle.board_text.proofs.LineLemmas.{lines_of-line, lines_of-more, rest_of-more, lines_of-rest, rest_of-rest, before_lines, before_rest, AreLines, lines-append, joined-snoc, lines_of-joined, rest_of-joined}
@@ -22,7 +22,7 @@ follows-snoc {J} good old now next [] sent line answer h short is = (answer, [],
 follows-snoc good old now next (l ∷ lines) sent line answer h short is = (h.0, h.1 ++ answer, h.2, h.3, h.4, follows-snoc good h.2 now next lines h.1 line answer h.5 short is, ap (λ (x : List ℕ). x ++ answer) h.6 ∙ append_assoc h.0 h.1 answer)
 
 -- So many lines were taken and answered, and what waits comes next.
-pub record Progress {J : Type 0} (good : J → List ℕ → List ℕ → J → Type 0) (r0 r : Option (List ℕ)) (source : Held) (old now : J) (number : ℕ) (answers : List ℕ) : Type 0 where
+pub record Progress {J : Type 0} (good : J → List ℕ → List ℕ → J → Type 0) (r0 r : Option (List ℕ)) (source : Buffered) (old now : J) (number : ℕ) (answers : List ℕ) : Type 0 where
   pub lines : List (List ℕ)
   pub each : AreLines lines
   pub counted : number ≡ length lines
@@ -31,7 +31,7 @@ pub record Progress {J : Type 0} (good : J → List ℕ → List ℕ → J → T
   pub spent : length (joined lines) + (length source.waiting + source.budget) ≡ 1073741824
 
 -- and what was answered was sent
-pub record Standing {J : Type 0} (ready : ℕ → J → Type 0) (good : J → List ℕ → List ℕ → J → Type 0) (r0 r w0 w : Option (List ℕ)) (source : Held) (old now : J) (number : ℕ) : Type 0 where
+pub record Standing {J : Type 0} (ready : ℕ → J → Type 0) (good : J → List ℕ → List ℕ → J → Type 0) (r0 r w0 w : Option (List ℕ)) (source : Buffered) (old now : J) (number : ℕ) : Type 0 where
   pub answers : List ℕ
   pub progress : Progress good r0 r source old now number answers
   pub writes : Appends w0 w answers
@@ -46,14 +46,14 @@ standing-start ready good r w judge can = record {
 }
 
 -- Fewer lines were taken than bytes are read at most.
-pub few-lines : {J : Type 0} {good : J → List ℕ → List ℕ → J → Type 0} {r0 r : Option (List ℕ)} {source : Held} {old now : J} {number : ℕ} {answers : List ℕ} → Progress good r0 r source old now number answers → number + (length source.waiting + source.budget) ≤ 1073741824
+pub few-lines : {J : Type 0} {good : J → List ℕ → List ℕ → J → Type 0} {r0 r : Option (List ℕ)} {source : Buffered} {old now : J} {number : ℕ} {answers : List ℕ} → Progress good r0 r source old now number answers → number + (length source.waiting + source.budget) ≤ 1073741824
 few-lines h = omega (arith, h.counted, h.spent, joined-length h.lines)
 
 -- What was read.
-reads-on : {J : Type 0} {good : J → List ℕ → List ℕ → J → Type 0} {r0 r : Option (List ℕ)} {source : Held} {old now : J} {number : ℕ} {answers : List ℕ} (r1 : Option (List ℕ)) (came : List ℕ) (h : Progress good r0 r source old now number answers) → Consumes r r1 came → Consumes r0 r1 (joined h.lines ++ (source.waiting ++ came))
+reads-on : {J : Type 0} {good : J → List ℕ → List ℕ → J → Type 0} {r0 r : Option (List ℕ)} {source : Buffered} {old now : J} {number : ℕ} {answers : List ℕ} (r1 : Option (List ℕ)) (came : List ℕ) (h : Progress good r0 r source old now number answers) → Consumes r r1 came → Consumes r0 r1 (joined h.lines ++ (source.waiting ++ came))
 reads-on {r0 = r0} {r = r} {source = source} r1 came h reads = subst (λ (x : List ℕ). Consumes r0 r1 x) (append_assoc (joined h.lines) source.waiting came) (Consumes-trans r0 r r1 (joined h.lines ++ source.waiting) came h.reads reads)
 
-pub progress-line : {J : Type 0} {good : J → List ℕ → List ℕ → J → Type 0} {r0 r : Option (List ℕ)} {source : Held} {old now : J} {number : ℕ} {answers : List ℕ} (r1 : Option (List ℕ)) (left : Held) (next : J) (came answer : List ℕ) → Progress good r0 r source old now number answers → Consumes r r1 came → source.waiting ++ came ≡ left.line ++ 10 ∷ left.waiting → IsOneLine left.line → length left.line ≤ 640 →
+pub progress-line : {J : Type 0} {good : J → List ℕ → List ℕ → J → Type 0} {r0 r : Option (List ℕ)} {source : Buffered} {old now : J} {number : ℕ} {answers : List ℕ} (r1 : Option (List ℕ)) (left : Buffered) (next : J) (came answer : List ℕ) → Progress good r0 r source old now number answers → Consumes r r1 came → source.waiting ++ came ≡ left.line ++ 10 ∷ left.waiting → IsOneLine left.line → length left.line ≤ 640 →
     length came + left.budget ≡ source.budget → good now left.line answer next → Progress good r0 r1 left old next (number + 1) (answers ++ answer)
 progress-line {good = good} {r0 = r0} {source = source} {old = old} {now = now} {answers = answers} r1 left next came answer h reads split one short spent is =
     let line = left.line in
@@ -68,7 +68,7 @@ progress-line {good = good} {r0 = r0} {source = source} {old = old} {now = now} 
       spent = subst (λ (x : List ℕ). length x + (length left.waiting + left.budget) ≡ 1073741824) (sym more) (less_left source left (joined h.lines) came h.spent split spent);
     }
 
-pub within : {J : Type 0} {good : J → List ℕ → List ℕ → J → Type 0} {r0 r : Option (List ℕ)} {source : Held} {old now : J} {number : ℕ} {answers : List ℕ} (r1 : Option (List ℕ)) (came : List ℕ) (most : ℕ) → Progress good r0 r source old now number answers → Consumes r r1 came → length came + 1073741824 ≤ source.budget + most → ReadsUpTo most r0 r1
+pub within : {J : Type 0} {good : J → List ℕ → List ℕ → J → Type 0} {r0 r : Option (List ℕ)} {source : Buffered} {old now : J} {number : ℕ} {answers : List ℕ} (r1 : Option (List ℕ)) (came : List ℕ) (most : ℕ) → Progress good r0 r source old now number answers → Consumes r r1 came → length came + 1073741824 ≤ source.budget + most → ReadsUpTo most r0 r1
 within {source = source} r1 came most h reads few =
     (joined h.lines ++ (source.waiting ++ came), reads-on r1 came h reads, omega (arith, few, h.spent, length-append (joined h.lines) (source.waiting ++ came), length-append source.waiting came))
 
@@ -76,7 +76,7 @@ stops : {J F : Type 0} (good : J → List ℕ → List ℕ → J → Type 0) (wr
 stops good wrong end old now new lines answers more each follows is = record { lines = lines; left = lines_of more; state = now; split = lines_of-joined lines more each; follows = follows; ends = subst (λ (x : List ℕ). Ends wrong end (length lines + 1) now new (lines_of more) x) (sym (rest_of-joined lines more each)) is }
 
 -- However the input goes on.
-pub drives-on : {J F : Type 0} {good : J → List ℕ → List ℕ → J → Type 0} {wrong : J → List ℕ → F → Type 0} {end : End F} {r0 r r1 w0 w1 : Option (List ℕ)} {source : Held} {old now new : J} {number : ℕ} {answers : List ℕ} (came sent : List ℕ) → Progress good r0 r source old now number answers → Consumes r r1 came → Appends w0 w1 sent → Sends end answers sent →
+pub drives-on : {J F : Type 0} {good : J → List ℕ → List ℕ → J → Type 0} {wrong : J → List ℕ → F → Type 0} {end : End F} {r0 r r1 w0 w1 : Option (List ℕ)} {source : Buffered} {old now new : J} {number : ℕ} {answers : List ℕ} (came sent : List ℕ) → Progress good r0 r source old now number answers → Consumes r r1 came → Appends w0 w1 sent → Sends end answers sent →
     ((ys : List ℕ) → Ends wrong end (number + 1) now new (lines_of ((source.waiting ++ came) ++ ys)) (rest_of ((source.waiting ++ came) ++ ys))) → Drives good wrong end old new r0 r1 w0 w1
 drives-on {good = good} {wrong = wrong} {end = end} {r0 = r0} {r1 = r1} {source = source} {old = old} {now = now} {new = new} {answers = answers} came sent h reads writes sends on =
     let front = source.waiting ++ came in
@@ -97,7 +97,7 @@ drives-on {good = good} {wrong = wrong} {end = end} {r0 = r0} {r1 = r1} {source 
     }
 
 -- Since there is no more of it.
-pub drives-end : {J F : Type 0} {good : J → List ℕ → List ℕ → J → Type 0} {wrong : J → List ℕ → F → Type 0} {end : End F} {r0 r r1 w0 w1 : Option (List ℕ)} {source : Held} {old now new : J} {number : ℕ} {answers : List ℕ} (came sent : List ℕ) → Progress good r0 r source old now number answers → Consumes r r1 came → IsAtEnd r1 → Appends w0 w1 sent → Sends end answers sent →
+pub drives-end : {J F : Type 0} {good : J → List ℕ → List ℕ → J → Type 0} {wrong : J → List ℕ → F → Type 0} {end : End F} {r0 r r1 w0 w1 : Option (List ℕ)} {source : Buffered} {old now new : J} {number : ℕ} {answers : List ℕ} (came sent : List ℕ) → Progress good r0 r source old now number answers → Consumes r r1 came → IsAtEnd r1 → Appends w0 w1 sent → Sends end answers sent →
     Ends wrong end (number + 1) now new (lines_of (source.waiting ++ came)) (rest_of (source.waiting ++ came)) → Drives good wrong end old new r0 r1 w0 w1
 drives-end {good = good} {wrong = wrong} {end = end} {r0 = r0} {r1 = r1} {source = source} {old = old} {now = now} {new = new} {answers = answers} came sent h reads at_end writes sends is =
     let front = source.waiting ++ came in
@@ -137,7 +137,7 @@ take-more (suc n) [] = omega arith
 take-more (suc n) (l ∷ lines) = let h = take-more n lines in omega (arith, h, length-append l (10 ∷ joined (take n lines)), length-append l (10 ∷ joined (take (suc n) lines)))
 
 -- Of a line that is not whole, or too long, only what waits was read.
-pub stops-in : {J : Type 0} {good : J → List ℕ → List ℕ → J → Type 0} {r0 r : Option (List ℕ)} {source : Held} {old now : J} {number : ℕ} {answers : List ℕ} (r1 : Option (List ℕ)) (came : List ℕ) → Progress good r0 r source old now number answers → Consumes r r1 came → length (source.waiting ++ came) ≤ 65536 → ReadsNear (number + 1) r0 r1
+pub stops-in : {J : Type 0} {good : J → List ℕ → List ℕ → J → Type 0} {r0 r : Option (List ℕ)} {source : Buffered} {old now : J} {number : ℕ} {answers : List ℕ} (r1 : Option (List ℕ)) (came : List ℕ) → Progress good r0 r source old now number answers → Consumes r r1 came → length (source.waiting ++ came) ≤ 65536 → ReadsNear (number + 1) r0 r1
 stops-in {source = source} {number = number} r1 came h reads few =
     let front = source.waiting ++ came in
     let taken = joined h.lines ++ front in
@@ -155,7 +155,7 @@ stops-in {source = source} {number = number} r1 came h reads few =
     }
 
 -- Behind the wrong line only what waits was read.
-pub stops-behind : {J : Type 0} {good : J → List ℕ → List ℕ → J → Type 0} {r0 r : Option (List ℕ)} {source : Held} {old now : J} {number : ℕ} {answers : List ℕ} (r1 : Option (List ℕ)) (left : Held) (came : List ℕ) → Progress good r0 r source old now number answers → Consumes r r1 came → source.waiting ++ came ≡ left.line ++ 10 ∷ left.waiting → IsOneLine left.line → length left.line ≤ 640 → length left.waiting ≤ 65536 → ReadsNear (number + 1) r0 r1
+pub stops-behind : {J : Type 0} {good : J → List ℕ → List ℕ → J → Type 0} {r0 r : Option (List ℕ)} {source : Buffered} {old now : J} {number : ℕ} {answers : List ℕ} (r1 : Option (List ℕ)) (left : Buffered) (came : List ℕ) → Progress good r0 r source old now number answers → Consumes r r1 came → source.waiting ++ came ≡ left.line ++ 10 ∷ left.waiting → IsOneLine left.line → length left.line ≤ 640 → length left.waiting ≤ 65536 → ReadsNear (number + 1) r0 r1
 stops-behind {source = source} {number = number} r1 left came h reads split one short few =
     let front = source.waiting ++ came in
     let taken = joined h.lines ++ front in

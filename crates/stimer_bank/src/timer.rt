@@ -1,6 +1,6 @@
 // One timer: its registers, when it is due, and how it expires.
 ghost use Rattle.std.specs.Prelude.{◌≡◌, true, false, ◌+◌, ◌*◌, ◌^◌, ◌-◌, ◌<◌, ◌≤◌, Option, Some, None, IsSome, IsTrue};
-ghost use Rattle.stimer_bank.specs.Timer.{is_periodic, started, after_config, after_count, is_due, IsSound, IsRuled, mode_of, expired, once, catching_up, lazily, late, expiry_of, after_expiry};
+ghost use Rattle.stimer_bank.specs.Timer.{is_periodic, started, after_config, after_count, is_due, IsSoundTimer, IsRuled, mode_of, expired, once, catching_up, lazily, late, expiry_of, after_expiry};
 ghost use Rattle.stimer_bank.specs.Bank.{idle_timer};
 
 use crate::config::ConfigWord;
@@ -54,7 +54,7 @@ impl Timer {
     /// It is not configured.
     pub(crate) fn idle() -> Timer
         ensures idle { result ≡ idle_timer }
-        ensures sound { IsSound result }
+        ensures sound { IsSoundTimer result }
     {
         Timer {
             config: 0,
@@ -65,7 +65,7 @@ impl Timer {
 
     pub(crate) fn after_config(self, value: u64, moment: Moment) -> Timer
         ensures after { result ≡ after_config self value moment }
-        ensures sound { IsSound result }
+        ensures sound { IsSoundTimer result }
     {
         let config = ConfigWord::kept(value).ruled().bits();
         Timer {
@@ -78,7 +78,7 @@ impl Timer {
     pub(crate) fn after_count(self, value: u64, moment: Moment) -> Timer
         requires ruled { IsRuled self.config }
         ensures after { result ≡ after_count self value moment }
-        ensures sound { IsSound result }
+        ensures sound { IsSoundTimer result }
     {
         let config = ConfigWord::new(self.config).after_count(value).bits();
         Timer {
@@ -98,7 +98,7 @@ impl Timer {
     }
 
     pub(crate) fn mode(self) -> Mode
-        requires sound { IsSound self }
+        requires sound { IsSoundTimer self }
         requires running { IsSome self.due }
         ensures { result ≡ mode_of self.config }
     {
@@ -144,10 +144,10 @@ impl Timer {
 
     /// It expires at a moment, and is due anew if it is periodic.
     pub(crate) fn expire(&mut self, moment: Moment) -> Expiry
-        requires sound { IsSound self.old }
+        requires sound { IsSoundTimer self.old }
         requires is_due { IsTrue (is_due self.old moment) }
         ensures after { (self.new, result) ≡ after_expiry self.old moment }
-        ensures sound { IsSound self.new }
+        ensures sound { IsSoundTimer self.new }
     {
         let due = self.due.unwrap() as u64;
         let (expiry, next) = self.expiry(due, moment);
