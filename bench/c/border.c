@@ -1,0 +1,202 @@
+/* What the border costs: performs the events of a workload of board_bench through the C calls.
+ *
+ *   border calls|notices|structs interrupts|messages|timers EVENTS
+ *
+ * `calls` performs each event by its own call, `notices` asks for its notices too, and `structs` performs
+ * it by synicboard_perform and asks for them. Standard output has the events, their notices (where they
+ * are asked for) and the sum of the replies, as board_bench has them, and standard error nanoseconds an
+ * event. */
+#define _POSIX_C_SOURCE 200809L /* for clock_gettime */
+#include <inttypes.h>
+#include <stdbool.h>
+#include <stdint.h>
+#include <stdio.h>
+#include <stdlib.h>
+#include <string.h>
+#include <time.h>
+
+#include "synicboard.h"
+
+enum { PROCESSORS = 8, PORTS = 16, TIMERS = 4, TICKS = 64, STEP = 50, MOST_EVENTS = 64 };
+enum { OVERLAY = 0x1000, SLOT = 256, FIRST_VECTOR = 0x40, PERIODIC_DIRECT = 0x1003 };
+enum { EOI = 0x40000070, SCONTROL = 0x40000080, SIMP = 0x40000083, EOM = 0x40000084, SINT0 = 0x40000090 };
+enum { STIMER0_CONFIG = 0x400000b0, STIMER0_COUNT = 0x400000b1 };
+
+enum way { CALLS, NOTICES, STRUCTS };
+
+/* A board on which all was done that comes before the time runs, the events that are then done over and
+ * over, and by how much their ticks are put off each time. */
+struct scene {
+    synicboard board;
+    synicboard_event round[MOST_EVENTS];
+    size_t length;
+    uint64_t span;
+};
+
+struct totals {
+    uint64_t notices;
+    uint64_t replies;
+};
+
+static _Noreturn void give_up(const char *why)
+{
+    fprintf(stderr, "border: %s\n", why);
+    exit(2);
+}
+
+static void append(struct scene *scene, synicboard_event event)
+{
+    scene->round[scene->length++] = event;
+}
+
+static void open_board(struct scene *scene, uint8_t processors, uint8_t pages)
+{
+    if (synicboard_open(&scene->board, processors, pages, 0) != SYNICBOARD_OPENED)
+        give_up("no board was opened");
+}
+
+static void set_register(struct scene *scene, uint8_t vp, uint32_t msr, uint64_t value)
+{
+    if (synicboard_write(&scene->board, vp, msr, value).kind != SYNICBOARD_DONE)
+        give_up("a register was not written");
+}
+
+/* Assert, take and end on eight processors. */
+static void interrupts(struct scene *scene)
+{
+    open_board(scene, PROCESSORS, 1);
+    for (uint8_t vp = 0; vp < PROCESSORS; vp++) {
+        append(scene, (synicboard_event){ .kind = SYNICBOARD_ASSERT, .vp = vp, .vector = 0x60 });
+        append(scene, (synicboard_event){ .kind = SYNICBOARD_TAKE, .vp = vp });
+        append(scene, (synicboard_event){ .kind = SYNICBOARD_WRITE, .vp = vp, .msr = EOI });
+    }
+}
+
+/* Post, consume and EOM over sixteen ports. */
+static void messages(struct scene *scene)
+{
+    open_board(scene, 1, 4);
+    set_register(scene, 0, SCONTROL, 1);
+    set_register(scene, 0, SIMP, OVERLAY + 1);
+    for (uint8_t port = 0; port < PORTS; port++) {
+        synicboard_event post = { .kind = SYNICBOARD_POST, .port = port, .message_type = 1, .length = 1 };
+        synicboard_event store = { .kind = SYNICBOARD_STORE, .address = OVERLAY + SLOT * port, .length = 4 };
+        post.bytes[0] = 0x0a;
+        set_register(scene, 0, SINT0 + port, FIRST_VECTOR + port);
+        synicboard_open_message_port(&scene->board, port, 0, port, 2);
+        append(scene, post);
+        append(scene, store);
+        append(scene, (synicboard_event){ .kind = SYNICBOARD_WRITE, .msr = EOM });
+    }
+}
+
+/* 32 periodic timers in direct mode, and dense ticks. */
+static void timers(struct scene *scene)
+{
+    open_board(scene, PROCESSORS, 1);
+    for (uint8_t vp = 0; vp < PROCESSORS; vp++) {
+        for (uint8_t timer = 0; timer < TIMERS; timer++) {
+            uint64_t vector = FIRST_VECTOR + timer;
+            set_register(scene, vp, STIMER0_COUNT + 2 * timer, 1000 + 10 * vp + timer);
+            set_register(scene, vp, STIMER0_CONFIG + 2 * timer, PERIODIC_DIRECT | vector << 4);
+        }
+    }
+    for (uint64_t number = 1; number <= TICKS; number++)
+        append(scene, (synicboard_event){ .kind = SYNICBOARD_TICK, .moment = STEP * number });
+    scene->span = STEP * TICKS;
+}
+
+/* Of the kinds that the three workloads have. */
+static synicboard_reply perform_by_call(synicboard *board, const synicboard_event *event)
+{
+    switch (event->kind) {
+    case SYNICBOARD_WRITE: return synicboard_write(board, event->vp, event->msr, event->value);
+    case SYNICBOARD_POST:
+        return synicboard_post(board, event->port, event->message_type, event->bytes, event->length);
+    case SYNICBOARD_ASSERT: return synicboard_assert(board, event->vp, event->vector);
+    case SYNICBOARD_STORE: return synicboard_store(board, event->address, event->bytes, event->length);
+    case SYNICBOARD_TICK: return synicboard_tick(board, event->moment);
+    default: return synicboard_take(board, event->vp);
+    }
+}
+
+/* The number that a reply carries; what its kind does not use is 0. */
+static uint64_t value_of(const synicboard_reply *reply)
+{
+    return reply->ticket + reply->vector + reply->refusal;
+}
+
+/* One event. The way is known where this is called, so it costs nothing. */
+static inline void perform(struct scene *scene, synicboard_event *event, enum way way, struct totals *totals)
+{
+    static synicboard_notice notices[SYNICBOARD_MOST_NOTICES];
+    synicboard *board = &scene->board;
+    synicboard_reply reply = way == STRUCTS ? synicboard_perform(board, event) : perform_by_call(board, event);
+    totals->replies += value_of(&reply);
+    if (way != CALLS)
+        totals->notices += synicboard_notices(board, notices, SYNICBOARD_MOST_NOTICES);
+    event->moment += scene->span;
+}
+
+static inline void perform_all(struct scene *scene, uint64_t events, enum way way, struct totals *totals)
+{
+    for (uint64_t done = 0; done < events; done += scene->length)
+        for (size_t at = 0; at < scene->length && done + at < events; at++)
+            perform(scene, &scene->round[at], way, totals);
+}
+
+static struct totals total(struct scene *scene, uint64_t events, enum way way)
+{
+    struct totals totals = { 0, 0 };
+    switch (way) {
+    case CALLS: perform_all(scene, events, CALLS, &totals); break;
+    case NOTICES: perform_all(scene, events, NOTICES, &totals); break;
+    case STRUCTS: perform_all(scene, events, STRUCTS, &totals); break;
+    }
+    return totals;
+}
+
+static double nanoseconds(void)
+{
+    struct timespec now;
+    if (clock_gettime(CLOCK_MONOTONIC, &now) != 0)
+        give_up("there is no clock");
+    return (double)now.tv_sec * 1e9 + (double)now.tv_nsec;
+}
+
+static void show(const char *name, struct scene *scene, uint64_t events, enum way way)
+{
+    double begun = nanoseconds();
+    struct totals totals = total(scene, events, way);
+    double ended = nanoseconds();
+    printf("%s %" PRIu64 " events ", name, events);
+    if (way != CALLS)
+        printf("%" PRIu64 " notices ", totals.notices);
+    printf("%" PRIu64 " replies\n", totals.replies);
+    fprintf(stderr, "%s %" PRIu64 " events %.1f ns an event\n", name, events, (ended - begun) / (double)events);
+}
+
+static size_t number_of(const char *word, const char *const words[], size_t count)
+{
+    for (size_t at = 0; at < count; at++)
+        if (strcmp(word, words[at]) == 0)
+            return at;
+    give_up("border calls|notices|structs interrupts|messages|timers EVENTS");
+}
+
+int main(int count, char **words)
+{
+    static const char *const ways[] = { "calls", "notices", "structs" };
+    static const char *const names[] = { "interrupts", "messages", "timers" };
+    static void (*const set_up[])(struct scene *) = { interrupts, messages, timers };
+    static struct scene scene;
+    enum way way = (enum way)number_of(count == 4 ? words[1] : "", ways, 3);
+    size_t name = number_of(words[2], names, 3);
+    uint64_t events = strtoull(words[3], NULL, 10);
+    if (events == 0)
+        give_up("how many events?");
+    set_up[name](&scene);
+    show(names[name], &scene, events, way);
+    synicboard_close(&scene.board);
+    return 0;
+}

@@ -1,0 +1,179 @@
+//! What an event tells beside its reply.
+
+use crate::{beyond_the_header, sys, Moment, Sint, Ticket, TimerId, Vector, Vp};
+use core::cell::UnsafeCell;
+use core::fmt;
+use core::iter::FusedIterator;
+use core::mem::MaybeUninit;
+use core::ops::Range;
+
+/// No event gives more notices than these. Only a reset gives more than 192.
+pub const MOST_NOTICES: usize = sys::SYNICBOARD_MOST_NOTICES;
+
+/// What an event tells beside its reply.
+#[derive(Clone, Copy, PartialEq, Eq, Hash, Debug)]
+pub enum Notice {
+    /// A message was appended to its queue.
+    Accepted {
+        /// The message.
+        ticket: Ticket,
+        /// The processor.
+        vp: Vp,
+        /// The source whose queue it is.
+        sint: Sint,
+    },
+    /// The head of a queue was written into its slot.
+    Placed {
+        /// The message.
+        ticket: Ticket,
+        /// The processor.
+        vp: Vp,
+        /// The source whose slot it is.
+        sint: Sint,
+    },
+    /// A message was placed with MessagePending set, or a clear MessagePending was set in an occupied
+    /// slot: the guest writes EOM when it is done with the slot.
+    Pending {
+        /// The processor.
+        vp: Vp,
+        /// The source whose slot it is.
+        sint: Sint,
+    },
+    /// A clear request bit of a local APIC was set: the processor has something to take, unless its
+    /// priority holds it back or it is suspended.
+    Requested {
+        /// The processor.
+        vp: Vp,
+        /// The vector.
+        vector: Vector,
+    },
+    /// A clear event flag was set.
+    FlagSet {
+        /// The processor.
+        vp: Vp,
+        /// The source.
+        sint: Sint,
+        /// The base of the port and the number that was signalled, 0 to 2047.
+        flag: u16,
+    },
+    /// A guest store emptied a slot that held a message.
+    Consumed {
+        /// The message.
+        ticket: Ticket,
+        /// The processor.
+        vp: Vp,
+        /// The source whose slot it is.
+        sint: Sint,
+    },
+    /// A queued message of a closed port, or a queued or placed one of a processor that was reset, was
+    /// taken out.
+    Withdrawn {
+        /// The message.
+        ticket: Ticket,
+        /// The processor.
+        vp: Vp,
+        /// The source whose queue or slot it is.
+        sint: Sint,
+    },
+    /// A timer expired.
+    Expired {
+        /// The processor.
+        vp: Vp,
+        /// The timer, 0 to 3.
+        index: u8,
+        /// The moment for which it expired, in units of 100 ns.
+        due: Moment,
+    },
+    /// A timer skipped some of its moments.
+    Skipped {
+        /// The processor.
+        vp: Vp,
+        /// The timer, 0 to 3.
+        index: u8,
+        /// How many, at least one.
+        count: u64,
+    },
+}
+
+impl Notice {
+    fn of(plain: &sys::synicboard_notice) -> Notice {
+        Notice::meant(plain).unwrap_or_else(|| beyond_the_header(plain))
+    }
+
+    fn meant(plain: &sys::synicboard_notice) -> Option<Notice> {
+        let vp = Vp::new(plain.vp)?;
+        let sint = Sint::new(plain.sint)?;
+        let index = TimerId::new(vp, plain.timer)?.index();
+        let (ticket, flag, due, count) = (plain.ticket, plain.flag, plain.due, plain.count);
+        Some(match plain.kind {
+            sys::SYNICBOARD_NOTICE_ACCEPTED => Notice::Accepted { ticket, vp, sint },
+            sys::SYNICBOARD_NOTICE_PLACED => Notice::Placed { ticket, vp, sint },
+            sys::SYNICBOARD_NOTICE_PENDING => Notice::Pending { vp, sint },
+            sys::SYNICBOARD_NOTICE_REQUESTED => Notice::Requested { vp, vector: Vector::new(plain.vector)? },
+            sys::SYNICBOARD_NOTICE_FLAG => Notice::FlagSet { vp, sint, flag },
+            sys::SYNICBOARD_NOTICE_CONSUMED => Notice::Consumed { ticket, vp, sint },
+            sys::SYNICBOARD_NOTICE_WITHDRAWN => Notice::Withdrawn { ticket, vp, sint },
+            sys::SYNICBOARD_NOTICE_EXPIRED => Notice::Expired { vp, index, due },
+            sys::SYNICBOARD_NOTICE_SKIPPED => Notice::Skipped { vp, index, count },
+            _ => return None,
+        })
+    }
+}
+
+/// Room for the notices of an event, which the library fills.
+pub(crate) struct Room {
+    notices: UnsafeCell<[MaybeUninit<sys::synicboard_notice>; MOST_NOTICES]>,
+}
+
+impl Room {
+    pub(crate) fn new() -> Room {
+        Room { notices: UnsafeCell::new([MaybeUninit::uninit(); MOST_NOTICES]) }
+    }
+
+    /// Where it begins. It has room for [`MOST_NOTICES`].
+    pub(crate) fn start(&self) -> *mut sys::synicboard_notice {
+        self.notices.get().cast()
+    }
+
+    /// The first of the notices here.
+    ///
+    /// # Safety
+    ///
+    /// So many were written, and no other thread writes here as long as they are lent.
+    pub(crate) unsafe fn first(&self, count: usize) -> Notices<'_> {
+        Notices { room: self, left: 0..count.min(MOST_NOTICES) }
+    }
+}
+
+/// The notices of one event, in their order. As long as they are held, there is no other event.
+#[derive(Clone)]
+pub struct Notices<'board> {
+    room: &'board Room,
+    left: Range<usize>,
+}
+
+impl Iterator for Notices<'_> {
+    type Item = Notice;
+
+    fn next(&mut self) -> Option<Notice> {
+        let at = self.left.next()?;
+        // SAFETY: this one was written. It is read out, and no reference to it is kept: another look at the
+        // notices of the same event writes the same here again.
+        let plain = unsafe { self.room.start().add(at).read() };
+        Some(Notice::of(&plain))
+    }
+
+    fn size_hint(&self) -> (usize, Option<usize>) {
+        self.left.size_hint()
+    }
+}
+
+impl ExactSizeIterator for Notices<'_> {}
+
+impl FusedIterator for Notices<'_> {}
+
+impl fmt::Debug for Notices<'_> {
+    fn fmt(&self, formatter: &mut fmt::Formatter<'_>) -> fmt::Result {
+        formatter.debug_list().entries(self.clone()).finish()
+    }
+}

@@ -1,0 +1,161 @@
+//! What a board answers.
+
+use crate::{beyond_the_header, sys, Bytes8, Ticket, Vector};
+use core::error::Error;
+use core::fmt;
+
+/// What a board answers to an event.
+#[derive(Clone, Copy, PartialEq, Eq, Debug)]
+#[must_use = "an event that was refused has changed nothing"]
+pub enum Reply {
+    /// The event was performed.
+    Done,
+    /// What the register reads.
+    Value(u64),
+    /// What the guest loads.
+    Bytes(Bytes8),
+    /// The vector that was taken, if there was one.
+    Taken(Option<Vector>),
+    /// The post was accepted with this ticket.
+    Accepted(Ticket),
+    /// The event flag was clear, and was set.
+    FlagWasClear,
+    /// The event flag was set already.
+    FlagWasSet,
+    /// The access raises #GP; nothing was changed.
+    GeneralProtection,
+    /// The event was refused; nothing was changed.
+    Refused(Refusal),
+    /// There is no such event: more than 240 bytes were to be posted, or more than 8 to be stored.
+    /// Nothing was performed, and nothing was changed. [`Board::perform`](crate::Board::perform) never
+    /// answers this: the types of an [`Event`](crate::Event) hold no more bytes.
+    NoEvent,
+}
+
+impl Reply {
+    /// Why the event was refused, if it was.
+    pub fn refusal(self) -> Option<Refusal> {
+        match self {
+            Reply::Refused(refusal) => Some(refusal),
+            _ => None,
+        }
+    }
+
+    /// The reply that plain numbers mean, of a board that is open.
+    pub(crate) fn of(plain: sys::synicboard_reply) -> Reply {
+        let meant = match plain.kind {
+            sys::SYNICBOARD_NOT_PERFORMED if plain.fault == sys::SYNICBOARD_NO_EVENT => Some(Reply::NoEvent),
+            sys::SYNICBOARD_DONE => Some(Reply::Done),
+            sys::SYNICBOARD_VALUE => Some(Reply::Value(plain.value)),
+            sys::SYNICBOARD_BYTES => first(&plain.bytes, plain.length).map(Reply::Bytes),
+            sys::SYNICBOARD_TAKEN => Vector::new(plain.vector).map(|v| Reply::Taken(Some(v))),
+            sys::SYNICBOARD_NONE_TAKEN => Some(Reply::Taken(None)),
+            sys::SYNICBOARD_ACCEPTED => Some(Reply::Accepted(plain.ticket)),
+            sys::SYNICBOARD_FLAG_WAS_CLEAR => Some(Reply::FlagWasClear),
+            sys::SYNICBOARD_FLAG_WAS_SET => Some(Reply::FlagWasSet),
+            sys::SYNICBOARD_GENERAL_PROTECTION => Some(Reply::GeneralProtection),
+            sys::SYNICBOARD_REFUSED => Refusal::of(plain.refusal).map(Reply::Refused),
+            _ => None,
+        };
+        meant.unwrap_or_else(|| beyond_the_header(&plain))
+    }
+}
+
+fn first(bytes: &[u8; 8], length: u8) -> Option<Bytes8> {
+    Bytes8::new(bytes.get(..usize::from(length))?)
+}
+
+/// Why an event was refused. A refused event changes nothing and gives no notice.
+#[derive(Clone, Copy, PartialEq, Eq, PartialOrd, Ord, Hash, Debug)]
+#[repr(u8)]
+pub enum Refusal {
+    /// The port is not open; for an opening, its number is above 15.
+    UnknownPort = sys::SYNICBOARD_UNKNOWN_PORT,
+    /// The port is open already.
+    PortOpen = sys::SYNICBOARD_PORT_OPEN,
+    /// A post to a port for event flags, or a signal to one for messages.
+    WrongKind = sys::SYNICBOARD_WRONG_KIND,
+    /// No such processor, a source above 15, buffers, base or count out of range; for an absorb, a part
+    /// above 3.
+    BadTarget = sys::SYNICBOARD_BAD_TARGET,
+    /// The message type is 0 or has bit 31 set.
+    BadType = sys::SYNICBOARD_BAD_TYPE,
+    /// The flag is not below the port's count.
+    BadFlag = sys::SYNICBOARD_BAD_FLAG,
+    /// The target's SynIC is off, or for a signal its page of event flags is.
+    SynicOff = sys::SYNICBOARD_SYNIC_OFF,
+    /// All buffers of the port are in use: there is one again when a message of it is placed.
+    NoBuffers = sys::SYNICBOARD_NO_BUFFERS,
+    /// No ticket is left.
+    TicketsSpent = sys::SYNICBOARD_TICKETS_SPENT,
+    /// The moment lies before the present one.
+    ClockBack = sys::SYNICBOARD_CLOCK_BACK,
+    /// The first byte lies in no page.
+    OutsideSpace = sys::SYNICBOARD_OUTSIDE_SPACE,
+    /// The last byte lies in another page than the first.
+    CrossesPage = sys::SYNICBOARD_CROSSES_PAGE,
+    /// The length is 0 or above 8.
+    BadLength = sys::SYNICBOARD_BAD_LENGTH,
+    /// The processor is not on the board.
+    NoSuchProcessor = sys::SYNICBOARD_NO_SUCH_PROCESSOR,
+    /// The processor is suspended already.
+    AlreadySuspended = sys::SYNICBOARD_ALREADY_SUSPENDED,
+    /// The processor is not suspended.
+    NotSuspended = sys::SYNICBOARD_NOT_SUSPENDED,
+}
+
+impl Refusal {
+    /// All refusals, in the order of their numbers.
+    pub const ALL: [Refusal; 16] = [
+        Refusal::UnknownPort,
+        Refusal::PortOpen,
+        Refusal::WrongKind,
+        Refusal::BadTarget,
+        Refusal::BadType,
+        Refusal::BadFlag,
+        Refusal::SynicOff,
+        Refusal::NoBuffers,
+        Refusal::TicketsSpent,
+        Refusal::ClockBack,
+        Refusal::OutsideSpace,
+        Refusal::CrossesPage,
+        Refusal::BadLength,
+        Refusal::NoSuchProcessor,
+        Refusal::AlreadySuspended,
+        Refusal::NotSuspended,
+    ];
+
+    /// Its number, 1 to 16, as a script's text shows it.
+    pub const fn number(self) -> u8 {
+        self as u8
+    }
+
+    fn of(number: u8) -> Option<Refusal> {
+        Refusal::ALL.into_iter().find(|refusal| refusal.number() == number)
+    }
+}
+
+impl fmt::Display for Refusal {
+    fn fmt(&self, formatter: &mut fmt::Formatter<'_>) -> fmt::Result {
+        formatter.write_str(match self {
+            Refusal::UnknownPort => "the port is not open",
+            Refusal::PortOpen => "the port is open already",
+            Refusal::WrongKind => "the port is of the other kind",
+            Refusal::BadTarget => "the target or the shape is out of range",
+            Refusal::BadType => "the message type is 0 or has bit 31 set",
+            Refusal::BadFlag => "the flag is not one of the port's",
+            Refusal::SynicOff => "the SynIC of the target is disabled",
+            Refusal::NoBuffers => "the buffers of the port are in use",
+            Refusal::TicketsSpent => "all tickets are spent",
+            Refusal::ClockBack => "the moment lies before the present one",
+            Refusal::OutsideSpace => "the address lies in no page",
+            Refusal::CrossesPage => "the bytes lie in two pages",
+            Refusal::BadLength => "the length is 0 or above 8",
+            Refusal::NoSuchProcessor => "there is no such processor",
+            Refusal::AlreadySuspended => "the processor is suspended already",
+            Refusal::NotSuspended => "the processor is not suspended",
+        })
+    }
+}
+
+impl Error for Refusal {}

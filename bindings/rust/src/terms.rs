@@ -1,0 +1,109 @@
+//! Numbers whose range is in the type.
+
+use core::num::NonZeroU8;
+
+/// A moment of the partition's reference counter, in units of 100 ns.
+pub type Moment = u64;
+
+/// The number that an accepted message takes. It is given once. The greatest is 2^64 - 2.
+pub type Ticket = u64;
+
+/// A virtual processor, 0 to 7.
+#[derive(Clone, Copy, PartialEq, Eq, PartialOrd, Ord, Hash, Debug, Default)]
+pub struct Vp(u8);
+
+impl Vp {
+    /// The processor of that number, `None` above 7.
+    pub const fn new(number: u8) -> Option<Vp> {
+        if number < 8 {
+            Some(Vp(number))
+        } else {
+            None
+        }
+    }
+
+    /// Its number, 0 to 7.
+    pub const fn number(self) -> u8 {
+        self.0
+    }
+}
+
+/// A synthetic interrupt source of a processor, SINT0 to SINT15.
+#[derive(Clone, Copy, PartialEq, Eq, PartialOrd, Ord, Hash, Debug)]
+pub struct Sint(u8);
+
+impl Sint {
+    /// The source of that number, `None` above 15.
+    pub const fn new(number: u8) -> Option<Sint> {
+        if number < 16 {
+            Some(Sint(number))
+        } else {
+            None
+        }
+    }
+
+    /// Its number, 0 to 15.
+    pub const fn number(self) -> u8 {
+        self.0
+    }
+}
+
+/// An interrupt vector, 16 to 255.
+#[derive(Clone, Copy, PartialEq, Eq, PartialOrd, Ord, Hash, Debug)]
+pub struct Vector(NonZeroU8);
+
+impl Vector {
+    /// The vector of that number, `None` below 16.
+    pub const fn new(number: u8) -> Option<Vector> {
+        match NonZeroU8::new(number) {
+            Some(number) if number.get() >= 16 => Some(Vector(number)),
+            _ => None,
+        }
+    }
+
+    /// Its number, 16 to 255.
+    pub const fn number(self) -> u8 {
+        self.0.get()
+    }
+}
+
+/// A synthetic timer: a processor and an index, STIMER0 to STIMER3.
+#[derive(Clone, Copy, PartialEq, Eq, PartialOrd, Ord, Hash, Debug, Default)]
+pub struct TimerId {
+    vp: Vp,
+    index: u8,
+}
+
+impl TimerId {
+    /// The timer of that index on a processor, `None` above 3.
+    pub const fn new(vp: Vp, index: u8) -> Option<TimerId> {
+        if index < 4 {
+            Some(TimerId { vp, index })
+        } else {
+            None
+        }
+    }
+
+    /// Its processor.
+    pub const fn vp(self) -> Vp {
+        self.vp
+    }
+
+    /// Its index, 0 to 3.
+    pub const fn index(self) -> u8 {
+        self.index
+    }
+}
+
+/// Whose page a guest sees at a page number.
+#[derive(Clone, Copy, PartialEq, Eq, Hash, Debug)]
+pub enum Owner {
+    /// The guest page itself.
+    Guest,
+    /// The message page of a processor lies above it.
+    Sim(Vp),
+    /// The event flags page of a processor lies above it.
+    Sief(Vp),
+    /// No page: the number is outside the guest's memory.
+    Nothing,
+}

@@ -1,0 +1,93 @@
+//! Whole texts: scripts and traces.
+
+use crate::{beyond_the_header, sys};
+
+/// How a replay ended.
+#[derive(Clone, Copy, PartialEq, Eq, Debug)]
+pub enum End {
+    /// Each line was performed.
+    AllRight {
+        /// The bytes of the whole text, also where they did not fit.
+        length: usize,
+    },
+    /// A line is wrong, and none behind it was performed. The text says so in its last line.
+    WrongLine {
+        /// The line, counted from 1.
+        line: u64,
+        /// The bytes of the whole text, also where they did not fit.
+        length: usize,
+    },
+    /// There was no memory for a board or for the text. The room was left as it was.
+    WantedMemory,
+    /// The script has more than 1,073,741,824 bytes, and no line of these is wrong. The room was left as it
+    /// was.
+    TooLong,
+}
+
+/// Performs a script on a board of its own, and writes its text into a room, as much as fits.
+///
+/// It takes memory for a board and for the whole text, and gives it back.
+///
+/// ```
+/// use synicboard::{replay, End};
+///
+/// let mut room = [0; 64];
+/// let end = replay(b"board 1 1 0\nassert 0 60\ntake 0\n", &mut room);
+/// let text = b"= done\n. requested 0 60\n= taken 60\n";
+/// assert_eq!(end, End::AllRight { length: text.len() });
+/// assert_eq!(room[..text.len()], *text);
+/// ```
+pub fn replay(script: &[u8], room: &mut [u8]) -> End {
+    // SAFETY: both slices are good for their lengths, and an empty one has an address that is not null.
+    let end = unsafe { sys::synicboard_replay(script.as_ptr(), script.len(), room.as_mut_ptr(), room.len()) };
+    let (line, length) = (end.line, end.length);
+    match end.kind {
+        sys::SYNICBOARD_ALL_RIGHT => End::AllRight { length },
+        sys::SYNICBOARD_WRONG_LINE => End::WrongLine { line, length },
+        sys::SYNICBOARD_WANTED_MEMORY => End::WantedMemory,
+        sys::SYNICBOARD_TOO_LONG => End::TooLong,
+        _ => beyond_the_header(&end),
+    }
+}
+
+/// What is said of a trace.
+#[derive(Clone, Copy, PartialEq, Eq, Debug)]
+pub enum Verdict {
+    /// It is the trace of a legal history.
+    Legal {
+        /// The entries of the history.
+        entries: u64,
+    },
+    /// It is not.
+    Refused {
+        /// The first line that is wrong, counted from 1.
+        line: u64,
+    },
+    /// There was no memory for a board.
+    WantedMemory,
+    /// The trace has more than 1,073,741,824 bytes, and no line of these is wrong.
+    TooLong,
+}
+
+/// Checks whether a text is the trace of a legal history.
+///
+/// It takes memory for a board, and gives it back.
+///
+/// ```
+/// use synicboard::{check, Verdict};
+///
+/// let trace = b"trace 1\nboard 1 1 0\n0 take 0\n= taken none\nend 1\n";
+/// assert_eq!(check(trace), Verdict::Legal { entries: 1 });
+/// assert_eq!(check(&trace[..20]), Verdict::Refused { line: 3 });
+/// ```
+pub fn check(trace: &[u8]) -> Verdict {
+    // SAFETY: the slice is good for its length, and an empty one has an address that is not null.
+    let verdict = unsafe { sys::synicboard_check(trace.as_ptr(), trace.len()) };
+    match verdict.kind {
+        sys::SYNICBOARD_ALL_RIGHT => Verdict::Legal { entries: verdict.entries },
+        sys::SYNICBOARD_WRONG_LINE => Verdict::Refused { line: verdict.line },
+        sys::SYNICBOARD_WANTED_MEMORY => Verdict::WantedMemory,
+        sys::SYNICBOARD_TOO_LONG => Verdict::TooLong,
+        _ => beyond_the_header(&verdict),
+    }
+}

@@ -1,0 +1,435 @@
+//! The safe calls at the edges of what they take: sizes, numbers, too many bytes, what is not there, pages,
+//! notices, and boards in other threads.
+
+use std::error::Error;
+use std::fs;
+use std::sync::Mutex;
+use std::thread;
+use synicboard::{
+    check, replay, Board, Bytes8, End, Event, Notice, OpenFault, Owner, PayloadBytes, PortShape, Refusal,
+    Reply, Sint, TimerId, Vector, Verdict, Vp, MOST_NOTICES,
+};
+
+const EOI: u32 = 0x4000_0070;
+const SCONTROL: u32 = 0x4000_0080;
+const SVERSION: u32 = 0x4000_0081;
+const SIEFP: u32 = 0x4000_0082;
+const SIMP: u32 = 0x4000_0083;
+const SINT0: u32 = 0x4000_0090;
+const STIMER0_CONFIG: u32 = 0x4000_00b0;
+const STIMER0_COUNT: u32 = 0x4000_00b1;
+
+const VP: Vp = Vp::new(0).unwrap();
+const SINT: Sint = Sint::new(2).unwrap();
+const VECTOR: Vector = Vector::new(0x50).unwrap();
+
+/// A board whose processor 0 has its SynIC on, its messages at page 2, its event flags at page 3, and
+/// vector 50 at SINT2.
+fn booted(processors: u8, pages: u8, first_ticket: u64) -> Board {
+    let mut board = Board::open(processors, pages, first_ticket).unwrap();
+    let registers = [(SCONTROL, 1), (SIMP, 0x2001), (SIEFP, 0x3001), (SINT0 + 2, 0x50)];
+    for (register, value) in registers {
+        assert_eq!(board.write(0, register, value), Reply::Done);
+    }
+    board
+}
+
+#[test]
+fn a_board_has_1_to_8_processors_and_1_to_64_pages() {
+    for (processors, pages) in [(0, 1), (9, 1), (255, 1), (1, 0), (1, 65), (1, 255), (0, 0)] {
+        let fault = Board::open(processors, pages, 0).unwrap_err();
+        assert_eq!(fault, OpenFault::BadSize);
+        assert_eq!(fault.to_string(), "the sizes are outside the limits");
+    }
+    for (processors, pages) in [(1, 1), (8, 64)] {
+        let board = Board::open(processors, pages, 7).unwrap();
+        assert_eq!((board.processors(), board.pages()), (processors, pages));
+        assert_eq!((board.moment(), board.next_ticket()), (0, 7));
+        assert_eq!(board.notices().len(), 0);
+    }
+}
+
+#[test]
+fn a_number_outside_its_range_is_none() {
+    for number in 0..=u8::MAX {
+        assert_eq!(Vp::new(number).map(Vp::number), (number < 8).then_some(number));
+        assert_eq!(Sint::new(number).map(Sint::number), (number < 16).then_some(number));
+        assert_eq!(Vector::new(number).map(Vector::number), (number >= 16).then_some(number));
+        let index = TimerId::new(VP, number).map(TimerId::index);
+        assert_eq!(index, (number < 4).then_some(number));
+    }
+    assert_eq!(TimerId::new(Vp::new(7).unwrap(), 3).unwrap().vp().number(), 7);
+}
+
+#[test]
+fn bytes_are_equal_where_their_slices_are() {
+    assert_eq!(Bytes8::new(&[1, 2]).unwrap().as_slice(), [1, 2]);
+    assert_ne!(Bytes8::new(&[1]), Bytes8::new(&[1, 0]));
+    assert_eq!(format!("{:?}", Bytes8::new(&[1, 2]).unwrap()), "[1, 2]");
+    assert!(Bytes8::new(&[0; 8]).is_some() && Bytes8::new(&[0; 9]).is_none());
+    assert!(PayloadBytes::new(&[0; 240]).is_some() && PayloadBytes::new(&[0; 241]).is_none());
+}
+
+#[test]
+fn each_refusal_comes_and_has_its_number() {
+    let mut board = booted(2, 4, 0);
+    let ready = [
+        board.open_message_port(3, 0, 2, 1),
+        board.open_event_port(5, 0, 3, 0, 8),
+        board.open_message_port(6, 1, 2, 1),
+        board.tick(10),
+        board.suspend(1),
+    ];
+    assert_eq!(ready, [Reply::Done; 5]);
+    assert_eq!(board.post(3, 1, &[]), Reply::Accepted(0));
+    assert_eq!(board.post(3, 1, &[]), Reply::Accepted(1));
+    let refused = [
+        board.close_port(16),
+        board.open_message_port(3, 0, 2, 1),
+        board.signal(3, 0),
+        board.open_message_port(4, 2, 2, 1),
+        board.post(3, 0, &[]),
+        board.signal(5, 8),
+        board.post(6, 1, &[]),
+        board.post(3, 1, &[]),
+        spent(),
+        board.tick(9),
+        board.load(0x4000, 1),
+        board.load(0xfff, 2),
+        board.store(0, &[]),
+        board.take(2),
+        board.suspend(1),
+        board.resume(0),
+    ];
+    let refusals = Refusal::ALL.map(Reply::Refused);
+    assert_eq!(refused, refusals);
+    let numbers = refused.map(|reply| reply.refusal().unwrap().number());
+    assert_eq!(numbers.to_vec(), (1..=16).collect::<Vec<u8>>());
+}
+
+fn spent() -> Reply {
+    let mut board = booted(1, 1, u64::MAX);
+    assert_eq!(board.open_message_port(3, 0, 2, 1), Reply::Done);
+    board.post(3, 1, &[])
+}
+
+#[test]
+fn a_refusal_is_an_error_with_words() {
+    let refusal: Box<dyn Error> = Box::new(Refusal::NoBuffers);
+    assert_eq!(refusal.to_string(), "the buffers of the port are in use");
+    let mut words = Refusal::ALL.map(|refusal| refusal.to_string()).to_vec();
+    words.sort();
+    words.dedup();
+    assert_eq!(words.len(), 16);
+    assert_eq!(Reply::GeneralProtection.refusal(), None);
+}
+
+#[test]
+fn too_many_bytes_are_no_event() {
+    let mut board = booted(1, 4, 0);
+    assert_eq!(board.open_message_port(3, 0, 2, 2), Reply::Done);
+    assert_eq!(board.post(3, 1, &[7; 240]), Reply::Accepted(0));
+    let told = board.notices().collect::<Vec<_>>();
+    assert_eq!(told.len(), 3);
+    for reply in [board.post(3, 1, &[7; 241]), board.store(0, &[7; 9]), board.store(0, &[7; 4096])] {
+        assert_eq!(reply, Reply::NoEvent);
+    }
+    assert_eq!(board.notices().collect::<Vec<_>>(), told);
+    assert_eq!((board.next_ticket(), board.queued(0, 2)), (1, 0));
+    assert_eq!(board.guest_page(0).unwrap()[0], 0);
+    assert_eq!(board.store(0, &[7; 8]), Reply::Done);
+    assert_eq!(board.guest_page(0).unwrap()[..9], [7, 7, 7, 7, 7, 7, 7, 7, 0]);
+}
+
+#[test]
+fn registers_answer_general_protection_and_values() {
+    let mut board = booted(1, 4, 0);
+    assert_eq!(board.read(0, SVERSION), Reply::Value(1));
+    assert_eq!(board.write(0, SVERSION, 1), Reply::GeneralProtection);
+    assert_eq!(board.read(0, EOI), Reply::GeneralProtection);
+    assert_eq!(board.write(0, SCONTROL, u64::MAX), Reply::Done);
+    assert_eq!(board.read(0, SCONTROL), Reply::Value(u64::MAX));
+    assert_eq!(board.read(1, SVERSION), Reply::Refused(Refusal::NoSuchProcessor));
+}
+
+#[test]
+fn looks_of_what_is_not_there_find_nothing() {
+    let board = booted(1, 4, 0);
+    assert_eq!((board.next(0), board.next(1), board.next(255)), (None, None, None));
+    assert!(!board.is_auto(0, VECTOR) && !board.is_auto(255, VECTOR));
+    assert_eq!((board.queued(1, 0), board.queued(0, 16), board.queued(255, 255)), (0, 0, 0));
+    assert_eq!(board.earliest(), None);
+    let owners = [0, 2, 3, 4, u64::MAX].map(|page| board.owner(page));
+    let (sim, sief) = (Owner::Sim(VP), Owner::Sief(VP));
+    assert_eq!(owners, [Owner::Guest, sim, sief, Owner::Nothing, Owner::Nothing]);
+    assert!(board.message_page(1).is_none() && board.flag_page(255).is_none());
+    assert!(board.guest_page(4).is_none() && board.guest_page(u64::MAX).is_none());
+}
+
+#[test]
+fn looks_find_what_is_there() {
+    let mut board = booted(2, 4, 0);
+    assert_eq!(board.write(0, SINT0 + 3, 0x2_0060), Reply::Done);
+    assert_eq!(board.assert(0, Vector::new(255).unwrap()), Reply::Done);
+    assert_eq!(board.next(0), Vector::new(255));
+    let auto = Vector::new(0x60).unwrap();
+    assert!(board.is_auto(0, auto) && !board.is_auto(0, VECTOR) && !board.is_auto(1, auto));
+    // A period of 2^64 - 1 from moment 2 on is due behind what 64 bits hold.
+    assert_eq!(board.tick(2), Reply::Done);
+    assert_eq!(board.write(1, STIMER0_COUNT + 6, u64::MAX), Reply::Done);
+    assert_eq!(board.write(1, STIMER0_CONFIG + 6, 0x1403), Reply::Done);
+    let timer = TimerId::new(Vp::new(1).unwrap(), 3).unwrap();
+    assert_eq!(board.earliest(), Some(((1 << 64) + 1, timer)));
+    assert_eq!(board.moment(), 2);
+    let shown = "Board { processors: 2, pages: 4, moment: 2, next_ticket: 0, .. }";
+    assert_eq!(format!("{board:?}"), shown);
+}
+
+#[test]
+fn pages_stay_where_they_lie_and_show_each_event() {
+    let mut board = booted(2, 4, 0);
+    let places = |board: &Board| {
+        let own = [board.message_page(0), board.flag_page(0), board.message_page(1), board.flag_page(1)];
+        let guest = [0, 1, 2, 3].map(|number| board.guest_page(number));
+        [own, guest].concat().into_iter().map(|page| page.unwrap().as_ptr()).collect::<Vec<_>>()
+    };
+    let before = places(&board);
+    assert_eq!(board.open_message_port(3, 0, 2, 1), Reply::Done);
+    assert_eq!(board.open_event_port(4, 0, 2, 2000, 48), Reply::Done);
+    assert_eq!(board.post(3, 1, &[0xab; 240]), Reply::Accepted(0));
+    assert_eq!(board.signal(4, 47), Reply::FlagWasClear);
+    assert!(board.notices().eq([Notice::FlagSet { vp: VP, sint: SINT, flag: 2047 }]));
+    assert_eq!(board.signal(4, 47), Reply::FlagWasSet);
+    let (messages, flags) = (board.message_page(0).unwrap(), board.flag_page(0).unwrap());
+    assert_eq!(messages[0x200..0x208], [1, 0, 0, 0, 240, 0, 0, 0]);
+    assert_eq!(messages[0x210..0x300], [0xab; 240]);
+    assert_eq!((messages[0x300], flags[0x2ff]), (0, 0x80));
+    assert_eq!(board.guest_page(2).unwrap(), &[0; 4096]);
+    assert_eq!(board.load(0x32ff, 1), Reply::Bytes(Bytes8::new(&[0x80]).unwrap()));
+    assert_eq!(board.reset(0), Reply::Done);
+    assert_eq!(board.message_page(0).unwrap(), &[0; 4096]);
+    assert_eq!(places(&board), before);
+}
+
+#[test]
+fn a_guest_page_lies_below_its_overlay() {
+    let mut board = Board::open(1, 4, 0).unwrap();
+    assert_eq!(board.store(0x2ff8, &[1, 2, 3, 4, 5, 6, 7, 8]), Reply::Done);
+    assert_eq!(board.write(0, SIMP, 0x2001), Reply::Done);
+    assert_eq!(board.store(0x2ff8, &[9]), Reply::Done);
+    assert_eq!(board.guest_page(2).unwrap()[0xff8..], [1, 2, 3, 4, 5, 6, 7, 8]);
+    assert_eq!(board.message_page(0).unwrap()[0xff8..0xffa], [9, 0]);
+}
+
+#[test]
+fn notices_are_those_of_the_last_event() {
+    let mut board = booted(1, 4, 5);
+    assert_eq!(board.open_message_port(3, 0, 2, 2), Reply::Done);
+    assert_eq!(board.notices().next(), None);
+    assert_eq!(board.post(3, 1, &[]), Reply::Accepted(5));
+    let (ticket, vp, sint) = (5, VP, SINT);
+    let told = [
+        Notice::Accepted { ticket, vp, sint },
+        Notice::Placed { ticket, vp, sint },
+        Notice::Requested { vp, vector: VECTOR },
+    ];
+    assert!(board.notices().eq(told));
+    let mut notices = board.notices();
+    assert_eq!(notices.nth(1), Some(told[1]));
+    // Beside those that are held there are looks, also at the notices.
+    assert_eq!((board.next(0), board.notices().len()), (Some(VECTOR), 3));
+    assert_eq!((notices.len(), notices.next(), notices.next()), (1, Some(told[2]), None));
+    assert_eq!(board.take(0), Reply::Taken(Some(VECTOR)));
+    assert_eq!(board.notices().len(), 0);
+    assert_eq!(board.store(0x2200, &[0; 4]), Reply::Done);
+    assert!(board.notices().eq([Notice::Consumed { ticket, vp, sint }]));
+    assert_eq!(board.take(9), Reply::Refused(Refusal::NoSuchProcessor));
+    assert_eq!(format!("{:?}", board.notices()), "[]");
+}
+
+#[test]
+fn posted_vectors_are_requested_the_smallest_first() {
+    let mut board = Board::open(1, 1, 0).unwrap();
+    assert_eq!(board.absorb(0, 3, 1 << 63 | 1), Reply::Done);
+    let requested = |number| Notice::Requested { vp: VP, vector: Vector::new(number).unwrap() };
+    assert!(board.notices().eq([requested(192), requested(255)]));
+    assert_eq!(board.absorb(0, 0, 0x1_ffff), Reply::Done);
+    assert!(board.notices().eq([requested(16)]));
+    assert_eq!(board.absorb(0, 4, 0), Reply::Refused(Refusal::BadTarget));
+}
+
+#[test]
+fn numbers_that_no_board_has_are_refused_as_events_too() {
+    let mut board = booted(1, 4, 0);
+    assert_eq!(board.open_message_port(3, 0, 2, 1), Reply::Done);
+    let shape = PortShape::Flags { base: 2048, count: 1 };
+    let payload = PayloadBytes::new(&[]).unwrap();
+    let refused = [
+        (Event::ClosePort { port: 16 + 3 }, Refusal::UnknownPort),
+        (Event::OpenPort { port: 4, vp: 0, sint: 2, shape }, Refusal::BadTarget),
+        (Event::Post { port: 16 + 3, kind: 1, payload }, Refusal::UnknownPort),
+        (Event::Post { port: 3, kind: 1 << 31, payload }, Refusal::BadType),
+        (Event::Write { vp: 8, register: SCONTROL, value: 1 }, Refusal::NoSuchProcessor),
+        (Event::Load { address: 0, length: 255 }, Refusal::BadLength),
+        (Event::Load { address: u64::MAX, length: 8 }, Refusal::OutsideSpace),
+        (Event::Reset { vp: 8 }, Refusal::NoSuchProcessor),
+    ];
+    for (event, refusal) in refused {
+        assert_eq!(board.perform(&event), Reply::Refused(refusal), "{event:?}");
+    }
+}
+
+#[test]
+fn a_late_timer_tells_when_it_was_due_and_what_it_skipped() {
+    let mut board = Board::open(1, 1, 0).unwrap();
+    assert_eq!(board.tick(100), Reply::Done);
+    assert_eq!(board.write(0, STIMER0_COUNT, 10), Reply::Done);
+    assert_eq!(board.write(0, STIMER0_CONFIG, 0x1403), Reply::Done);
+    assert_eq!(board.tick(235), Reply::Done);
+    let (vp, index, vector) = (VP, 0, Vector::new(0x40).unwrap());
+    let told = [
+        Notice::Expired { vp, index, due: 110 },
+        Notice::Skipped { vp, index, count: 4 },
+        Notice::Requested { vp, vector },
+    ];
+    assert!(board.notices().eq(told));
+    assert_eq!(board.earliest(), Some((160, TimerId::new(vp, 0).unwrap())));
+}
+
+/// Sixteen slots, sixteen buffers of sixteen ports, and one of each timer are withdrawn.
+#[test]
+fn a_reset_gives_the_most_notices() {
+    let mut board = booted(1, 4, 0);
+    for port in 0..16 {
+        assert_eq!(board.open_message_port(port, 0, port, 16), Reply::Done);
+        for number in 0..17 {
+            assert_eq!(board.post(port, 1, &[]), Reply::Accepted(17 * u64::from(port) + number));
+        }
+    }
+    for timer in 0..4 {
+        assert_eq!(board.write(0, STIMER0_COUNT + 2 * timer, 10), Reply::Done);
+        assert_eq!(board.write(0, STIMER0_CONFIG + 2 * timer, 0x1_0003), Reply::Done);
+    }
+    assert_eq!(board.tick(10), Reply::Done);
+    assert_eq!((board.queued(0, 0), board.queued(0, 1), board.queued(0, 16)), (16, 20, 0));
+    assert_eq!(board.next_ticket(), 276);
+    assert_eq!(board.reset(0), Reply::Done);
+    let notices = board.notices();
+    assert_eq!(notices.len(), MOST_NOTICES);
+    let mut tickets = notices.map(|notice| match notice {
+        Notice::Withdrawn { ticket, .. } => ticket,
+        notice => panic!("{notice:?}"),
+    });
+    assert_eq!(tickets.next(), Some(0));
+    let mut tickets = tickets.collect::<Vec<_>>();
+    tickets.sort();
+    assert!(tickets.into_iter().eq(1..276));
+}
+
+/// How much memory this process holds, in pages of the system, where the system says so.
+fn held() -> Option<usize> {
+    let said = fs::read_to_string("/proc/self/statm").ok()?;
+    said.split(' ').nth(1)?.parse().ok()
+}
+
+/// A board of the greatest size takes some 440 KB, and so 1500 of them more than half a gigabyte.
+#[test]
+fn a_dropped_board_gives_its_memory_back() {
+    let open = || Board::open(8, 64, 0).unwrap();
+    drop(open());
+    let before = held();
+    for _ in 0..1500 {
+        drop(open());
+    }
+    let after = held();
+    assert!(before.zip(after).is_none_or(|(before, after)| after < before + 100_000), "{before:?} {after:?}");
+}
+
+#[test]
+fn two_boards_know_nothing_of_each_other() {
+    let (mut one, mut other) = (booted(1, 4, 0), booted(2, 8, 100));
+    assert_eq!(one.open_message_port(3, 0, 2, 2), Reply::Done);
+    assert_eq!(other.post(3, 1, &[1]), Reply::Refused(Refusal::UnknownPort));
+    assert_eq!(one.post(3, 1, &[1]), Reply::Accepted(0));
+    assert_eq!((one.next(0), other.next(0)), (Some(VECTOR), None));
+    assert_eq!((one.notices().len(), other.notices().len()), (3, 0));
+    assert_eq!(other.tick(50), Reply::Done);
+    assert_eq!((one.moment(), other.moment()), (0, 50));
+    drop(one);
+    assert_eq!((other.next_ticket(), other.read(1, SVERSION)), (100, Reply::Value(1)));
+}
+
+/// A board is opened in one thread, used in another, and closed in a third. It is moved, and its pages are
+/// not.
+#[test]
+fn a_board_goes_to_other_threads() {
+    let mut board = booted(1, 4, 0);
+    let page = board.message_page(0).unwrap().as_ptr() as usize;
+    assert_eq!(board.open_message_port(3, 0, 2, 2), Reply::Done);
+    let used = thread::spawn(move || {
+        assert_eq!(board.post(3, 1, &[1]), Reply::Accepted(0));
+        vec![Box::new(board)]
+    });
+    let mut boards = used.join().unwrap();
+    assert_eq!(boards[0].notices().len(), 3);
+    assert_eq!(boards[0].take(0), Reply::Taken(Some(VECTOR)));
+    assert_eq!(boards[0].message_page(0).unwrap().as_ptr() as usize, page);
+    thread::spawn(move || drop(boards)).join().unwrap();
+}
+
+#[test]
+fn threads_share_a_board_under_a_lock() {
+    let board = Mutex::new(Board::open(8, 1, 0).unwrap());
+    let rounds = |vp| {
+        for vector in (16..=u8::MAX).filter_map(Vector::new) {
+            assert_eq!(board.lock().unwrap().assert(vp, vector), Reply::Done);
+            let taken = board.lock().unwrap().take(vp);
+            assert_eq!(taken, Reply::Taken(Some(vector)));
+            assert_eq!(board.lock().unwrap().write(vp, EOI, 0), Reply::Done);
+        }
+    };
+    thread::scope(|scope| {
+        for vp in 0..8 {
+            scope.spawn(move || rounds(vp));
+        }
+    });
+    assert_eq!(board.into_inner().unwrap().next(0), None);
+}
+
+/// Boards share nothing that is not theirs: without any lock, each thread has its own.
+#[test]
+fn boards_run_side_by_side() {
+    let told = |first_ticket| {
+        let mut board = booted(1, 4, first_ticket);
+        assert_eq!(board.open_message_port(3, 0, 2, 2), Reply::Done);
+        for number in 0..1000 {
+            let payload = PayloadBytes::new(&[7; 240]).unwrap();
+            let post = Event::Post { port: 3, kind: 1, payload };
+            assert_eq!(board.perform(&post), Reply::Accepted(first_ticket + number));
+            assert_eq!(board.take(0), Reply::Taken(Some(VECTOR)));
+            assert_eq!(board.store(0x2200, &[0; 4]), Reply::Done);
+            assert_eq!(board.write(0, EOI, 0), Reply::Done);
+        }
+        board.next_ticket()
+    };
+    let threads = [0, 5000, 10_000].map(|first| (first, thread::spawn(move || told(first))));
+    for (first, thread) in threads {
+        assert_eq!(thread.join().unwrap(), first + 1000);
+    }
+}
+
+#[test]
+fn a_text_that_does_not_fit_is_cut_and_counted() {
+    let (script, text) = (b"board 1 1 0\ntake 0\nsteal 0\n", b"= taken none\n! 3 form\n");
+    for size in 0..=text.len() + 1 {
+        let mut room = vec![b'.'; size];
+        let (line, length) = (3, text.len());
+        assert_eq!(replay(script, &mut room), End::WrongLine { line, length });
+        let filled = size.min(length);
+        assert_eq!(room[..filled], text[..filled]);
+        assert!(room[filled..].iter().all(|&byte| byte == b'.'));
+    }
+    assert_eq!(replay(b"board 1 1 0\n", &mut []), End::AllRight { length: 0 });
+    assert_eq!(replay(b"", &mut []), End::WrongLine { line: 1, length: 10 });
+    assert_eq!(check(b""), Verdict::Refused { line: 1 });
+}

@@ -1,0 +1,252 @@
+//! The calls of the header by hand: closed handles, which no `Board` has, and events in plain numbers.
+
+use ::synicboard::sys::*;
+use std::mem;
+use std::ptr;
+
+/// A handle that is closed at its end.
+struct Handle(synicboard);
+
+impl Handle {
+    fn open() -> Handle {
+        let mut handle = Handle(SYNICBOARD_CLOSED);
+        // SAFETY: the handle is closed, and has no copy.
+        let answer = unsafe { synicboard_open(&mut handle.0, 1, 4, 0) };
+        assert_eq!(answer, SYNICBOARD_OPENED);
+        handle
+    }
+
+    fn perform(&mut self, event: &synicboard_event) -> synicboard_reply {
+        // SAFETY: the handle is closed or opened, and has no copy.
+        unsafe { synicboard_perform(&mut self.0, event) }
+    }
+}
+
+impl Drop for Handle {
+    fn drop(&mut self) {
+        // SAFETY: the handle is closed or opened, and has no copy.
+        unsafe { synicboard_close(&mut self.0) }
+    }
+}
+
+fn event(kind: u8, fill: impl FnOnce(&mut synicboard_event)) -> synicboard_event {
+    // SAFETY: zeros are numbers.
+    let mut event: synicboard_event = unsafe { mem::zeroed() };
+    event.kind = kind;
+    fill(&mut event);
+    event
+}
+
+fn reply(kind: u8, fill: impl FnOnce(&mut synicboard_reply)) -> synicboard_reply {
+    // SAFETY: zeros are numbers.
+    let mut reply: synicboard_reply = unsafe { mem::zeroed() };
+    reply.kind = kind;
+    fill(&mut reply);
+    reply
+}
+
+fn fault(fault: u8) -> synicboard_reply {
+    reply(SYNICBOARD_NOT_PERFORMED, |reply| reply.fault = fault)
+}
+
+#[test]
+fn a_closed_handle_has_no_board() {
+    let mut handle = Handle(SYNICBOARD_CLOSED);
+    let board: *mut synicboard = &mut handle.0;
+    let byte = [0; 1];
+    // SAFETY: the handle is closed, has no copy, and each slice is good for what goes with it.
+    let answers = unsafe {
+        [
+            synicboard_open_message_port(board, 3, 0, 2, 1),
+            synicboard_open_event_port(board, 3, 0, 2, 0, 1),
+            synicboard_close_port(board, 3),
+            synicboard_write(board, 0, 0x4000_0080, 1),
+            synicboard_read(board, 0, 0x4000_0080),
+            synicboard_post(board, 3, 1, byte.as_ptr(), 1),
+            synicboard_signal(board, 3, 0),
+            synicboard_assert(board, 0, 0x50),
+            synicboard_assert(board, 0, 3),
+            synicboard_absorb(board, 0, 1, 1),
+            synicboard_store(board, 0, byte.as_ptr(), 1),
+            synicboard_load(board, 0, 1),
+            synicboard_tick(board, 1),
+            synicboard_take(board, 0),
+            synicboard_suspend(board, 0),
+            synicboard_resume(board, 0),
+            synicboard_reset(board, 0),
+            synicboard_perform(board, &event(SYNICBOARD_TICK, |_| ())),
+            synicboard_perform(board, &event(0, |_| ())),
+        ]
+    };
+    assert_eq!(answers, [fault(SYNICBOARD_NO_BOARD); 19]);
+}
+
+#[test]
+fn looks_at_a_closed_handle_find_nothing() {
+    let mut handle = Handle(SYNICBOARD_CLOSED);
+    let board: *mut synicboard = &mut handle.0;
+    let mut room = [];
+    let mut page = ptr::null();
+    // SAFETY: the handle is closed, has no copy, and the room has no notice.
+    unsafe {
+        assert_eq!(synicboard_notices(board, room.as_mut_ptr(), 0), 0);
+        assert_eq!(synicboard_next(board, 0), 0);
+        assert!(!synicboard_is_auto(board, 0, 0x50));
+        assert_eq!(synicboard_queued(board, 0, 2), 0);
+        assert_eq!(synicboard_moment(board), 0);
+        assert_eq!(synicboard_next_ticket(board), 0);
+        assert_eq!(synicboard_owner(board, 0).kind, SYNICBOARD_OWNER_NOTHING);
+        assert!(!synicboard_earliest(board).is_due);
+        assert!(!synicboard_message_page(board, 0, &mut page));
+        assert!(!synicboard_flag_page(board, 0, &mut page));
+        assert!(!synicboard_guest_page(board, 0, &mut page));
+    }
+    assert!(page.is_null());
+}
+
+#[test]
+fn a_handle_is_opened_once_and_closed_as_often_as_one_likes() {
+    let mut handle = Handle::open();
+    // SAFETY: the handle has no copy.
+    unsafe {
+        assert_eq!(synicboard_tick(&mut handle.0, 9).kind, SYNICBOARD_DONE);
+        assert_eq!(synicboard_open(&mut handle.0, 1, 1, 0), SYNICBOARD_IS_OPEN);
+        assert_eq!(synicboard_open(&mut handle.0, 9, 1, 0), SYNICBOARD_IS_OPEN);
+        assert_eq!(synicboard_moment(&mut handle.0), 9);
+        synicboard_close(&mut handle.0);
+        synicboard_close(&mut handle.0);
+        assert!(handle.0.at.is_null() && !handle.0.is_open);
+        assert_eq!(synicboard_open(&mut handle.0, 9, 1, 0), SYNICBOARD_BAD_SIZE);
+        assert!(handle.0.at.is_null() && !handle.0.is_open);
+        assert_eq!(synicboard_open(&mut handle.0, 8, 64, 0), SYNICBOARD_OPENED);
+        assert_eq!(synicboard_moment(&mut handle.0), 0);
+    }
+}
+
+#[test]
+fn a_room_for_some_notices_gets_the_first() {
+    let mut handle = Handle::open();
+    let absorb = event(SYNICBOARD_ABSORB, |event| (event.part, event.value) = (3, 7));
+    assert_eq!(handle.perform(&absorb).kind, SYNICBOARD_DONE);
+    // SAFETY: zeros are numbers.
+    let mut room: [synicboard_notice; 3] = unsafe { mem::zeroed() };
+    // SAFETY: the handle has no copy, and the room is good for two.
+    let count = unsafe { synicboard_notices(&mut handle.0, room.as_mut_ptr(), 2) };
+    assert_eq!(count, 3);
+    assert_eq!(room.map(|notice| notice.vector), [192, 193, 0]);
+    let requested = SYNICBOARD_NOTICE_REQUESTED;
+    assert_eq!(room.map(|notice| notice.kind), [requested, requested, 0]);
+}
+
+#[test]
+fn numbers_that_mean_no_event_change_nothing() {
+    let mut handle = Handle::open();
+    let meaningless = [
+        event(0, |_| ()),
+        event(17, |_| ()),
+        event(255, |_| ()),
+        event(SYNICBOARD_ASSERT, |event| event.vector = 15),
+        event(SYNICBOARD_POST, |event| event.length = 241),
+        event(SYNICBOARD_STORE, |event| event.length = 9),
+    ];
+    for event in meaningless {
+        assert_eq!(handle.perform(&event), fault(SYNICBOARD_NO_EVENT));
+    }
+    // SAFETY: the handle has no copy.
+    let answer = unsafe { synicboard_assert(&mut handle.0, 0, 15) };
+    assert_eq!(answer, fault(SYNICBOARD_NO_EVENT));
+}
+
+/// A register of processor 0 is written.
+fn write(msr: u32, value: u64) -> synicboard_event {
+    event(SYNICBOARD_WRITE, |event| (event.msr, event.value) = (msr, value))
+}
+
+/// Events that only the host makes, and what each is answered.
+fn of_the_host() -> Vec<(synicboard_event, synicboard_reply)> {
+    let done = reply(SYNICBOARD_DONE, |_| ());
+    let signal = event(SYNICBOARD_SIGNAL, |event| (event.port, event.flag) = (4, 8));
+    vec![
+        (
+            event(SYNICBOARD_OPEN_MESSAGE_PORT, |event| (event.port, event.sint, event.buffers) = (3, 2, 1)),
+            done,
+        ),
+        (
+            event(SYNICBOARD_OPEN_EVENT_PORT, |event| {
+                (event.port, event.sint, event.flag, event.count) = (4, 3, 258, 9)
+            }),
+            done,
+        ),
+        (event(SYNICBOARD_TICK, |event| event.moment = u64::MAX - 1), done),
+        (
+            event(SYNICBOARD_POST, |event| {
+                (event.port, event.message_type, event.length, event.bytes) = (3, 0x7fff_ffff, 240, [7; 240])
+            }),
+            reply(SYNICBOARD_ACCEPTED, |reply| reply.ticket = 0),
+        ),
+        (
+            event(SYNICBOARD_POST, |event| (event.port, event.message_type) = (3, 1)),
+            reply(SYNICBOARD_ACCEPTED, |reply| reply.ticket = 1),
+        ),
+        (
+            event(SYNICBOARD_POST, |event| (event.port, event.message_type) = (3, 1)),
+            reply(SYNICBOARD_REFUSED, |reply| reply.refusal = SYNICBOARD_NO_BUFFERS),
+        ),
+        (signal, reply(SYNICBOARD_FLAG_WAS_CLEAR, |_| ())),
+        (signal, reply(SYNICBOARD_FLAG_WAS_SET, |_| ())),
+        (event(SYNICBOARD_CLOSE_PORT, |event| event.port = 4), done),
+        (event(SYNICBOARD_ASSERT, |event| event.vector = 0xe0), done),
+        (event(SYNICBOARD_ABSORB, |event| (event.part, event.value) = (3, 1 << 63)), done),
+    ]
+}
+
+/// Events of processor 0 and its guest, behind those of the host.
+fn of_the_guest() -> Vec<(synicboard_event, synicboard_reply)> {
+    let done = reply(SYNICBOARD_DONE, |_| ());
+    let take = event(SYNICBOARD_TAKE, |_| ());
+    let value = reply(SYNICBOARD_VALUE, |reply| reply.value = u64::MAX - 1);
+    vec![
+        (take, reply(SYNICBOARD_TAKEN, |reply| reply.vector = 0xff)),
+        (event(SYNICBOARD_READ, |event| event.msr = 0x4000_0020), value),
+        (
+            event(SYNICBOARD_READ, |event| event.msr = 0x4000_0070),
+            reply(SYNICBOARD_GENERAL_PROTECTION, |_| ()),
+        ),
+        (
+            event(SYNICBOARD_LOAD, |event| (event.address, event.length) = (0x2200, 8)),
+            reply(SYNICBOARD_BYTES, |reply| {
+                (reply.length, reply.bytes) = (8, [0xff, 0xff, 0xff, 0x7f, 240, 1, 0, 0])
+            }),
+        ),
+        (
+            event(SYNICBOARD_STORE, |event| (event.address, event.length, event.bytes[0]) = (0x2203, 1, 5)),
+            done,
+        ),
+        (
+            event(SYNICBOARD_LOAD, |event| (event.address, event.length) = (0x2203, 1)),
+            reply(SYNICBOARD_BYTES, |reply| (reply.length, reply.bytes[0]) = (1, 5)),
+        ),
+        (write(0x4000_0070, 0), done),
+        (event(SYNICBOARD_SUSPEND, |_| ()), done),
+        (take, reply(SYNICBOARD_NONE_TAKEN, |_| ())),
+        (event(SYNICBOARD_RESUME, |_| ()), done),
+        (take, reply(SYNICBOARD_TAKEN, |reply| reply.vector = 0xe0)),
+        (event(SYNICBOARD_RESET, |_| ()), done),
+        (
+            event(SYNICBOARD_TAKE, |event| event.vp = 1),
+            reply(SYNICBOARD_REFUSED, |reply| reply.refusal = SYNICBOARD_NO_SUCH_PROCESSOR),
+        ),
+    ]
+}
+
+#[test]
+fn events_in_plain_numbers_are_performed() {
+    let mut handle = Handle::open();
+    for (register, value) in [(0x80, 1), (0x83, 0x2001), (0x82, 0x3001), (0x92, 0x50)] {
+        let done = handle.perform(&write(0x4000_0000 + register, value));
+        assert_eq!(done, reply(SYNICBOARD_DONE, |_| ()));
+    }
+    for (event, reply) in [of_the_host(), of_the_guest()].concat() {
+        assert_eq!(handle.perform(&event), reply, "{event:?}");
+    }
+}

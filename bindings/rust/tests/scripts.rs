@@ -1,0 +1,119 @@
+//! Every worked script of the repository, through the safe calls: what is told is what is stored, byte for
+//! byte. `replay` and `check` are held to the stored texts too.
+
+#[path = "scripts/lines.rs"]
+mod lines;
+#[path = "scripts/told.rs"]
+mod told;
+
+use lines::{Lines, Step};
+use std::fs;
+use std::path::{Path, PathBuf};
+use std::str;
+use synicboard::{check, replay, Board, End, OpenFault, Verdict};
+
+/// The files of a folder of the repository that have this ending and a stored text, by what stands in both.
+fn stored(folder: &str, ending: &str) -> Vec<(PathBuf, Vec<u8>, Vec<u8>)> {
+    let folder = Path::new(env!("CARGO_MANIFEST_DIR")).join("../..").join(folder);
+    let entries = fs::read_dir(&folder).unwrap_or_else(|fault| panic!("{folder:?}: {fault}"));
+    let paths = entries.map(|entry| entry.expect("a folder can be read to its end").path());
+    let given = paths.filter(|path| path.extension().is_some_and(|found| found == ending));
+    let read = |path: PathBuf| {
+        let stored = fs::read(path.with_extension("stdout")).ok()?;
+        let text = fs::read(&path).expect("a file that is listed can be read");
+        Some((path, text, stored))
+    };
+    given.filter_map(read).collect()
+}
+
+fn scripts() -> Vec<(PathBuf, Vec<u8>, Vec<u8>)> {
+    let folders = ["cases/replay", "examples", "examples/differences"];
+    let found: Vec<_> = folders.into_iter().flat_map(|folder| stored(folder, "script")).collect();
+    assert!(found.len() > 100, "only {} scripts are stored", found.len());
+    found
+}
+
+/// The text of a script, by a board of the safe calls.
+fn performed(script: &[u8]) -> String {
+    let mut text = String::new();
+    if let Err((line, fault)) = perform(script, &mut text) {
+        text += &format!("! {line} {fault}\n");
+    }
+    text
+}
+
+/// Performs a script up to its first fault, which is answered with its line.
+fn perform(script: &[u8], text: &mut String) -> Result<(), (usize, &'static str)> {
+    let mut board = None;
+    let mut number = 0;
+    for line in Lines::of(script) {
+        number += 1;
+        let line = line.map_err(|fault| (number, fault))?;
+        if line.is_empty() || line.starts_with(b"#") {
+            continue;
+        }
+        match &mut board {
+            None => board = Some(open(line).map_err(|fault| (number, fault))?),
+            Some(board) => *text += &tell(board, lines::step(line).ok_or((number, "form"))?),
+        }
+    }
+    board.map(drop).ok_or((number + 1, "first"))
+}
+
+fn open(line: &[u8]) -> Result<Board, &'static str> {
+    let (processors, pages, first_ticket) = lines::opening(line).ok_or("first")?;
+    Board::open(processors, pages, first_ticket).map_err(|fault| match fault {
+        OpenFault::BadSize => "size",
+        OpenFault::Memory => panic!("{fault}"),
+    })
+}
+
+fn tell(board: &mut Board, step: Step) -> String {
+    match step {
+        Step::Summary => told::summary(board),
+        Step::Event(event) => {
+            let reply = told::reply(board.perform(&event));
+            reply + &board.notices().map(told::notice).collect::<String>()
+        }
+    }
+}
+
+#[test]
+fn each_script_is_told_as_it_is_stored() {
+    for (path, script, stored) in scripts() {
+        let stored = String::from_utf8(stored).expect("what is stored is ASCII");
+        assert_eq!(performed(&script), stored, "{path:?}");
+    }
+}
+
+#[test]
+fn a_replay_writes_the_stored_text() {
+    for (path, script, stored) in scripts() {
+        let mut room = vec![0; stored.len() + 1];
+        let length = match replay(&script, &mut room) {
+            End::AllRight { length } => length,
+            End::WrongLine { line, length } => {
+                let last = format!("! {line} ");
+                let begins_so = |told: &[u8]| told.starts_with(last.as_bytes());
+                assert!(stored.split(|&byte| byte == b'\n').any(begins_so), "{path:?}");
+                length
+            }
+            end => panic!("{path:?}: {end:?}"),
+        };
+        assert_eq!(str::from_utf8(&room[..length]), str::from_utf8(&stored), "{path:?}");
+    }
+}
+
+#[test]
+fn a_check_says_the_stored_verdict() {
+    let found = [stored("cases/check", "trace"), stored("examples", "trace")].concat();
+    assert!(found.len() > 60, "only {} traces are stored", found.len());
+    for (path, trace, stored) in found {
+        let said = match check(&trace) {
+            Verdict::Legal { entries } => format!("legal {entries}\n"),
+            Verdict::Refused { line } => format!("refused {line}\n"),
+            verdict => panic!("{path:?}: {verdict:?}"),
+        };
+        assert_eq!(said.as_bytes(), stored, "{path:?}");
+    }
+}

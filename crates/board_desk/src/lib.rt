@@ -1,0 +1,50 @@
+//! A board with the notices of its last event: what one caller holds.
+#![tactic(auto)]
+
+ghost use Rattle.std.specs.Prelude.{◌≡◌, ◌↔◌, ◌≤◌, [], length, IfOk, IsErrOf};
+ghost use Rattle.synic_board.specs.Bounds.{most_notices};
+ghost use Rattle.synic_board.specs.State.{AreSizes, opened};
+ghost use Rattle.synic_board.specs.Step.{step};
+
+use board_terms::{Notices, Ticket};
+use std::alloc::Global;
+use synic_board::{Board, Event, OpenFault, Reply};
+
+/// A board, and what its last event told beside its reply.
+#[derive(Drop)]
+pub struct Desk {
+    /// The board.
+    pub board: Board,
+    /// The notices of the last event, in their order.
+    pub notices: Notices,
+}
+
+impl Desk {
+    /// A board of that many processors and guest pages at moment 0, whose first accepted message takes
+    /// `first_ticket`, and no notice. `BadSize` unless there are 1 to 8 processors and 1 to 64 pages.
+    /// All memory that events need is taken here.
+    pub fn open(
+        alloc: Global,
+        processors: u8,
+        pages: u8,
+        first_ticket: Ticket,
+    ) -> Result<Desk, OpenFault>
+        ensures size { IsErrOf result OpenFault.BadSize ↔ (¬ AreSizes processors pages) }
+        ensures board { IfOk result (λ d. d.board.state ≡ opened processors pages first_ticket) }
+        ensures notices { IfOk result (λ d. d.notices ≡ []) }
+    {
+        let board = Board::open(alloc, processors, pages, first_ticket)?;
+        match Notices::open(alloc) {
+            Ok(notices) => Ok(Desk { board, notices }),
+            Err(_) => Err(OpenFault::Memory),
+        }
+    }
+
+    /// Performs an event and keeps its notices, in place of those before. It takes no memory.
+    pub fn perform(&mut self, event: &Event) -> Reply
+        ensures step { (self.new.board.state, result, self.new.notices) ≡ step self.old.board.state event.now }
+        ensures few { length self.new.notices ≤ most_notices event.now }
+    {
+        self.board.perform(event, &mut self.notices)
+    }
+}

@@ -1,0 +1,2 @@
+-- What a handle keeps: nothing that a caller reads.
+pub mod Held

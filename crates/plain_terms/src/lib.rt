@@ -1,0 +1,12 @@
+//! Events, replies and notices as plain structs, for callers in C.
+#![tactic(auto)]
+
+mod event;
+mod notice;
+mod reply;
+mod room;
+
+pub use event::{PlainEvent, event_of};
+pub use notice::{PlainNotice, plain_notice, put_plain};
+pub use reply::{Fault, PlainReply, plain_fault, plain_reply};
+pub use room::put_bytes;

@@ -1,0 +1,108 @@
+// A notice in plain numbers.
+ghost use Rattle.std.specs.Prelude.{◌≡◌, map};
+ghost use Rattle.plain_terms.specs.Notices.{notice_told, mute};
+ghost use Rattle.plain_terms.specs.Rooms.{Fronts};
+
+use board_terms::Notice;
+
+/// A notice in plain numbers. `kind` says which, and which fields are used; the others are 0.
+#[repr(C)]
+#[derive(Clone, Copy)]
+pub struct PlainNotice {
+    /// 1 to 9: a message was accepted or placed, MessagePending was set, a vector was requested, a
+    /// flag was set, a message was consumed or withdrawn, a timer expired or skipped.
+    pub kind: u8,
+    /// The processor.
+    pub vp: u8,
+    /// The source.
+    pub sint: u8,
+    /// The vector that was requested.
+    pub vector: u8,
+    /// The timer of the processor, 0 to 3.
+    pub timer: u8,
+    /// The flag that was set.
+    pub flag: u16,
+    /// The ticket of the message.
+    pub ticket: u64,
+    /// The moment for which the timer expired, in units of 100 ns.
+    pub due: u64,
+    /// How many of its moments the timer skipped.
+    pub count: u64,
+}
+
+/// A notice of this kind, with no field used but the processor.
+fn of_kind(kind: u8, vp: u8) -> PlainNotice
+    ensures { result ≡ mute kind vp }
+{
+    PlainNotice {
+        kind,
+        vp,
+        sint: 0,
+        vector: 0,
+        timer: 0,
+        flag: 0,
+        ticket: 0,
+        due: 0,
+        count: 0,
+    }
+}
+
+/// A notice in plain numbers.
+pub fn plain_notice(notice: &Notice) -> PlainNotice
+    ensures { result ≡ notice_told notice.now }
+{
+    match *notice {
+        Notice::Accepted { ticket, vp, sint } => PlainNotice {
+            sint: sint.number(),
+            ticket,
+            ..of_kind(1, vp.number())
+        },
+        Notice::Placed { ticket, vp, sint } => PlainNotice {
+            sint: sint.number(),
+            ticket,
+            ..of_kind(2, vp.number())
+        },
+        Notice::Pending { vp, sint } => PlainNotice {
+            sint: sint.number(),
+            ..of_kind(3, vp.number())
+        },
+        Notice::Requested { vp, vector } => PlainNotice {
+            vector: vector.number(),
+            ..of_kind(4, vp.number())
+        },
+        Notice::FlagSet { vp, sint, flag } => PlainNotice {
+            sint: sint.number(),
+            flag,
+            ..of_kind(5, vp.number())
+        },
+        Notice::Consumed { ticket, vp, sint } => PlainNotice {
+            sint: sint.number(),
+            ticket,
+            ..of_kind(6, vp.number())
+        },
+        Notice::Withdrawn { ticket, vp, sint } => PlainNotice {
+            sint: sint.number(),
+            ticket,
+            ..of_kind(7, vp.number())
+        },
+        Notice::Expired { vp, index, due } => PlainNotice {
+            timer: index,
+            due,
+            ..of_kind(8, vp.number())
+        },
+        Notice::Skipped { vp, index, count } => PlainNotice {
+            timer: index,
+            count,
+            ..of_kind(9, vp.number())
+        },
+    }
+}
+
+/// Notices in plain numbers at the front of a room, as many as fit.
+pub fn put_plain(notices: &[Notice], room: &mut [PlainNotice])
+    ensures { Fronts (map notice_told notices.now) room.old room.new }
+{
+    for at in 0..notices.len().min(room.len()) {
+        room[at] = plain_notice(&notices[at]);
+    }
+}

@@ -1,0 +1,37 @@
+//! The interrupt side of a Hyper-V-like partition: one `use` for a program in Rattle.
+//!
+//! A board is handed events, and answers each with a reply and its notices:
+//!
+//! ```rust
+//! let mut board = Board::open(rt.alloc(), 1, 4, 0)?;
+//! let mut notices = Notices::open(rt.alloc())?;
+//! let vector = Vector::new(0x50).ok_or("vector")?;
+//! let reply = board.perform(&Event::Assert { vp: 0, vector }, &mut notices);
+//! assert_eq!(rt; reply, Reply::Done);
+//! assert_eq!(rt; board.perform(&Event::Take { vp: 0 }, &mut notices), Reply::Taken(Some(vector)));
+//! ```
+//!
+//! A script has its text, and a trace its verdict:
+//!
+//! ```rust
+//! let mut script: &[u8] = b"board 1 4 0\nread 0 40000081\n";
+//! let mut text = Vec::new(rt.alloc());
+//! assert_eq!(rt; replay(rt.alloc(), &mut script, &mut text), ReplayEnd::Done);
+//! assert_eq!(rt; text.as_slice(), b"= value 1\n".as_slice());
+//! ```
+#![tactic(auto)]
+
+#[cfg(test)]
+mod tests;
+
+pub use board_script::{CheckEnd, CrewRun, ReplayEnd, ScriptFault, check_trace, crew, replay};
+pub use board_terms::{
+    Bytes8, Kind, Moment, Notice, Notices, Owner, PayloadBytes, PortShape, Refusal, Sint, Ticket,
+    TimerId, Vector, Vp,
+};
+pub use board_threads::{
+    Actor, ActorCalls, CallFault, CrewEnd, CrewFault, Ended, Gate, Line, OpenGate, Raised, Scripts,
+    SettleFault, Setup, SharedBoard, Standing, Step, Worker, run_crew,
+};
+pub use board_trace::{Format, put_trace};
+pub use synic_board::{Board, Entry, Event, OpenFault, Reply, Stopped, Summary, msr, run};

@@ -1,0 +1,83 @@
+// What a user meets first, by one `use`.
+use crate::{
+    Board, CheckEnd, Event, Notice, Notices, PayloadBytes, PortShape, ReplayEnd, Reply, Sint,
+    Vector, Vp, check_trace, msr, replay,
+};
+use std::test::Fail;
+
+#[test]
+fn a_vector_is_asserted_and_taken(rt: HostRuntime) -> Result<(), Fail> {
+    let mut board = Board::open(rt.alloc(), 1, 4, 0)?;
+    let mut notices = Notices::open(rt.alloc())?;
+    let vector = Vector::new(0x50).ok_or("vector")?;
+    let reply = board.perform(&Event::Assert { vp: 0, vector }, &mut notices);
+    assert_eq!(rt; reply, Reply::Done);
+    assert_eq!(rt;
+        board.perform(&Event::Take { vp: 0 }, &mut notices),
+        Reply::Taken(Some(vector))
+    );
+    Ok(())
+}
+
+#[test]
+fn a_message_reaches_its_slot(rt: HostRuntime) -> Result<(), Fail> {
+    let mut board = Board::open(rt.alloc(), 1, 4, 0)?;
+    let mut notices = Notices::open(rt.alloc())?;
+    let vp = Vp::new(0).ok_or("processor")?;
+    let sint = Sint::new(2).ok_or("source")?;
+    let shape = PortShape::Messages { buffers: 2 };
+    let payload = PayloadBytes::new();
+    for event in [
+        Event::Write {
+            vp: 0,
+            register: msr::SCONTROL,
+            value: 1,
+        },
+        Event::Write {
+            vp: 0,
+            register: msr::SIMP,
+            value: 0x2001,
+        },
+        Event::OpenPort {
+            port: 3,
+            vp: 0,
+            sint: 2,
+            shape,
+        },
+    ] {
+        assert_eq!(rt; board.perform(&event, &mut notices), Reply::Done);
+    }
+    let post = Event::Post {
+        port: 3,
+        kind: 1,
+        payload,
+    };
+    assert_eq!(rt; board.perform(&post, &mut notices), Reply::Accepted(0));
+    let placed = Notice::Placed {
+        ticket: 0,
+        vp,
+        sint,
+    };
+    assert!(rt; notices.as_slice().iter().any(|notice| *notice == placed));
+    Ok(())
+}
+
+#[test]
+fn a_script_has_its_text(rt: HostRuntime) -> Result<(), Fail> {
+    let mut script: &[u8] = b"board 1 4 0\nread 0 40000081\n";
+    let mut text = Vec::new(rt.alloc());
+    assert_eq!(rt; replay(rt.alloc(), &mut script, &mut text), ReplayEnd::Done);
+    assert_eq!(rt; text.as_slice(), b"= value 1\n".as_slice());
+    Ok(())
+}
+
+#[test]
+fn a_trace_has_its_verdict(rt: HostRuntime) -> Result<(), Fail> {
+    let mut trace: &[u8] = b"trace 1\nboard 1 4 0\n0 read 0 40000081\n= value 1\nend 1\n";
+    let mut verdict = Vec::new(rt.alloc());
+    assert_eq!(rt;
+        check_trace(rt.alloc(), &mut trace, &mut verdict),
+        CheckEnd::Legal(1)
+    );
+    Ok(())
+}

@@ -1,0 +1,27 @@
+// An event for the desk behind a handle.
+ghost use Rattle.std.specs.Prelude.{None, Some};
+ghost use Rattle.synic_c.specs.Asked.{IsAsked};
+
+use desk_handle::Handle;
+use plain_terms::{Fault, PlainReply, plain_fault, plain_reply};
+use synic_board::Event;
+
+/// Performs an event on the board behind a handle, if there is one.
+pub(crate) fn asked(handle: &mut Handle, event: &Event) -> PlainReply
+    ensures { IsAsked (Some event.now) handle.old.desk handle.new.desk result }
+{
+    match handle.desk_mut() {
+        Some(desk) => plain_reply(&desk.perform(event)),
+        None => plain_fault(Fault::Closed),
+    }
+}
+
+/// What is answered where the numbers of a call mean no event.
+pub(crate) fn asked_nothing(handle: &mut Handle) -> PlainReply
+    ensures { IsAsked None handle.old.desk handle.new.desk result }
+{
+    match handle.desk_mut() {
+        Some(_) => plain_fault(Fault::NoEvent),
+        None => plain_fault(Fault::Closed),
+    }
+}

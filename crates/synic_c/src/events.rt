@@ -1,0 +1,221 @@
+// A call for each event.
+ghost use Rattle.std.specs.Prelude.{◌≡◌, Some};
+ghost use Rattle.plain_terms.specs.Events.{event_meant};
+ghost use Rattle.synic_c.specs.Asked.{IsAsked, message_meant, stored_meant, asserted_meant};
+ghost use Rattle.synic_board.specs.declared.event.Event.TheVariants as event;
+ghost use Rattle.board_terms.specs.declared.messages.PortShape.TheVariants as shape;
+
+use crate::asked::{asked, asked_nothing};
+use board_terms::{Bytes8, PayloadBytes, PortShape, Vector};
+use desk_handle::Handle;
+use plain_terms::{PlainEvent, PlainReply, event_of};
+use synic_board::Event;
+
+/// A port for messages is opened to source `sint` of processor `vp`, with 1 to 16 buffers.
+#[unsafe(no_mangle)]
+pub extern "C" fn synicboard_open_message_port(
+    handle: &mut Handle,
+    port: u8,
+    vp: u8,
+    sint: u8,
+    buffers: u8,
+) -> PlainReply
+    ensures { IsAsked (Some (event.OpenPort port vp sint (shape.Messages buffers))) handle.old.desk handle.new.desk result }
+{
+    asked(
+        handle,
+        &Event::OpenPort {
+            port,
+            vp,
+            sint,
+            shape: PortShape::Messages { buffers },
+        },
+    )
+}
+
+/// A port for `count` event flags from `base` on is opened to source `sint` of processor `vp`.
+#[unsafe(no_mangle)]
+pub extern "C" fn synicboard_open_event_port(
+    handle: &mut Handle,
+    port: u8,
+    vp: u8,
+    sint: u8,
+    base: u16,
+    count: u16,
+) -> PlainReply
+    ensures { IsAsked (Some (event.OpenPort port vp sint (shape.Flags base count))) handle.old.desk handle.new.desk result }
+{
+    asked(
+        handle,
+        &Event::OpenPort {
+            port,
+            vp,
+            sint,
+            shape: PortShape::Flags { base, count },
+        },
+    )
+}
+
+/// A port is closed.
+#[unsafe(no_mangle)]
+pub extern "C" fn synicboard_close_port(handle: &mut Handle, port: u8) -> PlainReply
+    ensures { IsAsked (Some (event.ClosePort port)) handle.old.desk handle.new.desk result }
+{
+    asked(handle, &Event::ClosePort { port })
+}
+
+/// A guest writes a register of processor `vp`.
+#[unsafe(no_mangle)]
+pub extern "C" fn synicboard_write(
+    handle: &mut Handle,
+    vp: u8,
+    register: u32,
+    value: u64,
+) -> PlainReply
+    ensures { IsAsked (Some (event.Write vp register value)) handle.old.desk handle.new.desk result }
+{
+    asked(
+        handle,
+        &Event::Write {
+            vp,
+            register,
+            value,
+        },
+    )
+}
+
+/// A guest reads a register of processor `vp`.
+#[unsafe(no_mangle)]
+pub extern "C" fn synicboard_read(handle: &mut Handle, vp: u8, register: u32) -> PlainReply
+    ensures { IsAsked (Some (event.Read vp register)) handle.old.desk handle.new.desk result }
+{
+    asked(handle, &Event::Read { vp, register })
+}
+
+/// A message with a payload of up to 240 bytes is posted to a port.
+#[unsafe(no_mangle)]
+pub extern "C" fn synicboard_post(
+    handle: &mut Handle,
+    port: u8,
+    message_type: u32,
+    payload: &[u8],
+) -> PlainReply
+    ensures { IsAsked (message_meant port message_type payload.now) handle.old.desk handle.new.desk result }
+{
+    let mut fitting = PayloadBytes::new();
+    if fitting.try_extend_from_slice(payload).is_err() {
+        return asked_nothing(handle);
+    }
+    asked(
+        handle,
+        &Event::Post {
+            port,
+            kind: message_type,
+            payload: fitting,
+        },
+    )
+}
+
+/// An event flag of a port is signalled.
+#[unsafe(no_mangle)]
+pub extern "C" fn synicboard_signal(handle: &mut Handle, port: u8, flag: u16) -> PlainReply
+    ensures { IsAsked (Some (event.Signal port flag)) handle.old.desk handle.new.desk result }
+{
+    asked(handle, &Event::Signal { port, flag })
+}
+
+/// A device asserts a vector, 16 to 255, at the local APIC of processor `vp`.
+#[unsafe(no_mangle)]
+pub extern "C" fn synicboard_assert(handle: &mut Handle, vp: u8, vector: u8) -> PlainReply
+    ensures { IsAsked (asserted_meant vp vector) handle.old.desk handle.new.desk result }
+{
+    match Vector::new(vector) {
+        None => asked_nothing(handle),
+        Some(vector) => asked(handle, &Event::Assert { vp, vector }),
+    }
+}
+
+/// Posted vectors are taken in: bit i of `bits` is vector 64 * `part` + i.
+#[unsafe(no_mangle)]
+pub extern "C" fn synicboard_absorb(handle: &mut Handle, vp: u8, part: u8, bits: u64) -> PlainReply
+    ensures { IsAsked (Some (event.Absorb vp part bits)) handle.old.desk handle.new.desk result }
+{
+    asked(handle, &Event::Absorb { vp, part, bits })
+}
+
+/// A guest stores up to 8 bytes at a guest physical address.
+#[unsafe(no_mangle)]
+pub extern "C" fn synicboard_store(handle: &mut Handle, address: u64, bytes: &[u8]) -> PlainReply
+    ensures { IsAsked (stored_meant address bytes.now) handle.old.desk handle.new.desk result }
+{
+    let mut fitting = Bytes8::new();
+    if fitting.try_extend_from_slice(bytes).is_err() {
+        return asked_nothing(handle);
+    }
+    asked(
+        handle,
+        &Event::Store {
+            address,
+            bytes: fitting,
+        },
+    )
+}
+
+/// A guest loads so many bytes from a guest physical address.
+#[unsafe(no_mangle)]
+pub extern "C" fn synicboard_load(handle: &mut Handle, address: u64, length: u8) -> PlainReply
+    ensures { IsAsked (Some (event.Load address length)) handle.old.desk handle.new.desk result }
+{
+    asked(handle, &Event::Load { address, length })
+}
+
+/// The clock goes on to a moment, in units of 100 ns.
+#[unsafe(no_mangle)]
+pub extern "C" fn synicboard_tick(handle: &mut Handle, moment: u64) -> PlainReply
+    ensures { IsAsked (Some (event.Tick moment)) handle.old.desk handle.new.desk result }
+{
+    asked(handle, &Event::Tick { moment })
+}
+
+/// Processor `vp` takes its next interrupt.
+#[unsafe(no_mangle)]
+pub extern "C" fn synicboard_take(handle: &mut Handle, vp: u8) -> PlainReply
+    ensures { IsAsked (Some (event.Take vp)) handle.old.desk handle.new.desk result }
+{
+    asked(handle, &Event::Take { vp })
+}
+
+/// Processor `vp` is suspended.
+#[unsafe(no_mangle)]
+pub extern "C" fn synicboard_suspend(handle: &mut Handle, vp: u8) -> PlainReply
+    ensures { IsAsked (Some (event.Suspend vp)) handle.old.desk handle.new.desk result }
+{
+    asked(handle, &Event::Suspend { vp })
+}
+
+/// Processor `vp` goes on.
+#[unsafe(no_mangle)]
+pub extern "C" fn synicboard_resume(handle: &mut Handle, vp: u8) -> PlainReply
+    ensures { IsAsked (Some (event.Resume vp)) handle.old.desk handle.new.desk result }
+{
+    asked(handle, &Event::Resume { vp })
+}
+
+/// Processor `vp` is reset.
+#[unsafe(no_mangle)]
+pub extern "C" fn synicboard_reset(handle: &mut Handle, vp: u8) -> PlainReply
+    ensures { IsAsked (Some (event.Reset vp)) handle.old.desk handle.new.desk result }
+{
+    asked(handle, &Event::Reset { vp })
+}
+
+/// An event in plain numbers.
+#[unsafe(no_mangle)]
+pub extern "C" fn synicboard_perform(handle: &mut Handle, plain: &PlainEvent) -> PlainReply
+    ensures { IsAsked (event_meant plain.now) handle.old.desk handle.new.desk result }
+{
+    match event_of(plain) {
+        None => asked_nothing(handle),
+        Some(event) => asked(handle, &event),
+    }
+}

@@ -1,0 +1,11 @@
+//! The board for C (`include/synicboard.h`). Each call says in its contract what the desk behind the
+//! handle is afterwards.
+#![tactic(auto)]
+
+mod asked;
+mod events;
+mod looks;
+mod notices;
+mod opening;
+mod pages;
+mod texts;

@@ -1,0 +1,52 @@
+// A board is opened and closed.
+ghost use Rattle.std.specs.Prelude.{◌≡◌, ◌≢◌, ◌↔◌, IsSome, None, IsSomeAnd, []};
+ghost use Rattle.synic_board.specs.State.{AreSizes, opened};
+ghost use Rattle.synic_c.specs.Opened.{IsNewDesk};
+
+use board_desk::Desk;
+use desk_handle::Handle;
+use std::alloc::Global;
+use synic_board::OpenFault;
+
+/// Opens a board of that many processors and guest pages at moment 0, whose first accepted message
+/// takes `first_ticket`, behind a closed handle. 0, or why not: 1 unless there are 1 to 8 processors
+/// and 1 to 64 pages, 2 for want of memory, 3 where a board is open behind the handle already. All
+/// memory that events need is taken here.
+#[unsafe(no_mangle)]
+pub extern "C" fn synicboard_open(
+    alloc: Global,
+    handle: &mut Handle,
+    processors: u8,
+    pages: u8,
+    first_ticket: u64,
+) -> u8
+    ensures before { (result ≡ 3) ↔ IsSome handle.old.desk }
+    ensures size { (result ≡ 1) ↔ ((handle.old.desk ≡ None) × (¬ AreSizes processors pages)) }
+    ensures opened { result ≡ 0 → IsNewDesk processors pages first_ticket handle.new.desk }
+    ensures not_opened { result ≢ 0 → handle.new.desk ≡ handle.old.desk }
+{
+    if let Some(desk) = handle.take(alloc) {
+        let _ = handle.put(alloc, desk);
+        return 3;
+    }
+    let desk = match Desk::open(alloc, processors, pages, first_ticket) {
+        Ok(desk) => desk,
+        Err(OpenFault::BadSize) => return 1,
+        Err(OpenFault::Memory) => return 2,
+    };
+    match Box::new(alloc, desk) {
+        Ok(desk) => {
+            let _ = handle.put(alloc, desk);
+            0
+        }
+        Err(_) => 2,
+    }
+}
+
+/// Closes the board behind a handle, if one is open, and gives its memory back.
+#[unsafe(no_mangle)]
+pub extern "C" fn synicboard_close(alloc: Global, handle: &mut Handle)
+    ensures { handle.new.desk ≡ None }
+{
+    let _ = handle.take(alloc);
+}

@@ -1,0 +1,63 @@
+// The pages of the board, where they lie.
+ghost use Rattle.std.specs.Prelude.{◌≡◌};
+ghost use Rattle.board_terms.specs.declared.pages.Kind.TheVariants as kind;
+ghost use Rattle.synic_c.specs.Told.{has_own_page, has_guest_page};
+
+use board_terms::{Kind, Vp};
+use desk_handle::Handle;
+use std::ptr::from_ref;
+
+/// Where the page of messages of a processor lies, 4096 bytes, visible or not. Whether there is one.
+/// It may be read until the board is closed, and not while a call runs.
+#[unsafe(no_mangle)]
+pub extern "C" fn synicboard_message_page(handle: &mut Handle, vp: u8, page: &mut *const u8) -> bool
+    ensures desk { handle.new.desk ≡ handle.old.desk }
+    ensures found { result ≡ has_own_page handle.old.desk vp kind.Sim }
+{
+    own_page(handle, vp, Kind::Sim, page)
+}
+
+/// Where the page of event flags of a processor lies, 4096 bytes, visible or not. Whether there is one.
+/// It may be read until the board is closed, and not while a call runs.
+#[unsafe(no_mangle)]
+pub extern "C" fn synicboard_flag_page(handle: &mut Handle, vp: u8, page: &mut *const u8) -> bool
+    ensures desk { handle.new.desk ≡ handle.old.desk }
+    ensures found { result ≡ has_own_page handle.old.desk vp kind.Sief }
+{
+    own_page(handle, vp, Kind::Sief, page)
+}
+
+fn own_page(handle: &mut Handle, vp: u8, kind: Kind, page: &mut *const u8) -> bool
+    ensures desk { handle.new.desk ≡ handle.old.desk }
+    ensures found { result ≡ has_own_page handle.old.desk vp kind }
+{
+    let (Some(desk), Some(vp)) = (handle.desk_mut(), Vp::new(vp)) else {
+        return false;
+    };
+    let Some(bytes) = desk.board.own_page(vp, kind) else {
+        return false;
+    };
+    *page = from_ref(&bytes[0]);
+    true
+}
+
+/// Where a guest page lies, 4096 bytes, without the overlays above it. Whether there is one. It may be
+/// read until the board is closed, and not while a call runs.
+#[unsafe(no_mangle)]
+pub extern "C" fn synicboard_guest_page(
+    handle: &mut Handle,
+    number: u64,
+    page: &mut *const u8,
+) -> bool
+    ensures desk { handle.new.desk ≡ handle.old.desk }
+    ensures found { result ≡ has_guest_page handle.old.desk number }
+{
+    let Some(desk) = handle.desk_mut() else {
+        return false;
+    };
+    let Some(bytes) = desk.board.guest_page(number) else {
+        return false;
+    };
+    *page = from_ref(&bytes[0]);
+    true
+}

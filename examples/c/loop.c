@@ -1,0 +1,148 @@
+/* A toy hypervisor: two processors with a thread each, and a device, on a board behind one lock. Its loops
+ * are those of docs/EMBEDDING.md. The clock goes on when neither processor has anything to do, so that no
+ * schedule changes what is printed.
+ *
+ *   cc -I include examples/c/loop.c build/libsynicboard.a -pthread -o loop */
+#include <pthread.h>
+#include <stdio.h>
+#include <stdlib.h>
+
+#include "synicboard.h"
+
+enum { PROCESSORS = 2, MESSAGES = 200, PORT = 3, SOURCE = 2, END = 3000 };
+enum { TIMER_VECTOR = 0x40, MESSAGE_VECTOR = 0x50, SLOT = 0x2000 + 256 * SOURCE };
+enum { EOI = 0x40000070, SCONTROL = 0x40000080, SIMP = 0x40000083, EOM = 0x40000084, SINT0 = 0x40000090 };
+enum { STIMER0_CONFIG = 0x400000b0, STIMER0_COUNT = 0x400000b1, PERIODIC_DIRECT = 0x1003 };
+
+/* A board takes one call at a time, so who calls it holds the lock. All else here stands under it, too. */
+static pthread_mutex_t lock = PTHREAD_MUTEX_INITIALIZER;
+static pthread_cond_t kicked[PROCESSORS] = { PTHREAD_COND_INITIALIZER, PTHREAD_COND_INITIALIZER };
+static pthread_cond_t placed = PTHREAD_COND_INITIALIZER;
+static synicboard board = SYNICBOARD_CLOSED;
+static const uint8_t *message_page; /* of processor 1, wherever its guest sees it */
+static unsigned handled, in_order, sum, timer_interrupts[PROCESSORS];
+static bool runs_guest[PROCESSORS];
+
+/* What the host does with an event's answer: a vector that was requested kicks its processor, and where a
+ * message was placed a buffer is free again. This guest raises no #GP, and is refused nothing. */
+static void answer(synicboard_reply reply)
+{
+    synicboard_notice notices[SYNICBOARD_MOST_NOTICES];
+    size_t count = synicboard_notices(&board, notices, SYNICBOARD_MOST_NOTICES);
+    if (reply.kind != SYNICBOARD_DONE && reply.kind != SYNICBOARD_ACCEPTED)
+        exit(1);
+    for (size_t at = 0; at < count; at++) {
+        if (notices[at].kind == SYNICBOARD_NOTICE_REQUESTED)
+            pthread_cond_signal(&kicked[notices[at].vp]);
+        if (notices[at].kind == SYNICBOARD_NOTICE_PLACED)
+            pthread_cond_signal(&placed);
+    }
+}
+
+/* An exit of a guest that writes a register. */
+static void write_register(uint8_t vp, uint32_t msr, uint64_t value)
+{
+    pthread_mutex_lock(&lock);
+    answer(synicboard_write(&board, vp, msr, value));
+    pthread_mutex_unlock(&lock);
+}
+
+/* The guest reads its slot, empties it by a store where SIMP placed the page, and writes EOM. A post may
+ * set MessagePending in the page meanwhile, so the lock is held for reading it, too. */
+static void handle_message(uint8_t vp)
+{
+    static const uint8_t empty[4];
+    pthread_mutex_lock(&lock);
+    unsigned payload = message_page[256 * SOURCE + 16];
+    handled++;
+    in_order += payload == handled;
+    sum += payload;
+    answer(synicboard_store(&board, SLOT, empty, sizeof empty));
+    pthread_mutex_unlock(&lock);
+    write_register(vp, EOM, 0);
+}
+
+/* The host's timer, when no guest has anything to do: a tick to the moment that is due first. */
+static bool tick(void)
+{
+    bool is_idle = true;
+    for (uint8_t vp = 0; vp < PROCESSORS; vp++)
+        is_idle = is_idle && !runs_guest[vp] && synicboard_next(&board, vp) == 0;
+    uint64_t due = synicboard_earliest(&board).low;
+    if (is_idle && due <= END)
+        answer(synicboard_tick(&board, due));
+    return is_idle && due <= END;
+}
+
+/* Before each entry the next vector is asked for and taken; without one the processor waits for a kick. */
+static void *run_processor(void *number)
+{
+    uint8_t vp = *(const uint8_t *)number;
+    pthread_mutex_lock(&lock);
+    while (synicboard_next(&board, vp) != 0 || handled < MESSAGES || synicboard_earliest(&board).low <= END) {
+        if (synicboard_next(&board, vp) != 0) {
+            uint8_t vector = synicboard_take(&board, vp).vector;
+            timer_interrupts[vp] += vector == TIMER_VECTOR;
+            runs_guest[vp] = true;
+            pthread_mutex_unlock(&lock);
+            if (vector == MESSAGE_VECTOR)
+                handle_message(vp);
+            write_register(vp, EOI, 0);
+            pthread_mutex_lock(&lock);
+            runs_guest[vp] = false;
+        } else if (!tick()) {
+            pthread_cond_wait(&kicked[vp], &lock);
+        }
+    }
+    pthread_cond_signal(&kicked[1 - vp]); /* so that the other sees that all is done */
+    pthread_mutex_unlock(&lock);
+    return NULL;
+}
+
+/* The device posts. Without a buffer it waits until a message is placed, and posts again. */
+static void run_device(void)
+{
+    for (uint8_t number = 1; number <= MESSAGES; number++) {
+        synicboard_reply reply;
+        pthread_mutex_lock(&lock);
+        while ((reply = synicboard_post(&board, PORT, 1, &number, 1)).refusal == SYNICBOARD_NO_BUFFERS)
+            pthread_cond_wait(&placed, &lock);
+        answer(reply);
+        pthread_mutex_unlock(&lock);
+    }
+}
+
+/* Processor 1 has its messages at page 2, and each processor a periodic timer in direct mode. */
+static void set_up(void)
+{
+    write_register(1, SCONTROL, 1);
+    write_register(1, SIMP, 0x2001);
+    write_register(1, SINT0 + SOURCE, MESSAGE_VECTOR);
+    answer(synicboard_open_message_port(&board, PORT, 1, SOURCE, 4));
+    for (uint8_t vp = 0; vp < PROCESSORS; vp++) {
+        write_register(vp, STIMER0_COUNT, 100 + 50 * vp);
+        write_register(vp, STIMER0_CONFIG, PERIODIC_DIRECT | TIMER_VECTOR << 4);
+    }
+}
+
+int main(void)
+{
+    static const uint8_t numbers[PROCESSORS] = { 0, 1 };
+    pthread_t threads[PROCESSORS];
+    if (synicboard_open(&board, PROCESSORS, 4, 0) != SYNICBOARD_OPENED)
+        return 1;
+    if (!synicboard_message_page(&board, 1, &message_page))
+        return 1;
+    set_up();
+    for (uint8_t vp = 0; vp < PROCESSORS; vp++)
+        if (pthread_create(&threads[vp], NULL, run_processor, (void *)&numbers[vp]) != 0)
+            return 1;
+    run_device();
+    for (uint8_t vp = 0; vp < PROCESSORS; vp++) {
+        pthread_join(threads[vp], NULL);
+        printf("processor %u: %u timer interrupts\n", vp, timer_interrupts[vp]);
+    }
+    printf("%u messages, %u of them in order, with a sum of %u\n", handled, in_order, sum);
+    synicboard_close(&board);
+    return 0;
+}

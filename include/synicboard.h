@@ -1,0 +1,278 @@
+/* synicboard: the interrupt side of a Hyper-V-like partition, as a library for C.
+ *
+ * A board has 1 to 8 processors and 1 to 64 guest pages. It is handed events, and answers each with a
+ * reply and its notices; the answers are those of the machine that docs/MACHINE.md says in words.
+ * docs/EMBEDDING.md has the run loop round it.
+ *
+ * A handle is closed when it is all zeros, and is opened and closed by the calls below. It may be
+ * moved, and not copied; its fields are the library's. One call at a time may use a handle: threads
+ * that share one hold a lock of their own. After synicboard_open no call takes memory but
+ * synicboard_replay and synicboard_check, which use no handle. No call ends the program, and none
+ * calls back. A pointer that is asked for must not be null; where a count of 0 goes with it, it may
+ * point anywhere that is not null.
+ */
+#ifndef SYNICBOARD_H
+#define SYNICBOARD_H
+
+#include <stdbool.h>
+#include <stddef.h>
+#include <stdint.h>
+
+#ifdef __cplusplus
+extern "C" {
+#endif
+
+/* The version of these declarations; the bindings for Rust have the same. */
+#define SYNICBOARD_VERSION_MAJOR 1
+#define SYNICBOARD_VERSION_MINOR 0
+
+typedef struct synicboard {
+    void *at;
+    bool is_open;
+} synicboard;
+
+/* A closed handle. */
+#define SYNICBOARD_CLOSED { 0, false }
+
+/* What synicboard_open answers. */
+enum {
+    SYNICBOARD_OPENED = 0,
+    SYNICBOARD_BAD_SIZE = 1,    /* not 1 to 8 processors, or not 1 to 64 pages */
+    SYNICBOARD_NO_MEMORY = 2,
+    SYNICBOARD_IS_OPEN = 3      /* a board is open behind the handle already */
+};
+
+/* Opens a board at moment 0, whose first accepted message takes `first_ticket`. */
+uint8_t synicboard_open(synicboard *board, uint8_t processors, uint8_t pages, uint64_t first_ticket);
+
+/* Closes the board, if one is open, and gives its memory back. */
+void synicboard_close(synicboard *board);
+
+/* The kinds of replies. */
+enum {
+    SYNICBOARD_NOT_PERFORMED = 0,       /* `fault` says why; nothing was changed */
+    SYNICBOARD_DONE = 1,
+    SYNICBOARD_VALUE = 2,               /* `value` */
+    SYNICBOARD_BYTES = 3,               /* the first `length` of `bytes` */
+    SYNICBOARD_TAKEN = 4,               /* `vector` */
+    SYNICBOARD_NONE_TAKEN = 5,
+    SYNICBOARD_ACCEPTED = 6,            /* `ticket` */
+    SYNICBOARD_FLAG_WAS_CLEAR = 7,
+    SYNICBOARD_FLAG_WAS_SET = 8,
+    SYNICBOARD_GENERAL_PROTECTION = 9,  /* nothing was changed */
+    SYNICBOARD_REFUSED = 10             /* `refusal`; nothing was changed */
+};
+
+/* Why nothing was performed. */
+enum {
+    SYNICBOARD_NO_BOARD = 1,            /* the handle is closed */
+    SYNICBOARD_NO_EVENT = 2             /* a vector below 16, too many bytes, or no such kind */
+};
+
+/* Why an event was refused. */
+enum {
+    SYNICBOARD_UNKNOWN_PORT = 1,
+    SYNICBOARD_PORT_OPEN = 2,
+    SYNICBOARD_WRONG_KIND = 3,
+    SYNICBOARD_BAD_TARGET = 4,
+    SYNICBOARD_BAD_TYPE = 5,
+    SYNICBOARD_BAD_FLAG = 6,
+    SYNICBOARD_SYNIC_OFF = 7,
+    SYNICBOARD_NO_BUFFERS = 8,
+    SYNICBOARD_TICKETS_SPENT = 9,
+    SYNICBOARD_CLOCK_BACK = 10,
+    SYNICBOARD_OUTSIDE_SPACE = 11,
+    SYNICBOARD_CROSSES_PAGE = 12,
+    SYNICBOARD_BAD_LENGTH = 13,
+    SYNICBOARD_NO_SUCH_PROCESSOR = 14,
+    SYNICBOARD_ALREADY_SUSPENDED = 15,
+    SYNICBOARD_NOT_SUSPENDED = 16
+};
+
+/* A reply; what its kind does not use is 0. */
+typedef struct synicboard_reply {
+    uint8_t kind;
+    uint8_t fault;
+    uint8_t refusal;
+    uint8_t vector;
+    uint8_t length;
+    uint64_t value;
+    uint64_t ticket;
+    uint8_t bytes[8];
+} synicboard_reply;
+
+/* A call for each event. */
+synicboard_reply synicboard_open_message_port(synicboard *board, uint8_t port, uint8_t vp, uint8_t sint, uint8_t buffers);
+synicboard_reply synicboard_open_event_port(synicboard *board, uint8_t port, uint8_t vp, uint8_t sint, uint16_t base, uint16_t count);
+synicboard_reply synicboard_close_port(synicboard *board, uint8_t port);
+synicboard_reply synicboard_write(synicboard *board, uint8_t vp, uint32_t msr, uint64_t value);
+synicboard_reply synicboard_read(synicboard *board, uint8_t vp, uint32_t msr);
+/* Up to 240 bytes. */
+synicboard_reply synicboard_post(synicboard *board, uint8_t port, uint32_t message_type, const uint8_t *payload, size_t length);
+synicboard_reply synicboard_signal(synicboard *board, uint8_t port, uint16_t flag);
+/* A vector from 16 on. */
+synicboard_reply synicboard_assert(synicboard *board, uint8_t vp, uint8_t vector);
+/* Bit i of `bits` is vector 64 * part + i. */
+synicboard_reply synicboard_absorb(synicboard *board, uint8_t vp, uint8_t part, uint64_t bits);
+/* Up to 8 bytes. */
+synicboard_reply synicboard_store(synicboard *board, uint64_t address, const uint8_t *bytes, size_t length);
+synicboard_reply synicboard_load(synicboard *board, uint64_t address, uint8_t length);
+/* In units of 100 ns. */
+synicboard_reply synicboard_tick(synicboard *board, uint64_t moment);
+synicboard_reply synicboard_take(synicboard *board, uint8_t vp);
+synicboard_reply synicboard_suspend(synicboard *board, uint8_t vp);
+synicboard_reply synicboard_resume(synicboard *board, uint8_t vp);
+synicboard_reply synicboard_reset(synicboard *board, uint8_t vp);
+
+/* The kinds of events. */
+enum {
+    SYNICBOARD_OPEN_MESSAGE_PORT = 1,   /* port, vp, sint, buffers */
+    SYNICBOARD_OPEN_EVENT_PORT = 2,     /* port, vp, sint, flag (the first), count */
+    SYNICBOARD_CLOSE_PORT = 3,          /* port */
+    SYNICBOARD_WRITE = 4,               /* vp, msr, value */
+    SYNICBOARD_READ = 5,                /* vp, msr */
+    SYNICBOARD_POST = 6,                /* port, message_type, bytes, length */
+    SYNICBOARD_SIGNAL = 7,              /* port, flag */
+    SYNICBOARD_ASSERT = 8,              /* vp, vector */
+    SYNICBOARD_ABSORB = 9,              /* vp, part, value (the bits) */
+    SYNICBOARD_STORE = 10,              /* address, bytes, length */
+    SYNICBOARD_LOAD = 11,               /* address, length */
+    SYNICBOARD_TICK = 12,               /* moment */
+    SYNICBOARD_TAKE = 13,               /* vp */
+    SYNICBOARD_SUSPEND = 14,            /* vp */
+    SYNICBOARD_RESUME = 15,             /* vp */
+    SYNICBOARD_RESET = 16               /* vp */
+};
+
+/* An event; what its kind does not use is not looked at. */
+typedef struct synicboard_event {
+    uint8_t kind;
+    uint8_t vp;
+    uint8_t sint;
+    uint8_t port;
+    uint8_t buffers;
+    uint8_t vector;
+    uint8_t part;
+    uint8_t length;
+    uint16_t flag;
+    uint16_t count;
+    uint32_t msr;
+    uint32_t message_type;
+    uint64_t value;
+    uint64_t address;
+    uint64_t moment;
+    uint8_t bytes[240];
+} synicboard_event;
+
+synicboard_reply synicboard_perform(synicboard *board, const synicboard_event *event);
+
+/* The kinds of notices. */
+enum {
+    SYNICBOARD_NOTICE_ACCEPTED = 1,     /* ticket, vp, sint */
+    SYNICBOARD_NOTICE_PLACED = 2,       /* ticket, vp, sint */
+    SYNICBOARD_NOTICE_PENDING = 3,      /* vp, sint */
+    SYNICBOARD_NOTICE_REQUESTED = 4,    /* vp, vector */
+    SYNICBOARD_NOTICE_FLAG = 5,         /* vp, sint, flag */
+    SYNICBOARD_NOTICE_CONSUMED = 6,     /* ticket, vp, sint */
+    SYNICBOARD_NOTICE_WITHDRAWN = 7,    /* ticket, vp, sint */
+    SYNICBOARD_NOTICE_EXPIRED = 8,      /* vp, timer, due */
+    SYNICBOARD_NOTICE_SKIPPED = 9       /* vp, timer, count */
+};
+
+/* A notice; what its kind does not use is 0. */
+typedef struct synicboard_notice {
+    uint8_t kind;
+    uint8_t vp;
+    uint8_t sint;
+    uint8_t vector;
+    uint8_t timer;
+    uint16_t flag;
+    uint64_t ticket;
+    uint64_t due;
+    uint64_t count;
+} synicboard_notice;
+
+/* No event gives more. */
+#define SYNICBOARD_MOST_NOTICES 276
+
+/* Copies the notices of the last event, in their order and as many as there is room for, and answers how
+ * many there are. What is refused has none; where nothing was performed they are those of the event before. */
+size_t synicboard_notices(synicboard *board, synicboard_notice *room, size_t length);
+
+/* What the board is asked after each event. None of these changes it, or computes anything. */
+
+/* The next vector of a processor, 0 for none. */
+uint8_t synicboard_next(synicboard *board, uint8_t vp);
+/* Whether a vector ends by itself when a processor takes it. */
+bool synicboard_is_auto(synicboard *board, uint8_t vp, uint8_t vector);
+/* How many messages are queued for a source. */
+uint16_t synicboard_queued(synicboard *board, uint8_t vp, uint8_t sint);
+uint64_t synicboard_moment(synicboard *board);
+uint64_t synicboard_next_ticket(synicboard *board);
+
+enum {
+    SYNICBOARD_OWNER_NOTHING = 0,       /* no such page */
+    SYNICBOARD_OWNER_GUEST = 1,
+    SYNICBOARD_OWNER_MESSAGES = 2,      /* the page of messages of `vp` */
+    SYNICBOARD_OWNER_FLAGS = 3          /* the page of event flags of `vp` */
+};
+
+typedef struct synicboard_page_owner {
+    uint8_t kind;
+    uint8_t vp;
+} synicboard_page_owner;
+
+/* Whose page a guest sees at a page number. */
+synicboard_page_owner synicboard_owner(synicboard *board, uint64_t page);
+
+/* The timer that is due first, if `is_due`: at high * 2^64 + low. No clock reaches a `high` above 0. */
+typedef struct synicboard_due {
+    bool is_due;
+    uint8_t vp;
+    uint8_t timer;
+    uint64_t low;
+    uint64_t high;
+} synicboard_due;
+
+synicboard_due synicboard_earliest(synicboard *board);
+
+/* Where a page of 4096 bytes lies, for reading. Whether there is one; if not, `page` is left as it was.
+ * The address stays the same until the board is closed, and begins no page of the host's; the bytes change
+ * by events and by closing alone, so they are not read while one of these runs. A page of messages or flags is that of the
+ * processor, wherever its overlay lies; a guest page is what lies below the overlays. */
+bool synicboard_message_page(synicboard *board, uint8_t vp, const uint8_t **page);
+bool synicboard_flag_page(synicboard *board, uint8_t vp, const uint8_t **page);
+bool synicboard_guest_page(synicboard *board, uint64_t number, const uint8_t **page);
+
+/* How the reading of a text ended. */
+enum {
+    SYNICBOARD_ALL_RIGHT = 0,
+    SYNICBOARD_WRONG_LINE = 1,          /* `line` is the first that is wrong, counted from 1 */
+    SYNICBOARD_WANTED_MEMORY = 2,
+    SYNICBOARD_TOO_LONG = 3             /* more than 1,073,741,824 bytes, and no line of these is wrong */
+};
+
+typedef struct synicboard_end {
+    uint8_t kind;
+    uint64_t line;
+    size_t length;                      /* of the whole text, also where it did not fit, and 0 without one */
+} synicboard_end;
+
+/* Performs a script on a board of its own, and writes its text (docs/FORMATS.md) into a room, as much as
+ * fits; nothing where memory was wanting or the script is too long. */
+synicboard_end synicboard_replay(const uint8_t *script, size_t script_length, uint8_t *room, size_t length);
+
+typedef struct synicboard_verdict {
+    uint8_t kind;
+    uint64_t entries;                   /* of the legal history */
+    uint64_t line;
+} synicboard_verdict;
+
+/* Checks whether a text is the trace of a legal history. */
+synicboard_verdict synicboard_check(const uint8_t *trace, size_t length);
+
+#ifdef __cplusplus
+}
+#endif
+
+#endif

@@ -1,0 +1,976 @@
+/* What no script shows of the C calls: closed handles, openings that are refused, numbers that mean no
+ * event, rooms that are too small, boards side by side, handles that move, pages, and refused memory.
+ *
+ *   calls RECORDED_TRACE     (examples/recorded.trace)
+ *
+ * Each check that fails is printed, and the last line counts them; the status is 1 if there is one. */
+#define _DEFAULT_SOURCE /* for MAP_ANONYMOUS */
+#include <pthread.h>
+#include <stdbool.h>
+#include <stddef.h>
+#include <stdint.h>
+#include <stdio.h>
+#include <stdlib.h>
+#include <string.h>
+#include <sys/mman.h>
+
+#include "by_call.h"
+#include "checks.h"
+#include "synicboard.h"
+
+enum { SLOT = 256 };
+
+/* The first registers of each sort. */
+enum {
+    REFERENCE_COUNTER = 0x40000020,
+    EOI = 0x40000070,
+    SCONTROL = 0x40000080,
+    SIEFP = 0x40000082,
+    SIMP = 0x40000083,
+    EOM = 0x40000084,
+    SINT0 = 0x40000090,
+    STIMER0_CONFIG = 0x400000b0,
+    STIMER0_COUNT = 0x400000b1
+};
+
+static struct text before, after;
+
+static bool is_blank(const synicboard *board)
+{
+    return board->at == NULL && !board->is_open;
+}
+
+/* ---- Boards and events ---- */
+
+enum { MESSAGE_PORT = 3, FLAG_PORT = 4, SOURCE = 2 };
+
+/* Turns the SynIC of a processor on: its messages at page 2, its flags at page 3, SOURCE with vector 50, a
+ * port for each sort, and a periodic timer in direct mode with vector 40. */
+static void set_up(synicboard *board, uint8_t vp)
+{
+    CHECK_REPLY(synicboard_write(board, vp, SCONTROL, 1), SYNICBOARD_DONE);
+    CHECK_REPLY(synicboard_write(board, vp, SIMP, 2 * PAGE + 1), SYNICBOARD_DONE);
+    CHECK_REPLY(synicboard_write(board, vp, SIEFP, 3 * PAGE + 1), SYNICBOARD_DONE);
+    CHECK_REPLY(synicboard_write(board, vp, SINT0 + SOURCE, 0x50), SYNICBOARD_DONE);
+    CHECK_REPLY(synicboard_open_message_port(board, MESSAGE_PORT, vp, SOURCE, 2), SYNICBOARD_DONE);
+    CHECK_REPLY(synicboard_open_event_port(board, FLAG_PORT, vp, SOURCE, 8, 64), SYNICBOARD_DONE);
+    CHECK_REPLY(synicboard_write(board, vp, STIMER0_COUNT, 10), SYNICBOARD_DONE);
+    CHECK_REPLY(synicboard_write(board, vp, STIMER0_CONFIG, 0x1403), SYNICBOARD_DONE);
+}
+
+/* A board of two processors and four pages that was set up; its last event gave three notices. */
+static void open_busy(synicboard *board, uint64_t first_ticket)
+{
+    static const uint8_t payload[] = { 0x0a, 0x0b, 0x0c };
+    CHECK_NUMBER(synicboard_open(board, 2, 4, first_ticket), SYNICBOARD_OPENED);
+    set_up(board, 1);
+    CHECK_REPLY(synicboard_tick(board, 7), SYNICBOARD_DONE);
+    CHECK_REPLY(synicboard_signal(board, FLAG_PORT, 5), SYNICBOARD_FLAG_WAS_CLEAR);
+    CHECK_REPLY(synicboard_take(board, 1), SYNICBOARD_TAKEN);
+    synicboard_reply reply = synicboard_post(board, MESSAGE_PORT, 0x01020304, payload, sizeof payload);
+    CHECK_REPLY(reply, SYNICBOARD_ACCEPTED);
+    CHECK_NUMBER(reply.ticket, first_ticket);
+    synicboard_notice notice;
+    CHECK_NUMBER(synicboard_notices(board, &notice, 1), 3);
+    CHECK_NUMBER(notice.kind, SYNICBOARD_NOTICE_ACCEPTED);
+}
+
+static uint64_t random_below(uint64_t *state, uint64_t limit)
+{
+    *state ^= *state << 13;
+    *state ^= *state >> 7;
+    *state ^= *state << 17;
+    return *state % limit;
+}
+
+/* Any event; ports, suspensions and resets come seldom. */
+static uint8_t random_kind(uint64_t *state)
+{
+    static const uint8_t often[] = {
+        SYNICBOARD_WRITE, SYNICBOARD_READ, SYNICBOARD_POST, SYNICBOARD_SIGNAL, SYNICBOARD_ASSERT,
+        SYNICBOARD_ABSORB, SYNICBOARD_STORE, SYNICBOARD_LOAD, SYNICBOARD_TICK, SYNICBOARD_TAKE
+    };
+    if (random_below(state, 8) == 0)
+        return (uint8_t)(1 + random_below(state, SYNICBOARD_RESET));
+    return often[random_below(state, sizeof often)];
+}
+
+static uint32_t random_register(uint64_t *state)
+{
+    static const uint32_t registers[] = {
+        EOI, EOI, SCONTROL, SCONTROL, SIEFP, SIMP, EOM,
+        SINT0 + SOURCE, STIMER0_CONFIG, STIMER0_COUNT, REFERENCE_COUNTER
+    };
+    return registers[random_below(state, sizeof registers / sizeof *registers)];
+}
+
+static uint64_t random_value(uint64_t *state)
+{
+    static const uint64_t values[] = { 0, 1, 2 * PAGE + 1, PAGE + 1, 0x50, 0x20051, 0x1403, 0x20003, 10 };
+    return values[random_below(state, sizeof values / sizeof *values)];
+}
+
+/* An event with numbers that mean something to a board that was set up, and some that do not. */
+static synicboard_event random_event(synicboard *board, uint64_t *state)
+{
+    synicboard_event event = { .kind = random_kind(state) };
+    event.vp = (uint8_t)(random_below(state, 16) % 3);
+    event.sint = SOURCE;
+    event.port = (uint8_t)(MESSAGE_PORT + random_below(state, 2));
+    event.buffers = (uint8_t)random_below(state, 4);
+    event.vector = (uint8_t)(16 + random_below(state, 240));
+    event.part = (uint8_t)random_below(state, 5);
+    event.length = (uint8_t)random_below(state, 9);
+    event.flag = (uint16_t)random_below(state, 6);
+    event.count = (uint16_t)random_below(state, 8);
+    event.msr = random_register(state);
+    event.message_type = (uint32_t)random_below(state, 4);
+    event.value = random_value(state);
+    event.address = PAGE * random_below(state, 5) + SLOT * random_below(state, 4);
+    event.moment = synicboard_moment(board) + random_below(state, 40) - (synicboard_moment(board) > 0);
+    for (size_t at = 0; at < event.length; at++)
+        event.bytes[at] = (uint8_t)random_below(state, 2);
+    return event;
+}
+
+static synicboard_reply perform_random(synicboard *board, uint64_t *state)
+{
+    synicboard_event event = random_event(board, state);
+    if (random_below(state, 2) == 0)
+        return synicboard_perform(board, &event);
+    return perform_by_call(board, &event);
+}
+
+static void perform_many(synicboard *board, uint64_t seed, unsigned events)
+{
+    for (unsigned number = 0; number < events; number++)
+        perform_random(board, &seed);
+}
+
+/* ---- Tests ---- */
+
+/* Each call with numbers that an open board would take, and each kind in a struct. */
+static void check_closed_events(synicboard *board)
+{
+    const uint8_t byte = 1;
+    CHECK_FAULT(synicboard_open_message_port(board, 0, 0, 2, 1), SYNICBOARD_NO_BOARD);
+    CHECK_FAULT(synicboard_open_event_port(board, 0, 0, 2, 0, 1), SYNICBOARD_NO_BOARD);
+    CHECK_FAULT(synicboard_close_port(board, 0), SYNICBOARD_NO_BOARD);
+    CHECK_FAULT(synicboard_write(board, 0, SCONTROL, 1), SYNICBOARD_NO_BOARD);
+    CHECK_FAULT(synicboard_read(board, 0, SCONTROL), SYNICBOARD_NO_BOARD);
+    CHECK_FAULT(synicboard_post(board, 0, 1, &byte, 1), SYNICBOARD_NO_BOARD);
+    CHECK_FAULT(synicboard_signal(board, 0, 0), SYNICBOARD_NO_BOARD);
+    CHECK_FAULT(synicboard_assert(board, 0, 0x60), SYNICBOARD_NO_BOARD);
+    CHECK_FAULT(synicboard_absorb(board, 0, 1, 1), SYNICBOARD_NO_BOARD);
+    CHECK_FAULT(synicboard_store(board, 0, &byte, 1), SYNICBOARD_NO_BOARD);
+    CHECK_FAULT(synicboard_load(board, 0, 1), SYNICBOARD_NO_BOARD);
+    CHECK_FAULT(synicboard_tick(board, 1), SYNICBOARD_NO_BOARD);
+    CHECK_FAULT(synicboard_take(board, 0), SYNICBOARD_NO_BOARD);
+    CHECK_FAULT(synicboard_suspend(board, 0), SYNICBOARD_NO_BOARD);
+    CHECK_FAULT(synicboard_resume(board, 0), SYNICBOARD_NO_BOARD);
+    CHECK_FAULT(synicboard_reset(board, 0), SYNICBOARD_NO_BOARD);
+    for (unsigned kind = 0; kind < 256; kind++) {
+        synicboard_event event = { .kind = (uint8_t)kind, .vector = 0x60, .length = 1 };
+        CHECK_FAULT(synicboard_perform(board, &event), SYNICBOARD_NO_BOARD);
+    }
+}
+
+/* That there is no board is said before the numbers are judged. */
+static void check_closed_faults(synicboard *board)
+{
+    const uint8_t bytes[241] = { 0 };
+    CHECK_FAULT(synicboard_assert(board, 0, 15), SYNICBOARD_NO_BOARD);
+    CHECK_FAULT(synicboard_post(board, 0, 1, bytes, 241), SYNICBOARD_NO_BOARD);
+    CHECK_FAULT(synicboard_store(board, 0, bytes, 9), SYNICBOARD_NO_BOARD);
+}
+
+static void check_closed_looks(synicboard *board)
+{
+    synicboard_notice notice = { .kind = 77 };
+    const uint8_t byte = 0, *page = &byte;
+    for (unsigned number = 0; number < 256; number++) {
+        CHECK_NUMBER(synicboard_next(board, (uint8_t)number), 0);
+        CHECK(!synicboard_is_auto(board, 0, (uint8_t)number));
+        CHECK_NUMBER(synicboard_queued(board, 0, (uint8_t)number), 0);
+        CHECK_NUMBER(synicboard_owner(board, number).kind, SYNICBOARD_OWNER_NOTHING);
+        CHECK_NUMBER(synicboard_owner(board, number).vp, 0);
+    }
+    CHECK_NUMBER(synicboard_moment(board), 0);
+    CHECK_NUMBER(synicboard_next_ticket(board), 0);
+    synicboard_due due = synicboard_earliest(board);
+    CHECK(!due.is_due && due.vp == 0 && due.timer == 0 && due.low == 0 && due.high == 0);
+    CHECK_NUMBER(synicboard_notices(board, &notice, 1), 0);
+    CHECK_NUMBER(notice.kind, 77);
+    CHECK(!synicboard_message_page(board, 0, &page) && page == &byte);
+    CHECK(!synicboard_flag_page(board, 0, &page) && page == &byte);
+    CHECK(!synicboard_guest_page(board, 0, &page) && page == &byte);
+}
+
+static void check_closed(synicboard *board)
+{
+    CHECK(is_blank(board));
+    check_closed_events(board);
+    check_closed_faults(board);
+    check_closed_looks(board);
+    synicboard_close(board);
+    CHECK(is_blank(board));
+}
+
+static void test_closed_handle(void)
+{
+    synicboard board = SYNICBOARD_CLOSED;
+    check_closed(&board);
+    memset(&board, 0, sizeof board);
+    check_closed(&board);
+    open_busy(&board, 0);
+    synicboard_close(&board);
+    check_closed(&board);
+}
+
+static void test_opening_twice(void)
+{
+    static const uint8_t sizes[][2] = { { 2, 4 }, { 1, 1 }, { 8, 64 }, { 0, 0 }, { 9, 1 }, { 1, 65 } };
+    synicboard board = SYNICBOARD_CLOSED;
+    open_busy(&board, 70);
+    describe(&board, &before);
+    size_t blocks = blocks_out;
+    for (size_t at = 0; at < sizeof sizes / sizeof *sizes; at++) {
+        CHECK_NUMBER(synicboard_open(&board, sizes[at][0], sizes[at][1], 5), SYNICBOARD_IS_OPEN);
+        describe(&board, &after);
+        CHECK_SAME(&before, &after);
+    }
+    CHECK_NUMBER(blocks_out, blocks);
+    CHECK_NUMBER(synicboard_post(&board, MESSAGE_PORT, 1, sizes[0], 1).ticket, 71);
+    synicboard_close(&board);
+}
+
+/* The board has these sizes and no more. */
+static void check_sizes(synicboard *board, uint8_t processors, uint8_t pages)
+{
+    CHECK_NUMBER(synicboard_moment(board), 0);
+    CHECK_NUMBER(synicboard_next_ticket(board), UINT64_MAX - 1);
+    synicboard_notice notice;
+    CHECK_NUMBER(synicboard_notices(board, &notice, 1), 0);
+    CHECK_REPLY(synicboard_suspend(board, processors - 1), SYNICBOARD_DONE);
+    CHECK_REFUSAL(synicboard_suspend(board, processors), SYNICBOARD_NO_SUCH_PROCESSOR);
+    uint64_t end = (uint64_t)pages * PAGE;
+    CHECK_REPLY(synicboard_load(board, end - 8, 8), SYNICBOARD_BYTES);
+    CHECK_REFUSAL(synicboard_load(board, end, 8), SYNICBOARD_OUTSIDE_SPACE);
+    CHECK_NUMBER(synicboard_owner(board, pages - 1).kind, SYNICBOARD_OWNER_GUEST);
+    CHECK_NUMBER(synicboard_owner(board, pages).kind, SYNICBOARD_OWNER_NOTHING);
+    CHECK_NUMBER(synicboard_owner(board, UINT64_MAX).kind, SYNICBOARD_OWNER_NOTHING);
+}
+
+static void test_sizes(void)
+{
+    static const uint8_t sizes[] = { 0, 1, 8, 9, 64, 65, 255 };
+    const size_t count = sizeof sizes / sizeof *sizes;
+    synicboard board = SYNICBOARD_CLOSED;
+    for (size_t at = 0; at < count * count; at++) {
+        uint8_t processors = sizes[at / count], pages = sizes[at % count];
+        bool is_good = processors >= 1 && processors <= 8 && pages >= 1 && pages <= 64;
+        uint8_t opened = synicboard_open(&board, processors, pages, UINT64_MAX - 1);
+        CHECK_NUMBER(opened, is_good ? SYNICBOARD_OPENED : SYNICBOARD_BAD_SIZE);
+        if (opened == SYNICBOARD_OPENED)
+            check_sizes(&board, processors, pages);
+        else
+            CHECK(is_blank(&board));
+        synicboard_close(&board);
+        CHECK_NUMBER(blocks_out, 0);
+    }
+}
+
+static void check_no_event(synicboard *board, synicboard_reply reply, const char *what, int line)
+{
+    check_fault(reply, SYNICBOARD_NO_EVENT, what, line);
+    describe(board, &after);
+    check_same(&before, &after, line);
+}
+
+#define CHECK_NO_EVENT(board, reply) check_no_event((board), (reply), #reply, __LINE__)
+
+/* Too many bytes, of which 256 and more would be few if their number were cut to a byte. */
+static void check_too_many_bytes(synicboard *board)
+{
+    static const uint8_t bytes[70000] = { 1 };
+    static const size_t sizes[] = { 9, 240, 241, 255, 256, 257, 264, 496, 65536, 65537, 70000 };
+    for (size_t at = 0; at < sizeof sizes / sizeof *sizes; at++) {
+        CHECK_NO_EVENT(board, synicboard_store(board, PAGE, bytes, sizes[at]));
+        if (sizes[at] > 240)
+            CHECK_NO_EVENT(board, synicboard_post(board, MESSAGE_PORT, 1, bytes, sizes[at]));
+    }
+}
+
+/* What is no event changes nothing, the notices of the last event not either. */
+static void test_no_event(void)
+{
+    const uint8_t byte = 1;
+    synicboard board = SYNICBOARD_CLOSED;
+    open_busy(&board, 0);
+    describe(&board, &before);
+    for (uint8_t vector = 0; vector < 16; vector++) {
+        CHECK_NO_EVENT(&board, synicboard_assert(&board, 0, vector));
+        synicboard_event event = { .kind = SYNICBOARD_ASSERT, .vector = vector };
+        CHECK_NO_EVENT(&board, synicboard_perform(&board, &event));
+    }
+    check_too_many_bytes(&board);
+    for (unsigned length = 241; length < 256; length++) {
+        synicboard_event event = { .kind = SYNICBOARD_POST, .port = MESSAGE_PORT, .message_type = 1 };
+        event.length = (uint8_t)length;
+        CHECK_NO_EVENT(&board, synicboard_perform(&board, &event));
+    }
+    for (unsigned length = 9; length < 256; length += 13) {
+        synicboard_event event = { .kind = SYNICBOARD_STORE, .address = PAGE, .length = (uint8_t)length };
+        CHECK_NO_EVENT(&board, synicboard_perform(&board, &event));
+    }
+    for (unsigned kind = 17; kind <= 256; kind++) {
+        synicboard_event event = { .kind = (uint8_t)kind, .vector = 0x60, .length = 1 };
+        CHECK_NO_EVENT(&board, synicboard_perform(&board, &event));
+    }
+    CHECK_NUMBER(synicboard_post(&board, MESSAGE_PORT, 1, &byte, 1).ticket, 1);
+    synicboard_close(&board);
+}
+
+/* The numbers just inside, and what is an event that the board refuses. */
+static void test_borders(void)
+{
+    const uint8_t bytes[240] = { 1 };
+    synicboard board = SYNICBOARD_CLOSED;
+    open_busy(&board, 0);
+    CHECK_REPLY(synicboard_assert(&board, 0, 16), SYNICBOARD_DONE);
+    CHECK_REPLY(synicboard_assert(&board, 0, 255), SYNICBOARD_DONE);
+    CHECK_NUMBER(synicboard_next(&board, 0), 255);
+    CHECK_REPLY(synicboard_post(&board, MESSAGE_PORT, 1, bytes, 240), SYNICBOARD_ACCEPTED);
+    CHECK_REPLY(synicboard_post(&board, MESSAGE_PORT, 1, bytes, 0), SYNICBOARD_ACCEPTED);
+    CHECK_REFUSAL(synicboard_post(&board, MESSAGE_PORT, 1, bytes, 0), SYNICBOARD_NO_BUFFERS);
+    synicboard_notice notice;
+    CHECK_NUMBER(synicboard_notices(&board, &notice, 1), 0);
+    CHECK_REPLY(synicboard_store(&board, PAGE, bytes, 8), SYNICBOARD_DONE);
+    CHECK_REFUSAL(synicboard_store(&board, PAGE, bytes, 0), SYNICBOARD_BAD_LENGTH);
+    CHECK_REFUSAL(synicboard_load(&board, PAGE, 0), SYNICBOARD_BAD_LENGTH);
+    CHECK_REFUSAL(synicboard_load(&board, PAGE, 9), SYNICBOARD_BAD_LENGTH);
+    CHECK_REFUSAL(synicboard_load(&board, PAGE, 255), SYNICBOARD_BAD_LENGTH);
+    CHECK_REPLY(synicboard_write(&board, 0, SINT0, 15), SYNICBOARD_GENERAL_PROTECTION);
+    CHECK_NUMBER(synicboard_queued(&board, 1, SOURCE), 2);
+    CHECK_NUMBER(synicboard_queued(&board, 1, SOURCES), 0);
+    CHECK_NUMBER(synicboard_queued(&board, 8, SOURCE), 0);
+    CHECK_NUMBER(synicboard_next(&board, 8), 0);
+    synicboard_close(&board);
+}
+
+/* With a count of 0 a pointer may point anywhere that is not null. */
+static void test_counts_of_zero(void)
+{
+    const uint8_t *nowhere = (const uint8_t *)8;
+    synicboard board = SYNICBOARD_CLOSED;
+    open_busy(&board, 0);
+    CHECK_NUMBER(synicboard_notices(&board, (synicboard_notice *)8, 0), 3);
+    CHECK_REPLY(synicboard_post(&board, MESSAGE_PORT, 1, nowhere, 0), SYNICBOARD_ACCEPTED);
+    CHECK_REFUSAL(synicboard_store(&board, 0, nowhere, 0), SYNICBOARD_BAD_LENGTH);
+    synicboard_close(&board);
+    synicboard_end end = synicboard_replay(nowhere, 0, (uint8_t *)8, 0);
+    CHECK_NUMBER(end.kind, SYNICBOARD_WRONG_LINE);
+    CHECK_NUMBER(end.line, 1);
+    CHECK_NUMBER(end.length, strlen("! 1 first\n"));
+    synicboard_verdict verdict = synicboard_check(nowhere, 0);
+    CHECK_NUMBER(verdict.kind, SYNICBOARD_WRONG_LINE);
+    CHECK_NUMBER(verdict.line, 1);
+    CHECK_NUMBER(verdict.entries, 0);
+}
+
+enum { POSTS = 17, TIMERS = 4 };
+
+/* All slots and queues of a processor are full: of each source the slot has one message, and 16 wait; of
+ * SINT1 to SINT4 one of a timer waits behind them. Message i of source s has the ticket 17 s + i. */
+static void open_full(synicboard *board)
+{
+    CHECK_NUMBER(synicboard_open(board, 1, 4, 0), SYNICBOARD_OPENED);
+    CHECK_REPLY(synicboard_write(board, 0, SCONTROL, 1), SYNICBOARD_DONE);
+    CHECK_REPLY(synicboard_write(board, 0, SIMP, 1), SYNICBOARD_DONE);
+    for (uint8_t sint = 0; sint < SOURCES; sint++) {
+        CHECK_REPLY(synicboard_open_message_port(board, sint, 0, sint, 16), SYNICBOARD_DONE);
+        for (uint8_t count = 0; count < POSTS; count++)
+            CHECK_REPLY(synicboard_post(board, sint, 1, &count, 1), SYNICBOARD_ACCEPTED);
+    }
+    for (uint32_t timer = 0; timer < TIMERS; timer++) {
+        CHECK_REPLY(synicboard_write(board, 0, STIMER0_COUNT + 2 * timer, 10), SYNICBOARD_DONE);
+        CHECK_REPLY(synicboard_write(board, 0, STIMER0_CONFIG + 2 * timer, (timer + 1) << 16 | 1), SYNICBOARD_DONE);
+    }
+    CHECK_REPLY(synicboard_tick(board, 10), SYNICBOARD_DONE);
+}
+
+/* The tickets of the messages that are withdrawn: source by source, the slot, the posts, the timer. */
+static void list_tickets(uint64_t tickets[SYNICBOARD_MOST_NOTICES])
+{
+    size_t count = 0;
+    for (uint64_t sint = 0; sint < SOURCES; sint++) {
+        for (uint64_t post = 0; post < POSTS; post++)
+            tickets[count++] = POSTS * sint + post;
+        if (sint >= 1 && sint <= TIMERS)
+            tickets[count++] = POSTS * SOURCES + sint - 1;
+    }
+}
+
+static void test_notices(void)
+{
+    static const size_t sizes[] = { 0, 1, 2, 17, 18, 275, 276, 277, 300 };
+    static synicboard_notice room[310];
+    uint64_t tickets[SYNICBOARD_MOST_NOTICES];
+    synicboard board = SYNICBOARD_CLOSED;
+    open_full(&board);
+    list_tickets(tickets);
+    CHECK_REPLY(synicboard_reset(&board, 0), SYNICBOARD_DONE);
+    for (size_t at = 0; at < sizeof sizes / sizeof *sizes; at++) {
+        memset(room, 0xee, sizeof room);
+        CHECK_NUMBER(synicboard_notices(&board, room, sizes[at]), SYNICBOARD_MOST_NOTICES);
+        size_t copied = sizes[at] < SYNICBOARD_MOST_NOTICES ? sizes[at] : SYNICBOARD_MOST_NOTICES;
+        for (size_t number = 0; number < copied; number++) {
+            CHECK_NUMBER(room[number].kind, SYNICBOARD_NOTICE_WITHDRAWN);
+            CHECK_NUMBER(room[number].ticket, tickets[number]);
+        }
+        const uint8_t *behind = (const uint8_t *)(room + copied);
+        for (size_t byte = 0; byte < sizeof room - copied * sizeof *room; byte++)
+            CHECK_NUMBER(behind[byte], 0xee);
+    }
+    CHECK_REPLY(synicboard_take(&board, 0), SYNICBOARD_NONE_TAKEN);
+    CHECK_NUMBER(synicboard_notices(&board, room, 310), 0);
+    synicboard_close(&board);
+}
+
+/* A board that is closed leaves nothing to the next one behind its handle. */
+static void test_reopening(void)
+{
+    synicboard board = SYNICBOARD_CLOSED;
+    CHECK_NUMBER(synicboard_open(&board, 2, 4, 9), SYNICBOARD_OPENED);
+    describe(&board, &before);
+    for (int turn = 0; turn < 20; turn++) {
+        synicboard_close(&board);
+        CHECK(is_blank(&board));
+        CHECK_NUMBER(blocks_out, 0);
+        open_busy(&board, 1);
+        synicboard_close(&board);
+        CHECK_NUMBER(synicboard_open(&board, 2, 4, 9), SYNICBOARD_OPENED);
+        describe(&board, &after);
+        CHECK_SAME(&before, &after);
+    }
+    synicboard_close(&board);
+    CHECK_NUMBER(blocks_out, 0);
+}
+
+enum { RANDOM_EVENTS = 1000, MANY_EVENTS = 50000 };
+
+/* What a board with nothing beside it tells after so many random events. */
+static void describe_alone(uint64_t seed, unsigned events, uint64_t first_ticket, struct text *text)
+{
+    synicboard board = SYNICBOARD_CLOSED;
+    open_busy(&board, first_ticket);
+    perform_many(&board, seed, events);
+    describe(&board, text);
+    synicboard_close(&board);
+}
+
+static void test_side_by_side(void)
+{
+    static struct text alone;
+    synicboard one = SYNICBOARD_CLOSED, other = SYNICBOARD_CLOSED;
+    uint64_t one_seed = 1, other_seed = 2;
+    open_busy(&one, 0);
+    open_busy(&other, 1000);
+    for (int number = 0; number < RANDOM_EVENTS; number++) {
+        perform_random(&one, &one_seed);
+        perform_random(&other, &other_seed);
+    }
+    describe(&one, &before);
+    describe(&other, &after);
+    describe_alone(1, RANDOM_EVENTS, 0, &alone);
+    CHECK_SAME(&before, &alone);
+    describe_alone(2, RANDOM_EVENTS, 1000, &alone);
+    CHECK_SAME(&after, &alone);
+    synicboard_close(&one);
+    describe(&other, &before);
+    CHECK_SAME(&before, &after);
+    synicboard_close(&other);
+}
+
+struct worker {
+    synicboard board;
+    uint64_t seed;
+    pthread_t thread;
+};
+
+static void *work(void *given)
+{
+    struct worker *worker = given;
+    perform_many(&worker->board, worker->seed, MANY_EVENTS);
+    return NULL;
+}
+
+/* Each of two boards is used by one thread, so neither needs a lock. */
+static void test_two_threads(void)
+{
+    struct worker workers[2] = { { .seed = 6 }, { .seed = 7 } };
+    for (int at = 0; at < 2; at++) {
+        open_busy(&workers[at].board, 0);
+        CHECK(pthread_create(&workers[at].thread, NULL, work, &workers[at]) == 0);
+    }
+    for (int at = 0; at < 2; at++)
+        pthread_join(workers[at].thread, NULL);
+    for (int at = 0; at < 2; at++) {
+        describe(&workers[at].board, &before);
+        describe_alone(workers[at].seed, MANY_EVENTS, 0, &after);
+        CHECK_SAME(&before, &after);
+        synicboard_close(&workers[at].board);
+    }
+}
+
+/* A struct and a call that mean the same event are answered the same. */
+static void test_structs_and_calls(void)
+{
+    synicboard one = SYNICBOARD_CLOSED, other = SYNICBOARD_CLOSED;
+    uint64_t seed = 8;
+    open_busy(&one, 0);
+    open_busy(&other, 0);
+    for (int number = 0; number < RANDOM_EVENTS; number++) {
+        synicboard_event event = random_event(&one, &seed);
+        synicboard_reply by_struct = synicboard_perform(&one, &event);
+        synicboard_reply by_call = perform_by_call(&other, &event);
+        CHECK_NUMBER(by_struct.kind, by_call.kind);
+        CHECK_NUMBER(by_struct.refusal, by_call.refusal);
+        CHECK_NUMBER(by_struct.vector, by_call.vector);
+        CHECK_NUMBER(by_struct.length, by_call.length);
+        CHECK_NUMBER(by_struct.value, by_call.value);
+        CHECK_NUMBER(by_struct.ticket, by_call.ticket);
+        CHECK(memcmp(by_struct.bytes, by_call.bytes, sizeof by_call.bytes) == 0);
+    }
+    describe(&one, &before);
+    describe(&other, &after);
+    CHECK_SAME(&before, &after);
+    synicboard_close(&one);
+    synicboard_close(&other);
+}
+
+/* A handle is moved by a copy of its bytes, if the old one is not used again. */
+static void test_moved_handle(void)
+{
+    synicboard first = SYNICBOARD_CLOSED, places[RANDOM_EVENTS];
+    const uint8_t *page = NULL, *same = NULL;
+    uint64_t seed = 3;
+    open_busy(&first, 0);
+    CHECK(synicboard_message_page(&first, 1, &page));
+    memcpy(&places[0], &first, sizeof first);
+    memset(&first, 0xee, sizeof first);
+    for (int number = 1; number < RANDOM_EVENTS; number++) {
+        perform_random(&places[number - 1], &seed);
+        memcpy(&places[number], &places[number - 1], sizeof first);
+        memset(&places[number - 1], 0xee, sizeof first);
+    }
+    synicboard *last = &places[RANDOM_EVENTS - 1];
+    CHECK(synicboard_message_page(last, 1, &same) && same == page);
+    perform_random(last, &seed);
+    describe(last, &before);
+    describe_alone(3, RANDOM_EVENTS, 0, &after);
+    CHECK_SAME(&before, &after);
+    synicboard_close(last);
+    CHECK(is_blank(last));
+}
+
+static bool is_zero(const uint8_t *bytes, size_t from, size_t to)
+{
+    for (size_t at = from; at < to; at++)
+        if (bytes[at] != 0)
+            return false;
+    return true;
+}
+
+/* The page has these bytes in the slot of SOURCE, and zeros else. */
+static bool has_slot(const uint8_t *page, const uint8_t *bytes, size_t length)
+{
+    size_t place = SOURCE * SLOT;
+    return memcmp(page + place, bytes, length) == 0 && is_zero(page, 0, place) && is_zero(page, place + length, PAGE);
+}
+
+static void test_message_page(void)
+{
+    uint8_t first[] = { 4, 3, 2, 1, 3, 0, 0, 0, MESSAGE_PORT, 0, 0, 0, 0, 0, 0, 0, 0x0a, 0x0b, 0x0c };
+    const uint8_t second[] = { 5, 0, 0, 0, 2, 0, 0, 0, MESSAGE_PORT, 0, 0, 0, 0, 0, 0, 0, 0xfe, 0xff };
+    const uint8_t zeros[4] = { 0 };
+    const uint8_t *page = NULL, *same = NULL;
+    synicboard board = SYNICBOARD_CLOSED;
+    open_busy(&board, 0);
+    CHECK(synicboard_message_page(&board, 1, &page));
+    CHECK(has_slot(page, first, sizeof first));
+    CHECK_REPLY(synicboard_post(&board, MESSAGE_PORT, 5, second + 16, 2), SYNICBOARD_ACCEPTED);
+    first[5] = 1;
+    CHECK(has_slot(page, first, sizeof first));
+    synicboard_reply loaded = synicboard_load(&board, 2 * PAGE + SOURCE * SLOT, 8);
+    CHECK(memcmp(loaded.bytes, first, 8) == 0);
+    CHECK_REPLY(synicboard_store(&board, 2 * PAGE + SOURCE * SLOT, zeros, 4), SYNICBOARD_DONE);
+    memset(first, 0, 4);
+    CHECK(has_slot(page, first, sizeof first));
+    CHECK_REPLY(synicboard_write(&board, 1, EOM, 0), SYNICBOARD_DONE);
+    CHECK(has_slot(page, second, sizeof second));
+    CHECK_REPLY(synicboard_write(&board, 1, SIMP, 0), SYNICBOARD_DONE);
+    CHECK(has_slot(page, second, sizeof second));
+    CHECK_REPLY(synicboard_reset(&board, 1), SYNICBOARD_DONE);
+    CHECK(is_zero(page, 0, PAGE));
+    CHECK(synicboard_message_page(&board, 1, &same) && same == page);
+    synicboard_close(&board);
+}
+
+/* A message with as many bytes as there can be, one of a timer, and the other processor's page. */
+static void test_message_images(void)
+{
+    uint8_t image[SLOT] = { 1, 0, 0, 0, 240, 0, 0, 0, MESSAGE_PORT };
+    const uint8_t timer[] = { 0x10, 0, 0, 0x80, 24, 0, 0, 0, 0, 0, 0, 0, 0, 0, 0, 0,
+                              3, 0, 0, 0, 0, 0, 0, 0, 20, 0, 0, 0, 0, 0, 0, 0, 30 };
+    const uint8_t *page = NULL, *other = NULL;
+    synicboard board = SYNICBOARD_CLOSED;
+    CHECK_NUMBER(synicboard_open(&board, 2, 4, 0), SYNICBOARD_OPENED);
+    set_up(&board, 1);
+    for (size_t at = 16; at < SLOT; at++)
+        image[at] = (uint8_t)at;
+    CHECK(synicboard_message_page(&board, 1, &page));
+    CHECK(synicboard_message_page(&board, 0, &other) && is_zero(page, 0, PAGE));
+    CHECK_REPLY(synicboard_post(&board, MESSAGE_PORT, 1, image + 16, 240), SYNICBOARD_ACCEPTED);
+    CHECK(has_slot(page, image, SLOT));
+    CHECK_REPLY(synicboard_reset(&board, 1), SYNICBOARD_DONE);
+    CHECK_REPLY(synicboard_close_port(&board, MESSAGE_PORT), SYNICBOARD_DONE);
+    CHECK_REPLY(synicboard_close_port(&board, FLAG_PORT), SYNICBOARD_DONE);
+    set_up(&board, 0);
+    CHECK_REPLY(synicboard_write(&board, 0, STIMER0_COUNT + 6, 20), SYNICBOARD_DONE);
+    CHECK_REPLY(synicboard_write(&board, 0, STIMER0_CONFIG + 6, SOURCE << 16 | 1), SYNICBOARD_DONE);
+    CHECK_REPLY(synicboard_tick(&board, 30), SYNICBOARD_DONE);
+    CHECK(is_zero(page, 0, PAGE));
+    CHECK(has_slot(other, timer, sizeof timer));
+    synicboard_close(&board);
+}
+
+/* The port's flags begin at 8, so flag 5 is bit 5 of the second byte; the slot has 256 bytes, as one of a
+ * message. */
+static void test_flag_page(void)
+{
+    const uint8_t first[] = { 0, 0x20 }, both[] = { 0, 0x20, 0, 0, 0, 0, 0, 0, 0x80 }, zeros[8] = { 0 };
+    const uint8_t *page = NULL, *same = NULL;
+    synicboard board = SYNICBOARD_CLOSED;
+    open_busy(&board, 0);
+    CHECK(synicboard_flag_page(&board, 1, &page));
+    CHECK(has_slot(page, first, sizeof first));
+    CHECK_REPLY(synicboard_signal(&board, FLAG_PORT, 63), SYNICBOARD_FLAG_WAS_CLEAR);
+    CHECK(has_slot(page, both, sizeof both));
+    CHECK_REPLY(synicboard_store(&board, 3 * PAGE + SOURCE * SLOT + 8, zeros, 8), SYNICBOARD_DONE);
+    CHECK(has_slot(page, first, sizeof first));
+    CHECK_REPLY(synicboard_write(&board, 1, SIEFP, PAGE + 1), SYNICBOARD_DONE);
+    CHECK(synicboard_flag_page(&board, 1, &same) && same == page);
+    CHECK_REPLY(synicboard_reset(&board, 1), SYNICBOARD_DONE);
+    CHECK(is_zero(page, 0, PAGE));
+    CHECK(synicboard_flag_page(&board, 1, &same) && same == page);
+    synicboard_close(&board);
+}
+
+/* A guest page is what lies below the overlays. */
+static void test_guest_page(void)
+{
+    const uint8_t bytes[] = { 1, 2, 3, 4, 5, 6, 7, 8 };
+    const uint8_t *seen = NULL, *hidden = NULL, *same = NULL;
+    synicboard board = SYNICBOARD_CLOSED;
+    open_busy(&board, 0);
+    CHECK(synicboard_guest_page(&board, 1, &seen));
+    CHECK(synicboard_guest_page(&board, 2, &hidden));
+    CHECK_REPLY(synicboard_store(&board, PAGE + SOURCE * SLOT, bytes, 8), SYNICBOARD_DONE);
+    CHECK_REPLY(synicboard_store(&board, 2 * PAGE + SOURCE * SLOT, bytes, 8), SYNICBOARD_DONE);
+    CHECK(has_slot(seen, bytes, 8));
+    CHECK(is_zero(hidden, 0, PAGE));
+    CHECK_REPLY(synicboard_write(&board, 1, SIMP, PAGE + 1), SYNICBOARD_DONE);
+    CHECK_REPLY(synicboard_store(&board, 2 * PAGE + SOURCE * SLOT, bytes, 3), SYNICBOARD_DONE);
+    CHECK(has_slot(hidden, bytes, 3));
+    CHECK(has_slot(seen, bytes, 8));
+    CHECK_REPLY(synicboard_reset(&board, 1), SYNICBOARD_DONE);
+    CHECK(has_slot(seen, bytes, 8) && has_slot(hidden, bytes, 3));
+    CHECK(synicboard_guest_page(&board, 1, &same) && same == seen);
+    CHECK(synicboard_guest_page(&board, 2, &same) && same == hidden);
+    synicboard_close(&board);
+}
+
+static void test_no_such_page(void)
+{
+    const uint8_t byte = 0, *page = &byte;
+    synicboard board = SYNICBOARD_CLOSED;
+    CHECK_NUMBER(synicboard_open(&board, 2, 4, 0), SYNICBOARD_OPENED);
+    for (unsigned vp = 2; vp < 256; vp++) {
+        CHECK(!synicboard_message_page(&board, (uint8_t)vp, &page));
+        CHECK(!synicboard_flag_page(&board, (uint8_t)vp, &page));
+    }
+    for (uint64_t number = 4; number < 300; number++)
+        CHECK(!synicboard_guest_page(&board, number, &page));
+    CHECK(!synicboard_guest_page(&board, UINT64_MAX, &page));
+    CHECK(!synicboard_guest_page(&board, UINT64_C(1) << 32, &page));
+    CHECK(page == &byte);
+    synicboard_close(&board);
+}
+
+/* Of the greatest board each page is a page of its own, and stays where it is. */
+static void test_all_pages(void)
+{
+    enum { ALL = 2 * PROCESSORS + PAGES };
+    const uint8_t *pages[ALL], *again[ALL];
+    synicboard board = SYNICBOARD_CLOSED;
+    CHECK_NUMBER(synicboard_open(&board, PROCESSORS, PAGES, 0), SYNICBOARD_OPENED);
+    set_up(&board, 1);
+    for (int turn = 0; turn < 2; turn++) {
+        const uint8_t **place = turn == 0 ? pages : again;
+        for (uint8_t vp = 0; vp < PROCESSORS; vp++) {
+            CHECK(synicboard_message_page(&board, vp, place++));
+            CHECK(synicboard_flag_page(&board, vp, place++));
+        }
+        for (uint64_t number = 0; number < PAGES; number++)
+            CHECK(synicboard_guest_page(&board, number, place++));
+        perform_many(&board, 4, RANDOM_EVENTS);
+    }
+    for (size_t one = 0; one < ALL; one++) {
+        CHECK(pages[one] == again[one]);
+        for (size_t other = 0; other < one; other++) {
+            uintptr_t first = (uintptr_t)pages[one], second = (uintptr_t)pages[other];
+            CHECK((first > second ? first - second : second - first) >= PAGE);
+        }
+    }
+    synicboard_close(&board);
+}
+
+/* ---- Traces ---- */
+
+static char trace[4096];
+static const char *trace_path;
+
+static void read_trace(void)
+{
+    FILE *file = fopen(trace_path, "rb");
+    size_t length = file == NULL ? 0 : fread(trace, 1, sizeof trace - 1, file);
+    trace[length] = '\0';
+    if (file != NULL)
+        fclose(file);
+    CHECK(length > 0);
+}
+
+static void check_verdict(size_t length, uint8_t kind, uint64_t entries, uint64_t wrong, int line)
+{
+    synicboard_verdict verdict = synicboard_check((const uint8_t *)trace, length);
+    check_number(verdict.kind, kind, "the kind of a verdict", line);
+    check_number(verdict.entries, entries, "the entries of a verdict", line);
+    check_number(verdict.line, wrong, "the line of a verdict", line);
+}
+
+#define CHECK_VERDICT(length, kind, entries, wrong) check_verdict((length), (kind), (entries), (wrong), __LINE__)
+
+static void replace(const char *old, const char *new)
+{
+    char *place = strstr(trace, old);
+    CHECK(place != NULL);
+    if (place != NULL)
+        memcpy(place, new, strlen(new));
+}
+
+/* The trace has ten entries; line 12 is the reply to its post, and line 23 its last. */
+static void test_check(void)
+{
+    size_t blocks = blocks_out;
+    read_trace();
+    size_t length = strlen(trace);
+    CHECK_VERDICT(length, SYNICBOARD_ALL_RIGHT, 10, 0);
+    CHECK_VERDICT(length - 1, SYNICBOARD_WRONG_LINE, 0, 23);
+    CHECK_VERDICT(length - strlen("end 10\n"), SYNICBOARD_WRONG_LINE, 0, 23);
+    replace("accepted 0", "accepted 7");
+    CHECK_VERDICT(length, SYNICBOARD_WRONG_LINE, 0, 12);
+    replace("accepted 7", "accepted 0");
+    replace("end 10", "end 11");
+    CHECK_VERDICT(length, SYNICBOARD_WRONG_LINE, 0, 23);
+    replace("end 11\n", "end 10 1\n");
+    CHECK_VERDICT(length + 2, SYNICBOARD_WRONG_LINE, 0, 23);
+    replace("trace 1", "trace 2");
+    CHECK_VERDICT(length + 2, SYNICBOARD_ALL_RIGHT, 10, 0);
+    replace("end 10 1", "end 10 2");
+    CHECK_VERDICT(length + 2, SYNICBOARD_WRONG_LINE, 0, 23);
+    replace("board 1 4", "board 9 4");
+    CHECK_VERDICT(length + 2, SYNICBOARD_WRONG_LINE, 0, 2);
+    CHECK_NUMBER(blocks_out, blocks);
+}
+
+enum { PIECE = 1 << 20, PIECES = 1024 };
+
+/* A text of comments, PIECE * PIECES bytes and one more: a piece of a file, mapped again and again. */
+static uint8_t *map_comments(void)
+{
+    static char piece[PIECE];
+    memset(piece, 'x', sizeof piece);
+    for (size_t at = 0; at < PIECE; at += 512) {
+        piece[at] = '#';
+        piece[at + 511] = '\n';
+    }
+    FILE *file = tmpfile();
+    if (file == NULL || fwrite(piece, 1, PIECE, file) != PIECE || fflush(file) != 0)
+        return NULL;
+    size_t length = (size_t)PIECE * (PIECES + 1);
+    char *text = mmap(NULL, length, PROT_READ, MAP_PRIVATE | MAP_ANONYMOUS | MAP_NORESERVE, -1, 0);
+    for (size_t at = 0; text != MAP_FAILED && at < length; at += PIECE)
+        if (mmap(text + at, PIECE, PROT_READ, MAP_SHARED | MAP_FIXED, fileno(file), 0) == MAP_FAILED)
+            return NULL;
+    fclose(file);
+    return text == MAP_FAILED ? NULL : (uint8_t *)text;
+}
+
+/* As many bytes as a text may have are read, and no board line is among them; one more is too many. */
+static void test_long_texts(void)
+{
+    const size_t most = 1073741824;
+    uint8_t *text = map_comments();
+    uint8_t room[40];
+    CHECK(text != NULL);
+    if (text == NULL)
+        return;
+    synicboard_end end = synicboard_replay(text, most, room, sizeof room);
+    CHECK_NUMBER(end.kind, SYNICBOARD_WRONG_LINE);
+    CHECK_NUMBER(end.line, most / 512 + 1);
+    end = synicboard_replay(text, most + 1, room, sizeof room);
+    CHECK_NUMBER(end.kind, SYNICBOARD_TOO_LONG);
+    munmap(text, (size_t)PIECE * (PIECES + 1));
+}
+
+/* ---- Refused memory ---- */
+
+/* Refuses one request after the other, until an opening finds all its memory. */
+static void check_refused_opening(uint8_t processors, uint8_t pages)
+{
+    synicboard board = SYNICBOARD_CLOSED;
+    size_t number = 1;
+    uint8_t opened;
+    refuse(number);
+    while ((opened = synicboard_open(&board, processors, pages, 0)) == SYNICBOARD_NO_MEMORY) {
+        CHECK(is_blank(&board));
+        CHECK_NUMBER(blocks_out, 0);
+        CHECK_FAULT(synicboard_take(&board, 0), SYNICBOARD_NO_BOARD);
+        refuse(++number);
+    }
+    CHECK_NUMBER(opened, SYNICBOARD_OPENED);
+    CHECK_NUMBER(requests, number - 1);
+    CHECK(number > 1);
+    refuse(0);
+    CHECK_REPLY(synicboard_take(&board, 0), SYNICBOARD_NONE_TAKEN);
+    synicboard_close(&board);
+    CHECK_NUMBER(blocks_out, 0);
+}
+
+static void test_refused_opening(void)
+{
+    check_refused_opening(1, 1);
+    check_refused_opening(PROCESSORS, PAGES);
+}
+
+/* The text grows many times, so memory is asked for at many places of it. */
+static void test_refused_replay(void)
+{
+    static char script[20000];
+    static uint8_t room[10000];
+    synicboard_end end;
+    size_t number = 1, length = (size_t)sprintf(script, "board 8 64 0\n");
+    for (int line = 0; line < 1000; line++)
+        length += (size_t)sprintf(script + length, "assert %d 60\n", line % 8);
+    refuse(number);
+    while ((end = synicboard_replay((uint8_t *)script, length, room, sizeof room)).kind == SYNICBOARD_WANTED_MEMORY) {
+        CHECK_NUMBER(end.line, 0);
+        CHECK_NUMBER(end.length, 0);
+        CHECK_NUMBER(blocks_out, 0);
+        refuse(++number);
+    }
+    CHECK_NUMBER(end.kind, SYNICBOARD_ALL_RIGHT);
+    CHECK_NUMBER(requests, number - 1);
+    CHECK(number > 1);
+    refuse(0);
+    CHECK_NUMBER(end.length, 1000 * strlen("= done\n") + 8 * strlen(". requested 0 60\n"));
+}
+
+static void test_refused_check(void)
+{
+    synicboard_verdict verdict;
+    size_t number = 1;
+    read_trace();
+    refuse(number);
+    while ((verdict = synicboard_check((uint8_t *)trace, strlen(trace))).kind == SYNICBOARD_WANTED_MEMORY) {
+        CHECK_NUMBER(verdict.entries, 0);
+        CHECK_NUMBER(verdict.line, 0);
+        CHECK_NUMBER(blocks_out, 0);
+        refuse(++number);
+    }
+    CHECK_NUMBER(verdict.kind, SYNICBOARD_ALL_RIGHT);
+    CHECK_NUMBER(verdict.entries, 10);
+    CHECK_NUMBER(requests, number - 1);
+    CHECK(number > 1);
+    refuse(0);
+}
+
+/* Events and looks neither ask for memory nor give any back. Each kind of reply is among the answers. */
+static void test_events_take_no_memory(void)
+{
+    synicboard board = SYNICBOARD_CLOSED;
+    unsigned replies[SYNICBOARD_REFUSED + 1] = { 0 };
+    uint64_t seed = 5;
+    open_busy(&board, 0);
+    refuse(0);
+    for (int number = 0; number < RANDOM_EVENTS; number++) {
+        synicboard_reply reply = perform_random(&board, &seed);
+        CHECK(reply.kind >= SYNICBOARD_DONE && reply.kind <= SYNICBOARD_REFUSED);
+        replies[reply.kind <= SYNICBOARD_REFUSED ? reply.kind : 0]++;
+        if (number % 10 == 0)
+            describe(&board, &after);
+    }
+    CHECK_NUMBER(requests, 0);
+    CHECK_NUMBER(returns, 0);
+    for (unsigned kind = SYNICBOARD_DONE; kind <= SYNICBOARD_REFUSED; kind++)
+        CHECK(replies[kind] > 0);
+    synicboard_close(&board);
+    CHECK(returns > 0);
+}
+
+static const struct {
+    const char *name;
+    void (*run)(void);
+} tests[] = {
+    { "a closed handle", test_closed_handle },
+    { "opening twice", test_opening_twice },
+    { "sizes", test_sizes },
+    { "what is no event", test_no_event },
+    { "numbers at their borders", test_borders },
+    { "counts of zero", test_counts_of_zero },
+    { "notices into too little room", test_notices },
+    { "a board closed and opened again", test_reopening },
+    { "two boards side by side", test_side_by_side },
+    { "two boards in two threads", test_two_threads },
+    { "structs and calls", test_structs_and_calls },
+    { "a handle that moves", test_moved_handle },
+    { "the page of messages", test_message_page },
+    { "images of messages", test_message_images },
+    { "the page of flags", test_flag_page },
+    { "guest pages", test_guest_page },
+    { "no such page", test_no_such_page },
+    { "all pages of the greatest board", test_all_pages },
+    { "traces", test_check },
+    { "texts that are too long", test_long_texts },
+    { "refused memory of an opening", test_refused_opening },
+    { "refused memory of a replay", test_refused_replay },
+    { "refused memory of a check", test_refused_check },
+    { "events take no memory", test_events_take_no_memory },
+};
+
+int main(int count, char **words)
+{
+    if (count != 2) {
+        fprintf(stderr, "calls RECORDED_TRACE\n");
+        return 2;
+    }
+    trace_path = words[1];
+    for (size_t at = 0; at < sizeof tests / sizeof *tests; at++) {
+        begin_test(tests[at].name);
+        tests[at].run();
+        CHECK_NUMBER(blocks_out, 0);
+    }
+    printf("%u checks passed, %u failed\n", checks_passed, checks_failed);
+    return checks_failed > 0;
+}
