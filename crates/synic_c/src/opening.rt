@@ -1,6 +1,6 @@
 // A board is opened and closed.
-ghost use Rattle.std.specs.Prelude.{◌≡◌, ◌≢◌, ◌↔◌, IsSome, None, IsSomeAnd, []};
-ghost use Rattle.synic_board.specs.State.{AreSizes, opened};
+ghost use Rattle.std.specs.Prelude.{◌≡◌, ◌≢◌, ◌<◌, ◌↔◌, IsSome, None};
+ghost use Rattle.synic_board.specs.State.{AreSizes};
 ghost use Rattle.synic_c.specs.Opened.{IsNewDesk};
 
 use board_desk::Desk;
@@ -20,6 +20,7 @@ pub extern "C" fn synicboard_open(
     pages: u8,
     first_ticket: u64,
 ) -> u8
+    ensures answers { result < 4 }
     ensures before { (result ≡ 3) ↔ IsSome handle.old.desk }
     ensures size { (result ≡ 1) ↔ ((handle.old.desk ≡ None) × (¬ AreSizes processors pages)) }
     ensures opened { result ≡ 0 → IsNewDesk processors pages first_ticket handle.new.desk }

@@ -1,5 +1,5 @@
 // The pages of the board, where they lie.
-ghost use Rattle.std.specs.Prelude.{◌≡◌};
+ghost use Rattle.std.specs.Prelude.{◌≡◌, false};
 ghost use Rattle.board_terms.specs.declared.pages.Kind.TheVariants as kind;
 ghost use Rattle.synic_c.specs.Told.{has_own_page, has_guest_page};
 
@@ -13,6 +13,7 @@ use std::ptr::from_ref;
 pub extern "C" fn synicboard_message_page(handle: &mut Handle, vp: u8, page: &mut *const u8) -> bool
     ensures desk { handle.new.desk ≡ handle.old.desk }
     ensures found { result ≡ has_own_page handle.old.desk vp kind.Sim }
+    ensures kept { result ≡ false → page.new ≡ page.old }
 {
     own_page(handle, vp, Kind::Sim, page)
 }
@@ -23,6 +24,7 @@ pub extern "C" fn synicboard_message_page(handle: &mut Handle, vp: u8, page: &mu
 pub extern "C" fn synicboard_flag_page(handle: &mut Handle, vp: u8, page: &mut *const u8) -> bool
     ensures desk { handle.new.desk ≡ handle.old.desk }
     ensures found { result ≡ has_own_page handle.old.desk vp kind.Sief }
+    ensures kept { result ≡ false → page.new ≡ page.old }
 {
     own_page(handle, vp, Kind::Sief, page)
 }
@@ -30,6 +32,7 @@ pub extern "C" fn synicboard_flag_page(handle: &mut Handle, vp: u8, page: &mut *
 fn own_page(handle: &mut Handle, vp: u8, kind: Kind, page: &mut *const u8) -> bool
     ensures desk { handle.new.desk ≡ handle.old.desk }
     ensures found { result ≡ has_own_page handle.old.desk vp kind }
+    ensures kept { result ≡ false → page.new ≡ page.old }
 {
     let (Some(desk), Some(vp)) = (handle.desk_mut(), Vp::new(vp)) else {
         return false;
@@ -51,6 +54,7 @@ pub extern "C" fn synicboard_guest_page(
 ) -> bool
     ensures desk { handle.new.desk ≡ handle.old.desk }
     ensures found { result ≡ has_guest_page handle.old.desk number }
+    ensures kept { result ≡ false → page.new ≡ page.old }
 {
     let Some(desk) = handle.desk_mut() else {
         return false;

@@ -1,5 +1,5 @@
 // Whole texts, from a buffer into a buffer.
-ghost use Rattle.std.specs.Prelude.{◌≡◌, ◌<◌};
+ghost use Rattle.std.specs.Prelude.{◌≡◌, ◌≢◌, ◌<◌};
 ghost use Rattle.board_trace.specs.Trace.{IsTrace};
 ghost use Rattle.board_trace.specs.Verdicts.{FirstWrong};
 ghost use Rattle.synic_c.specs.Texts.{IsReplay};
@@ -66,7 +66,9 @@ pub extern "C" fn synicboard_replay(alloc: Global, script: &[u8], room: &mut [u8
 pub extern "C" fn synicboard_check(alloc: Global, trace: &[u8]) -> PlainVerdict
     ensures kinds { result.kind < 4 }
     ensures legal { result.kind ≡ 0 → IsTrace trace.now result.entries }
+    ensures entries { result.kind ≢ 0 → result.entries ≡ 0 }
     ensures wrong { result.kind ≡ 1 → FirstWrong trace.now result.line }
+    ensures line { result.kind ≢ 1 → result.line ≡ 0 }
 {
     let mut reader = trace;
     let mut text = Vec::new(alloc);
