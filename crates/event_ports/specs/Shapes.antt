@@ -1,7 +1,12 @@
 -- What a port may be opened for.
-use Rattle.std.specs.Prelude.{Bool, ◌+◌, nat_le, ◌&&◌}
+use Rattle.std.specs.Prelude.{Bool, true, false, ◌+◌, nat_le, ◌&&◌}
 use Rattle.board_terms.specs.declared.messages.PortShape.{PortShape}
 use Rattle.board_terms.specs.declared.messages.PortShape.TheVariants.{Messages, Flags}
+
+-- a port of messages
+abbrev pub takes_messages : PortShape → Bool
+takes_messages (Messages buffers) = true
+takes_messages (Flags base count) = false
 
 -- 1 to 16 buffers; at least one event flag, and none from 2048 on
 abbrev pub fits : PortShape → Bool

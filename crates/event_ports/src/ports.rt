@@ -1,6 +1,6 @@
 // The open ports.
 ghost use Rattle.std.specs.Prelude.{◌≡◌, ◌<◌, ◌≤◌, true, None, Some, IfOk, IfSome, IsSome, ◌↔◌, OnOk, OnErr, MatchResult};
-ghost use Rattle.event_ports.specs.Shapes.{fits};
+ghost use Rattle.event_ports.specs.Shapes.{fits, takes_messages};
 ghost use Rattle.event_ports.specs.Ports.{no_ports, with_port, without_port, open_refusal, target_of, message_target_of, flag_place_of};
 
 use board_terms::{PortShape, Refusal, Sint, Vp};
@@ -119,6 +119,7 @@ impl Ports {
         ensures answer { result ≡ message_target_of self.now port kind }
         ensures on_the_board { IfOk result (λ p. p.vp < self.now.processors) }
         ensures in_range { IfOk result (λ p. fits p.shape ≡ true) }
+        ensures messages { IfOk result (λ p. takes_messages p.shape ≡ true) }
         ensures known { OnOk result (port < 16) }
     {
         let target = self.target(port)?;

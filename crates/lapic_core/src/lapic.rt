@@ -1,9 +1,9 @@
 // The interrupt state of one processor.
-ghost use Rattle.std.specs.Prelude.{◌≡◌, not, true, false};
+ghost use Rattle.std.specs.Prelude.{◌≡◌, ◌≤◌, None, not, true, false};
 ghost use Rattle.std.specs.FinSet as set;
 ghost use Rattle.lapic_core.specs.Vectors.{Vectors, greatest};
 ghost use Rattle.lapic_core.specs.Apic.{class, empty_apic, next, request, with_task_priority, with_suspension, after_take, after_end};
-ghost use Rattle.lapic_core.specs.inside.Threshold.{last_of, threshold, to_exceed, above, serving};
+ghost use Rattle.lapic_core.specs.inside.Threshold.{last_of, threshold, to_exceed, above, floor, serving};
 
 use crate::vector_set::VectorSet;
 use board_terms::Vector;
@@ -16,14 +16,17 @@ pub struct Lapic {
     requested: VectorSet,
     in_service: VectorSet,
     task_priority: u8,
-    // The greatest number that the processor priority (PPR) holds back, the last of its class: a
-    // vector has to exceed it. It depends on `in_service` and `task_priority`, so `take`, `end` and
-    // `set_task_priority` keep it.
-    threshold: u8,
-    // The greatest requested vector above `threshold`: it would come next, whether or not the
-    // processor is suspended. Each call that changes `requested` or `threshold` keeps it.
-    next: Option<Vector>,
     suspended: bool,
+    // The task priority, but while the processor is suspended 255, which holds everything back, so that
+    // no call has to look at the mark. `set_task_priority` and `set_suspended` keep it.
+    floor: u8,
+    // The greatest number that the processor priority (PPR) holds back, the last of its class: a
+    // vector has to exceed it. It depends on `in_service` and `floor`, so `take`, `end` and what keeps
+    // `floor` keep it.
+    threshold: u8,
+    // The greatest requested vector above `threshold`, which is the next one. Each call that changes
+    // `requested` or `threshold` keeps it.
+    next: Option<Vector>,
 }
 
 impl Model for Lapic {
@@ -50,9 +53,10 @@ impl Lapic {
             requested: VectorSet::new(),
             in_service: VectorSet::new(),
             task_priority: 0,
+            suspended: false,
+            floor: 0,
             threshold: 15,
             next: None,
-            suspended: false,
         }
     }
 
@@ -83,7 +87,7 @@ impl Lapic {
     pub fn next(&self) -> Option<Vector>
         ensures { result ≡ next self.now }
     {
-        if self.suspended { None } else { self.next }
+        self.next
     }
 
     /// Takes the next vector, if there is one: its request bit is cleared, and its in-service bit is
@@ -92,7 +96,7 @@ impl Lapic {
         ensures vector { result ≡ next self.old }
         ensures after { self.new ≡ after_take auto self.old }
     {
-        let vector = self.next()?;
+        let vector = self.next?;
         self.requested.remove(vector);
         if auto {
             self.next = next_above(&self.requested, self.threshold);
@@ -112,7 +116,7 @@ impl Lapic {
     {
         let vector = self.in_service.greatest()?;
         self.in_service.remove(vector);
-        self.threshold = threshold_of(&self.in_service, self.task_priority);
+        self.threshold = threshold_of(&self.in_service, self.floor);
         self.next = next_above(&self.requested, self.threshold);
         Some(vector)
     }
@@ -122,7 +126,8 @@ impl Lapic {
         ensures { self.new ≡ with_task_priority self.old value }
     {
         self.task_priority = value;
-        self.threshold = threshold_of(&self.in_service, value);
+        self.floor = floor_of(self.suspended, value);
+        self.threshold = threshold_of(&self.in_service, self.floor);
         self.next = next_above(&self.requested, self.threshold);
     }
 
@@ -137,14 +142,23 @@ impl Lapic {
     pub fn suspend(&mut self)
         ensures { self.new ≡ with_suspension self.old true }
     {
-        self.suspended = true;
+        self.set_suspended(true);
     }
 
     /// Resumes the processor: what was requested meanwhile counts again.
     pub fn resume(&mut self)
         ensures { self.new ≡ with_suspension self.old false }
     {
-        self.suspended = false;
+        self.set_suspended(false);
+    }
+
+    fn set_suspended(&mut self, suspended: bool)
+        ensures { self.new ≡ with_suspension self.old suspended }
+    {
+        self.suspended = suspended;
+        self.floor = floor_of(suspended, self.task_priority);
+        self.threshold = threshold_of(&self.in_service, self.floor);
+        self.next = next_above(&self.requested, self.threshold);
     }
 
     /// Whether the processor is suspended.
@@ -172,20 +186,28 @@ fn last_of_class(number: u8) -> u8
     16 * (number / 16) + 15
 }
 
-/// What the processor priority holds back: the priority is the greater of the classes of the task
-/// priority and of the greatest vector in service.
-fn threshold_of(in_service: &VectorSet, task_priority: u8) -> u8
-    ensures { (requested : Vectors) → result ≡ threshold (serving in_service.now task_priority requested) }
+/// The task priority, or 255 of a processor that is suspended.
+fn floor_of(suspended: bool, task_priority: u8) -> u8
+    ensures { result ≡ floor suspended task_priority }
+{
+    if suspended { 255 } else { task_priority }
+}
+
+/// What the processor priority holds back: the priority is the greater of the classes of the floor and
+/// of the greatest vector in service.
+fn threshold_of(in_service: &VectorSet, floor: u8) -> u8
+    ensures { (requested : Vectors) → result ≡ threshold (serving in_service.now floor requested) }
 {
     match in_service.greatest() {
-        Some(vector) => last_of_class(task_priority.max(vector.number())),
-        None => last_of_class(task_priority),
+        Some(vector) => last_of_class(floor.max(vector.number())),
+        None => last_of_class(floor),
     }
 }
 
 /// The greatest requested vector above a number.
 fn next_above(requested: &VectorSet, threshold: u8) -> Option<Vector>
-    ensures { result ≡ greatest (above requested.now threshold) }
+    ensures none { 255 ≤ threshold → result ≡ None }
+    ensures greatest { result ≡ greatest (above requested.now threshold) }
 {
     let vector = requested.greatest()?;
     if vector.number() > threshold {

@@ -82,6 +82,7 @@ impl Queues {
 
     /// Takes the head out of a queue, if there is one.
     #[inline]
+    #[inline(always)]
     pub fn place(&mut self, vp: Vp, sint: Sint) -> Option<Message>
         requires { source_number vp sint < length self.old }
         ensures head { result ≡ slice_get (queue_of self.old vp sint) 0 }

@@ -227,6 +227,10 @@ module _ (b : Bank) (t : ℕ × ℕ) (moment : ℕ) (index : t.1 < 4) where
   due-by_dues low =
       ap (λ o. option_map_or (λ d. nat_le d moment) o false) (due_at b (number_of t) (omega arith) ∙ ap (λ q. shown (is_suspended b q) (timer_in b t).due) of-processor) ∙ due-shown_by moment (is_suspended b t.0) (timer_in b t).due
 
+-- the processor of a timer that is due is not suspended
+pub due-awake : (b : Bank) (t : ℕ × ℕ) (moment : ℕ) → t.1 < 4 → t.0 < 8 → is_due_in b t moment ≡ true → is_suspended b t.0 ≡ false
+due-awake b t moment index low e = is-awake (is_suspended b t.0) (is_due (timer_in b t) moment) (sym (due-by_dues b t moment index low) ∙ e)
+
 -- a timer that is due at a moment has a due moment that it has reached
 pub due-reached : (b : Bank) (t : ℕ × ℕ) (moment : ℕ) → is_due_in b t moment ≡ true → is_due (timer_in b t) moment ≡ true
 due-reached b t moment e = elim (cases_lt (number_of t) 32) as (λ _. is_due (timer_in b t) moment ≡ true) [

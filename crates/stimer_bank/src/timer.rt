@@ -88,15 +88,6 @@ impl Timer {
         }
     }
 
-    pub(crate) fn is_due(self, moment: Moment) -> bool
-        ensures { result ≡ is_due self moment }
-    {
-        match self.due {
-            Some(due) => due <= moment as u128,
-            None => false,
-        }
-    }
-
     pub(crate) fn mode(self) -> Mode
         requires sound { IsSoundTimer self }
         requires running { IsSome self.due }

@@ -9,6 +9,7 @@ use Rattle.board_terms.specs.Dues.{Dues, number_of, timer_of, earlier, least, le
 use Rattle.stimer_bank.specs.declared.timer.Timer.{Timer}
 use Rattle.stimer_bank.specs.Bank.{Bank, with_timer, with_suspension, reset, dues, due_list}
 use Rattle.stimer_bank.specs.DueList.{Each, IsDueBy}
+use Rattle.stimer_bank.proofs.Members.{each_at}
 use Rattle.stimer_bank.proofs.Sorted.{sorted}
 use Rattle.stimer_bank.proofs.Shown.{dues-timer-other, dues-mark-other, dues-reset-other}
 use Rattle.board_terms.specs.declared.refusal.Refusal.TheVariants.{ClockBack}
@@ -35,11 +36,6 @@ pub scratch-earliest : (nexts : List (Option ℕ)) (autos : List Vectors) (owner
     after ≡ record { nexts = nexts; autos = autos; owners = owners; queued = queued; earliest = is }
 scratch-earliest nexts autos owners queued was now is before after start written same =
     written ∙ (λ i. record (start i) { earliest = same i })
-
-each_at : (P : ℕ × ℕ → Type 0) (ts : List (ℕ × ℕ)) → Each P ts → (k : ℕ) → k < length ts → P (get_or ts k (0, 0))
-each_at P [] h k less = absurd (omega arith)
-each_at P (t ∷ ts) h zero less = h.0
-each_at P (t ∷ ts) h (suc k) less = each_at P ts h.1 k (omega arith)
 
 -- a timer that is listed as due is of a processor on the board
 pub listed_on : (b : Bank) (moment m : ℕ) → ((k : ℕ) → 4 * m ≤ k → get_or (dues b) k None ≡ None) → (k : ℕ) → k < length (due_list (dues b) moment) → (get_or (due_list (dues b) moment) k (0, 0)).0 < m

@@ -1,5 +1,5 @@
 -- What a vector has to exceed.
-use Rattle.std.specs.Prelude.{ℕ, ◌+◌, ◌*◌, nat_lt, Option, false}
+use Rattle.std.specs.Prelude.{ℕ, ◌+◌, ◌*◌, nat_lt, Option, Bool, false, if◌then◌else◌}
 use Rattle.std.specs.FinSet as set
 use Rattle.std.specs.Option.{option_map_or}
 use Rattle.lapic_core.specs.Vectors.{Vectors}
@@ -20,6 +20,10 @@ to_exceed n o = option_map_or (λ v. v) o n
 -- the vectors above a number
 abbrev pub above : Vectors → ℕ → Vectors
 above s n = set.retain s (λ v. nat_lt n v)
+
+-- the task priority, but of a suspended processor 255, which holds every vector back
+abbrev pub floor : Bool → ℕ → ℕ
+floor suspended task_priority = if suspended then 255 else task_priority
 
 -- a processor that serves these vectors at a task priority, and has these requests
 abbrev pub serving : Vectors → ℕ → Vectors → Apic

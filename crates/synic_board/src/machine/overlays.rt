@@ -23,6 +23,7 @@ fn overlay_register(kind: Kind) -> Register
 impl Machine {
     /// Writes SIMP or SIEFP. Only the page that it left and the page that it reached can have another
     /// owner.
+    #[inline(always)]
     pub(crate) fn write_overlay(&mut self, vp: Vp, kind: Kind, value: u64)
         requires { vp < processors self.old.state }
         ensures state { self.new.state ≡ with_regs self.old.state vp (after_write (regs_of self.old.state vp) (overlay_register kind) value) }

@@ -1,6 +1,6 @@
 // Ports that are opened and closed, posts and signals.
 ghost use Rattle.std.specs.Prelude.{◌≡◌, ◌<◌, ◌≤◌, ◌+◌, [], ◌++◌, length, map, true, IfNone};
-ghost use Rattle.event_ports.specs.Shapes.{fits};
+ghost use Rattle.event_ports.specs.Shapes.{fits, takes_messages};
 ghost use Rattle.message_queues.specs.Queues.{port_used};
 ghost use Rattle.synic_board.specs.State.{processors};
 ghost use Rattle.synic_board.specs.Effects.{preceded};
@@ -40,6 +40,7 @@ impl Machine {
     }
 
     /// Withdraws the queued messages of a port, front first.
+    #[inline(never)]
     #[tactic(auto, using(crate::proofs::Rules::lists))]
     fn withdraw(&mut self, vp: Vp, sint: Sint, port: u8, notices: &mut Notices)
         requires on { vp < processors self.old.state }
@@ -83,6 +84,7 @@ impl Machine {
     fn post_refusal(&self, port: u8, vp: Vp, shape: PortShape) -> Option<Refusal>
         requires on { vp < processors self.now.state }
         requires in_range { fits shape ≡ true }
+        requires messages { takes_messages shape ≡ true }
         ensures answer { result ≡ post_refusal self.now.state port vp shape }
         ensures buffer { IfNone result (port_used self.now.state.queues port < 16) }
         ensures ticket { IfNone result (self.now.state.next_ticket < 0xffffffffffffffff) }
@@ -92,7 +94,7 @@ impl Machine {
         }
         let buffers = match shape {
             PortShape::Messages { buffers } => buffers,
-            PortShape::Flags { .. } => 0,
+            PortShape::Flags { .. } => unreachable!(),
         };
         if self.queues.port_used(port) >= buffers {
             return Some(Refusal::NoBuffers);

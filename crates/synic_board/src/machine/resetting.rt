@@ -33,7 +33,9 @@ impl Machine {
         Reply::Done
     }
 
-    /// Withdraws the messages in the slots and queues of a processor.
+    /// Withdraws the messages in the slots and queues of a processor. It stands apart, as `clear` does, so
+    /// that no other event makes room for its tickets.
+    #[inline(never)]
     fn empty(&mut self, vp: Vp, notices: &mut Notices)
         requires on { vp < processors self.old.state }
         requires none { notices.old ≡ [] }
@@ -76,6 +78,7 @@ impl Machine {
     }
 
     /// A processor is as it was opened, but for its slots and queues, which are empty.
+    #[inline(never)]
     fn clear(&mut self, vp: Vp)
         requires { vp < processors self.old.state }
         ensures state { self.new.state ≡ cleared self.old.state vp }

@@ -1,5 +1,7 @@
 // Processors that are suspended, and go on.
-ghost use Rattle.std.specs.Prelude.{◌≡◌, ◌<◌, ◌≤◌, ◌+◌, [], true, false};
+ghost use Rattle.std.specs.Prelude.{◌≡◌, ◌<◌, ◌≤◌, ◌+◌, []};
+ghost use Rattle.lapic_core.specs.Apic.{with_suspension as apic_with_suspension};
+ghost use Rattle.stimer_bank.specs.Bank.{with_suspension as bank_with_suspension};
 ghost use Rattle.synic_board.specs.State.{processors};
 ghost use Rattle.synic_board.specs.Suspending.{is_suspended, with_suspension, suspended, resumed};
 
@@ -7,6 +9,8 @@ use crate::event::Reply;
 use crate::machine::Machine;
 use crate::summary::Entry;
 use board_terms::{Refusal, Vp};
+use lapic_core::Lapic;
+use stimer_bank::TimerBank;
 
 impl Machine {
     /// Suspends a processor: its local APIC gives no vector, and its timers are not tried.
@@ -19,7 +23,7 @@ impl Machine {
         if self.is_suspended(vp) {
             return Reply::Refused(Refusal::AlreadySuspended);
         }
-        self.halt(vp);
+        self.set_suspended(vp, true);
         Reply::Done
     }
 
@@ -33,7 +37,7 @@ impl Machine {
         if !self.is_suspended(vp) {
             return Reply::Refused(Refusal::NotSuspended);
         }
-        self.go_on(vp);
+        self.set_suspended(vp, false);
         Reply::Done
     }
 
@@ -45,31 +49,37 @@ impl Machine {
         self.lapics[vp.number() as usize].is_suspended()
     }
 
-    /// A processor gets the mark.
-    fn halt(&mut self, vp: Vp)
+    /// A processor gets the mark, or loses it.
+    fn set_suspended(&mut self, vp: Vp, suspended: bool)
         requires { vp < processors self.old.state }
-        ensures state { self.new.state ≡ with_suspension self.old.state vp true }
+        ensures state { self.new.state ≡ with_suspension self.old.state vp suspended }
         ensures writes { self.new.writes ≡ self.old.writes + 2 }
     {
         let lapic = &mut self.lapics[vp.number() as usize];
-        lapic.suspend();
+        mark_lapic(lapic, suspended);
         let next = lapic.next();
-        self.timers.suspend(vp);
+        mark_timers(&mut self.timers, vp, suspended);
         self.summary.write(Entry::Next(vp, next));
         self.summary.write(Entry::Earliest(self.timers.earliest()));
     }
+}
 
-    /// A processor loses the mark.
-    fn go_on(&mut self, vp: Vp)
-        requires { vp < processors self.old.state }
-        ensures state { self.new.state ≡ with_suspension self.old.state vp false }
-        ensures writes { self.new.writes ≡ self.old.writes + 2 }
-    {
-        let lapic = &mut self.lapics[vp.number() as usize];
+fn mark_lapic(lapic: &mut Lapic, suspended: bool)
+    ensures { lapic.new ≡ apic_with_suspension lapic.old suspended }
+{
+    if suspended {
+        lapic.suspend();
+    } else {
         lapic.resume();
-        let next = lapic.next();
-        self.timers.resume(vp);
-        self.summary.write(Entry::Next(vp, next));
-        self.summary.write(Entry::Earliest(self.timers.earliest()));
+    }
+}
+
+fn mark_timers(timers: &mut TimerBank, vp: Vp, suspended: bool)
+    ensures { timers.new ≡ bank_with_suspension timers.old vp suspended }
+{
+    if suspended {
+        timers.suspend(vp);
+    } else {
+        timers.resume(vp);
     }
 }

@@ -1,16 +1,28 @@
-use Rattle.std.proofs.Common.{arith}
-use Rattle.lapic_core.specs.inside.View.{apic_of}
-use Rattle.lapic_core.proofs.Priority.{awaited_request-above, awaited_request-same}
+use Rattle.std.proofs.Common.{ap, arith}
+use Rattle.lapic_core.specs.inside.Threshold.{to_exceed}
+use Rattle.lapic_core.specs.inside.View.{held_of}
+use Rattle.lapic_core.proofs.Priority.{awaited_request-above, awaited_request-same, full}
 use Rattle.lapic_core.proofs.lapic.Lapic.request.Goals as goal
 
 pub invariant_of-self : goal.invariant_of-self
-invariant_of-self c = rw c.insert.ensures record {
-  next_is = awaited_request-above (apic_of c.self.inside) c.self.inside.threshold c.args.vector _ c.self.invariant.next_is c.self.invariant.threshold_is (omega (arith, c.number.ensures.value, c.to_exceed.ensures, c.if-number-to_exceed.true));
-  threshold_is = c.self.invariant.threshold_is;
-}
+invariant_of-self c =
+    let kept = c.self.invariant in
+    rw c.insert.ensures record {
+      floor_is = kept.floor_is;
+      threshold_is = kept.threshold_is;
+      next_is = awaited_request-above (held_of c.self.inside) c.self.inside.threshold c.args.vector _ kept.next_is kept.threshold_is (omega (arith, c.number.ensures.value, c.to_exceed.ensures, c.if-number-to_exceed.true));
+      suspended = λ e.
+          let all = full _ c.self.inside.requested _ _ _ _ kept.floor_is kept.threshold_is e in
+          let none = ap (to_exceed c.self.inside.threshold) (kept.suspended e) in
+          absurd (omega (arith, all, none, c.number.ensures, c.to_exceed.ensures, c.if-number-to_exceed.true));
+    }
 
 pub invariant_of-self-else-number-to_exceed : goal.invariant_of-self-else-number-to_exceed
-invariant_of-self-else-number-to_exceed c = rw c.insert.ensures record {
-  next_is = awaited_request-same (apic_of c.self.inside) c.self.inside.threshold c.args.vector _ c.self.invariant.next_is c.self.invariant.threshold_is (omega (arith, c.number.ensures.value, c.to_exceed.ensures, c.if-number-to_exceed.false));
-  threshold_is = c.self.invariant.threshold_is;
-}
+invariant_of-self-else-number-to_exceed c =
+    let kept = c.self.invariant in
+    rw c.insert.ensures record {
+      floor_is = kept.floor_is;
+      threshold_is = kept.threshold_is;
+      next_is = awaited_request-same (held_of c.self.inside) c.self.inside.threshold c.args.vector _ kept.next_is kept.threshold_is (omega (arith, c.number.ensures.value, c.to_exceed.ensures, c.if-number-to_exceed.false));
+      suspended = kept.suspended;
+    }
