@@ -43,12 +43,4 @@ impl Workload {
             Workload::Mixed => "mixed",
         }
     }
-
-    /// The workload of a name.
-    pub(crate) fn named(name: &str) -> Option<Workload> {
-        Workload::ALL
-            .iter()
-            .copied()
-            .find(|workload| workload.name() == name)
-    }
 }

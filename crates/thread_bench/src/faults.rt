@@ -1,10 +1,9 @@
 // Why nothing, or not all, was measured.
+use bench_line::{LineFault, USAGE_FAULT};
 use board_threads::{CallFault, OpenFault, SettleFault};
 use std::alloc::AllocError;
 use std::io;
 use thiserror::Error;
-
-pub(crate) const USAGE_FAULT: u8 = 2;
 
 const UNSETTLED: u8 = 3;
 
@@ -15,35 +14,37 @@ const STREAM_FAULT: u8 = 5;
 /// Why nothing, or not all, was measured.
 #[derive(Clone, Copy, PartialEq, Eq, Debug, Drop, Error)]
 pub(crate) enum Fault {
-    #[error("an argument is not UTF-8")]
-    NotText,
-    #[error("out of memory")]
-    Memory,
+    #[error("{0}")]
+    Line(LineFault),
     #[error("no board was opened: {0}")]
     Opening(OpenFault),
     #[error("a call failed: {0}")]
     Call(CallFault),
     #[error("the board was not settled: {0}")]
     Settling(SettleFault),
-    #[error("a line was not written, or there is no clock")]
-    Stream,
 }
 
 impl Fault {
     /// The status that the program ends with.
     pub(crate) fn status(&self) -> u8 {
         match self {
-            Fault::NotText => USAGE_FAULT,
+            Fault::Line(LineFault::NotText) => USAGE_FAULT,
             Fault::Call(_) | Fault::Settling(_) => UNSETTLED,
-            Fault::Memory | Fault::Opening(_) => NO_MEMORY,
-            Fault::Stream => STREAM_FAULT,
+            Fault::Line(LineFault::Memory) | Fault::Opening(_) => NO_MEMORY,
+            Fault::Line(LineFault::Stream) => STREAM_FAULT,
         }
     }
 }
 
+impl From<LineFault> for Fault {
+    fn from(fault: LineFault) -> Fault {
+        Fault::Line(fault)
+    }
+}
+
 impl From<AllocError> for Fault {
-    fn from(_: AllocError) -> Fault {
-        Fault::Memory
+    fn from(error: AllocError) -> Fault {
+        Fault::Line(LineFault::from(error))
     }
 }
 
@@ -67,10 +68,6 @@ impl From<SettleFault> for Fault {
 
 impl From<io::Error> for Fault {
     fn from(error: io::Error) -> Fault {
-        if error.kind() == io::ErrorKind::OutOfMemory {
-            Fault::Memory
-        } else {
-            Fault::Stream
-        }
+        Fault::Line(LineFault::from(error))
     }
 }

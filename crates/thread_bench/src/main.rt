@@ -7,33 +7,19 @@ mod worker;
 mod workers;
 mod workload;
 
-use crate::faults::{Fault, USAGE_FAULT};
+use crate::faults::Fault;
 use crate::measure::measure;
 use crate::workload::{Job, ThreadCount, Workload};
-use clap::error::ErrorKind;
-use clap::{Arg, Command, Error};
-use std::alloc::{AllocError, Global};
+use bench_line::{Asked, Program};
 use std::process::ExitCode;
 use std::sync::Wait;
 use std::thread::Threads;
-use std::{env, io};
-
-/// How many calls each thread makes where nobody says.
-const FEW_CALLS: u32 = 40_000;
 
 const OUTPUT: &str = "\
 Standard output: each workload, the calls of a thread, those of all threads, and where there is
 one thread, how many of them counted: raises that were fresh, or interrupts that were taken.
 Standard error: each workload, the calls of a thread, and nanoseconds a call, by the time in
 which all threads made theirs.";
-
-/// What the command line asks for.
-enum Asked {
-    /// One workload, or all of them, of that many calls.
-    Measurements(Option<Workload>, u32),
-    /// Nothing more: help was shown, or what is wrong was said.
-    Nothing(ExitCode),
-}
 
 fn main(rt: HostRuntime) -> ExitCode {
     match run(&rt, &rt) {
@@ -46,64 +32,28 @@ fn main(rt: HostRuntime) -> ExitCode {
     }
 }
 
-/// The command line of the program.
-fn command<'a>(alloc: Global, names: &'a [&'a str]) -> Result<Command<'a>, AllocError> {
-    let workload = Arg::new(alloc, "workload")
-        .help("What is measured [default: all]")
-        .value_parser(names);
-    let calls = Arg::new(alloc, "calls")
-        .help("How many calls each thread makes [default: 40000]")
-        .value_parser(clap::value_parser!(u32).range(1..));
-    Command::new(alloc, "thread_bench")
-        .about("Runs threads on a shared board, and tells what a call costs")
-        .after_help(OUTPUT)
-        .arg(workload)?
-        .arg(calls)
-}
-
 /// Does what the command line asks for.
 fn run<R: Threads + Wait + Sync>(rt: &HostRuntime, threads: &R) -> Result<ExitCode, Fault> {
-    match read_command_line(rt)? {
+    let names = Workload::ALL.map(|workload| workload.name());
+    let program = Program {
+        name: "thread_bench",
+        about: "Runs threads on a shared board, and tells what a call costs",
+        workloads: names.as_slice(),
+        unit: "calls",
+        unit_help: "How many calls each thread makes [default: 40000]",
+        few: 40_000,
+        output: OUTPUT,
+    };
+    let (chosen, calls) = match program.asked(rt)? {
         Asked::Nothing(code) => return Ok(code),
-        Asked::Measurements(Some(workload), calls) => show(rt, threads, workload, calls)?,
-        Asked::Measurements(None, calls) => {
-            for workload in Workload::ALL {
-                show(rt, threads, workload, calls)?;
-            }
+        Asked::Measurements(chosen, calls) => (chosen, calls),
+    };
+    for (place, workload) in Workload::ALL.iter().enumerate() {
+        if chosen.is_none_or(|chosen| chosen == place) {
+            show(rt, threads, *workload, calls)?;
         }
     }
     Ok(ExitCode::SUCCESS)
-}
-
-fn read_command_line(rt: &HostRuntime) -> Result<Asked, Fault> {
-    let words = match env::args(rt) {
-        Ok(words) => words.collect::<Vec<String>>(rt.alloc())?,
-        Err(error) if error.kind() == io::ErrorKind::InvalidData => return Err(Fault::NotText),
-        Err(error) => return Err(Fault::from(error)),
-    };
-    let names = Workload::ALL.map(|workload| workload.name());
-    let command = command(rt.alloc(), names.as_slice())?;
-    let matches = match command.try_get_matches_from(words.as_slice()) {
-        Ok(matches) => matches,
-        Err(error) => return say(rt, error),
-    };
-    let workload = matches.get_str("workload").and_then(Workload::named);
-    let calls = matches.get_one::<u32>("calls").unwrap_or(FEW_CALLS);
-    Ok(Asked::Measurements(workload, calls))
-}
-
-/// Says what the parser of the command line says: help, or what is wrong.
-fn say(rt: &HostRuntime, error: Error) -> Result<Asked, Fault> {
-    if error.kind() == ErrorKind::OutOfMemory {
-        return Err(Fault::Memory);
-    }
-    error.print(rt)?;
-    let code = if error.use_stderr() {
-        ExitCode::from(USAGE_FAULT)
-    } else {
-        ExitCode::SUCCESS
-    };
-    Ok(Asked::Nothing(code))
 }
 
 /// Measures a workload and shows it: what is the same each time on standard output, the time on

@@ -74,14 +74,6 @@ impl Workload {
         }
     }
 
-    /// The workload of a name.
-    pub(crate) fn named(name: &str) -> Option<Workload> {
-        Workload::ALL
-            .iter()
-            .copied()
-            .find(|workload| workload.name() == name)
-    }
-
     /// How many calls each thread makes on one board at most.
     pub(crate) fn most(self) -> u32
         ensures { 1 ≤ result }
