@@ -48,7 +48,7 @@ by-cases s true false e vp part bits ds = refl
 by-cases s false b e vp part bits ds = refl
 
 -- an absorb is refused exactly where no word is swept
-absorb-sweeps : (s : State) (n vp part bits : ℕ) (r : Reply) (ds : List Did) → r ≡ (step s (Absorb vp part bits)).1 → processors s ≡ n
+pub absorb-sweeps : (s : State) (n vp part bits : ℕ) (r : Reply) (ds : List Did) → r ≡ (step s (Absorb vp part bits)).1 → processors s ≡ n
     → sweep_in (Absorb vp part bits) r ++ ds ≡ (if nat_lt vp n && nat_le part 3 then sweep_of vp part bits ∷ ds else ds)
 unfolding step
 absorb-sweeps s n vp part bits r ds is many =
@@ -67,11 +67,3 @@ unfolding step
 refused-absorb s n vp part bits r is many h =
     ap (λ m. nat_lt vp m && nat_le part 3) (sym many)
     ∙ refused-by-cases s (nat_lt vp (processors s)) (nat_le part 3) (absorbed_below s vp part bits 64) (ap is_refusal (sym is) ∙ h)
-
-pub absorb-pushes : (old new : List Call) (s : State) (n vp part bits : ℕ) (r : Reply) (ds ds' : List Did) → ds ≡ sweeps_of old
-    → ds' ≡ (if nat_lt vp n && nat_le part 3 then sweep_of vp part bits ∷ ds else ds)
-    → r ≡ (step s (Absorb vp part bits)).1 → processors s ≡ n → new ≡ old ++ (Absorb vp part bits, r) ∷ []
-    → (ds' ≡ sweeps_of new) × (ds' ≡ sweep_in (Absorb vp part bits) r ++ ds)
-absorb-pushes old new s n vp part bits r ds ds' was now same many is =
-    let e : ds' ≡ sweep_in (Absorb vp part bits) r ++ ds = now ∙ sym (absorb-sweeps s n vp part bits r ds same many) in
-    (e ∙ ap (λ x. sweep_in (Absorb vp part bits) r ++ x) was ∙ sym (sweeps-push old (Absorb vp part bits) r) ∙ ap sweeps_of (sym is), e)

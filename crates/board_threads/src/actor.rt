@@ -6,12 +6,13 @@ ghost use Rattle.entry_log.specs.Log.{entry};
 ghost use Rattle.board_threads.specs.Sweeps.{is_absorb, is_refusal, sweep_in, sweeps_of};
 ghost use Rattle.board_threads.specs.Sharing.{acting};
 
-use crate::recorded::{MOST, Recorded};
+use crate::recorded::Recorded;
 use crate::settling::ActorCalls;
 use board_terms::Vp;
 use posted_words::{PostedWords, Sweeper};
 use std::alloc::Global;
 use std::marker::Model;
+use std::sync::{Mutex, Wait};
 use synic_board::{Event, Reply};
 use thiserror::Error;
 
@@ -93,34 +94,35 @@ impl Actor {
         (sweeper, ActorCalls { number, calls })
     }
 
-    /// Performs an event on the board under the lock.
-    pub(crate) fn perform(
+    /// Performs an event on the board under the lock. Its own list grows before the lock is taken, and
+    /// gets the call when it is given back, so that nobody waits for either.
+    pub(crate) fn perform<R: Wait>(
         &mut self,
-        recorded: &mut Recorded,
+        rt: &R,
+        board: &Mutex<Recorded>,
         event: Event,
     ) -> Result<Reply, CallFault>
         requires { is_absorb event ≡ false }
         ensures ok { IfOk result (λ r. self.new ≡ acting self.old.of self.old.number (self.old.calls ++ (event, r) ∷ []) self.old.did) }
-        ensures history { IfOk result (λ r. recorded.new.history.entries ≡ recorded.old.history.entries ++ entry self.old.number event r ∷ []) }
         ensures fault { OnErr result (self.new ≡ self.old) }
-        ensures unchanged { OnErr result (recorded.new.history.entries ≡ recorded.old.history.entries) }
         ensures event { ¬ (IsErrOf result CallFault.AbsorbEvent) }
     {
-        if recorded.history.len() >= MOST {
-            return Err(CallFault::Full);
-        }
-        if recorded.history.reserve().is_err() || self.calls.reserve(1).is_err() {
-            return Err(CallFault::Memory);
-        }
-        let reply = recorded.perform(self.number, &event);
+        let has_room = self.calls.reserve(1).is_ok();
+        let number = self.number;
+        let reply = {
+            let mut guard = board.lock(rt);
+            let recorded = &mut *guard;
+            recorded.enter(has_room, number, &event)?
+        };
         self.calls.push_reserved((event, reply.copy()));
         Ok(reply)
     }
 
     /// Sweeps a word, and performs the absorb of its bits on the board under the lock.
-    pub(crate) fn absorb(
+    pub(crate) fn absorb<R: Wait>(
         &mut self,
-        recorded: &mut Recorded,
+        rt: &R,
+        board: &Mutex<Recorded>,
         words: &PostedWords,
         vp: u8,
         part: u8,
@@ -129,35 +131,17 @@ impl Actor {
         ensures ok { IfOk result (λ r. (bits : ℕ) × (self.new ≡ acting self.old.of self.old.number (self.old.calls ++ (Absorb vp part bits, r) ∷ []) (sweep_in (Absorb vp part bits) r ++ self.old.did))) }
         ensures refused { IfOk result (λ r. is_refusal r ≡ true → self.new.calls ≡ self.old.calls ++ (Absorb vp part 0, r) ∷ []) }
         ensures fault { OnErr result (self.new ≡ self.old) }
-        ensures unchanged { OnErr result (recorded.new.history.entries ≡ recorded.old.history.entries) }
         ensures event { ¬ (IsErrOf result CallFault.AbsorbEvent) }
     {
-        // The lock tells nothing of what it holds but a legal history, so this looks that the board is
-        // the one that the words were opened for.
-        if recorded.history.len() >= MOST || recorded.board.processors() != words.processors() {
-            return Err(CallFault::Full);
-        }
-        if recorded.history.reserve().is_err() || self.calls.reserve(1).is_err() {
-            return Err(CallFault::Memory);
-        }
-        let bits = sweep_if_there(words, &mut self.sweeper, vp, part);
-        let event = Event::Absorb { vp, part, bits };
-        let reply = recorded.perform(self.number, &event);
-        self.calls.push_reserved((event, reply.copy()));
+        let has_room = self.calls.reserve(1).is_ok();
+        let number = self.number;
+        let (bits, reply) = {
+            let mut guard = board.lock(rt);
+            let recorded = &mut *guard;
+            recorded.absorb(has_room, number, words, &mut self.sweeper, vp, part)?
+        };
+        self.calls
+            .push_reserved((Event::Absorb { vp, part, bits }, reply.copy()));
         Ok(reply)
-    }
-}
-
-/// Sweeps a word, if there is one, and answers its bits. No absorb of another word is performed, so
-/// its bits would be lost.
-fn sweep_if_there(words: &PostedWords, sweeper: &mut Sweeper, vp: u8, part: u8) -> u64
-    requires { sweeper.old.of ≡ words.now.name }
-    ensures swept { sweeper.new ≡ token sweeper.old.of (if nat_lt vp words.now.processors && nat_le part 3 then sweep_of vp part result ∷ sweeper.old.did else sweeper.old.did) }
-    ensures none { (nat_lt vp words.now.processors && nat_le part 3) ≡ false → result ≡ 0 }
-{
-    let processors = words.processors();
-    match Vp::new(vp) {
-        Some(vp) if vp.number() < processors && part <= 3 => words.sweep(sweeper, vp, part),
-        _ => 0,
     }
 }

@@ -1,14 +1,19 @@
 // What lies under the lock.
 ghost use base.Stored.{Coded-set};
-ghost use Rattle.std.specs.Prelude.{◌≡◌, true, [], ◌∷◌, ◌++◌, IfOk};
+ghost use Rattle.std.specs.Prelude.{◌≡◌, true, false, [], ◌∷◌, ◌++◌, IfOk, OnOk, OnErr, IsErrOf, if◌then◌else◌, nat_lt, nat_le, ◌&&◌};
+ghost use Rattle.posted_words.specs.Words.{token, sweep_of};
+ghost use Rattle.synic_board.specs.declared.event.Event.TheVariants.{Absorb};
+ghost use Rattle.board_threads.specs.Sweeps.{is_refusal, sweep_in};
 ghost use Rattle.synic_board.specs.State.{AreSizes, opened};
 ghost use Rattle.synic_board.specs.inside.Codes.{state_code};
 ghost use Rattle.synic_board.specs.Step.{step};
 ghost use Rattle.synic_board.specs.History.{IsLegal, leads_to};
 ghost use Rattle.entry_log.specs.Log.{entry};
 
-use board_terms::{Notices, Ticket};
+use crate::actor::CallFault;
+use board_terms::{Notices, Ticket, Vp};
 use entry_log::EntryLog;
+use posted_words::{PostedWords, Sweeper};
 use std::alloc::{AllocError, Global};
 use synic_board::{Board, Event, Reply};
 
@@ -59,9 +64,75 @@ impl Recorded {
         })
     }
 
+    /// Performs an event for an actor that has room for one more call. Faults are judged in this order:
+    /// `Full`, `Memory`; then nothing is performed.
+    pub(crate) fn enter(
+        &mut self,
+        has_room: bool,
+        actor: u8,
+        event: &Event,
+    ) -> Result<Reply, CallFault>
+        ensures history { IfOk result (λ r. self.new.history.entries ≡ self.old.history.entries ++ entry actor event.now r ∷ []) }
+        ensures unchanged { OnErr result (self.new.history.entries ≡ self.old.history.entries) }
+        ensures room { OnOk result (has_room ≡ true) }
+        ensures event { ¬ (IsErrOf result CallFault.AbsorbEvent) }
+    {
+        self.make_room(has_room)?;
+        Ok(self.perform(actor, event))
+    }
+
+    /// Sweeps a word, and performs the absorb of its bits for an actor that has room for one more call.
+    /// Faults are those of `enter`; then nothing is swept.
+    pub(crate) fn absorb(
+        &mut self,
+        has_room: bool,
+        actor: u8,
+        words: &PostedWords,
+        sweeper: &mut Sweeper,
+        vp: u8,
+        part: u8,
+    ) -> Result<(u64, Reply), CallFault>
+        requires { sweeper.old.of ≡ words.now.name }
+        ensures history { IfOk result (λ r. self.new.history.entries ≡ self.old.history.entries ++ entry actor (Absorb vp part r.0) r.1 ∷ []) }
+        ensures swept { IfOk result (λ r. sweeper.new ≡ token sweeper.old.of (sweep_in (Absorb vp part r.0) r.1 ++ sweeper.old.did)) }
+        ensures refused { IfOk result (λ r. is_refusal r.1 ≡ true → r.0 ≡ 0) }
+        ensures unchanged { OnErr result (self.new.history.entries ≡ self.old.history.entries) }
+        ensures kept { OnErr result (sweeper.new ≡ sweeper.old) }
+        ensures room { OnOk result (has_room ≡ true) }
+        ensures event { ¬ (IsErrOf result CallFault.AbsorbEvent) }
+    {
+        // The lock tells nothing of what it holds but a legal history, so this looks that the board is
+        // the one that the words were opened for.
+        if self.board.processors() != words.processors() {
+            return Err(CallFault::Full);
+        }
+        self.make_room(has_room)?;
+        let bits = sweep_if_there(words, sweeper, vp, part);
+        let reply = self.perform(actor, &Event::Absorb { vp, part, bits });
+        Ok((bits, reply))
+    }
+
+    /// Makes room for one more entry, where the actor has room for one more call.
+    fn make_room(&mut self, has_room: bool) -> Result<(), CallFault>
+        ensures room { OnOk result (self.new.history.has_room ≡ true) }
+        ensures actor { OnOk result (has_room ≡ true) }
+        ensures history { self.new.history.entries ≡ self.old.history.entries }
+        ensures board { self.new.board.state ≡ self.old.board.state }
+        ensures opening { self.new.opening ≡ self.old.opening }
+        ensures event { ¬ (IsErrOf result CallFault.AbsorbEvent) }
+    {
+        if self.history.len() >= MOST {
+            return Err(CallFault::Full);
+        }
+        if !has_room || self.history.reserve().is_err() {
+            return Err(CallFault::Memory);
+        }
+        Ok(())
+    }
+
     /// Performs an event for an actor, and enters it in room that was made before: an event that is
     /// performed is always told of.
-    pub(crate) fn perform(&mut self, actor: u8, event: &Event) -> Reply
+    fn perform(&mut self, actor: u8, event: &Event) -> Reply
         requires room { self.old.history.has_room ≡ true }
         ensures history { self.new.history.entries ≡ self.old.history.entries ++ entry actor event.now result ∷ [] }
         ensures reply { result ≡ (step self.old.board.state event.now).1 }
@@ -70,5 +141,19 @@ impl Recorded {
         let reply = self.board.perform(event, &mut self.notices);
         self.history.push(actor, event, &reply);
         reply
+    }
+}
+
+/// Sweeps a word, if there is one, and answers its bits. No absorb of another word is performed, so
+/// its bits would be lost.
+fn sweep_if_there(words: &PostedWords, sweeper: &mut Sweeper, vp: u8, part: u8) -> u64
+    requires { sweeper.old.of ≡ words.now.name }
+    ensures swept { sweeper.new ≡ token sweeper.old.of (if nat_lt vp words.now.processors && nat_le part 3 then sweep_of vp part result ∷ sweeper.old.did else sweeper.old.did) }
+    ensures none { (nat_lt vp words.now.processors && nat_le part 3) ≡ false → result ≡ 0 }
+{
+    let processors = words.processors();
+    match Vp::new(vp) {
+        Some(vp) if vp.number() < processors && part <= 3 => words.sweep(sweeper, vp, part),
+        _ => 0,
     }
 }

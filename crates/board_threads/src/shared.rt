@@ -137,9 +137,7 @@ impl SharedBoard {
         if matches!(event, Event::Absorb { .. }) {
             return Err(CallFault::AbsorbEvent);
         }
-        let mut guard = self.recorded.lock(rt);
-        let recorded = &mut *guard;
-        actor.perform(recorded, event)
+        actor.perform(rt, &self.recorded, event)
     }
 
     /// Sweeps a word of the board's posted words, and performs the absorb of its bits, in turn with all
@@ -160,9 +158,7 @@ impl SharedBoard {
         ensures fault { OnErr result (actor.new ≡ actor.old) }
         ensures event { ¬ (IsErrOf result CallFault.AbsorbEvent) }
     {
-        let mut guard = self.recorded.lock(rt);
-        let recorded = &mut *guard;
-        actor.absorb(recorded, &self.words, vp, part)
+        actor.absorb(rt, &self.recorded, &self.words, vp, part)
     }
 
     /// Raises a vector at a processor, by one atomic step with no lock: `Fresh` if it was not pending.
