@@ -24,7 +24,7 @@ extern "C" {
 
 /* The version of these declarations; the bindings for Rust have the same. */
 #define SYNICBOARD_VERSION_MAJOR 1
-#define SYNICBOARD_VERSION_MINOR 0
+#define SYNICBOARD_VERSION_MINOR 1
 
 typedef struct synicboard {
     void *at;
@@ -96,6 +96,7 @@ typedef struct synicboard_reply {
     uint8_t refusal;
     uint8_t vector;
     uint8_t length;
+    uint16_t notices;                   /* how many notices the event gave */
     uint64_t value;
     uint64_t ticket;
     uint8_t bytes[8];
@@ -198,6 +199,24 @@ typedef struct synicboard_notice {
 /* Copies the notices of the last event, in their order and as many as there is room for, and answers how
  * many there are. What is refused has none; where nothing was performed they are those of the event before. */
 size_t synicboard_notices(synicboard *board, synicboard_notice *room, size_t length);
+
+/* How a batch ended. */
+enum {
+    SYNICBOARD_ALL_PERFORMED = 0,
+    SYNICBOARD_BATCH_NO_BOARD = 1,      /* the handle is closed */
+    SYNICBOARD_BATCH_NO_EVENT = 2,      /* the next one has no such kind, a vector below 16, or too many bytes */
+    SYNICBOARD_BATCH_NO_ROOM = 3        /* for one more reply, or for SYNICBOARD_MOST_NOTICES more notices */
+};
+
+typedef struct synicboard_batch {
+    uint8_t end;
+    size_t done;                        /* how many events were performed */
+    size_t told;                        /* how many notices they gave */
+} synicboard_batch;
+
+/* Performs events in order, as long as each is one and there is room. Each has a reply, and the notices of
+ * all stand one behind another in `notices`, of which each reply says how many are its own. */
+synicboard_batch synicboard_perform_all(synicboard *board, const synicboard_event *events, size_t count, synicboard_reply *replies, size_t reply_room, synicboard_notice *notices, size_t notice_room);
 
 /* What the board is asked after each event. None of these changes it, or computes anything. */
 

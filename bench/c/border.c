@@ -1,11 +1,11 @@
 /* What the border costs: performs the events of a workload of board_bench through the C calls.
  *
- *   border calls|notices|structs interrupts|messages|timers EVENTS
+ *   border calls|notices|structs|batches interrupts|messages|timers EVENTS
  *
- * `calls` performs each event by its own call, `notices` asks for its notices too, and `structs` performs
- * it by synicboard_perform and asks for them. Standard output has the events, their notices (where they
- * are asked for) and the sum of the replies, as board_bench has them, and standard error nanoseconds an
- * event. */
+ * `calls` performs each event by its own call, `notices` asks for its notices too, where there are some,
+ * `structs` performs it by synicboard_perform and asks for them, and `batches` performs up to 64 of them by
+ * synicboard_perform_all, which gives their notices. Standard output has the events, their notices and the
+ * sum of the replies, as board_bench has them, and standard error nanoseconds an event. */
 #define _POSIX_C_SOURCE 200809L /* for clock_gettime */
 #include <inttypes.h>
 #include <stdbool.h>
@@ -22,7 +22,7 @@ enum { OVERLAY = 0x1000, SLOT = 256, FIRST_VECTOR = 0x40, PERIODIC_DIRECT = 0x10
 enum { EOI = 0x40000070, SCONTROL = 0x40000080, SIMP = 0x40000083, EOM = 0x40000084, SINT0 = 0x40000090 };
 enum { STIMER0_CONFIG = 0x400000b0, STIMER0_COUNT = 0x400000b1 };
 
-enum way { CALLS, NOTICES, STRUCTS };
+enum way { CALLS, NOTICES, STRUCTS, BATCHES };
 
 /* A board on which all was done that comes before the time runs, the events that are then done over and
  * over, and by how much their ticks are put off each time. */
@@ -133,9 +133,36 @@ static inline void perform(struct scene *scene, synicboard_event *event, enum wa
     synicboard *board = &scene->board;
     synicboard_reply reply = way == STRUCTS ? synicboard_perform(board, event) : perform_by_call(board, event);
     totals->replies += value_of(&reply);
-    if (way != CALLS)
-        totals->notices += synicboard_notices(board, notices, SYNICBOARD_MOST_NOTICES);
+    totals->notices += reply.notices;
+    if (way != CALLS && reply.notices > 0)
+        synicboard_notices(board, notices, SYNICBOARD_MOST_NOTICES);
     event->moment += scene->span;
+}
+
+/* The first events of a round, by as few batches as there is room for. */
+static void perform_batch(struct scene *scene, size_t count, struct totals *totals)
+{
+    enum { ROOM = 4 * SYNICBOARD_MOST_NOTICES };
+    static synicboard_reply replies[MOST_EVENTS];
+    static synicboard_notice notices[ROOM];
+    for (size_t done = 0; done < count;) {
+        synicboard_batch batch = synicboard_perform_all(
+            &scene->board, scene->round + done, count - done, replies, MOST_EVENTS, notices, ROOM);
+        if (batch.done == 0)
+            give_up("a batch performed nothing");
+        for (size_t at = 0; at < batch.done; at++)
+            totals->replies += value_of(&replies[at]);
+        totals->notices += batch.told;
+        done += batch.done;
+    }
+    for (size_t at = 0; at < count; at++)
+        scene->round[at].moment += scene->span;
+}
+
+static void perform_batches(struct scene *scene, uint64_t events, struct totals *totals)
+{
+    for (uint64_t done = 0; done < events; done += scene->length)
+        perform_batch(scene, events - done < scene->length ? (size_t)(events - done) : scene->length, totals);
 }
 
 static inline void perform_all(struct scene *scene, uint64_t events, enum way way, struct totals *totals)
@@ -152,6 +179,7 @@ static struct totals total(struct scene *scene, uint64_t events, enum way way)
     case CALLS: perform_all(scene, events, CALLS, &totals); break;
     case NOTICES: perform_all(scene, events, NOTICES, &totals); break;
     case STRUCTS: perform_all(scene, events, STRUCTS, &totals); break;
+    case BATCHES: perform_batches(scene, events, &totals); break;
     }
     return totals;
 }
@@ -169,9 +197,7 @@ static void show(const char *name, struct scene *scene, uint64_t events, enum wa
     double begun = nanoseconds();
     struct totals totals = total(scene, events, way);
     double ended = nanoseconds();
-    printf("%s %" PRIu64 " events ", name, events);
-    if (way != CALLS)
-        printf("%" PRIu64 " notices ", totals.notices);
+    printf("%s %" PRIu64 " events %" PRIu64 " notices ", name, events, totals.notices);
     printf("%" PRIu64 " replies\n", totals.replies);
     fprintf(stderr, "%s %" PRIu64 " events %.1f ns an event\n", name, events, (ended - begun) / (double)events);
 }
@@ -181,16 +207,16 @@ static size_t number_of(const char *word, const char *const words[], size_t coun
     for (size_t at = 0; at < count; at++)
         if (strcmp(word, words[at]) == 0)
             return at;
-    give_up("border calls|notices|structs interrupts|messages|timers EVENTS");
+    give_up("border calls|notices|structs|batches interrupts|messages|timers EVENTS");
 }
 
 int main(int count, char **words)
 {
-    static const char *const ways[] = { "calls", "notices", "structs" };
+    static const char *const ways[] = { "calls", "notices", "structs", "batches" };
     static const char *const names[] = { "interrupts", "messages", "timers" };
     static void (*const set_up[])(struct scene *) = { interrupts, messages, timers };
     static struct scene scene;
-    enum way way = (enum way)number_of(count == 4 ? words[1] : "", ways, 3);
+    enum way way = (enum way)number_of(count == 4 ? words[1] : "", ways, 4);
     size_t name = number_of(words[2], names, 3);
     uint64_t events = strtoull(words[3], NULL, 10);
     if (events == 0)

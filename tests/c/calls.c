@@ -1,10 +1,5 @@
 /* What no script shows of the C calls: closed handles, openings that are refused, numbers that mean no
- * event, rooms that are too small, boards side by side, handles that move, pages, and refused memory.
- *
- *   calls RECORDED_TRACE     (examples/recorded.trace)
- *
- * Each check that fails is printed, and the last line counts them; the status is 1 if there is one. */
-#define _DEFAULT_SOURCE /* for MAP_ANONYMOUS */
+ * event, rooms that are too small, boards side by side, handles that move, pages, and refused memory. */
 #include <pthread.h>
 #include <stdbool.h>
 #include <stddef.h>
@@ -12,26 +7,12 @@
 #include <stdio.h>
 #include <stdlib.h>
 #include <string.h>
-#include <sys/mman.h>
 
 #include "by_call.h"
 #include "checks.h"
 #include "synicboard.h"
 
 enum { SLOT = 256 };
-
-/* The first registers of each sort. */
-enum {
-    REFERENCE_COUNTER = 0x40000020,
-    EOI = 0x40000070,
-    SCONTROL = 0x40000080,
-    SIEFP = 0x40000082,
-    SIMP = 0x40000083,
-    EOM = 0x40000084,
-    SINT0 = 0x40000090,
-    STIMER0_CONFIG = 0x400000b0,
-    STIMER0_COUNT = 0x400000b1
-};
 
 static struct text before, after;
 
@@ -419,7 +400,7 @@ static void test_notices(void)
     synicboard board = SYNICBOARD_CLOSED;
     open_full(&board);
     list_tickets(tickets);
-    CHECK_REPLY(synicboard_reset(&board, 0), SYNICBOARD_DONE);
+    CHECK_NUMBER(synicboard_reset(&board, 0).notices, SYNICBOARD_MOST_NOTICES);
     for (size_t at = 0; at < sizeof sizes / sizeof *sizes; at++) {
         memset(room, 0xee, sizeof room);
         CHECK_NUMBER(synicboard_notices(&board, room, sizes[at]), SYNICBOARD_MOST_NOTICES);
@@ -736,104 +717,6 @@ static void test_all_pages(void)
     synicboard_close(&board);
 }
 
-/* ---- Traces ---- */
-
-static char trace[4096];
-static const char *trace_path;
-
-static void read_trace(void)
-{
-    FILE *file = fopen(trace_path, "rb");
-    size_t length = file == NULL ? 0 : fread(trace, 1, sizeof trace - 1, file);
-    trace[length] = '\0';
-    if (file != NULL)
-        fclose(file);
-    CHECK(length > 0);
-}
-
-static void check_verdict(size_t length, uint8_t kind, uint64_t entries, uint64_t wrong, int line)
-{
-    synicboard_verdict verdict = synicboard_check((const uint8_t *)trace, length);
-    check_number(verdict.kind, kind, "the kind of a verdict", line);
-    check_number(verdict.entries, entries, "the entries of a verdict", line);
-    check_number(verdict.line, wrong, "the line of a verdict", line);
-}
-
-#define CHECK_VERDICT(length, kind, entries, wrong) check_verdict((length), (kind), (entries), (wrong), __LINE__)
-
-static void replace(const char *old, const char *new)
-{
-    char *place = strstr(trace, old);
-    CHECK(place != NULL);
-    if (place != NULL)
-        memcpy(place, new, strlen(new));
-}
-
-/* The trace has ten entries; line 12 is the reply to its post, and line 23 its last. */
-static void test_check(void)
-{
-    size_t blocks = blocks_out;
-    read_trace();
-    size_t length = strlen(trace);
-    CHECK_VERDICT(length, SYNICBOARD_ALL_RIGHT, 10, 0);
-    CHECK_VERDICT(length - 1, SYNICBOARD_WRONG_LINE, 0, 23);
-    CHECK_VERDICT(length - strlen("end 10\n"), SYNICBOARD_WRONG_LINE, 0, 23);
-    replace("accepted 0", "accepted 7");
-    CHECK_VERDICT(length, SYNICBOARD_WRONG_LINE, 0, 12);
-    replace("accepted 7", "accepted 0");
-    replace("end 10", "end 11");
-    CHECK_VERDICT(length, SYNICBOARD_WRONG_LINE, 0, 23);
-    replace("end 11\n", "end 10 1\n");
-    CHECK_VERDICT(length + 2, SYNICBOARD_WRONG_LINE, 0, 23);
-    replace("trace 1", "trace 2");
-    CHECK_VERDICT(length + 2, SYNICBOARD_ALL_RIGHT, 10, 0);
-    replace("end 10 1", "end 10 2");
-    CHECK_VERDICT(length + 2, SYNICBOARD_WRONG_LINE, 0, 23);
-    replace("board 1 4", "board 9 4");
-    CHECK_VERDICT(length + 2, SYNICBOARD_WRONG_LINE, 0, 2);
-    CHECK_NUMBER(blocks_out, blocks);
-}
-
-enum { PIECE = 1 << 20, PIECES = 1024 };
-
-/* A text of comments, PIECE * PIECES bytes and one more: a piece of a file, mapped again and again. */
-static uint8_t *map_comments(void)
-{
-    static char piece[PIECE];
-    memset(piece, 'x', sizeof piece);
-    for (size_t at = 0; at < PIECE; at += 512) {
-        piece[at] = '#';
-        piece[at + 511] = '\n';
-    }
-    FILE *file = tmpfile();
-    if (file == NULL || fwrite(piece, 1, PIECE, file) != PIECE || fflush(file) != 0)
-        return NULL;
-    size_t length = (size_t)PIECE * (PIECES + 1);
-    char *text = mmap(NULL, length, PROT_READ, MAP_PRIVATE | MAP_ANONYMOUS | MAP_NORESERVE, -1, 0);
-    for (size_t at = 0; text != MAP_FAILED && at < length; at += PIECE)
-        if (mmap(text + at, PIECE, PROT_READ, MAP_SHARED | MAP_FIXED, fileno(file), 0) == MAP_FAILED)
-            return NULL;
-    fclose(file);
-    return text == MAP_FAILED ? NULL : (uint8_t *)text;
-}
-
-/* As many bytes as a text may have are read, and no board line is among them; one more is too many. */
-static void test_long_texts(void)
-{
-    const size_t most = 1073741824;
-    uint8_t *text = map_comments();
-    uint8_t room[40];
-    CHECK(text != NULL);
-    if (text == NULL)
-        return;
-    synicboard_end end = synicboard_replay(text, most, room, sizeof room);
-    CHECK_NUMBER(end.kind, SYNICBOARD_WRONG_LINE);
-    CHECK_NUMBER(end.line, most / 512 + 1);
-    end = synicboard_replay(text, most + 1, room, sizeof room);
-    CHECK_NUMBER(end.kind, SYNICBOARD_TOO_LONG);
-    munmap(text, (size_t)PIECE * (PIECES + 1));
-}
-
 /* ---- Refused memory ---- */
 
 /* Refuses one request after the other, until an opening finds all its memory. */
@@ -864,48 +747,6 @@ static void test_refused_opening(void)
     check_refused_opening(PROCESSORS, PAGES);
 }
 
-/* The text grows many times, so memory is asked for at many places of it. */
-static void test_refused_replay(void)
-{
-    static char script[20000];
-    static uint8_t room[10000];
-    synicboard_end end;
-    size_t number = 1, length = (size_t)sprintf(script, "board 8 64 0\n");
-    for (int line = 0; line < 1000; line++)
-        length += (size_t)sprintf(script + length, "assert %d 60\n", line % 8);
-    refuse(number);
-    while ((end = synicboard_replay((uint8_t *)script, length, room, sizeof room)).kind == SYNICBOARD_WANTED_MEMORY) {
-        CHECK_NUMBER(end.line, 0);
-        CHECK_NUMBER(end.length, 0);
-        CHECK_NUMBER(blocks_out, 0);
-        refuse(++number);
-    }
-    CHECK_NUMBER(end.kind, SYNICBOARD_ALL_RIGHT);
-    CHECK_NUMBER(requests, number - 1);
-    CHECK(number > 1);
-    refuse(0);
-    CHECK_NUMBER(end.length, 1000 * strlen("= done\n") + 8 * strlen(". requested 0 60\n"));
-}
-
-static void test_refused_check(void)
-{
-    synicboard_verdict verdict;
-    size_t number = 1;
-    read_trace();
-    refuse(number);
-    while ((verdict = synicboard_check((uint8_t *)trace, strlen(trace))).kind == SYNICBOARD_WANTED_MEMORY) {
-        CHECK_NUMBER(verdict.entries, 0);
-        CHECK_NUMBER(verdict.line, 0);
-        CHECK_NUMBER(blocks_out, 0);
-        refuse(++number);
-    }
-    CHECK_NUMBER(verdict.kind, SYNICBOARD_ALL_RIGHT);
-    CHECK_NUMBER(verdict.entries, 10);
-    CHECK_NUMBER(requests, number - 1);
-    CHECK(number > 1);
-    refuse(0);
-}
-
 /* Events and looks neither ask for memory nor give any back. Each kind of reply is among the answers. */
 static void test_events_take_no_memory(void)
 {
@@ -929,10 +770,7 @@ static void test_events_take_no_memory(void)
     CHECK(returns > 0);
 }
 
-static const struct {
-    const char *name;
-    void (*run)(void);
-} tests[] = {
+static const struct test tests[] = {
     { "a closed handle", test_closed_handle },
     { "opening twice", test_opening_twice },
     { "sizes", test_sizes },
@@ -951,26 +789,11 @@ static const struct {
     { "guest pages", test_guest_page },
     { "no such page", test_no_such_page },
     { "all pages of the greatest board", test_all_pages },
-    { "traces", test_check },
-    { "texts that are too long", test_long_texts },
     { "refused memory of an opening", test_refused_opening },
-    { "refused memory of a replay", test_refused_replay },
-    { "refused memory of a check", test_refused_check },
     { "events take no memory", test_events_take_no_memory },
 };
 
-int main(int count, char **words)
+int main(void)
 {
-    if (count != 2) {
-        fprintf(stderr, "calls RECORDED_TRACE\n");
-        return 2;
-    }
-    trace_path = words[1];
-    for (size_t at = 0; at < sizeof tests / sizeof *tests; at++) {
-        begin_test(tests[at].name);
-        tests[at].run();
-        CHECK_NUMBER(blocks_out, 0);
-    }
-    printf("%u checks passed, %u failed\n", checks_passed, checks_failed);
-    return checks_failed > 0;
+    return run_tests(tests, sizeof tests / sizeof *tests);
 }

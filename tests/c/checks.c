@@ -11,9 +11,15 @@
 unsigned checks_passed, checks_failed;
 static const char *test_name;
 
-void begin_test(const char *name)
+int run_tests(const struct test *tests, size_t count)
 {
-    test_name = name;
+    for (size_t at = 0; at < count; at++) {
+        test_name = tests[at].name;
+        tests[at].run();
+        CHECK_NUMBER(blocks_out, 0);
+    }
+    printf("%u checks passed, %u failed\n", checks_passed, checks_failed);
+    return checks_failed > 0;
 }
 
 void check(bool holds, const char *what, int line)
@@ -48,7 +54,8 @@ void check_refusal(synicboard_reply reply, uint8_t refusal, const char *what, in
 
 void check_fault(synicboard_reply reply, uint8_t fault, const char *what, int line)
 {
-    bool is_silent = !reply.refusal && !reply.vector && !reply.length && !reply.value && !reply.ticket;
+    bool is_silent = !reply.refusal && !reply.vector && !reply.length && !reply.notices;
+    is_silent = is_silent && !reply.value && !reply.ticket;
     for (size_t at = 0; at < sizeof reply.bytes; at++)
         is_silent = is_silent && !reply.bytes[at];
     check_reply(reply, SYNICBOARD_NOT_PERFORMED, what, line);

@@ -1,4 +1,4 @@
-/* What the checks of calls.c stand on: checks that are counted, memory that can be refused, and all that a
+/* What the checks of calls.c, batches.c and texts.c stand on: checks that are counted, memory that can be refused, and all that a
  * board can be asked as a text. */
 #ifndef CHECKS_H
 #define CHECKS_H
@@ -11,12 +11,31 @@
 
 enum { PAGE = 4096, SOURCES = 16, PROCESSORS = 8, PAGES = 64 };
 
+/* The first registers of each sort. */
+enum {
+    REFERENCE_COUNTER = 0x40000020,
+    EOI = 0x40000070,
+    SCONTROL = 0x40000080,
+    SIEFP = 0x40000082,
+    SIMP = 0x40000083,
+    EOM = 0x40000084,
+    SINT0 = 0x40000090,
+    STIMER0_CONFIG = 0x400000b0,
+    STIMER0_COUNT = 0x400000b1
+};
+
 /* ---- Checks ---- */
 
 extern unsigned checks_passed, checks_failed;
 
-/* Names the test to which the next checks belong. */
-void begin_test(const char *name);
+struct test {
+    const char *name;
+    void (*run)(void);
+};
+
+/* Runs tests, which leave no block of memory out. Each check that fails is printed, and the last line counts
+ * them. The answer is the status of the program: 1 if one failed. */
+int run_tests(const struct test *tests, size_t count);
 
 void check(bool holds, const char *what, int line);
 void check_number(uint64_t number, uint64_t wanted, const char *what, int line);

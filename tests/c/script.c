@@ -2,6 +2,7 @@
  *
  *   script --calls FILE      each event by the call of its own
  *   script --structs FILE    each event by synicboard_perform
+ *   script --batches FILE    up to seven events at a time by synicboard_perform_all
  *   script --text FILE       the whole script by synicboard_replay, into rooms of several sizes
  *
  * The status is 0, or 1 behind a line that is wrong; 2 for a wrong command line, 3 where the library did
@@ -314,17 +315,24 @@ static void judge_notice(synicboard_notice notice)
     demand(!is_used, "a field that the notice does not use is not 0");
 }
 
-static void print_answer(synicboard *board, const synicboard_reply *reply)
+/* A reply, and as many notices as it says. */
+static void print_told(const synicboard_reply *reply, const synicboard_notice *notices)
 {
-    static synicboard_notice notices[SYNICBOARD_MOST_NOTICES];
     print_reply(reply);
     judge_reply(*reply);
-    size_t count = synicboard_notices(board, notices, SYNICBOARD_MOST_NOTICES);
-    demand(count <= SYNICBOARD_MOST_NOTICES, "an event gave more notices than there are");
-    for (size_t at = 0; at < count; at++) {
+    for (size_t at = 0; at < reply->notices; at++) {
         print_notice(&notices[at]);
         judge_notice(notices[at]);
     }
+}
+
+static void print_answer(synicboard *board, const synicboard_reply *reply)
+{
+    static synicboard_notice notices[SYNICBOARD_MOST_NOTICES];
+    size_t count = synicboard_notices(board, notices, SYNICBOARD_MOST_NOTICES);
+    demand(count <= SYNICBOARD_MOST_NOTICES, "an event gave more notices than there are");
+    demand(count == reply->notices, "a reply counts other notices than there are");
+    print_told(reply, notices);
 }
 
 /* ---- The summary ---- */
@@ -406,7 +414,10 @@ static void print_queue(synicboard *board, uint8_t vp, uint8_t sint)
 
 typedef synicboard_reply perform_function(synicboard *board, const synicboard_event *event);
 
-/* A script that is read, the line that is reached, counted from 1, and the board. */
+enum { MOST_WAITING = 7, MORE_NOTICES = 3 };
+
+/* A script that is read, the line that is reached, counted from 1, and the board. Where no function
+ * performs, events wait for a batch. */
 struct script {
     const char *at;
     const char *end;
@@ -415,6 +426,8 @@ struct script {
     synicboard board;
     uint8_t processors;
     uint8_t pages;
+    synicboard_event waiting[MOST_WAITING]; /* for the next batch */
+    size_t count;
 };
 
 static void print_summary(struct script *script)
@@ -484,6 +497,42 @@ static const char *open_board(struct script *script)
     give_up(WRONG_LIBRARY, "a closed handle is not opened");
 }
 
+/* Performs the events that wait by as few batches as there is room for, and prints what they tell. */
+static void perform_waiting(struct script *script)
+{
+    static synicboard_reply replies[MOST_WAITING];
+    static synicboard_notice notices[SYNICBOARD_MOST_NOTICES + MORE_NOTICES];
+    size_t room = SYNICBOARD_MOST_NOTICES + MORE_NOTICES;
+    for (size_t first = 0; first < script->count;) {
+        size_t left = script->count - first;
+        synicboard_batch batch = synicboard_perform_all(
+            &script->board, script->waiting + first, left, replies, MOST_WAITING, notices, room);
+        demand(batch.done > 0 && batch.done <= left, "a batch with room performed nothing");
+        demand(batch.end == (batch.done == left ? SYNICBOARD_ALL_PERFORMED : SYNICBOARD_BATCH_NO_ROOM), "a batch ended");
+        demand(batch.done == left || batch.told > MORE_NOTICES, "a batch ended with room");
+        size_t told = 0;
+        for (size_t at = 0; at < batch.done; at++) {
+            print_told(&replies[at], notices + told);
+            told += replies[at].notices;
+        }
+        demand(told == batch.told, "a batch told of other notices than its replies");
+        first += batch.done;
+    }
+    script->count = 0;
+}
+
+static void perform_line(struct script *script, const synicboard_event *event)
+{
+    if (script->perform != NULL) {
+        synicboard_reply reply = script->perform(&script->board, event);
+        print_answer(&script->board, &reply);
+        return;
+    }
+    script->waiting[script->count++] = *event;
+    if (script->count == MOST_WAITING)
+        perform_waiting(script);
+}
+
 static const char *perform_lines(struct script *script)
 {
     struct cursor line;
@@ -491,10 +540,10 @@ static const char *perform_lines(struct script *script)
     const char *fault;
     while ((fault = next_line(script, &line)) == NULL && line.at != NULL) {
         if (read_line(line, "summary", &event)) {
+            perform_waiting(script);
             print_summary(script);
         } else if (read_event(line, &event)) {
-            synicboard_reply reply = script->perform(&script->board, &event);
-            print_answer(&script->board, &reply);
+            perform_line(script, &event);
         } else {
             return "form";
         }
@@ -504,10 +553,11 @@ static const char *perform_lines(struct script *script)
 
 static int perform_script(const char *text, size_t length, perform_function *perform)
 {
-    struct script script = { text, text + length, 0, perform, SYNICBOARD_CLOSED, 0, 0 };
+    struct script script = { text, text + length, 0, perform, SYNICBOARD_CLOSED, 0, 0, { { 0 } }, 0 };
     const char *fault = open_board(&script);
     if (fault == NULL)
         fault = perform_lines(&script);
+    perform_waiting(&script);
     synicboard_close(&script.board);
     if (fault == NULL)
         return 0;
@@ -588,7 +638,7 @@ static char *read_file(const char *path, size_t *length)
 int main(int count, char **words)
 {
     if (count != 3)
-        give_up(WRONG_USAGE, "script --calls|--structs|--text FILE");
+        give_up(WRONG_USAGE, "script --calls|--structs|--batches|--text FILE");
     size_t length;
     char *text = read_file(words[2], &length);
     int status = WRONG_USAGE;
@@ -596,6 +646,8 @@ int main(int count, char **words)
         status = perform_script(text, length, perform_by_call);
     else if (strcmp(words[1], "--structs") == 0)
         status = perform_script(text, length, synicboard_perform);
+    else if (strcmp(words[1], "--batches") == 0)
+        status = perform_script(text, length, NULL);
     else if (strcmp(words[1], "--text") == 0)
         status = replay_text(text, length);
     free(text);

@@ -11,7 +11,7 @@ use core::ptr;
 /// The first number of the version of these declarations.
 pub const SYNICBOARD_VERSION_MAJOR: u32 = 1;
 /// The second number of the version of these declarations.
-pub const SYNICBOARD_VERSION_MINOR: u32 = 0;
+pub const SYNICBOARD_VERSION_MINOR: u32 = 1;
 
 /// A handle. It may be moved, and not copied; its fields are the library's.
 #[repr(C)]
@@ -110,6 +110,8 @@ pub struct synicboard_reply {
     pub vector: u8,
     /// How many of `bytes` were loaded.
     pub length: u8,
+    /// How many notices the event gave.
+    pub notices: u16,
     /// What the register reads.
     pub value: u64,
     /// The ticket of the message.
@@ -234,6 +236,27 @@ pub struct synicboard_notice {
 
 /// No event gives more notices.
 pub const SYNICBOARD_MOST_NOTICES: usize = 276;
+
+/// Batch: each event was performed.
+pub const SYNICBOARD_ALL_PERFORMED: u8 = 0;
+/// Batch: the handle is closed.
+pub const SYNICBOARD_BATCH_NO_BOARD: u8 = 1;
+/// Batch: the next one has no such kind, a vector below 16, or too many bytes.
+pub const SYNICBOARD_BATCH_NO_EVENT: u8 = 2;
+/// Batch: there is no room for one more reply, or for as many notices as an event may give.
+pub const SYNICBOARD_BATCH_NO_ROOM: u8 = 3;
+
+/// How far a batch came.
+#[repr(C)]
+#[derive(Clone, Copy, PartialEq, Eq, Debug)]
+pub struct synicboard_batch {
+    /// Why it went no further.
+    pub end: u8,
+    /// How many events were performed.
+    pub done: usize,
+    /// How many notices they gave.
+    pub told: usize,
+}
 
 /// Owner: no such page.
 pub const SYNICBOARD_OWNER_NOTHING: u8 = 0;
@@ -370,6 +393,17 @@ extern "C" {
 
     /// Copies the notices of the last event, as many as there is room for, and answers how many there are.
     pub fn synicboard_notices(board: *mut synicboard, room: *mut synicboard_notice, length: usize) -> usize;
+
+    /// Performs events in order, as long as each is one and there is room for its reply and its notices.
+    pub fn synicboard_perform_all(
+        board: *mut synicboard,
+        events: *const synicboard_event,
+        count: usize,
+        replies: *mut synicboard_reply,
+        reply_room: usize,
+        notices: *mut synicboard_notice,
+        notice_room: usize,
+    ) -> synicboard_batch;
 
     /// The next vector of a processor, 0 for none.
     pub fn synicboard_next(board: *mut synicboard, vp: u8) -> u8;

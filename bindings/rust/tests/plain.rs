@@ -45,6 +45,11 @@ fn reply(kind: u8, fill: impl FnOnce(&mut synicboard_reply)) -> synicboard_reply
     reply
 }
 
+/// Done, with so many notices.
+fn told(notices: u16) -> synicboard_reply {
+    reply(SYNICBOARD_DONE, |reply| reply.notices = notices)
+}
+
 fn fault(fault: u8) -> synicboard_reply {
     reply(SYNICBOARD_NOT_PERFORMED, |reply| reply.fault = fault)
 }
@@ -182,21 +187,23 @@ fn of_the_host() -> Vec<(synicboard_event, synicboard_reply)> {
             event(SYNICBOARD_POST, |event| {
                 (event.port, event.message_type, event.length, event.bytes) = (3, 0x7fff_ffff, 240, [7; 240])
             }),
-            reply(SYNICBOARD_ACCEPTED, |reply| reply.ticket = 0),
+            // accepted, placed, and its vector requested
+            reply(SYNICBOARD_ACCEPTED, |reply| (reply.ticket, reply.notices) = (0, 3)),
         ),
         (
             event(SYNICBOARD_POST, |event| (event.port, event.message_type) = (3, 1)),
-            reply(SYNICBOARD_ACCEPTED, |reply| reply.ticket = 1),
+            // accepted, and MessagePending set in the slot before it
+            reply(SYNICBOARD_ACCEPTED, |reply| (reply.ticket, reply.notices) = (1, 2)),
         ),
         (
             event(SYNICBOARD_POST, |event| (event.port, event.message_type) = (3, 1)),
             reply(SYNICBOARD_REFUSED, |reply| reply.refusal = SYNICBOARD_NO_BUFFERS),
         ),
-        (signal, reply(SYNICBOARD_FLAG_WAS_CLEAR, |_| ())),
+        (signal, reply(SYNICBOARD_FLAG_WAS_CLEAR, |reply| reply.notices = 1)),
         (signal, reply(SYNICBOARD_FLAG_WAS_SET, |_| ())),
         (event(SYNICBOARD_CLOSE_PORT, |event| event.port = 4), done),
-        (event(SYNICBOARD_ASSERT, |event| event.vector = 0xe0), done),
-        (event(SYNICBOARD_ABSORB, |event| (event.part, event.value) = (3, 1 << 63)), done),
+        (event(SYNICBOARD_ASSERT, |event| event.vector = 0xe0), told(1)),
+        (event(SYNICBOARD_ABSORB, |event| (event.part, event.value) = (3, 1 << 63)), told(1)),
     ]
 }
 
@@ -231,7 +238,8 @@ fn of_the_guest() -> Vec<(synicboard_event, synicboard_reply)> {
         (take, reply(SYNICBOARD_NONE_TAKEN, |_| ())),
         (event(SYNICBOARD_RESUME, |_| ()), done),
         (take, reply(SYNICBOARD_TAKEN, |reply| reply.vector = 0xe0)),
-        (event(SYNICBOARD_RESET, |_| ()), done),
+        // the message in the slot and the one in the queue
+        (event(SYNICBOARD_RESET, |_| ()), told(2)),
         (
             event(SYNICBOARD_TAKE, |event| event.vp = 1),
             reply(SYNICBOARD_REFUSED, |reply| reply.refusal = SYNICBOARD_NO_SUCH_PROCESSOR),

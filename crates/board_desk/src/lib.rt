@@ -44,6 +44,7 @@ impl Desk {
     pub fn perform(&mut self, event: &Event) -> Reply
         ensures step { (self.new.board.state, result, self.new.notices) ≡ step self.old.board.state event.now }
         ensures few { length self.new.notices ≤ most_notices event.now }
+        ensures most { length self.new.notices ≤ 276 }
     {
         self.board.perform(event, &mut self.notices)
     }

@@ -20,6 +20,8 @@ pub struct PlainReply {
     pub vector: u8,
     /// How many of `bytes` were loaded.
     pub length: u8,
+    /// How many notices the event gave.
+    pub notices: u16,
     /// What the register reads.
     pub value: u64,
     /// The ticket of the message.
@@ -37,9 +39,9 @@ pub enum Fault {
     NoEvent = 2,
 }
 
-/// A reply of this kind, with no field used.
-fn of_kind(kind: u8) -> PlainReply
-    ensures { result ≡ silent kind }
+/// A reply of this kind beside so many notices, with no other field used.
+fn of_kind(kind: u8, notices: u16) -> PlainReply
+    ensures { result ≡ silent kind notices }
 {
     PlainReply {
         kind,
@@ -47,6 +49,7 @@ fn of_kind(kind: u8) -> PlainReply
         refusal: 0,
         vector: 0,
         length: 0,
+        notices,
         value: 0,
         ticket: 0,
         bytes: [0; 8],
@@ -59,40 +62,40 @@ pub fn plain_fault(fault: Fault) -> PlainReply
 {
     PlainReply {
         fault: fault as u8,
-        ..of_kind(0)
+        ..of_kind(0, 0)
     }
 }
 
-/// A reply in plain numbers.
-pub fn plain_reply(reply: &Reply) -> PlainReply
-    ensures { result ≡ reply_told reply.now }
+/// A reply in plain numbers, beside so many notices.
+pub fn plain_reply(reply: &Reply, notices: u16) -> PlainReply
+    ensures { result ≡ reply_told reply.now notices }
 {
     match reply {
-        Reply::Done => of_kind(1),
+        Reply::Done => of_kind(1, notices),
         Reply::Value(value) => PlainReply {
             value: *value,
-            ..of_kind(2)
+            ..of_kind(2, notices)
         },
         Reply::Bytes(bytes) => PlainReply {
             length: bytes.len() as u8,
             bytes: padded(bytes),
-            ..of_kind(3)
+            ..of_kind(3, notices)
         },
         Reply::Taken(Some(vector)) => PlainReply {
             vector: vector.number(),
-            ..of_kind(4)
+            ..of_kind(4, notices)
         },
-        Reply::Taken(None) => of_kind(5),
+        Reply::Taken(None) => of_kind(5, notices),
         Reply::Accepted(ticket) => PlainReply {
             ticket: *ticket,
-            ..of_kind(6)
+            ..of_kind(6, notices)
         },
-        Reply::FlagWasClear => of_kind(7),
-        Reply::FlagWasSet => of_kind(8),
-        Reply::GeneralProtection => of_kind(9),
+        Reply::FlagWasClear => of_kind(7, notices),
+        Reply::FlagWasSet => of_kind(8, notices),
+        Reply::GeneralProtection => of_kind(9, notices),
         Reply::Refused(refusal) => PlainReply {
             refusal: refusal.number(),
-            ..of_kind(10)
+            ..of_kind(10, notices)
         },
     }
 }

@@ -13,7 +13,7 @@ use Rattle.synic_board.specs.Step.{step}
 
 -- what an event comes to, with its reply in plain numbers
 abbrev pub told : Outcome → State × PlainReply × List Notice
-told (s, reply, notices) = (s, reply_told reply, notices)
+told (s, reply, notices) = (s, reply_told reply (length notices), notices)
 
 -- the board and the notices are those of an outcome
 abbrev pub IsOutcome : State × PlainReply × List Notice → Option Desk → PlainReply → Type 0

@@ -1,4 +1,5 @@
 pub mod Asked
+pub mod Batched
 pub mod Told
 pub mod Opened
 pub mod Texts

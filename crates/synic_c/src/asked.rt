@@ -11,7 +11,10 @@ pub(crate) fn asked(handle: &mut Handle, event: &Event) -> PlainReply
     ensures { IsAsked (Some event.now) handle.old.desk handle.new.desk result }
 {
     match handle.desk_mut() {
-        Some(desk) => plain_reply(&desk.perform(event)),
+        Some(desk) => {
+            let reply = desk.perform(event);
+            plain_reply(&reply, desk.notices.as_slice().len() as u16)
+        }
         None => plain_fault(Fault::Closed),
     }
 }

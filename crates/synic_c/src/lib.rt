@@ -3,6 +3,7 @@
 #![tactic(auto)]
 
 mod asked;
+mod batches;
 mod events;
 mod looks;
 mod notices;

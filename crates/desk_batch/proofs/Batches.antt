@@ -1,0 +1,87 @@
+-- A batch goes on by one event.
+use Rattle.std.proofs.Common.{◌≡◌, ℕ, ◌+◌, ◌<◌, ◌≤◌, List, [], ◌∷◌, ◌++◌, ap, sym, subst, ◌∙◌, refl, arith, length, take, map, drop, set, slice_get, get_or, None, Some, append_assoc, append-nil}
+use Rattle.std.proofs.lemmas.List.{take_more, map-append, length-map, length_push, length-take-le, length-append}
+use Rattle.std.proofs.lemmas.Option.{slice_get-get_or}
+use Rattle.plain_terms.specs.declared.event.PlainEvent.{PlainEvent}
+use Rattle.plain_terms.specs.declared.notice.PlainNotice.{PlainNotice}
+use Rattle.plain_terms.specs.declared.reply.PlainReply.{PlainReply}
+use Rattle.plain_terms.specs.Events.{event_meant}
+use Rattle.plain_terms.specs.Notices.{notice_told}
+use Rattle.plain_terms.specs.Replies.{reply_told}
+use Rattle.plain_terms.specs.Rooms.{Fronts}
+use Rattle.synic_board.specs.declared.event.Event.{Event}
+use Rattle.synic_board.specs.Effects.{Outcome}
+use Rattle.synic_board.specs.Step.{step}
+use Rattle.desk_batch.specs.Batches.{Performed, Behind, batch, empty, followed_by, MeansNone}
+use Rattle.desk_batch.proofs.Rooms.{fronts_none, fronts_push, fronts_more}
+
+-- a batch, and one outcome behind it
+abbrev pub and_then : Performed → Outcome → Performed
+and_then b o = record { desk = (o.0, o.2); replies = b.replies ++ reply_told o.1 (length o.2) ∷ []; notices = b.notices ++ o.2 }
+
+-- where the first event means one, and where it means none
+goes : (d : Behind) (e : PlainEvent) (es : List PlainEvent) (event : Event) → event_meant e ≡ Some event → batch d (e ∷ es) ≡ followed_by (step d.0 event) (batch ((step d.0 event).0, (step d.0 event).2) es)
+unfolding batch
+goes d e es event means = rw means
+
+stops : (d : Behind) (e : PlainEvent) (es : List PlainEvent) → event_meant e ≡ None → batch d (e ∷ es) ≡ empty d
+unfolding batch
+stops d e es means = rw means
+
+-- events that each mean one, and one more
+pub batch_push : (d : Behind) (es : List PlainEvent) (e : PlainEvent) (event : Event) → length (batch d es).replies ≡ length es → event_meant e ≡ Some event →
+    batch d (es ++ e ∷ []) ≡ and_then (batch d es) (step (batch d es).desk.0 event)
+unfolding batch
+batch_push d [] e event all means =
+    let o : Outcome = step d.0 event in
+    goes d e [] event means ∙ ap (λ ns. record { desk = (o.0, o.2); replies = reply_told o.1 (length o.2) ∷ []; notices = ns }) (append-nil o.2)
+batch_push d (x ∷ es) e event all means =
+    elim (event_meant x) as (λ o. event_meant x ≡ o → batch d (x ∷ es ++ e ∷ []) ≡ and_then (batch d (x ∷ es)) (step (batch d (x ∷ es)).desk.0 event)) [
+      | None ↦ λ no. absurd (omega (arith, ap (λ (b : Performed). length b.replies) (stops d x es no)))
+      | Some first ↦ λ yes.
+          let o : Outcome = step d.0 first in
+          let b : Performed = batch (o.0, o.2) es in
+          let p : Outcome = step b.desk.0 event in
+          let now : batch d (x ∷ es) ≡ followed_by o b = goes d x es first yes in
+          goes d x (es ++ e ∷ []) first yes
+          ∙ ap (followed_by o) (batch_push (o.0, o.2) es e event (omega (arith, ap (λ (c : Performed). length c.replies) now)) means)
+          ∙ ap (λ ns. record { desk = (p.0, p.2); replies = reply_told o.1 (length o.2) ∷ b.replies ++ reply_told p.1 (length p.2) ∷ []; notices = ns }) (sym (append_assoc o.2 b.notices p.2))
+          ∙ sym (ap (λ (c : Performed). and_then c (step c.desk.0 event)) now)
+    ] refl
+
+-- the next event means none
+pub next_none : (es : List PlainEvent) (n : ℕ) (x : PlainEvent) → n < length es → event_meant (get_or es n x) ≡ None → MeansNone (slice_get es n)
+next_none es n x lt means = rw (slice_get-get_or es n x lt) means
+
+-- a batch was performed: the desk and the rooms are as it says, and there was room for all of it
+pub record IsDone (b : Performed) (d : Behind) (n m : ℕ) (rs rs' : List PlainReply) (ns ns' : List PlainNotice) : Type 0 where
+  pub desk : d ≡ b.desk
+  pub replies : Fronts b.replies rs rs'
+  pub notices : Fronts (map notice_told b.notices) ns ns'
+  pub done : length b.replies ≡ n
+  pub told : length b.notices ≡ m
+  pub fits : (n ≤ length rs) × (m ≤ length ns)
+
+pub done_none : (d : Behind) (rs : List PlainReply) (ns : List PlainNotice) → IsDone (batch d []) d 0 0 rs rs ns ns
+unfolding batch
+done_none d rs ns = record { desk = refl; replies = fronts_none rs; notices = fronts_none ns; done = refl; told = refl; fits = (omega arith, omega arith) }
+
+-- the next event means one, is performed, and what it tells is put behind the rest
+pub done_more : (d : Behind) (es : List PlainEvent) (x : PlainEvent) (event : Event) (now : Behind) (o : Outcome) (n m : ℕ) (rs rs' : List PlainReply) (ns ns' rest : List PlainNotice) →
+    IsDone (batch d (take n es)) now n m rs rs' ns ns' → n < length es → event_meant (get_or es n x) ≡ Some event → o ≡ step now.0 event → n < length rs → m + length o.2 ≤ length ns → Fronts (map notice_told o.2) (drop m ns') rest →
+    IsDone (batch d (take (n + 1) es)) (o.0, o.2) (n + 1) (m + length o.2) rs (set rs' n (reply_told o.1 (length o.2))) ns (take m ns' ++ rest)
+done_more d es x event now o n m rs rs' ns ns' rest h lt means is answered told put =
+    let b : Performed = batch d (take n es) in
+    let next : Performed = and_then b o in
+    let all : length b.replies ≡ length (take n es) = h.done ∙ sym (length-take-le n es (omega arith)) in
+    let stepped : step b.desk.0 event ≡ o = ap (λ (e : Behind). step e.0 event) (sym h.desk) ∙ sym is in
+    let whole : batch d (take (n + 1) es) ≡ next = ap (batch d) (take_more es n x lt) ∙ batch_push d (take n es) (get_or es n x) event all means ∙ ap (and_then b) stepped in
+    let done : IsDone next (o.0, o.2) (n + 1) (m + length o.2) rs (set rs' n (reply_told o.1 (length o.2))) ns (take m ns' ++ rest) = record {
+      desk = refl;
+      replies = fronts_push b.replies (reply_told o.1 (length o.2)) rs rs' n h.replies h.done (omega (arith, h.replies.many));
+      notices = rw (map-append notice_told b.notices o.2) (fronts_more (map notice_told b.notices) (map notice_told o.2) ns ns' rest m h.notices put (length-map b.notices notice_told ∙ h.told) (omega (arith, h.fits, h.notices.many)));
+      done = length_push b.replies (reply_told o.1 (length o.2)) ∙ ap (λ k. k + 1) h.done;
+      told = length-append b.notices o.2 ∙ ap (λ k. k + length o.2) h.told;
+      fits = (omega arith, told);
+    } in
+    subst (λ (c : Performed). IsDone c (o.0, o.2) (n + 1) (m + length o.2) rs (set rs' n (reply_told o.1 (length o.2))) ns (take m ns' ++ rest)) (sym whole) done

@@ -1,0 +1,18 @@
+use Rattle.std.proofs.Common.{arith, sym, ◌∙◌}
+use Rattle.std.proofs.lemmas.List.{take_rest}
+use Rattle.desk_batch.proofs.Batches.{next_none, done_none, done_more}
+use Rattle.desk_batch.proofs.Rooms.{put_rest}
+use Rattle.desk_batch.proofs.perform_all.Goals as goal
+
+pub loop-done-init : goal.loop-done-init
+loop-done-init c = done_none _ _ _
+
+pub returns-in_default-clause-none : goal.returns-in_default-clause-none
+returns-in_default-clause-none c = λ _. next_none _ _ _ c.loop-done-test.true (sym c.event_of.ensures ∙ c.in_default.is)
+
+pub loop-done-preserved : goal.loop-done-preserved
+loop-done-preserved c =
+    let put = rw (c.as_slice-given.ensures.value, take_rest c.loop-done.notices c.loop-done.told) at c.put_plain.ensures in
+    rw (c.plain_reply.ensures, c.as_slice-given.ensures.value, put_rest c.loop-done.notices c.put_plain.new.room c.loop-done.told)
+    (done_more _ _ _ _ _ (c.perform-reply.new.self.board.state, c.perform-reply.result, c.perform-reply.new.self.notices) _ _ _ _ _ _ _ c.loop-done.invariant
+    (omega arith) (sym c.event_of.ensures ∙ c.in-Some.is) c.perform-reply.ensures.step (omega arith) (omega arith) put)

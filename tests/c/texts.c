@@ -1,0 +1,173 @@
+/* What no script shows of the calls for texts: traces that are wrong somewhere, texts that are too long, and
+ * refused memory.
+ *
+ *   texts RECORDED_TRACE     (examples/recorded.trace) */
+#define _DEFAULT_SOURCE /* for MAP_ANONYMOUS */
+#include <stdbool.h>
+#include <stddef.h>
+#include <stdint.h>
+#include <stdio.h>
+#include <string.h>
+#include <sys/mman.h>
+
+#include "checks.h"
+#include "synicboard.h"
+
+/* ---- Traces ---- */
+
+static char trace[4096];
+static const char *trace_path;
+
+static void read_trace(void)
+{
+    FILE *file = fopen(trace_path, "rb");
+    size_t length = file == NULL ? 0 : fread(trace, 1, sizeof trace - 1, file);
+    trace[length] = '\0';
+    if (file != NULL)
+        fclose(file);
+    CHECK(length > 0);
+}
+
+static void check_verdict(size_t length, uint8_t kind, uint64_t entries, uint64_t wrong, int line)
+{
+    synicboard_verdict verdict = synicboard_check((const uint8_t *)trace, length);
+    check_number(verdict.kind, kind, "the kind of a verdict", line);
+    check_number(verdict.entries, entries, "the entries of a verdict", line);
+    check_number(verdict.line, wrong, "the line of a verdict", line);
+}
+
+#define CHECK_VERDICT(length, kind, entries, wrong) check_verdict((length), (kind), (entries), (wrong), __LINE__)
+
+static void replace(const char *old, const char *new)
+{
+    char *place = strstr(trace, old);
+    CHECK(place != NULL);
+    if (place != NULL)
+        memcpy(place, new, strlen(new));
+}
+
+/* The trace has ten entries; line 12 is the reply to its post, and line 23 its last. */
+static void test_check(void)
+{
+    size_t blocks = blocks_out;
+    read_trace();
+    size_t length = strlen(trace);
+    CHECK_VERDICT(length, SYNICBOARD_ALL_RIGHT, 10, 0);
+    CHECK_VERDICT(length - 1, SYNICBOARD_WRONG_LINE, 0, 23);
+    CHECK_VERDICT(length - strlen("end 10\n"), SYNICBOARD_WRONG_LINE, 0, 23);
+    replace("accepted 0", "accepted 7");
+    CHECK_VERDICT(length, SYNICBOARD_WRONG_LINE, 0, 12);
+    replace("accepted 7", "accepted 0");
+    replace("end 10", "end 11");
+    CHECK_VERDICT(length, SYNICBOARD_WRONG_LINE, 0, 23);
+    replace("end 11\n", "end 10 1\n");
+    CHECK_VERDICT(length + 2, SYNICBOARD_WRONG_LINE, 0, 23);
+    replace("trace 1", "trace 2");
+    CHECK_VERDICT(length + 2, SYNICBOARD_ALL_RIGHT, 10, 0);
+    replace("end 10 1", "end 10 2");
+    CHECK_VERDICT(length + 2, SYNICBOARD_WRONG_LINE, 0, 23);
+    replace("board 1 4", "board 9 4");
+    CHECK_VERDICT(length + 2, SYNICBOARD_WRONG_LINE, 0, 2);
+    CHECK_NUMBER(blocks_out, blocks);
+}
+
+enum { PIECE = 1 << 20, PIECES = 1024 };
+
+/* A text of comments, PIECE * PIECES bytes and one more: a piece of a file, mapped again and again. */
+static uint8_t *map_comments(void)
+{
+    static char piece[PIECE];
+    memset(piece, 'x', sizeof piece);
+    for (size_t at = 0; at < PIECE; at += 512) {
+        piece[at] = '#';
+        piece[at + 511] = '\n';
+    }
+    FILE *file = tmpfile();
+    if (file == NULL || fwrite(piece, 1, PIECE, file) != PIECE || fflush(file) != 0)
+        return NULL;
+    size_t length = (size_t)PIECE * (PIECES + 1);
+    char *text = mmap(NULL, length, PROT_READ, MAP_PRIVATE | MAP_ANONYMOUS | MAP_NORESERVE, -1, 0);
+    for (size_t at = 0; text != MAP_FAILED && at < length; at += PIECE)
+        if (mmap(text + at, PIECE, PROT_READ, MAP_SHARED | MAP_FIXED, fileno(file), 0) == MAP_FAILED)
+            return NULL;
+    fclose(file);
+    return text == MAP_FAILED ? NULL : (uint8_t *)text;
+}
+
+/* As many bytes as a text may have are read, and no board line is among them; one more is too many. */
+static void test_long_texts(void)
+{
+    const size_t most = 1073741824;
+    uint8_t *text = map_comments();
+    uint8_t room[40];
+    CHECK(text != NULL);
+    if (text == NULL)
+        return;
+    synicboard_end end = synicboard_replay(text, most, room, sizeof room);
+    CHECK_NUMBER(end.kind, SYNICBOARD_WRONG_LINE);
+    CHECK_NUMBER(end.line, most / 512 + 1);
+    end = synicboard_replay(text, most + 1, room, sizeof room);
+    CHECK_NUMBER(end.kind, SYNICBOARD_TOO_LONG);
+    munmap(text, (size_t)PIECE * (PIECES + 1));
+}
+
+/* ---- Refused memory ---- */
+
+/* The text grows many times, so memory is asked for at many places of it. */
+static void test_refused_replay(void)
+{
+    static char script[20000];
+    static uint8_t room[10000];
+    synicboard_end end;
+    size_t number = 1, length = (size_t)sprintf(script, "board 8 64 0\n");
+    for (int line = 0; line < 1000; line++)
+        length += (size_t)sprintf(script + length, "assert %d 60\n", line % 8);
+    refuse(number);
+    while ((end = synicboard_replay((uint8_t *)script, length, room, sizeof room)).kind == SYNICBOARD_WANTED_MEMORY) {
+        CHECK_NUMBER(end.line, 0);
+        CHECK_NUMBER(end.length, 0);
+        CHECK_NUMBER(blocks_out, 0);
+        refuse(++number);
+    }
+    CHECK_NUMBER(end.kind, SYNICBOARD_ALL_RIGHT);
+    CHECK_NUMBER(requests, number - 1);
+    CHECK(number > 1);
+    refuse(0);
+    CHECK_NUMBER(end.length, 1000 * strlen("= done\n") + 8 * strlen(". requested 0 60\n"));
+}
+
+static void test_refused_check(void)
+{
+    synicboard_verdict verdict;
+    size_t number = 1;
+    read_trace();
+    refuse(number);
+    while ((verdict = synicboard_check((uint8_t *)trace, strlen(trace))).kind == SYNICBOARD_WANTED_MEMORY) {
+        CHECK_NUMBER(verdict.entries, 0);
+        CHECK_NUMBER(verdict.line, 0);
+        CHECK_NUMBER(blocks_out, 0);
+        refuse(++number);
+    }
+    CHECK_NUMBER(verdict.kind, SYNICBOARD_ALL_RIGHT);
+    CHECK_NUMBER(verdict.entries, 10);
+    CHECK_NUMBER(requests, number - 1);
+    CHECK(number > 1);
+    refuse(0);
+}
+
+static const struct test tests[] = {
+    { "traces", test_check },
+    { "texts that are too long", test_long_texts },
+    { "refused memory of a replay", test_refused_replay },
+    { "refused memory of a check", test_refused_check },
+};
+
+int main(int count, char **words)
+{
+    if (count != 2) {
+        fprintf(stderr, "texts RECORDED_TRACE\n");
+        return 2;
+    }
+    trace_path = words[1];
+    return run_tests(tests, sizeof tests / sizeof *tests);
+}
