@@ -4,12 +4,12 @@
  * reply and its notices; the answers are those of the machine that docs/MACHINE.md says in words.
  * docs/EMBEDDING.md has the run loop round it.
  *
- * A handle is closed when it is all zeros, and is opened and closed by the calls below. It may be
- * moved, and not copied; its fields are the library's. One call at a time may use a handle: threads
- * that share one hold a lock of their own. After synicboard_open no call takes memory but
- * synicboard_replay and synicboard_check, which use no handle. No call ends the program, and none
- * calls back. A pointer that is asked for must not be null; where a count of 0 goes with it, it may
- * point anywhere that is not null.
+ * There are handles of boards and handles of lines, which raise vectors beside a board. A handle is closed
+ * when it is all zeros, and is opened and closed by the calls below. It may be moved, and not copied; its
+ * fields are the library's. One call at a time may use a handle: threads that share one hold a lock of
+ * their own. Memory is taken by opening alone, and by synicboard_replay and synicboard_check, which use no
+ * handle. No call ends the program, and none calls back. A pointer that is asked for must not be null;
+ * where a count of 0 goes with it, it may point anywhere that is not null.
  */
 #ifndef SYNICBOARD_H
 #define SYNICBOARD_H
@@ -24,7 +24,7 @@ extern "C" {
 
 /* The version of these declarations; the bindings for Rust have the same. */
 #define SYNICBOARD_VERSION_MAJOR 1
-#define SYNICBOARD_VERSION_MINOR 1
+#define SYNICBOARD_VERSION_MINOR 2
 
 typedef struct synicboard {
     void *at;
@@ -34,12 +34,14 @@ typedef struct synicboard {
 /* A closed handle. */
 #define SYNICBOARD_CLOSED { 0, false }
 
-/* What synicboard_open answers. */
+/* What opening a board or a line answers. Where it is not the first, nothing was changed. */
 enum {
     SYNICBOARD_OPENED = 0,
-    SYNICBOARD_BAD_SIZE = 1,    /* not 1 to 8 processors, or not 1 to 64 pages */
+    SYNICBOARD_BAD_SIZE = 1,            /* not 1 to 8 processors, or not 1 to 64 pages */
     SYNICBOARD_NO_MEMORY = 2,
-    SYNICBOARD_IS_OPEN = 3      /* a board is open behind the handle already */
+    SYNICBOARD_IS_OPEN = 3,             /* the handle to be opened is open already */
+    SYNICBOARD_IS_CLOSED = 4,           /* the handle to be split from is closed */
+    SYNICBOARD_NO_MORE_LINES = 5        /* it has no line left to split off */
 };
 
 /* Opens a board at moment 0, whose first accepted message takes `first_ticket`. */
@@ -66,7 +68,8 @@ enum {
 /* Why nothing was performed. */
 enum {
     SYNICBOARD_NO_BOARD = 1,            /* the handle is closed */
-    SYNICBOARD_NO_EVENT = 2             /* a vector below 16, too many bytes, or no such kind */
+    SYNICBOARD_NO_EVENT = 2,            /* a vector below 16, too many bytes, or no such kind */
+    SYNICBOARD_NO_LINE = 3              /* the handle of the line is closed */
 };
 
 /* Why an event was refused. */
@@ -217,6 +220,42 @@ typedef struct synicboard_batch {
 /* Performs events in order, as long as each is one and there is room. Each has a reply, and the notices of
  * all stand one behind another in `notices`, of which each reply says how many are its own. */
 synicboard_batch synicboard_perform_all(synicboard *board, const synicboard_event *events, size_t count, synicboard_reply *replies, size_t reply_room, synicboard_notice *notices, size_t notice_room);
+
+/* Posted vectors: a device raises them by one atomic step, without the lock of the board, and the thread of
+ * a processor takes them in. A line is what one thread does that with; lines of the same words are used by
+ * threads at the same time, each by one. The words are opened with their first line, which 31 lines can be
+ * split from, and are given back when the last of them is closed. */
+typedef struct synicboard_line {
+    void *at;
+    bool is_open;
+} synicboard_line;
+
+/* A closed handle of a line. */
+#define SYNICBOARD_LINE_CLOSED { 0, false }
+
+/* Opens words for so many processors, with no vector raised, and their first line. */
+uint8_t synicboard_open_line(synicboard_line *line, uint8_t processors);
+
+/* Opens `other` as a line of the same words. No other call may use `line` meanwhile. */
+uint8_t synicboard_split_line(synicboard_line *line, synicboard_line *other);
+
+/* Closes the line, if one is open. What was raised and not absorbed is lost with the last line. */
+void synicboard_close_line(synicboard_line *line);
+
+/* What synicboard_raise answers. */
+enum {
+    SYNICBOARD_NOT_RAISED = 0,          /* the handle is closed, no such processor, or a vector below 16 */
+    SYNICBOARD_FRESH = 1,               /* it was not raised: kick the processor */
+    SYNICBOARD_ALREADY = 2              /* it was raised, and not absorbed yet: nobody needs to be kicked */
+};
+
+/* Raises a vector, 16 to 255, of a processor. It waits for nobody. */
+uint8_t synicboard_raise(synicboard_line *line, uint8_t vp, uint8_t vector);
+
+/* Takes what was raised of a processor in a part, 0 to 3, and has the board absorb it: the vectors from
+ * 64 * part on, 64 of them. Where the board refuses, nothing is taken. For the board it is one event, so
+ * the lock of the board is held. */
+synicboard_reply synicboard_absorb_line(synicboard *board, synicboard_line *line, uint8_t vp, uint8_t part);
 
 /* What the board is asked after each event. None of these changes it, or computes anything. */
 

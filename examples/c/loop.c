@@ -1,16 +1,18 @@
-/* A toy hypervisor: two processors with a thread each, and a device, on a board behind one lock. Its loops
- * are those of docs/EMBEDDING.md. The clock goes on when neither processor has anything to do, so that no
- * schedule changes what is printed.
+/* A toy hypervisor: two processors with a thread each, and two devices, on a board behind one lock. One
+ * device posts messages; the other raises a vector without the lock. The loops are those of
+ * docs/EMBEDDING.md. The clock goes on when neither processor has anything to do, so that no schedule
+ * changes what is printed.
  *
  *   cc -I include examples/c/loop.c build/libsynicboard.a -pthread -o loop */
 #include <pthread.h>
+#include <stdatomic.h>
 #include <stdio.h>
 #include <stdlib.h>
 
 #include "synicboard.h"
 
-enum { PROCESSORS = 2, MESSAGES = 200, PORT = 3, SOURCE = 2, END = 3000 };
-enum { TIMER_VECTOR = 0x40, MESSAGE_VECTOR = 0x50, SLOT = 0x2000 + 256 * SOURCE };
+enum { PROCESSORS = 2, MESSAGES = 200, WORK = 500, PORT = 3, SOURCE = 2, END = 3000 };
+enum { TIMER_VECTOR = 0x40, MESSAGE_VECTOR = 0x50, WORK_VECTOR = 0x60, SLOT = 0x2000 + 256 * SOURCE };
 enum { EOI = 0x40000070, SCONTROL = 0x40000080, SIMP = 0x40000083, EOM = 0x40000084, SINT0 = 0x40000090 };
 enum { STIMER0_CONFIG = 0x400000b0, STIMER0_COUNT = 0x400000b1, PERIODIC_DIRECT = 0x1003 };
 
@@ -20,8 +22,12 @@ static pthread_cond_t kicked[PROCESSORS] = { PTHREAD_COND_INITIALIZER, PTHREAD_C
 static pthread_cond_t placed = PTHREAD_COND_INITIALIZER;
 static synicboard board = SYNICBOARD_CLOSED;
 static const uint8_t *message_page; /* of processor 1, wherever its guest sees it */
-static unsigned handled, in_order, sum, timer_interrupts[PROCESSORS];
+static unsigned handled, in_order, sum, work_seen, timer_interrupts[PROCESSORS];
 static bool runs_guest[PROCESSORS];
+
+/* Beside the lock: a line for each thread that raises or absorbs, and how much work the second device did. */
+static synicboard_line lines[PROCESSORS], device_line = SYNICBOARD_LINE_CLOSED;
+static atomic_uint work_done;
 
 /* What the host does with an event's answer: a vector that was requested kicks its processor, and where a
  * message was placed a buffer is free again. This guest raises no #GP, and is refused nothing. */
@@ -74,15 +80,24 @@ static bool tick(void)
     return is_idle && due <= END;
 }
 
+/* Takes in what was raised for a processor, and says whether it has something to do or to wait for. */
+static bool goes_on(uint8_t vp)
+{
+    answer(synicboard_absorb_line(&board, &lines[vp], vp, WORK_VECTOR / 64));
+    return synicboard_next(&board, vp) != 0 || handled < MESSAGES || work_seen < WORK || synicboard_earliest(&board).low <= END;
+}
+
 /* Before each entry the next vector is asked for and taken; without one the processor waits for a kick. */
 static void *run_processor(void *number)
 {
     uint8_t vp = *(const uint8_t *)number;
     pthread_mutex_lock(&lock);
-    while (synicboard_next(&board, vp) != 0 || handled < MESSAGES || synicboard_earliest(&board).low <= END) {
+    while (goes_on(vp)) {
         if (synicboard_next(&board, vp) != 0) {
             uint8_t vector = synicboard_take(&board, vp).vector;
             timer_interrupts[vp] += vector == TIMER_VECTOR;
+            if (vector == WORK_VECTOR)
+                work_seen = atomic_load(&work_done);
             runs_guest[vp] = true;
             pthread_mutex_unlock(&lock);
             if (vector == MESSAGE_VECTOR)
@@ -99,8 +114,25 @@ static void *run_processor(void *number)
     return NULL;
 }
 
-/* The device posts. Without a buffer it waits until a message is placed, and posts again. */
-static void run_device(void)
+/* The second device raises its vector at processor 0 behind each piece of work, and waits for nobody. A vector
+ * that was raised already is on its way; only for a fresh one the processor is kicked. The kick takes the lock,
+ * since the processor absorbs, and falls asleep, in one go under it. */
+static void *run_second_device(void *unused)
+{
+    (void)unused;
+    for (unsigned piece = 1; piece <= WORK; piece++) {
+        atomic_store(&work_done, piece);
+        if (synicboard_raise(&device_line, 0, WORK_VECTOR) == SYNICBOARD_FRESH) {
+            pthread_mutex_lock(&lock);
+            pthread_cond_signal(&kicked[0]);
+            pthread_mutex_unlock(&lock);
+        }
+    }
+    return NULL;
+}
+
+/* The first device posts. Without a buffer it waits until a message is placed, and posts again. */
+static void run_first_device(void)
 {
     for (uint8_t number = 1; number <= MESSAGES; number++) {
         synicboard_reply reply;
@@ -125,11 +157,27 @@ static void set_up(void)
     }
 }
 
+/* A line for each processor's thread and one for the device's, all of the same words. */
+static bool open_lines(void)
+{
+    return synicboard_open_line(&lines[0], PROCESSORS) == SYNICBOARD_OPENED
+        && synicboard_split_line(&lines[0], &lines[1]) == SYNICBOARD_OPENED
+        && synicboard_split_line(&lines[0], &device_line) == SYNICBOARD_OPENED;
+}
+
+static void close_all(void)
+{
+    synicboard_close_line(&device_line);
+    for (int vp = 0; vp < PROCESSORS; vp++)
+        synicboard_close_line(&lines[vp]);
+    synicboard_close(&board);
+}
+
 int main(void)
 {
     static const uint8_t numbers[PROCESSORS] = { 0, 1 };
-    pthread_t threads[PROCESSORS];
-    if (synicboard_open(&board, PROCESSORS, 4, 0) != SYNICBOARD_OPENED)
+    pthread_t threads[PROCESSORS], device;
+    if (synicboard_open(&board, PROCESSORS, 4, 0) != SYNICBOARD_OPENED || !open_lines())
         return 1;
     if (!synicboard_message_page(&board, 1, &message_page))
         return 1;
@@ -137,12 +185,16 @@ int main(void)
     for (uint8_t vp = 0; vp < PROCESSORS; vp++)
         if (pthread_create(&threads[vp], NULL, run_processor, (void *)&numbers[vp]) != 0)
             return 1;
-    run_device();
+    if (pthread_create(&device, NULL, run_second_device, NULL) != 0)
+        return 1;
+    run_first_device();
+    pthread_join(device, NULL);
     for (uint8_t vp = 0; vp < PROCESSORS; vp++) {
         pthread_join(threads[vp], NULL);
         printf("processor %u: %u timer interrupts\n", vp, timer_interrupts[vp]);
     }
     printf("%u messages, %u of them in order, with a sum of %u\n", handled, in_order, sum);
-    synicboard_close(&board);
+    printf("%u pieces of work, of which processor 0 saw %u\n", WORK, work_seen);
+    close_all();
     return 0;
 }

@@ -5,7 +5,7 @@ use Rattle.synic_board.specs.declared.event.Reply.{Reply}
 use Rattle.synic_board.specs.declared.event.Reply.TheVariants.{Done, Value, Bytes, Taken, Accepted, FlagWasClear, FlagWasSet, GeneralProtection, Refused}
 use Rattle.plain_terms.specs.declared.reply.PlainReply.{PlainReply}
 use Rattle.plain_terms.specs.declared.reply.Fault.{Fault}
-use Rattle.plain_terms.specs.declared.reply.Fault.TheVariants.{Closed, NoEvent}
+use Rattle.plain_terms.specs.declared.reply.Fault.TheVariants.{Closed, NoEvent, NoLine}
 
 -- a kind, and how many notices there are; no other field used
 abbrev pub silent : ℕ → ℕ → PlainReply
@@ -18,6 +18,7 @@ padded bytes = bytes ++ replicate (8 - length bytes) 0
 abbrev pub fault_told : Fault → PlainReply
 fault_told Closed = record (silent 0 0) { fault = 1 }
 fault_told NoEvent = record (silent 0 0) { fault = 2 }
+fault_told NoLine = record (silent 0 0) { fault = 3 }
 
 -- a reply, beside so many notices
 abbrev pub reply_told : Reply → ℕ → PlainReply

@@ -37,6 +37,8 @@ pub enum Fault {
     Closed = 1,
     /// The numbers mean no event.
     NoEvent = 2,
+    /// No line is open here.
+    NoLine = 3,
 }
 
 /// A reply of this kind beside so many notices, with no other field used.

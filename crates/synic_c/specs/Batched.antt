@@ -1,5 +1,5 @@
 -- What a batch does to the desk behind a handle, and tells.
-use Rattle.std.specs.Prelude.{◌≡◌, ℕ, List, length, map, Option, Some, None}
+use Rattle.std.specs.Prelude.{◌≡◌, List, length, map, Option, Some, None}
 use Rattle.board_desk.specs.declared.Desk.{Desk}
 use Rattle.desk_batch.specs.Batches.{Performed, batch, behind}
 use Rattle.plain_terms.specs.declared.event.PlainEvent.{PlainEvent}

@@ -3,3 +3,4 @@ pub mod Batched
 pub mod Told
 pub mod Opened
 pub mod Texts
+pub mod Lines

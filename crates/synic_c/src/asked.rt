@@ -2,12 +2,12 @@
 ghost use Rattle.std.specs.Prelude.{None, Some};
 ghost use Rattle.synic_c.specs.Asked.{IsAsked};
 
-use desk_handle::Handle;
+use handles::DeskHandle;
 use plain_terms::{Fault, PlainReply, plain_fault, plain_reply};
 use synic_board::Event;
 
 /// Performs an event on the board behind a handle, if there is one.
-pub(crate) fn asked(handle: &mut Handle, event: &Event) -> PlainReply
+pub(crate) fn asked(handle: &mut DeskHandle, event: &Event) -> PlainReply
     ensures { IsAsked (Some event.now) handle.old.desk handle.new.desk result }
 {
     match handle.desk_mut() {
@@ -20,7 +20,7 @@ pub(crate) fn asked(handle: &mut Handle, event: &Event) -> PlainReply
 }
 
 /// What is answered where the numbers of a call mean no event.
-pub(crate) fn asked_nothing(handle: &mut Handle) -> PlainReply
+pub(crate) fn asked_nothing(handle: &mut DeskHandle) -> PlainReply
     ensures { IsAsked None handle.old.desk handle.new.desk result }
 {
     match handle.desk_mut() {

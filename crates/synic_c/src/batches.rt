@@ -4,7 +4,7 @@ ghost use Rattle.desk_batch.specs.Batches.{MeansNone};
 ghost use Rattle.synic_c.specs.Batched.{IsBatch};
 
 use desk_batch::perform_all;
-use desk_handle::Handle;
+use handles::DeskHandle;
 use plain_terms::{PlainEvent, PlainNotice, PlainReply};
 
 /// How far a batch came.
@@ -24,7 +24,7 @@ pub struct PlainBatch {
 /// notices. The notices of all stand one behind another; each reply says how many are its.
 #[unsafe(no_mangle)]
 pub extern "C" fn synicboard_perform_all(
-    handle: &mut Handle,
+    handle: &mut DeskHandle,
     events: &[PlainEvent],
     replies: &mut [PlainReply],
     notices: &mut [PlainNotice],

@@ -7,14 +7,14 @@ ghost use Rattle.board_terms.specs.declared.messages.PortShape.TheVariants as sh
 
 use crate::asked::{asked, asked_nothing};
 use board_terms::{Bytes8, PayloadBytes, PortShape, Vector};
-use desk_handle::Handle;
+use handles::DeskHandle;
 use plain_terms::{PlainEvent, PlainReply, event_of};
 use synic_board::Event;
 
 /// A port for messages is opened to source `sint` of processor `vp`, with 1 to 16 buffers.
 #[unsafe(no_mangle)]
 pub extern "C" fn synicboard_open_message_port(
-    handle: &mut Handle,
+    handle: &mut DeskHandle,
     port: u8,
     vp: u8,
     sint: u8,
@@ -36,7 +36,7 @@ pub extern "C" fn synicboard_open_message_port(
 /// A port for `count` event flags from `base` on is opened to source `sint` of processor `vp`.
 #[unsafe(no_mangle)]
 pub extern "C" fn synicboard_open_event_port(
-    handle: &mut Handle,
+    handle: &mut DeskHandle,
     port: u8,
     vp: u8,
     sint: u8,
@@ -58,7 +58,7 @@ pub extern "C" fn synicboard_open_event_port(
 
 /// A port is closed.
 #[unsafe(no_mangle)]
-pub extern "C" fn synicboard_close_port(handle: &mut Handle, port: u8) -> PlainReply
+pub extern "C" fn synicboard_close_port(handle: &mut DeskHandle, port: u8) -> PlainReply
     ensures { IsAsked (Some (event.ClosePort port)) handle.old.desk handle.new.desk result }
 {
     asked(handle, &Event::ClosePort { port })
@@ -67,7 +67,7 @@ pub extern "C" fn synicboard_close_port(handle: &mut Handle, port: u8) -> PlainR
 /// A guest writes a register of processor `vp`.
 #[unsafe(no_mangle)]
 pub extern "C" fn synicboard_write(
-    handle: &mut Handle,
+    handle: &mut DeskHandle,
     vp: u8,
     register: u32,
     value: u64,
@@ -86,7 +86,7 @@ pub extern "C" fn synicboard_write(
 
 /// A guest reads a register of processor `vp`.
 #[unsafe(no_mangle)]
-pub extern "C" fn synicboard_read(handle: &mut Handle, vp: u8, register: u32) -> PlainReply
+pub extern "C" fn synicboard_read(handle: &mut DeskHandle, vp: u8, register: u32) -> PlainReply
     ensures { IsAsked (Some (event.Read vp register)) handle.old.desk handle.new.desk result }
 {
     asked(handle, &Event::Read { vp, register })
@@ -95,7 +95,7 @@ pub extern "C" fn synicboard_read(handle: &mut Handle, vp: u8, register: u32) ->
 /// A message with a payload of up to 240 bytes is posted to a port.
 #[unsafe(no_mangle)]
 pub extern "C" fn synicboard_post(
-    handle: &mut Handle,
+    handle: &mut DeskHandle,
     port: u8,
     message_type: u32,
     payload: &[u8],
@@ -118,7 +118,7 @@ pub extern "C" fn synicboard_post(
 
 /// An event flag of a port is signalled.
 #[unsafe(no_mangle)]
-pub extern "C" fn synicboard_signal(handle: &mut Handle, port: u8, flag: u16) -> PlainReply
+pub extern "C" fn synicboard_signal(handle: &mut DeskHandle, port: u8, flag: u16) -> PlainReply
     ensures { IsAsked (Some (event.Signal port flag)) handle.old.desk handle.new.desk result }
 {
     asked(handle, &Event::Signal { port, flag })
@@ -126,7 +126,7 @@ pub extern "C" fn synicboard_signal(handle: &mut Handle, port: u8, flag: u16) ->
 
 /// A device asserts a vector, 16 to 255, at the local APIC of processor `vp`.
 #[unsafe(no_mangle)]
-pub extern "C" fn synicboard_assert(handle: &mut Handle, vp: u8, vector: u8) -> PlainReply
+pub extern "C" fn synicboard_assert(handle: &mut DeskHandle, vp: u8, vector: u8) -> PlainReply
     ensures { IsAsked (asserted_meant vp vector) handle.old.desk handle.new.desk result }
 {
     match Vector::new(vector) {
@@ -137,7 +137,12 @@ pub extern "C" fn synicboard_assert(handle: &mut Handle, vp: u8, vector: u8) -> 
 
 /// Posted vectors are taken in: bit i of `bits` is vector 64 * `part` + i.
 #[unsafe(no_mangle)]
-pub extern "C" fn synicboard_absorb(handle: &mut Handle, vp: u8, part: u8, bits: u64) -> PlainReply
+pub extern "C" fn synicboard_absorb(
+    handle: &mut DeskHandle,
+    vp: u8,
+    part: u8,
+    bits: u64,
+) -> PlainReply
     ensures { IsAsked (Some (event.Absorb vp part bits)) handle.old.desk handle.new.desk result }
 {
     asked(handle, &Event::Absorb { vp, part, bits })
@@ -145,7 +150,11 @@ pub extern "C" fn synicboard_absorb(handle: &mut Handle, vp: u8, part: u8, bits:
 
 /// A guest stores up to 8 bytes at a guest physical address.
 #[unsafe(no_mangle)]
-pub extern "C" fn synicboard_store(handle: &mut Handle, address: u64, bytes: &[u8]) -> PlainReply
+pub extern "C" fn synicboard_store(
+    handle: &mut DeskHandle,
+    address: u64,
+    bytes: &[u8],
+) -> PlainReply
     ensures { IsAsked (stored_meant address bytes.now) handle.old.desk handle.new.desk result }
 {
     let mut fitting = Bytes8::new();
@@ -163,7 +172,7 @@ pub extern "C" fn synicboard_store(handle: &mut Handle, address: u64, bytes: &[u
 
 /// A guest loads so many bytes from a guest physical address.
 #[unsafe(no_mangle)]
-pub extern "C" fn synicboard_load(handle: &mut Handle, address: u64, length: u8) -> PlainReply
+pub extern "C" fn synicboard_load(handle: &mut DeskHandle, address: u64, length: u8) -> PlainReply
     ensures { IsAsked (Some (event.Load address length)) handle.old.desk handle.new.desk result }
 {
     asked(handle, &Event::Load { address, length })
@@ -171,7 +180,7 @@ pub extern "C" fn synicboard_load(handle: &mut Handle, address: u64, length: u8)
 
 /// The clock goes on to a moment, in units of 100 ns.
 #[unsafe(no_mangle)]
-pub extern "C" fn synicboard_tick(handle: &mut Handle, moment: u64) -> PlainReply
+pub extern "C" fn synicboard_tick(handle: &mut DeskHandle, moment: u64) -> PlainReply
     ensures { IsAsked (Some (event.Tick moment)) handle.old.desk handle.new.desk result }
 {
     asked(handle, &Event::Tick { moment })
@@ -179,7 +188,7 @@ pub extern "C" fn synicboard_tick(handle: &mut Handle, moment: u64) -> PlainRepl
 
 /// Processor `vp` takes its next interrupt.
 #[unsafe(no_mangle)]
-pub extern "C" fn synicboard_take(handle: &mut Handle, vp: u8) -> PlainReply
+pub extern "C" fn synicboard_take(handle: &mut DeskHandle, vp: u8) -> PlainReply
     ensures { IsAsked (Some (event.Take vp)) handle.old.desk handle.new.desk result }
 {
     asked(handle, &Event::Take { vp })
@@ -187,7 +196,7 @@ pub extern "C" fn synicboard_take(handle: &mut Handle, vp: u8) -> PlainReply
 
 /// Processor `vp` is suspended.
 #[unsafe(no_mangle)]
-pub extern "C" fn synicboard_suspend(handle: &mut Handle, vp: u8) -> PlainReply
+pub extern "C" fn synicboard_suspend(handle: &mut DeskHandle, vp: u8) -> PlainReply
     ensures { IsAsked (Some (event.Suspend vp)) handle.old.desk handle.new.desk result }
 {
     asked(handle, &Event::Suspend { vp })
@@ -195,7 +204,7 @@ pub extern "C" fn synicboard_suspend(handle: &mut Handle, vp: u8) -> PlainReply
 
 /// Processor `vp` goes on.
 #[unsafe(no_mangle)]
-pub extern "C" fn synicboard_resume(handle: &mut Handle, vp: u8) -> PlainReply
+pub extern "C" fn synicboard_resume(handle: &mut DeskHandle, vp: u8) -> PlainReply
     ensures { IsAsked (Some (event.Resume vp)) handle.old.desk handle.new.desk result }
 {
     asked(handle, &Event::Resume { vp })
@@ -203,7 +212,7 @@ pub extern "C" fn synicboard_resume(handle: &mut Handle, vp: u8) -> PlainReply
 
 /// Processor `vp` is reset.
 #[unsafe(no_mangle)]
-pub extern "C" fn synicboard_reset(handle: &mut Handle, vp: u8) -> PlainReply
+pub extern "C" fn synicboard_reset(handle: &mut DeskHandle, vp: u8) -> PlainReply
     ensures { IsAsked (Some (event.Reset vp)) handle.old.desk handle.new.desk result }
 {
     asked(handle, &Event::Reset { vp })
@@ -211,7 +220,7 @@ pub extern "C" fn synicboard_reset(handle: &mut Handle, vp: u8) -> PlainReply
 
 /// An event in plain numbers.
 #[unsafe(no_mangle)]
-pub extern "C" fn synicboard_perform(handle: &mut Handle, plain: &PlainEvent) -> PlainReply
+pub extern "C" fn synicboard_perform(handle: &mut DeskHandle, plain: &PlainEvent) -> PlainReply
     ensures { IsAsked (event_meant plain.now) handle.old.desk handle.new.desk result }
 {
     match event_of(plain) {

@@ -5,6 +5,7 @@
 mod asked;
 mod batches;
 mod events;
+mod lines;
 mod looks;
 mod notices;
 mod opening;

@@ -5,7 +5,7 @@ ghost use Rattle.board_terms.specs.declared.pages.Owner.TheVariants as owner;
 ghost use Rattle.synic_c.specs.Told.{summary_or, next_told, is_auto_told, owner_told, queued_told, due_told, moment_told, ticket_told};
 
 use board_terms::{Owner, Sint, Vector, Vp};
-use desk_handle::Handle;
+use handles::DeskHandle;
 
 /// Whose page a guest sees. `kind` is 0 where there is no such page, or no board, 1 for the guest's
 /// own, and 2 or 3 for the page of messages or of event flags of processor `vp`, which is else 0.
@@ -30,7 +30,7 @@ pub struct PlainDue {
 
 /// The next vector of a processor; 0 where there is none, no such processor, or no board.
 #[unsafe(no_mangle)]
-pub extern "C" fn synicboard_next(handle: &mut Handle, vp: u8) -> u8
+pub extern "C" fn synicboard_next(handle: &mut DeskHandle, vp: u8) -> u8
     ensures desk { handle.new.desk ≡ handle.old.desk }
     ensures next { result ≡ next_told handle.old.desk vp }
 {
@@ -45,7 +45,7 @@ pub extern "C" fn synicboard_next(handle: &mut Handle, vp: u8) -> u8
 
 /// Whether a vector ends by itself when a processor takes it.
 #[unsafe(no_mangle)]
-pub extern "C" fn synicboard_is_auto(handle: &mut Handle, vp: u8, vector: u8) -> bool
+pub extern "C" fn synicboard_is_auto(handle: &mut DeskHandle, vp: u8, vector: u8) -> bool
     ensures desk { handle.new.desk ≡ handle.old.desk }
     ensures auto { result ≡ is_auto_told handle.old.desk vp vector }
 {
@@ -60,7 +60,7 @@ pub extern "C" fn synicboard_is_auto(handle: &mut Handle, vp: u8, vector: u8) ->
 
 /// Whose page a guest sees at a page number.
 #[unsafe(no_mangle)]
-pub extern "C" fn synicboard_owner(handle: &mut Handle, page: u64) -> PlainOwner
+pub extern "C" fn synicboard_owner(handle: &mut DeskHandle, page: u64) -> PlainOwner
     ensures desk { handle.new.desk ≡ handle.old.desk }
     ensures owner { result ≡ owner_told handle.old.desk page }
 {
@@ -84,7 +84,7 @@ pub extern "C" fn synicboard_owner(handle: &mut Handle, page: u64) -> PlainOwner
 
 /// How many messages are queued for a source of a processor.
 #[unsafe(no_mangle)]
-pub extern "C" fn synicboard_queued(handle: &mut Handle, vp: u8, sint: u8) -> u16
+pub extern "C" fn synicboard_queued(handle: &mut DeskHandle, vp: u8, sint: u8) -> u16
     ensures desk { handle.new.desk ≡ handle.old.desk }
     ensures count { result ≡ queued_told handle.old.desk vp sint }
 {
@@ -99,7 +99,7 @@ pub extern "C" fn synicboard_queued(handle: &mut Handle, vp: u8, sint: u8) -> u1
 
 /// The timer that is due first.
 #[unsafe(no_mangle)]
-pub extern "C" fn synicboard_earliest(handle: &mut Handle) -> PlainDue
+pub extern "C" fn synicboard_earliest(handle: &mut DeskHandle) -> PlainDue
     ensures desk { handle.new.desk ≡ handle.old.desk }
     ensures due { result ≡ due_told handle.old.desk }
 {
@@ -127,7 +127,7 @@ pub extern "C" fn synicboard_earliest(handle: &mut Handle) -> PlainDue
 
 /// The present moment, in units of 100 ns; 0 where there is no board.
 #[unsafe(no_mangle)]
-pub extern "C" fn synicboard_moment(handle: &mut Handle) -> u64
+pub extern "C" fn synicboard_moment(handle: &mut DeskHandle) -> u64
     ensures desk { handle.new.desk ≡ handle.old.desk }
     ensures moment { result ≡ moment_told handle.old.desk }
 {
@@ -139,7 +139,7 @@ pub extern "C" fn synicboard_moment(handle: &mut Handle) -> u64
 
 /// The ticket that the next accepted message takes; 0 where there is no board.
 #[unsafe(no_mangle)]
-pub extern "C" fn synicboard_next_ticket(handle: &mut Handle) -> u64
+pub extern "C" fn synicboard_next_ticket(handle: &mut DeskHandle) -> u64
     ensures desk { handle.new.desk ≡ handle.old.desk }
     ensures ticket { result ≡ ticket_told handle.old.desk }
 {

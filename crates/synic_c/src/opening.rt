@@ -4,7 +4,7 @@ ghost use Rattle.synic_board.specs.State.{AreSizes};
 ghost use Rattle.synic_c.specs.Opened.{IsNewDesk};
 
 use board_desk::Desk;
-use desk_handle::Handle;
+use handles::DeskHandle;
 use std::alloc::Global;
 use synic_board::OpenFault;
 
@@ -15,7 +15,7 @@ use synic_board::OpenFault;
 #[unsafe(no_mangle)]
 pub extern "C" fn synicboard_open(
     alloc: Global,
-    handle: &mut Handle,
+    handle: &mut DeskHandle,
     processors: u8,
     pages: u8,
     first_ticket: u64,
@@ -46,7 +46,7 @@ pub extern "C" fn synicboard_open(
 
 /// Closes the board behind a handle, if one is open, and gives its memory back.
 #[unsafe(no_mangle)]
-pub extern "C" fn synicboard_close(alloc: Global, handle: &mut Handle)
+pub extern "C" fn synicboard_close(alloc: Global, handle: &mut DeskHandle)
     ensures { handle.new.desk ≡ None }
 {
     let _ = handle.take(alloc);

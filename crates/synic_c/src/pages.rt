@@ -4,13 +4,17 @@ ghost use Rattle.board_terms.specs.declared.pages.Kind.TheVariants as kind;
 ghost use Rattle.synic_c.specs.Told.{has_own_page, has_guest_page};
 
 use board_terms::{Kind, Vp};
-use desk_handle::Handle;
+use handles::DeskHandle;
 use std::ptr::from_ref;
 
 /// Where the page of messages of a processor lies, 4096 bytes, visible or not. Whether there is one.
 /// It may be read until the board is closed, and not while a call runs.
 #[unsafe(no_mangle)]
-pub extern "C" fn synicboard_message_page(handle: &mut Handle, vp: u8, page: &mut *const u8) -> bool
+pub extern "C" fn synicboard_message_page(
+    handle: &mut DeskHandle,
+    vp: u8,
+    page: &mut *const u8,
+) -> bool
     ensures desk { handle.new.desk ≡ handle.old.desk }
     ensures found { result ≡ has_own_page handle.old.desk vp kind.Sim }
     ensures kept { result ≡ false → page.new ≡ page.old }
@@ -21,7 +25,11 @@ pub extern "C" fn synicboard_message_page(handle: &mut Handle, vp: u8, page: &mu
 /// Where the page of event flags of a processor lies, 4096 bytes, visible or not. Whether there is one.
 /// It may be read until the board is closed, and not while a call runs.
 #[unsafe(no_mangle)]
-pub extern "C" fn synicboard_flag_page(handle: &mut Handle, vp: u8, page: &mut *const u8) -> bool
+pub extern "C" fn synicboard_flag_page(
+    handle: &mut DeskHandle,
+    vp: u8,
+    page: &mut *const u8,
+) -> bool
     ensures desk { handle.new.desk ≡ handle.old.desk }
     ensures found { result ≡ has_own_page handle.old.desk vp kind.Sief }
     ensures kept { result ≡ false → page.new ≡ page.old }
@@ -29,7 +37,7 @@ pub extern "C" fn synicboard_flag_page(handle: &mut Handle, vp: u8, page: &mut *
     own_page(handle, vp, Kind::Sief, page)
 }
 
-fn own_page(handle: &mut Handle, vp: u8, kind: Kind, page: &mut *const u8) -> bool
+fn own_page(handle: &mut DeskHandle, vp: u8, kind: Kind, page: &mut *const u8) -> bool
     ensures desk { handle.new.desk ≡ handle.old.desk }
     ensures found { result ≡ has_own_page handle.old.desk vp kind }
     ensures kept { result ≡ false → page.new ≡ page.old }
@@ -48,7 +56,7 @@ fn own_page(handle: &mut Handle, vp: u8, kind: Kind, page: &mut *const u8) -> bo
 /// read until the board is closed, and not while a call runs.
 #[unsafe(no_mangle)]
 pub extern "C" fn synicboard_guest_page(
-    handle: &mut Handle,
+    handle: &mut DeskHandle,
     number: u64,
     page: &mut *const u8,
 ) -> bool

@@ -1,0 +1,6 @@
+pub mod Steps
+pub mod Held
+pub mod Heap
+pub mod OfDesk
+pub mod OfLine
+pub mod Sent

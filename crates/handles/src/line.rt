@@ -1,0 +1,80 @@
+// A line as a C program holds it.
+ghost use Rattle.std.specs.Prelude.{◌≡◌, Option, None, Some, IfSome, IfNone};
+ghost use Rattle.held_line.specs.contracts.HeldLine.{the_row as line_row};
+ghost use Rattle.held_line.specs.Lines.{Held};
+ghost use Rattle.handles.specs.inside.Held.{held, code_of};
+
+use held_line::HeldLine;
+use std::alloc::Global;
+use std::marker::Model;
+use std::mem::replace;
+use std::ptr;
+
+/// A line as a C program holds it: where it lies, if it is open.
+#[repr(C)]
+pub struct LineHandle {
+    at: *mut u8,
+    is_open: bool,
+    pub ghost line: { Option Held } by { code_of line_row },
+}
+
+impl Model for LineHandle {
+    ghost also_owns = { λ h. held line_row h.is_open h.at h.line };
+}
+
+// Another thread may have it, as it may have a line.
+unsafe impl Send for LineHandle {}
+
+impl LineHandle {
+    /// A handle of no line.
+    pub fn closed() -> LineHandle
+        ensures { result.line ≡ None }
+    {
+        LineHandle {
+            at: ptr::null_mut(),
+            is_open: false,
+        }
+    }
+
+    /// The handle of a line.
+    pub fn holding(line: Box<HeldLine>) -> LineHandle
+        ensures { result.line ≡ Some line.value }
+    {
+        let at = Box::into_raw(line);
+        LineHandle {
+            at: at as *mut u8,
+            is_open: true,
+        }
+    }
+
+    /// The line of a handle.
+    pub fn into_line(self, alloc: Global) -> Option<Box<HeldLine>>
+        ensures found { IfSome result (λ b. self.line ≡ Some b.value) }
+        ensures none { IfNone result (self.line ≡ None) }
+    {
+        let LineHandle { at, is_open } = self;
+        if !is_open {
+            return None;
+        }
+        let line = unsafe { Box::from_raw(alloc, at as *mut HeldLine) };
+        Some(line)
+    }
+
+    /// Takes the line out, and leaves the handle closed.
+    pub fn take(&mut self, alloc: Global) -> Option<Box<HeldLine>>
+        ensures found { IfSome result (λ b. self.old.line ≡ Some b.value) }
+        ensures none { IfNone result (self.old.line ≡ None) }
+        ensures after { self.new.line ≡ None }
+    {
+        replace(self, LineHandle::closed()).into_line(alloc)
+    }
+
+    /// Puts a line in, and takes out the one that was there.
+    pub fn put(&mut self, alloc: Global, line: Box<HeldLine>) -> Option<Box<HeldLine>>
+        ensures found { IfSome result (λ b. self.old.line ≡ Some b.value) }
+        ensures none { IfNone result (self.old.line ≡ None) }
+        ensures after { self.new.line ≡ Some line.value }
+    {
+        replace(self, LineHandle::holding(line)).into_line(alloc)
+    }
+}

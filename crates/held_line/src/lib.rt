@@ -1,0 +1,138 @@
+//! A line together with the words that it is of: what one thread holds.
+#![tactic(auto)]
+
+ghost use Rattle.std.specs.Prelude.{◌≡◌, ◌<◌, ◌≤◌, ◌↔◌, [], IfOk, OnErr, IfSome, IfNone, IsErrOf, IsSome, replicate, vec_len};
+ghost use Rattle.std.specs.Arc.{arc_value};
+ghost use Rattle.posted_words.specs.Answers.{is_fresh};
+ghost use Rattle.posted_words.specs.Words.{AreWordSizes, shared_words, raise_of, sweep_of, token, IsOf};
+ghost use Rattle.held_line.specs.Lines.{held, new_line, stepped, with_one_less};
+
+use board_terms::{Vector, Vp};
+use posted_words::{Line, PostedFault, PostedWords, Raised};
+use std::alloc::Global;
+use std::marker::Model;
+use std::sync::Arc;
+use thiserror::Error;
+
+/// Why a line gave none away.
+#[derive(Clone, Copy, PartialEq, Eq, Debug, Drop, Error)]
+pub enum SplitFault {
+    #[error("all lines are given away")]
+    NoMore = 1,
+    #[error("out of memory")]
+    Memory = 2,
+}
+
+/// A line, the words that it is of, and the lines that it may still give away. Contracts see which
+/// words these are, what the line did, and how many lines are left.
+#[derive(Drop)]
+pub struct HeldLine {
+    words: Arc<PostedWords>,
+    line: Line,
+    spare: Vec<Line>,
+}
+
+impl Model for HeldLine {
+    ghost use Rattle.std.specs.Prelude.{◌≡◌, [], replicate, vec_len};
+    ghost use Rattle.std.specs.Arc.{arc_value};
+    ghost use Rattle.posted_words.specs.Words.{token};
+    ghost use Rattle.held_line.specs.Lines.{Held, held};
+
+    ghost Value = { Held };
+
+    ghost view = { λ h. held (arc_value h.words) h.line.did (vec_len h.spare) };
+
+    ghost invariant = { λ h. (h.line.of ≡ (arc_value h.words).name) × (h.spare.items ≡ replicate (vec_len h.spare) (token (arc_value h.words).name [])) };
+}
+
+impl HeldLine {
+    /// The first line of words for that many processors, all zero, which did nothing and may give 31
+    /// lines away. `BadSize` unless there are 1 to 8 processors, which is judged first; `Memory` where
+    /// memory is refused.
+    pub fn open(alloc: Global, processors: u8) -> Result<HeldLine, PostedFault>
+        ensures size { IsErrOf result PostedFault.BadSize ↔ (¬ AreWordSizes processors 16 16) }
+        ensures line { IfOk result (λ l. l ≡ held (shared_words l.words.name processors 16 16) [] 31) }
+    {
+        let (words, mut spare, mut lines) = PostedWords::open(alloc, processors, 16, 16)?;
+        let Some(line) = lines.pop() else {
+            unreachable!()
+        };
+        if spare.append(&mut lines).is_err() {
+            return Err(PostedFault::Memory);
+        }
+        match Arc::new(alloc, words) {
+            Ok(words) => Ok(HeldLine { words, line, spare }),
+            Err(_) => Err(PostedFault::Memory),
+        }
+    }
+
+    /// Gives away a line of the same words, which did nothing. `NoMore` where none is left, which is
+    /// judged first; `Memory` where memory is refused, or the words have as many lines as can be
+    /// counted.
+    pub fn split(&mut self, alloc: Global) -> Result<Box<HeldLine>, SplitFault>
+        ensures more { IsErrOf result SplitFault.NoMore ↔ (self.old.spare ≡ 0) }
+        ensures given { IfOk result (λ line. line.value ≡ new_line self.old.words) }
+        ensures less { IfOk result (λ _. self.new ≡ with_one_less self.old) }
+        ensures unchanged { OnErr result (self.new ≡ self.old) }
+    {
+        let Some(line) = self.spare.pop() else {
+            return Err(SplitFault::NoMore);
+        };
+        let Ok(words) = Arc::try_clone(&self.words) else {
+            self.spare.push_reserved(line);
+            return Err(SplitFault::Memory);
+        };
+        let spare = Vec::new(alloc);
+        match Box::new(alloc, HeldLine { words, line, spare }) {
+            Ok(line) => Ok(line),
+            Err(refused) => {
+                self.spare.push_reserved(refused.value.line);
+                Err(SplitFault::Memory)
+            }
+        }
+    }
+
+    /// Raises a vector, 16 to 255, of a processor that the words are for, and never waits: `None`, and
+    /// nothing is done, where there is no such vector or processor. `Fresh` tells that this raise and no
+    /// other made the vector pending, so its thread has to kick the processor.
+    pub fn raise(&mut self, vp: u8, vector: u8) -> Option<Raised>
+        ensures there { IsSome result ↔ ((vp < self.old.words.processors) × (16 ≤ vector)) }
+        ensures raised { IfSome result (λ r. self.new ≡ stepped self.old (raise_of vp vector (is_fresh r))) }
+        ensures unchanged { IfNone result (self.new ≡ self.old) }
+    {
+        let vp = self.processor(vp)?;
+        let vector = Vector::new(vector)?;
+        Some(self.words.raise(&mut self.line, vp, vector))
+    }
+
+    /// Takes the bits of a part, 0 to 3, of a processor that the words are for, and never waits: bit
+    /// `n` of part `p` stands for vector `64 * p + n`. `None`, and nothing is done, where there is no
+    /// such part or processor.
+    pub fn sweep(&mut self, vp: u8, part: u8) -> Option<u64>
+        ensures there { IsSome result ↔ ((vp < self.old.words.processors) × (part < 4)) }
+        ensures swept { IfSome result (λ bits. self.new ≡ stepped self.old (sweep_of vp part bits)) }
+        ensures unchanged { IfNone result (self.new ≡ self.old) }
+    {
+        let vp = self.processor(vp)?;
+        if part < 4 {
+            Some(self.words.sweep(&mut self.line, vp, part))
+        } else {
+            None
+        }
+    }
+
+    /// The processor of that number, if the words are for it.
+    fn processor(&self, number: u8) -> Option<Vp>
+        ensures there { IsSome result ↔ (number < self.now.words.processors) }
+        ensures value { IfSome result (λ vp. vp ≡ number) }
+    {
+        if number < self.words.processors() {
+            Vp::new(number)
+        } else {
+            None
+        }
+    }
+}
+
+#[cfg(test)]
+mod tests;
