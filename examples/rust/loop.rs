@@ -1,10 +1,12 @@
-//! A toy hypervisor of two processors, a thread for each, over one board under a lock. A device posts
-//! messages to processor 1, and processor 0 has a periodic timer. The threads come in any order; what is
-//! printed at the end is the same. The steps are those of "The run loop" in docs/EMBEDDING.md.
+//! A toy hypervisor of two processors, a thread for each, over one board under a lock. One device posts
+//! messages to processor 1. Another raises a vector at processor 0 without the lock; this processor has a
+//! periodic timer, too. The threads come in any order; what is printed at the end is the same. The steps
+//! are those of "The run loop" in docs/EMBEDDING.md.
 
+use std::sync::atomic::{AtomicU64, Ordering};
 use std::sync::{Condvar, Mutex};
 use std::thread;
-use synicboard::{Board, Notice, Refusal, Reply, Vector};
+use synicboard::{Board, Line, Notice, Raised, Refusal, Reply, Vector};
 
 const EOI: u32 = 0x4000_0070;
 const SCONTROL: u32 = 0x4000_0080;
@@ -14,6 +16,7 @@ const SINT2: u32 = 0x4000_0092;
 const STIMER0_CONFIG: u32 = 0x4000_00b0;
 const STIMER0_COUNT: u32 = 0x4000_00b1;
 const TIMER_VECTOR: Vector = Vector::new(0x40).unwrap();
+const WORK_VECTOR: Vector = Vector::new(0x60).unwrap();
 
 /// Where the guest of processor 1 places its page of messages, and where in it the slot of SINT2 is.
 const PAGE: u64 = 0x2000;
@@ -22,60 +25,110 @@ const SLOT: usize = 0x200;
 const PORT: u8 = 3;
 const MESSAGES: u64 = 1000;
 const EXPIRIES: u64 = 500;
+const WORK: u64 = 2000;
 
-/// The board, and what kicks the threads: there may be something to take, a free buffer, or a timer.
-type Host = (Mutex<Board>, Condvar);
+/// What the threads share.
+struct Host {
+    board: Mutex<Board>,
+    /// There may be something to take, a free buffer, or a timer.
+    kick: Condvar,
+    /// How many pieces of work the second device has done.
+    work: AtomicU64,
+}
+
+/// What the guest of a processor has had, and seen.
+#[derive(Default)]
+struct Seen {
+    expiries: u64,
+    work: u64,
+    messages: u64,
+    sum: u64,
+}
+
+impl Seen {
+    fn is_all(&self, vp: u8) -> bool {
+        match vp {
+            0 => self.expiries == EXPIRIES && self.work == WORK,
+            _ => self.messages == MESSAGES,
+        }
+    }
+}
 
 fn done(reply: Reply) {
     assert_eq!(reply, Reply::Done);
 }
 
-/// The thread of the device. It also sets the timer: direct mode, vector 40, every 10 units of 100 ns.
-fn device((shared, kick): &Host) {
+/// The thread of the first device.
+fn post_messages(host: &Host) {
     let requested = |notice| matches!(notice, Notice::Requested { .. });
-    let mut board = shared.lock().unwrap();
-    done(board.write(0, STIMER0_COUNT, 10));
-    done(board.write(0, STIMER0_CONFIG, 0x1403));
-    kick.notify_all();
+    let mut board = host.board.lock().unwrap();
     for number in 0..MESSAGES {
         while let Reply::Refused(refusal) = board.post(PORT, 1, &number.to_le_bytes()) {
             // A buffer is free again behind the next message that is placed.
             assert_eq!(refusal, Refusal::NoBuffers);
-            board = kick.wait(board).unwrap();
+            board = host.kick.wait(board).unwrap();
         }
         if board.notices().any(requested) {
-            kick.notify_all();
+            host.kick.notify_all();
         }
     }
 }
 
-/// The thread of a processor, until its guest has had so many interrupts. Answers the sum of its messages.
-fn processor((shared, kick): &Host, vp: u8, interrupts: u64) -> u64 {
-    let (mut taken, mut sum) = (0, 0);
-    while taken < interrupts {
-        let mut board = shared.lock().unwrap();
+/// The thread of the second device. A vector that was raised already is on its way, and needs no kick.
+fn do_work(host: &Host, mut line: Line) {
+    for _ in 0..WORK {
+        host.work.fetch_add(1, Ordering::SeqCst);
+        let raised = line
+            .raise(0, WORK_VECTOR)
+            .expect("the words are for processor 0");
+        if raised == Raised::Fresh {
+            // Processor 0 absorbs and falls asleep in one go under the lock: it does not miss this.
+            let _board = host.board.lock().unwrap();
+            host.kick.notify_all();
+        }
+    }
+}
+
+/// The thread of a processor, until its guest has had all.
+fn processor(host: &Host, vp: u8, mut line: Line) -> Seen {
+    let mut seen = Seen::default();
+    while !seen.is_all(vp) {
+        let mut board = host.board.lock().unwrap();
+        done(board.absorb_line(&mut line, vp, WORK_VECTOR.number() / 64));
         let are_idle = (0..2).all(|vp| board.next(vp).is_none());
         if let Some(next) = board.next(vp) {
             // The guest is always willing, and its handler runs here, with the lock held all along.
             assert_eq!(board.take(vp), Reply::Taken(Some(next)));
-            taken += 1;
-            match next {
-                TIMER_VECTOR if taken == EXPIRIES => done(board.write(vp, STIMER0_CONFIG, 0)),
-                TIMER_VECTOR => {}
-                _ => sum += receive(&mut board, vp),
-            }
+            handle(host, &mut board, vp, next, &mut seen);
             done(board.write(vp, EOI, 0));
         } else if let (true, Some((due, _))) = (are_idle, board.earliest()) {
             // A host arms its timer for this moment. The toy has no clock: the moment has come.
             done(board.tick(due.try_into().expect("a moment that a clock reaches")));
         } else {
-            drop(kick.wait(board));
+            drop(host.kick.wait(board));
             continue;
         }
         // Behind what was done there may be a free buffer, a vector, or another timer.
-        kick.notify_all();
+        host.kick.notify_all();
     }
-    sum
+    seen
+}
+
+/// The handler of a guest.
+fn handle(host: &Host, board: &mut Board, vp: u8, vector: Vector, seen: &mut Seen) {
+    match vector {
+        WORK_VECTOR => seen.work = host.work.load(Ordering::SeqCst),
+        TIMER_VECTOR => {
+            seen.expiries += 1;
+            if seen.expiries == EXPIRIES {
+                done(board.write(vp, STIMER0_CONFIG, 0));
+            }
+        }
+        _ => {
+            seen.messages += 1;
+            seen.sum += receive(board, vp);
+        }
+    }
 }
 
 /// The guest reads the message in the slot of SINT2, and gives the slot back.
@@ -91,23 +144,50 @@ fn receive(board: &mut Board, vp: u8) -> u64 {
     number
 }
 
-fn main() {
-    let mut board = Board::open(2, 4, 0).expect("memory for a board");
-    // The guest of processor 1: its SynIC and its page of messages are on, SINT2 raises vector 50.
+/// The guest of processor 1 turns its SynIC and its page of messages on, and gives SINT2 vector 50. That of
+/// processor 0 sets its timer: direct mode, vector 40, every 10 units of 100 ns.
+fn set_up(board: &mut Board) {
     for (register, value) in [(SCONTROL, 1), (SIMP, PAGE | 1), (SINT2, 0x50)] {
         done(board.write(1, register, value));
     }
     done(board.open_message_port(PORT, 1, 2, 4));
-    let host = (Mutex::new(board), Condvar::new());
-    let sum = thread::scope(|scope| {
-        scope.spawn(|| processor(&host, 0, EXPIRIES));
-        let receiver = scope.spawn(|| processor(&host, 1, MESSAGES));
-        device(&host);
-        receiver.join().expect("the thread of processor 1")
+    done(board.write(0, STIMER0_COUNT, 10));
+    done(board.write(0, STIMER0_CONFIG, 0x1403));
+}
+
+fn main() {
+    let mut board = Board::open(2, 4, 0).expect("memory for a board");
+    set_up(&mut board);
+    // One line for each thread that raises or absorbs.
+    let mut first = Line::open(2).expect("memory for a line");
+    let (second, third) = (
+        first.split().expect("a second line"),
+        first.split().expect("a third line"),
+    );
+    let host = Host {
+        board: Mutex::new(board),
+        kick: Condvar::new(),
+        work: AtomicU64::new(0),
+    };
+    let (zero, one) = thread::scope(|scope| {
+        let zero = scope.spawn(|| processor(&host, 0, first));
+        let one = scope.spawn(|| processor(&host, 1, second));
+        scope.spawn(|| do_work(&host, third));
+        post_messages(&host);
+        (
+            zero.join().expect("processor 0"),
+            one.join().expect("processor 1"),
+        )
     });
-    let board = host.0.into_inner().unwrap();
-    println!("processor 0: {EXPIRIES} interrupts of its timer");
-    println!("processor 1: {MESSAGES} messages, their sum is {sum}");
+    println!(
+        "processor 0: {} interrupts of its timer, {} pieces of work",
+        zero.expiries, zero.work
+    );
+    println!(
+        "processor 1: {} messages, their sum is {}",
+        one.messages, one.sum
+    );
+    let board = host.board.into_inner().unwrap();
     let (ticket, moment) = (board.next_ticket(), board.moment());
     println!("board: the next ticket is {ticket}, the moment {moment}");
 }

@@ -2,8 +2,8 @@
 
 use crate::notice::Room;
 use crate::{
-    beyond_the_header, sys, Event, Moment, Notices, Owner, PortShape, Reply, Ticket, TimerId, Vector, Vp,
-    MOST_NOTICES,
+    beyond_the_header, sys, Event, Line, Moment, Notices, Owner, PortShape, Reply, Ticket, TimerId, Vector,
+    Vp, MOST_NOTICES,
 };
 use core::cell::UnsafeCell;
 use core::error::Error;
@@ -13,7 +13,7 @@ use core::ptr;
 /// The bytes of a page.
 pub const PAGE_BYTES: usize = 4096;
 
-/// Why a board was not opened.
+/// Why a board or a line was not opened.
 #[derive(Clone, Copy, PartialEq, Eq, Hash, Debug)]
 pub enum OpenFault {
     /// Not 1 to 8 processors, or not 1 to 64 pages.
@@ -74,9 +74,9 @@ impl Error for OpenFault {}
 ///
 /// A board may go to another thread (`Send`), and threads that share one put it under a lock, as in
 /// `Mutex<Board>`. It is not `Sync`, since the library asks that one call at a time uses a handle, a look
-/// too. That a board is `Send` is not proved with the library, but follows from how it is made: what is
-/// behind a handle is plain memory of `malloc`, and the library has no state of a thread's, and none of
-/// its own.
+/// too. It is proved with the library that what a handle owns says the same to each thread. The bindings
+/// add, with no proof, that the handle lies in this value alone, and that no second thread has a call
+/// beside. What is to raise vectors without the lock has a [`Line`].
 ///
 /// ```compile_fail,E0277
 /// # let board = synicboard::Board::open(1, 1, 0).unwrap();
@@ -105,11 +105,10 @@ pub struct Board {
     pages: u8,
 }
 
-// SAFETY: the library asks that one call at a time uses a handle, and not that it is always the same
-// thread that calls: the board lies in memory of `malloc`, which `free` takes from any thread, and the
-// library keeps no state of a thread's and writes no state of its own. The handle is in this value alone,
-// so who has the value makes all the calls; and it is not `Sync`, because of the cell, so a second
-// thread makes none beside. The library has no proof of this; it is read off how it is made.
+// SAFETY: what the handle owns says the same to each thread, which is proved with the library: `DeskHandle`
+// of its crate `handles` is `Send`. The handle is in this value alone, so who has the value makes all the
+// calls; and it is not `Sync`, because of the cell, so a second thread makes none beside. The room for
+// notices is of plain numbers.
 unsafe impl Send for Board {}
 
 /// Asks the library about a board's handle.
@@ -118,7 +117,8 @@ macro_rules! ask {
         let handle = $board.handle.get();
         // SAFETY: the handle was closed or opened by the library, lies here and has no copy. No other
         // call uses it: a board is not `Sync`, and the library calls nobody back. Where a slice goes
-        // with it, its address is not null, and it is good for its own length.
+        // with it, its address is not null, and it is good for its own length; where the handle of a
+        // line does, it is open, has no copy, and is borrowed for this call alone.
         unsafe { sys::$call(handle $(, $argument)*) }
     }};
 }
@@ -253,6 +253,15 @@ impl Board {
     /// `Done`, or refused: `BadTarget` for a part above 3.
     pub fn absorb(&mut self, vp: u8, part: u8, bits: u64) -> Reply {
         Reply::of(ask!(self, synicboard_absorb, vp, part, bits))
+    }
+
+    /// What was raised of processor `vp` in a part, 0 to 3, is taken out of the words of a line, and taken
+    /// in at the local APIC: the vectors from 64 * `part` on, 64 of them. There are none of a processor that
+    /// the words are not for. A raise behind this is [`Fresh`](crate::Raised::Fresh) again.
+    ///
+    /// `Done`, or refused: `BadTarget` for a part above 3. Where it is refused, nothing is taken out.
+    pub fn absorb_line(&mut self, line: &mut Line, vp: u8, part: u8) -> Reply {
+        Reply::of(ask!(self, synicboard_absorb_line, &mut line.handle, vp, part))
     }
 
     /// A guest stores 1 to 8 bytes at a guest physical address, all in one page.

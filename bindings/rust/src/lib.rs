@@ -3,8 +3,9 @@
 //!
 //! These are bindings for the C library `libsynicboard.a`, whose code is proved to be the machine that
 //! `docs/MACHINE.md` says in words. A host hands a [`Board`] its events; the board answers each with a
-//! [`Reply`] and its [`Notices`], and has no clock, no thread and no callback. `docs/EMBEDDING.md` has the
-//! run loop round it, and `examples/rust/loop.rs` is one.
+//! [`Reply`] and its [`Notices`], and has no clock, no thread and no callback. Where threads share it they
+//! put it under a lock, beside which devices raise vectors by a [`Line`]. `docs/EMBEDDING.md` has the run
+//! loop round it, and `examples/rust/loop.rs` is one.
 //!
 //! Moments are in units of 100 ns. Numbers that name a processor, a source, a port, a register or a page
 //! are plain in what is asked, and the board judges them; in what it answers their range is in the type.
@@ -20,6 +21,7 @@
 
 mod board;
 mod event;
+mod line;
 mod notice;
 mod reply;
 pub mod sys;
@@ -28,6 +30,7 @@ mod text;
 
 pub use board::{Board, OpenFault, PAGE_BYTES};
 pub use event::{Bytes, Bytes8, Event, PayloadBytes, PortShape};
+pub use line::{Line, Raised, SplitFault};
 pub use notice::{Notice, Notices, MOST_NOTICES};
 pub use reply::{Refusal, Reply};
 pub use terms::{Moment, Owner, Sint, Ticket, TimerId, Vector, Vp};

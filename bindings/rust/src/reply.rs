@@ -41,7 +41,7 @@ impl Reply {
         }
     }
 
-    /// The reply that plain numbers mean, of a board that is open.
+    /// The reply that plain numbers mean, where the board is open, and the line, if there is one.
     pub(crate) fn of(plain: sys::synicboard_reply) -> Reply {
         let meant = match plain.kind {
             sys::SYNICBOARD_NOT_PERFORMED if plain.fault == sys::SYNICBOARD_NO_EVENT => Some(Reply::NoEvent),

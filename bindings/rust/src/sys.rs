@@ -11,9 +11,9 @@ use core::ptr;
 /// The first number of the version of these declarations.
 pub const SYNICBOARD_VERSION_MAJOR: u32 = 1;
 /// The second number of the version of these declarations.
-pub const SYNICBOARD_VERSION_MINOR: u32 = 1;
+pub const SYNICBOARD_VERSION_MINOR: u32 = 2;
 
-/// A handle. It may be moved, and not copied; its fields are the library's.
+/// A handle of a board. It may be moved, and not copied; its fields are the library's.
 #[repr(C)]
 #[derive(Debug)]
 pub struct synicboard {
@@ -23,17 +23,21 @@ pub struct synicboard {
     pub is_open: bool,
 }
 
-/// A closed handle.
+/// A closed handle of a board.
 pub const SYNICBOARD_CLOSED: synicboard = synicboard { at: ptr::null_mut(), is_open: false };
 
-/// A board was opened.
+/// A board or a line was opened.
 pub const SYNICBOARD_OPENED: u8 = 0;
 /// Not 1 to 8 processors, or not 1 to 64 pages.
 pub const SYNICBOARD_BAD_SIZE: u8 = 1;
 /// There was no memory.
 pub const SYNICBOARD_NO_MEMORY: u8 = 2;
-/// A board is open behind the handle already.
+/// The handle to be opened is open already.
 pub const SYNICBOARD_IS_OPEN: u8 = 3;
+/// The handle to be split from is closed.
+pub const SYNICBOARD_IS_CLOSED: u8 = 4;
+/// The line has none left to split off.
+pub const SYNICBOARD_NO_MORE_LINES: u8 = 5;
 
 /// Reply: `fault` says why nothing was performed; nothing was changed.
 pub const SYNICBOARD_NOT_PERFORMED: u8 = 0;
@@ -58,10 +62,12 @@ pub const SYNICBOARD_GENERAL_PROTECTION: u8 = 9;
 /// Reply: refused because of `refusal`; nothing was changed.
 pub const SYNICBOARD_REFUSED: u8 = 10;
 
-/// Fault: the handle is closed.
+/// Fault: the handle of the board is closed.
 pub const SYNICBOARD_NO_BOARD: u8 = 1;
 /// Fault: a vector below 16, too many bytes, or no such kind.
 pub const SYNICBOARD_NO_EVENT: u8 = 2;
+/// Fault: the handle of the line is closed.
+pub const SYNICBOARD_NO_LINE: u8 = 3;
 
 /// Refusal: the port is not open.
 pub const SYNICBOARD_UNKNOWN_PORT: u8 = 1;
@@ -258,6 +264,26 @@ pub struct synicboard_batch {
     pub told: usize,
 }
 
+/// A handle of a line. It may be moved, and not copied; its fields are the library's.
+#[repr(C)]
+#[derive(Debug)]
+pub struct synicboard_line {
+    /// Where the line lies.
+    pub at: *mut c_void,
+    /// Whether there is one.
+    pub is_open: bool,
+}
+
+/// A closed handle of a line.
+pub const SYNICBOARD_LINE_CLOSED: synicboard_line = synicboard_line { at: ptr::null_mut(), is_open: false };
+
+/// Raise: the handle is closed, no such processor, or a vector below 16.
+pub const SYNICBOARD_NOT_RAISED: u8 = 0;
+/// Raise: the vector was not raised, and the processor is to be kicked.
+pub const SYNICBOARD_FRESH: u8 = 1;
+/// Raise: the vector was raised, and not absorbed yet.
+pub const SYNICBOARD_ALREADY: u8 = 2;
+
 /// Owner: no such page.
 pub const SYNICBOARD_OWNER_NOTHING: u8 = 0;
 /// Owner: the guest's own page.
@@ -404,6 +430,22 @@ extern "C" {
         notices: *mut synicboard_notice,
         notice_room: usize,
     ) -> synicboard_batch;
+
+    /// Opens words for so many processors, with no vector raised, and their first line.
+    pub fn synicboard_open_line(line: *mut synicboard_line, processors: u8) -> u8;
+    /// Opens `other` as a line of the same words.
+    pub fn synicboard_split_line(line: *mut synicboard_line, other: *mut synicboard_line) -> u8;
+    /// Closes the line, if one is open.
+    pub fn synicboard_close_line(line: *mut synicboard_line);
+    /// Raises a vector, from 16 on, of a processor.
+    pub fn synicboard_raise(line: *mut synicboard_line, vp: u8, vector: u8) -> u8;
+    /// Takes what was raised of a processor in a part, and has the board absorb it.
+    pub fn synicboard_absorb_line(
+        board: *mut synicboard,
+        line: *mut synicboard_line,
+        vp: u8,
+        part: u8,
+    ) -> synicboard_reply;
 
     /// The next vector of a processor, 0 for none.
     pub fn synicboard_next(board: *mut synicboard, vp: u8) -> u8;

@@ -6,8 +6,8 @@ use std::fs;
 use std::sync::Mutex;
 use std::thread;
 use synicboard::{
-    check, replay, Board, Bytes8, End, Event, Notice, OpenFault, Owner, PayloadBytes, PortShape, Refusal,
-    Reply, Sint, TimerId, Vector, Verdict, Vp, MOST_NOTICES,
+    check, replay, Board, Bytes8, End, Event, Line, Notice, OpenFault, Owner, PayloadBytes, PortShape,
+    Refusal, Reply, Sint, TimerId, Vector, Verdict, Vp, MOST_NOTICES,
 };
 
 const EOI: u32 = 0x4000_0070;
@@ -343,6 +343,24 @@ fn a_dropped_board_gives_its_memory_back() {
     }
     let after = held();
     assert!(before.zip(after).is_none_or(|(before, after)| after < before + 100_000), "{before:?} {after:?}");
+}
+
+/// A line and the 31 that are split off it take more than a kilobyte, and so 60,000 times as many more than
+/// 60 megabytes.
+#[test]
+fn dropped_lines_give_their_memory_back() {
+    let open = || {
+        let mut line = Line::open(8).unwrap();
+        let others = [(); 31].map(|()| line.split().unwrap());
+        (line, others)
+    };
+    drop(open());
+    let before = held();
+    for _ in 0..60_000 {
+        drop(open());
+    }
+    let after = held();
+    assert!(before.zip(after).is_none_or(|(before, after)| after < before + 10_000), "{before:?} {after:?}");
 }
 
 #[test]

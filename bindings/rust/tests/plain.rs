@@ -1,4 +1,5 @@
-//! The calls of the header by hand: closed handles, which no `Board` has, and events in plain numbers.
+//! The calls of the header by hand: closed handles, which no `Board` and no `Line` has, handles that are
+//! opened twice, and events in plain numbers.
 
 use ::synicboard::sys::*;
 use std::mem;
@@ -26,6 +27,30 @@ impl Drop for Handle {
     fn drop(&mut self) {
         // SAFETY: the handle is closed or opened, and has no copy.
         unsafe { synicboard_close(&mut self.0) }
+    }
+}
+
+/// A handle of a line that is closed at its end.
+struct Line(synicboard_line);
+
+impl Line {
+    fn open(processors: u8) -> Line {
+        let mut line = Line(SYNICBOARD_LINE_CLOSED);
+        // SAFETY: the handle is closed, and has no copy.
+        let answer = unsafe { synicboard_open_line(&mut line.0, processors) };
+        assert_eq!(answer, SYNICBOARD_OPENED);
+        line
+    }
+
+    fn is_blank(&self) -> bool {
+        self.0.at.is_null() && !self.0.is_open
+    }
+}
+
+impl Drop for Line {
+    fn drop(&mut self) {
+        // SAFETY: the handle is closed or opened, and has no copy.
+        unsafe { synicboard_close_line(&mut self.0) }
     }
 }
 
@@ -126,6 +151,77 @@ fn a_handle_is_opened_once_and_closed_as_often_as_one_likes() {
         assert_eq!(synicboard_open(&mut handle.0, 8, 64, 0), SYNICBOARD_OPENED);
         assert_eq!(synicboard_moment(&mut handle.0), 0);
     }
+}
+
+#[test]
+fn a_closed_line_raises_and_gives_nothing() {
+    let mut board = Handle::open();
+    let (mut line, mut other) = (Line(SYNICBOARD_LINE_CLOSED), Line(SYNICBOARD_LINE_CLOSED));
+    // SAFETY: the handles are closed or opened, and have no copy.
+    unsafe {
+        assert_eq!(synicboard_assert(&mut board.0, 0, 0x50), told(1));
+        assert_eq!(synicboard_raise(&mut line.0, 0, 0x60), SYNICBOARD_NOT_RAISED);
+        assert_eq!(synicboard_split_line(&mut line.0, &mut other.0), SYNICBOARD_IS_CLOSED);
+        assert_eq!(synicboard_absorb_line(&mut board.0, &mut line.0, 0, 1), fault(SYNICBOARD_NO_LINE));
+        assert_eq!(synicboard_absorb_line(&mut board.0, &mut line.0, 9, 9), fault(SYNICBOARD_NO_LINE));
+        // The notices are still those of the event before.
+        assert_eq!(synicboard_notices(&mut board.0, [].as_mut_ptr(), 0), 1);
+        synicboard_close_line(&mut line.0);
+    }
+    assert!(line.is_blank() && other.is_blank());
+}
+
+/// That there is no board is said before the line is looked at, and nothing is taken out of its words.
+#[test]
+fn a_closed_board_absorbs_nothing() {
+    let (mut closed, mut board) = (Handle(SYNICBOARD_CLOSED), Handle::open());
+    let (mut line, mut closed_line) = (Line::open(1), Line(SYNICBOARD_LINE_CLOSED));
+    // SAFETY: the handles are closed or opened, and have no copy.
+    unsafe {
+        let answer = synicboard_absorb_line(&mut closed.0, &mut closed_line.0, 0, 1);
+        assert_eq!(answer, fault(SYNICBOARD_NO_BOARD));
+        assert_eq!(synicboard_raise(&mut line.0, 0, 0x60), SYNICBOARD_FRESH);
+        assert_eq!(synicboard_absorb_line(&mut closed.0, &mut line.0, 0, 1), fault(SYNICBOARD_NO_BOARD));
+        assert_eq!(synicboard_raise(&mut line.0, 0, 0x60), SYNICBOARD_ALREADY);
+        assert_eq!(synicboard_absorb_line(&mut board.0, &mut line.0, 0, 1), told(1));
+    }
+}
+
+#[test]
+fn a_line_is_opened_once_and_closed_as_often_as_one_likes() {
+    let (mut line, mut other) = (Line::open(1), Line::open(2));
+    // SAFETY: the handles are closed or opened, and have no copy.
+    unsafe {
+        assert_eq!(synicboard_raise(&mut line.0, 0, 0x60), SYNICBOARD_FRESH);
+        assert_eq!(synicboard_open_line(&mut line.0, 8), SYNICBOARD_IS_OPEN);
+        assert_eq!(synicboard_open_line(&mut line.0, 9), SYNICBOARD_IS_OPEN);
+        assert_eq!(synicboard_split_line(&mut other.0, &mut line.0), SYNICBOARD_IS_OPEN);
+        // It is still of its own words, which are for one processor.
+        assert_eq!(synicboard_raise(&mut line.0, 0, 0x60), SYNICBOARD_ALREADY);
+        assert_eq!(synicboard_raise(&mut line.0, 1, 0x60), SYNICBOARD_NOT_RAISED);
+        synicboard_close_line(&mut line.0);
+        synicboard_close_line(&mut line.0);
+        assert!(line.is_blank());
+        assert_eq!(synicboard_open_line(&mut line.0, 9), SYNICBOARD_BAD_SIZE);
+        assert!(line.is_blank());
+        assert_eq!(synicboard_split_line(&mut other.0, &mut line.0), SYNICBOARD_OPENED);
+        assert_eq!(synicboard_split_line(&mut line.0, &mut other.0), SYNICBOARD_IS_OPEN);
+        assert_eq!(synicboard_raise(&mut line.0, 1, 0x60), SYNICBOARD_FRESH);
+        assert_eq!(synicboard_raise(&mut other.0, 1, 0x60), SYNICBOARD_ALREADY);
+    }
+}
+
+#[test]
+fn vectors_below_16_are_not_raised() {
+    let (mut board, mut line) = (Handle::open(), Line::open(1));
+    for vector in 0..=u8::MAX {
+        let expected = if vector < 16 { SYNICBOARD_NOT_RAISED } else { SYNICBOARD_FRESH };
+        // SAFETY: the handle has no copy.
+        assert_eq!(unsafe { synicboard_raise(&mut line.0, 0, vector) }, expected, "{vector}");
+    }
+    // SAFETY: the handles have no copies.
+    let absorbed = unsafe { synicboard_absorb_line(&mut board.0, &mut line.0, 0, 0) };
+    assert_eq!(absorbed, told(64 - 16));
 }
 
 #[test]

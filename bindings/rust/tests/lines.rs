@@ -1,0 +1,344 @@
+//! Lines through the safe calls: sizes, how many can be split off, what a raise finds, what an absorb takes
+//! and what it leaves, and threads that raise while another absorbs.
+
+use std::error::Error;
+use std::thread;
+use synicboard::{Board, Line, Notice, OpenFault, Raised, Refusal, Reply, SplitFault, Vector, Vp};
+
+const EOI: u32 = 0x4000_0070;
+const PARTS: u8 = 4;
+/// A vector of part 3, and its bit is not the first.
+const VECTOR: Vector = Vector::new(0xc5).unwrap();
+const PART: u8 = 3;
+
+const FRESH: Option<Raised> = Some(Raised::Fresh);
+const ALREADY: Option<Raised> = Some(Raised::Already);
+
+fn vectors() -> impl Iterator<Item = Vector> {
+    (0..=u8::MAX).filter_map(Vector::new)
+}
+
+fn part_of(vector: Vector) -> u8 {
+    vector.number() / 64
+}
+
+/// A part is absorbed, which requests these vectors of the processor in this order, and tells nothing else.
+#[track_caller]
+fn absorbs(board: &mut Board, line: &mut Line, vp: u8, part: u8, vectors: &[Vector]) {
+    assert_eq!(board.absorb_line(line, vp, part), Reply::Done);
+    let requested = |&vector| Notice::Requested { vp: Vp::new(vp).unwrap(), vector };
+    let expected: Vec<_> = vectors.iter().map(requested).collect();
+    assert_eq!(board.notices().collect::<Vec<_>>(), expected);
+}
+
+/// A processor takes this vector, and ends it.
+#[track_caller]
+fn takes(board: &mut Board, vp: u8, vector: Vector) {
+    assert_eq!(board.take(vp), Reply::Taken(Some(vector)));
+    assert_eq!(board.write(vp, EOI, 0), Reply::Done);
+}
+
+#[test]
+fn words_are_for_1_to_8_processors() {
+    for processors in 0..=u8::MAX {
+        let opened = Line::open(processors).map(|line| line.processors());
+        let expected = if (1..=8).contains(&processors) { Ok(processors) } else { Err(OpenFault::BadSize) };
+        assert_eq!(opened, expected);
+    }
+    assert_eq!(format!("{:?}", Line::open(2).unwrap()), "Line { processors: 2, .. }");
+}
+
+#[test]
+fn a_processor_that_the_words_are_not_for_is_not_raised() {
+    for processors in 1..=8 {
+        let mut line = Line::open(processors).unwrap();
+        let mut other = line.split().unwrap();
+        assert_eq!(other.processors(), processors);
+        for vp in 0..=u8::MAX {
+            let (first, second) = if vp < processors { (FRESH, ALREADY) } else { (None, None) };
+            assert_eq!((line.raise(vp, VECTOR), other.raise(vp, VECTOR)), (first, second), "{vp}");
+        }
+    }
+}
+
+#[test]
+fn a_first_line_gives_31_and_no_other_gives_any() {
+    let mut line = Line::open(1).unwrap();
+    let mut others = Vec::new();
+    for _ in 0..31 {
+        others.push(line.split().unwrap());
+    }
+    assert_eq!(line.split().unwrap_err(), SplitFault::NoMore);
+    for other in &mut others {
+        assert_eq!(other.split().unwrap_err(), SplitFault::NoMore);
+    }
+    // Where some are dropped, there are no others for them.
+    others.truncate(7);
+    assert_eq!(line.split().unwrap_err(), SplitFault::NoMore);
+    let fault: Box<dyn Error> = Box::new(SplitFault::NoMore);
+    assert_eq!(fault.to_string(), "no line is left to split off");
+    assert_eq!(SplitFault::Memory.to_string(), "out of memory");
+}
+
+/// All lines step at the same words, the last of them too, when the first is gone.
+#[test]
+fn the_words_stay_as_long_as_one_of_their_lines() {
+    let mut board = Board::open(1, 1, 0).unwrap();
+    let mut line = Line::open(1).unwrap();
+    let mut others: Vec<_> = (0..31).map(|_| line.split().unwrap()).collect();
+    assert_eq!(line.raise(0, VECTOR), FRESH);
+    drop(line);
+    for other in &mut others {
+        assert_eq!(other.raise(0, VECTOR), ALREADY);
+    }
+    let mut last = others.swap_remove(30);
+    drop(others);
+    assert_eq!(last.raise(0, VECTOR), ALREADY);
+    absorbs(&mut board, &mut last, 0, PART, &[VECTOR]);
+    assert_eq!(last.raise(0, VECTOR), FRESH);
+}
+
+#[test]
+fn lines_of_other_words_do_not_see_each_other() {
+    let mut board = Board::open(1, 1, 0).unwrap();
+    let (mut one, mut other) = (Line::open(1).unwrap(), Line::open(1).unwrap());
+    assert_eq!((one.raise(0, VECTOR), one.raise(0, VECTOR)), (FRESH, ALREADY));
+    absorbs(&mut board, &mut other, 0, PART, &[]);
+    assert_eq!((other.raise(0, VECTOR), one.raise(0, VECTOR)), (FRESH, ALREADY));
+    drop(other);
+    absorbs(&mut board, &mut one, 0, PART, &[VECTOR]);
+    absorbs(&mut board, &mut Line::open(1).unwrap(), 0, PART, &[]);
+}
+
+#[test]
+fn a_vector_is_fresh_again_behind_an_absorb_of_its_part() {
+    let mut board = Board::open(2, 1, 0).unwrap();
+    let mut line = Line::open(2).unwrap();
+    for vector in vectors() {
+        assert_eq!((line.raise(1, vector), line.raise(1, vector)), (FRESH, ALREADY));
+        for part in 0..PARTS {
+            absorbs(&mut board, &mut line, 0, part, &[]);
+            assert_eq!(line.raise(1, vector), ALREADY);
+            if part != part_of(vector) {
+                absorbs(&mut board, &mut line, 1, part, &[]);
+                assert_eq!(line.raise(1, vector), ALREADY);
+            }
+        }
+        absorbs(&mut board, &mut line, 1, part_of(vector), &[vector]);
+        assert_eq!(line.raise(1, vector), FRESH);
+        takes(&mut board, 1, vector);
+        absorbs(&mut board, &mut line, 1, part_of(vector), &[vector]);
+        takes(&mut board, 1, vector);
+    }
+}
+
+/// An absorb requests what was raised in its part, the smallest first, and nothing of another.
+#[test]
+fn an_absorb_requests_what_was_raised_in_its_part() {
+    let numbers = [16, 17, 63, 64, 65, 127, 128, 190, 191, 192, 254, 255];
+    let raised = numbers.map(|number| Vector::new(number).unwrap());
+    let mut board = Board::open(8, 1, 0).unwrap();
+    let mut line = Line::open(8).unwrap();
+    for vector in raised.into_iter().rev() {
+        assert_eq!((line.raise(2, vector), line.raise(7, vector)), (FRESH, FRESH));
+    }
+    for (part, at) in [(2, 6..9), (0, 0..3), (3, 9..12), (1, 3..6)] {
+        absorbs(&mut board, &mut line, 7, part, &raised[at.clone()]);
+        absorbs(&mut board, &mut line, 7, part, &[]);
+        absorbs(&mut board, &mut line, 2, part, &raised[at]);
+    }
+}
+
+#[test]
+fn all_vectors_of_a_part_are_absorbed_at_once() {
+    let mut board = Board::open(8, 1, 0).unwrap();
+    let mut line = Line::open(8).unwrap();
+    for vp in 0..8 {
+        for vector in vectors() {
+            assert_eq!(line.raise(vp, vector), FRESH);
+        }
+    }
+    for vp in 0..8 {
+        for part in 0..PARTS {
+            let expected: Vec<_> = vectors().filter(|&vector| part_of(vector) == part).collect();
+            absorbs(&mut board, &mut line, vp, part, &expected);
+        }
+    }
+}
+
+/// A vector that is requested already is taken out of the words, and there is nothing to tell.
+#[test]
+fn what_is_requested_already_is_not_told_again() {
+    let mut board = Board::open(1, 1, 0).unwrap();
+    let mut line = Line::open(1).unwrap();
+    assert_eq!(line.raise(0, VECTOR), FRESH);
+    absorbs(&mut board, &mut line, 0, PART, &[VECTOR]);
+    assert_eq!(line.raise(0, VECTOR), FRESH);
+    absorbs(&mut board, &mut line, 0, PART, &[]);
+    assert_eq!(line.raise(0, VECTOR), FRESH);
+    takes(&mut board, 0, VECTOR);
+    assert_eq!(board.next(0), None);
+    absorbs(&mut board, &mut line, 0, PART, &[VECTOR]);
+}
+
+/// Where the board has no such processor or part, the next absorb on one that has them finds what was raised.
+#[test]
+fn an_absorb_that_is_refused_takes_nothing() {
+    let (mut narrow, mut wide) = (Board::open(1, 1, 0).unwrap(), Board::open(2, 1, 0).unwrap());
+    let mut line = Line::open(2).unwrap();
+    assert_eq!((line.raise(1, VECTOR), line.raise(0, VECTOR)), (FRESH, FRESH));
+    assert_eq!(narrow.assert(0, VECTOR), Reply::Done);
+    let no_processor = Reply::Refused(Refusal::NoSuchProcessor);
+    let no_part = Reply::Refused(Refusal::BadTarget);
+    assert_eq!(narrow.absorb_line(&mut line, 1, PART), no_processor);
+    assert_eq!(narrow.notices().len(), 0);
+    assert_eq!(narrow.absorb_line(&mut line, 0, 4), no_part);
+    assert_eq!(wide.absorb_line(&mut line, 2, PART), no_processor);
+    assert_eq!(wide.absorb_line(&mut line, 255, PART), no_processor);
+    // Four words further on stand those of the next processor.
+    assert_eq!(wide.absorb_line(&mut line, 0, 4 + PART), no_part);
+    assert_eq!(wide.absorb_line(&mut line, 1, 255), no_part);
+    assert_eq!((line.raise(1, VECTOR), line.raise(0, VECTOR)), (ALREADY, ALREADY));
+    absorbs(&mut wide, &mut line, 1, PART, &[VECTOR]);
+    absorbs(&mut wide, &mut line, 0, PART, &[VECTOR]);
+    assert_eq!((line.raise(1, VECTOR), line.raise(0, VECTOR)), (FRESH, FRESH));
+}
+
+/// Words that are for fewer processors than the board has give it nothing for the others.
+#[test]
+fn words_of_fewer_processors_give_nothing_for_the_others() {
+    let mut board = Board::open(8, 1, 0).unwrap();
+    let mut line = Line::open(2).unwrap();
+    assert_eq!((line.raise(0, VECTOR), line.raise(1, VECTOR), line.raise(2, VECTOR)), (FRESH, FRESH, None));
+    for vp in 2..8 {
+        absorbs(&mut board, &mut line, vp, PART, &[]);
+        assert_eq!(board.absorb_line(&mut line, vp, 4), Reply::Refused(Refusal::BadTarget));
+    }
+    assert_eq!((line.raise(0, VECTOR), line.raise(1, VECTOR)), (ALREADY, ALREADY));
+}
+
+/// Suspensions and resets are the board's, and what was raised stands behind them.
+#[test]
+fn a_suspension_and_a_reset_leave_what_was_raised() {
+    let mut board = Board::open(1, 1, 0).unwrap();
+    let mut line = Line::open(1).unwrap();
+    assert_eq!(board.suspend(0), Reply::Done);
+    assert_eq!(line.raise(0, VECTOR), FRESH);
+    absorbs(&mut board, &mut line, 0, PART, &[VECTOR]);
+    assert_eq!(board.take(0), Reply::Taken(None));
+    assert_eq!(line.raise(0, VECTOR), FRESH);
+    assert_eq!(board.reset(0), Reply::Done);
+    assert_eq!((line.raise(0, VECTOR), board.next(0)), (ALREADY, None));
+    absorbs(&mut board, &mut line, 0, PART, &[VECTOR]);
+    assert_eq!(board.next(0), Some(VECTOR));
+}
+
+/// A line is opened in one thread, used in another, and dropped in a third.
+#[test]
+fn a_line_goes_to_other_threads() {
+    let mut board = Board::open(1, 1, 0).unwrap();
+    let mut line = Line::open(1).unwrap();
+    let mut other = line.split().unwrap();
+    let used = thread::spawn(move || {
+        assert_eq!(line.raise(0, VECTOR), FRESH);
+        vec![Box::new(line)]
+    });
+    let lines = used.join().unwrap();
+    assert_eq!(other.raise(0, VECTOR), ALREADY);
+    thread::spawn(move || drop(lines)).join().unwrap();
+    absorbs(&mut board, &mut other, 0, PART, &[VECTOR]);
+    assert_eq!(other.raise(0, VECTOR), FRESH);
+}
+
+/// How often each vector of each processor was met.
+type Tally = [[u32; 256]; 8];
+
+const DEVICES: u8 = 4;
+
+/// Raises every vector of every processor so many times, and counts the fresh ones. The devices begin at
+/// different vectors, so that they meet each other everywhere.
+fn raise_all(mut line: Line, device: u8, times: u32) -> Tally {
+    let mut fresh = [[0; 256]; 8];
+    let numbers = (0..=u8::MAX).map(|number| number.wrapping_add(device * (255 / DEVICES)));
+    let vectors: Vec<_> = numbers.filter_map(Vector::new).collect();
+    for _ in 0..times {
+        for &vector in &vectors {
+            for vp in 0..8 {
+                let raised = line.raise(vp, vector).unwrap();
+                fresh[usize::from(vp)][usize::from(vector.number())] += u32::from(raised == Raised::Fresh);
+            }
+        }
+    }
+    fresh
+}
+
+/// Absorbs every part of every processor, and counts what was requested. The processor takes and ends all of
+/// it, so that each vector that the next absorb takes is told again.
+fn absorb_all(board: &mut Board, line: &mut Line, absorbed: &mut Tally) {
+    for (vp, absorbed) in (0..8).zip(absorbed) {
+        for part in 0..PARTS {
+            assert_eq!(board.absorb_line(line, vp, part), Reply::Done);
+            let requested = |notice| match notice {
+                Notice::Requested { vp: of, vector } if of.number() == vp => vector,
+                notice => panic!("{notice:?}"),
+            };
+            let vectors: Vec<_> = board.notices().map(requested).collect();
+            for vector in vectors.into_iter().rev() {
+                assert_eq!(part_of(vector), part);
+                takes(board, vp, vector);
+                absorbed[usize::from(vector.number())] += 1;
+            }
+            assert_eq!(board.next(vp), None);
+        }
+    }
+}
+
+/// The sums of what the devices counted, for each vector of each processor.
+fn sums(fresh: &[Tally]) -> Tally {
+    let sum = |vp: usize, number: usize| fresh.iter().map(|tally| tally[vp][number]).sum();
+    std::array::from_fn(|vp| std::array::from_fn(|number| sum(vp, number)))
+}
+
+/// The same for each vector from 16 on, of each processor.
+fn all_vectors(count: u32) -> Tally {
+    [std::array::from_fn(|number| if number < 16 { 0 } else { count }); 8]
+}
+
+/// As long as nobody absorbs, one raise of each vector is fresh, whichever thread it is of.
+#[test]
+fn of_all_raises_one_is_fresh() {
+    let mut line = Line::open(8).unwrap();
+    let lines: Vec<_> = (0..DEVICES).map(|device| (device, line.split().unwrap())).collect();
+    let spawned = lines.into_iter().map(|(device, line)| thread::spawn(move || raise_all(line, device, 5)));
+    let devices: Vec<_> = spawned.collect();
+    let fresh: Vec<_> = devices.into_iter().map(|device| device.join().unwrap()).collect();
+    assert_eq!(sums(&fresh), all_vectors(1));
+    let (mut board, mut absorbed) = (Board::open(8, 1, 0).unwrap(), all_vectors(0));
+    absorb_all(&mut board, &mut line, &mut absorbed);
+    assert_eq!(absorbed, all_vectors(1));
+}
+
+/// While devices raise, this thread absorbs: each fresh raise is taken by one absorb, and no absorb takes
+/// what nobody raised.
+#[test]
+fn each_fresh_raise_is_absorbed_once() {
+    let mut board = Board::open(8, 1, 0).unwrap();
+    let mut line = Line::open(8).unwrap();
+    let mut absorbed = all_vectors(0);
+    let lines: Vec<_> = (0..DEVICES).map(|device| (device, line.split().unwrap())).collect();
+    let spawned = lines.into_iter().map(|(device, line)| thread::spawn(move || raise_all(line, device, 200)));
+    let devices: Vec<_> = spawned.collect();
+    while !devices.iter().all(|device| device.is_finished()) {
+        absorb_all(&mut board, &mut line, &mut absorbed);
+    }
+    let fresh: Vec<_> = devices.into_iter().map(|device| device.join().unwrap()).collect();
+    absorb_all(&mut board, &mut line, &mut absorbed);
+    assert_eq!(absorbed, sums(&fresh));
+    let never = absorbed.iter().flat_map(|absorbed| &absorbed[16..]).filter(|&&count| count == 0);
+    assert_eq!(never.count(), 0);
+    for vp in 0..8 {
+        for part in 0..PARTS {
+            absorbs(&mut board, &mut line, vp, part, &[]);
+        }
+    }
+}
