@@ -223,8 +223,9 @@ synicboard_batch synicboard_perform_all(synicboard *board, const synicboard_even
 
 /* Posted vectors: a device raises them by one atomic step, without the lock of the board, and the thread of
  * a processor takes them in. A line is what one thread does that with; lines of the same words are used by
- * threads at the same time, each by one. The words are opened with their first line, which 31 lines can be
- * split from, and are given back when the last of them is closed. */
+ * threads at the same time, each by one. The words are opened with their first line, from which 31 lines can
+ * be split in all, and are given back when the last of them is closed. What a thread wrote before it raised
+ * is seen by who absorbed that. */
 typedef struct synicboard_line {
     void *at;
     bool is_open;
@@ -233,10 +234,12 @@ typedef struct synicboard_line {
 /* A closed handle of a line. */
 #define SYNICBOARD_LINE_CLOSED { 0, false }
 
-/* Opens words for so many processors, with no vector raised, and their first line. */
+/* Opens words for so many processors, with no vector raised, and their first line. That a line is open is
+ * judged before the size. */
 uint8_t synicboard_open_line(synicboard_line *line, uint8_t processors);
 
-/* Opens `other` as a line of the same words. No other call may use `line` meanwhile. */
+/* Opens `other` as a line of the same words. No other call may use `line` meanwhile. That `other` is open is
+ * judged first, then that `line` is closed. */
 uint8_t synicboard_split_line(synicboard_line *line, synicboard_line *other);
 
 /* Closes the line, if one is open. What was raised and not absorbed is lost with the last line. */
@@ -253,8 +256,9 @@ enum {
 uint8_t synicboard_raise(synicboard_line *line, uint8_t vp, uint8_t vector);
 
 /* Takes what was raised of a processor in a part, 0 to 3, and has the board absorb it: the vectors from
- * 64 * part on, 64 of them. Where the board refuses, nothing is taken. For the board it is one event, so
- * the lock of the board is held. */
+ * 64 * part on, 64 of them. A closed board is judged before a closed line. Where the board refuses, nothing
+ * is taken; of a processor that the words are not for, the board absorbs nothing. For the board it is one
+ * event, so the lock of the board is held. */
 synicboard_reply synicboard_absorb_line(synicboard *board, synicboard_line *line, uint8_t vp, uint8_t part);
 
 /* What the board is asked after each event. None of these changes it, or computes anything. */

@@ -76,7 +76,7 @@ impl Error for OpenFault {}
 /// `Mutex<Board>`. It is not `Sync`, since the library asks that one call at a time uses a handle, a look
 /// too. It is proved with the library that what a handle owns says the same to each thread. The bindings
 /// add, with no proof, that the handle lies in this value alone, and that no second thread has a call
-/// beside. What is to raise vectors without the lock has a [`Line`].
+/// beside. A device that raises vectors without the lock has a [`Line`].
 ///
 /// ```compile_fail,E0277
 /// # let board = synicboard::Board::open(1, 1, 0).unwrap();

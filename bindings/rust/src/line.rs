@@ -44,8 +44,8 @@ pub enum Raised {
 /// was [`Fresh`](Raised::Fresh), the device kicks the processor; where it was raised
 /// [`Already`](Raised::Already), nobody needs to be kicked, since its absorb is still to come. The thread
 /// of the processor takes the vectors in by [`Board::absorb_line`](crate::Board::absorb_line), inside the
-/// lock of the board and before it asks for its next vector. What is raised before an absorb is taken by
-/// it, and what is raised behind it is fresh again: nothing is lost, and nothing is taken twice.
+/// lock of the board and before it asks for its next vector. What is raised before an absorb of its part is
+/// taken by it, and what is raised behind it is fresh again: nothing is lost, and nothing is taken twice.
 ///
 /// ```
 /// use std::sync::Mutex;

@@ -1,5 +1,5 @@
 //! The safe calls at the edges of what they take: sizes, numbers, too many bytes, what is not there, pages,
-//! notices, and boards in other threads.
+//! notices, memory that is given back, and boards in other threads.
 
 use std::error::Error;
 use std::fs;

@@ -4,6 +4,8 @@ ghost use Rattle.held_line.specs.contracts.HeldLine.{the_row as line_row};
 ghost use Rattle.held_line.specs.Lines.{Held};
 ghost use Rattle.handles.specs.inside.Held.{held, code_of};
 
+mod lend;
+
 use held_line::HeldLine;
 use std::alloc::Global;
 use std::marker::Model;

@@ -49,6 +49,7 @@ pub struct PlainEvent {
 
 /// The event that plain numbers mean; `None` where there is no such kind, where a vector is below 16,
 /// or where there are more bytes than the event takes.
+#[inline(always)]
 pub fn event_of(plain: &PlainEvent) -> Option<Event>
     ensures { result ≡ event_meant plain.now }
 {

@@ -140,6 +140,7 @@ impl Machine {
 
     /// Performs an event, leaves its notices in order in `notices`, and answers. It takes no memory.
     #[tactic(auto, unfolding(crate::specs::Step::step))]
+    #[inline(always)]
     pub(crate) fn perform(&mut self, event: &Event, notices: &mut Notices) -> Reply
         requires { IsSound self.old.state }
         ensures step { (self.new.state, result, notices.new) ≡ step self.old.state event.now }

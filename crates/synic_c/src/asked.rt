@@ -6,13 +6,15 @@ use handles::DeskHandle;
 use plain_terms::{Fault, PlainReply, plain_fault, plain_reply};
 use synic_board::Event;
 
-/// Performs an event on the board behind a handle, if there is one.
+/// Performs an event on the board behind a handle, if there is one. It is formed in each call, which has
+/// one kind of event.
+#[inline(always)]
 pub(crate) fn asked(handle: &mut DeskHandle, event: &Event) -> PlainReply
     ensures { IsAsked (Some event.now) handle.old.desk handle.new.desk result }
 {
     match handle.desk_mut() {
         Some(desk) => {
-            let reply = desk.perform(event);
+            let reply = desk.perform_known(event);
             plain_reply(&reply, desk.notices.as_slice().len() as u16)
         }
         None => plain_fault(Fault::Closed),

@@ -88,18 +88,16 @@ pub extern "C" fn synicboard_close_line(alloc: Global, line: &mut LineHandle)
 /// bit was clear, 2 where it was set already; 0, and nothing is done, where no line is open or its words
 /// have no such bit.
 #[unsafe(no_mangle)]
-pub extern "C" fn synicboard_raise(alloc: Global, line: &mut LineHandle, vp: u8, vector: u8) -> u8
+pub extern "C" fn synicboard_raise(line: &mut LineHandle, vp: u8, vector: u8) -> u8
     ensures answers { result < 3 }
     ensures there { (result ≢ 0) ↔ (has_bit line.old.line vp vector ≡ true) }
     ensures raised { result ≢ 0 → IsRaised line.old.line vp vector (nat_eq result 1) line.new.line }
     ensures unchanged { result ≡ 0 → line.new.line ≡ line.old.line }
 {
-    let Some(mut held) = line.take(alloc) else {
+    let Some(held) = line.line_mut() else {
         return 0;
     };
-    let raised = held.raise(vp, vector);
-    let _ = line.put(alloc, held);
-    match raised {
+    match held.raise(vp, vector) {
         Some(Raised::Fresh) => 1,
         Some(Raised::Already) => 2,
         None => 0,
@@ -110,7 +108,6 @@ pub extern "C" fn synicboard_raise(alloc: Global, line: &mut LineHandle, vp: u8,
 /// has the board absorb them. Where the board would refuse, nothing is taken.
 #[unsafe(no_mangle)]
 pub extern "C" fn synicboard_absorb_line(
-    alloc: Global,
     handle: &mut DeskHandle,
     line: &mut LineHandle,
     vp: u8,
@@ -121,7 +118,7 @@ pub extern "C" fn synicboard_absorb_line(
     let Some(desk) = handle.desk_mut() else {
         return plain_fault(Fault::Closed);
     };
-    let Some(mut held) = line.take(alloc) else {
+    let Some(held) = line.line_mut() else {
         return plain_fault(Fault::NoLine);
     };
     let bits = if vp < desk.board.processors() {
@@ -129,7 +126,6 @@ pub extern "C" fn synicboard_absorb_line(
     } else {
         0
     };
-    let _ = line.put(alloc, held);
-    let reply = desk.perform(&Event::Absorb { vp, part, bits });
+    let reply = desk.perform_known(&Event::Absorb { vp, part, bits });
     plain_reply(&reply, desk.notices.as_slice().len() as u16)
 }
