@@ -48,6 +48,7 @@ impl Desk {
     {
         self.board.perform(event, &mut self.notices)
     }
+
     /// `perform` for a place in the code at which there is one kind of event.
     #[inline(always)]
     pub fn perform_known(&mut self, event: &Event) -> Reply
