@@ -7,8 +7,7 @@
  * There are handles of boards and handles of lines, which raise vectors beside a board. A handle is closed
  * when it is all zeros, and is opened and closed by the calls below. It may be moved, and not copied; its
  * fields are the library's. One call at a time may use a handle: threads that share one hold a lock of
- * their own. Memory is taken by opening alone, and by synicboard_replay and synicboard_check, which use no
- * handle. No call ends the program, and none calls back. A pointer that is asked for must not be null;
+ * their own. Memory is taken by opening alone, and by the calls on texts, which use no handle. No call ends the program, and none calls back. A pointer that is asked for must not be null;
  * where a count of 0 goes with it, it may point anywhere that is not null.
  */
 #ifndef SYNICBOARD_H
@@ -24,7 +23,7 @@ extern "C" {
 
 /* The version of these declarations; the bindings for Rust have the same. */
 #define SYNICBOARD_VERSION_MAJOR 1
-#define SYNICBOARD_VERSION_MINOR 2
+#define SYNICBOARD_VERSION_MINOR 3
 
 typedef struct synicboard {
     void *at;
@@ -92,7 +91,7 @@ enum {
     SYNICBOARD_NOT_SUSPENDED = 16
 };
 
-/* A reply; what its kind does not use is 0. */
+/* A reply; what its kind does not use is 0, but for what synicboard_absorb_line says of `value`. */
 typedef struct synicboard_reply {
     uint8_t kind;
     uint8_t fault;
@@ -255,8 +254,8 @@ enum {
 /* Raises a vector, 16 to 255, of a processor. It waits for nobody. */
 uint8_t synicboard_raise(synicboard_line *line, uint8_t vp, uint8_t vector);
 
-/* Takes what was raised of a processor in a part, 0 to 3, and has the board absorb it: the vectors from
- * 64 * part on, 64 of them. A closed board is judged before a closed line. Where the board refuses, nothing
+/* Takes what was raised of a processor in a part, 0 to 3, and has the board absorb it: bit i of `value` of the
+ * reply is vector 64 * part + i. A closed board is judged before a closed line. Where the board refuses, nothing
  * is taken; of a processor that the words are not for, the board absorbs nothing. For the board it is one
  * event, so the lock of the board is held. */
 synicboard_reply synicboard_absorb_line(synicboard *board, synicboard_line *line, uint8_t vp, uint8_t part);
@@ -306,7 +305,7 @@ bool synicboard_message_page(synicboard *board, uint8_t vp, const uint8_t **page
 bool synicboard_flag_page(synicboard *board, uint8_t vp, const uint8_t **page);
 bool synicboard_guest_page(synicboard *board, uint64_t number, const uint8_t **page);
 
-/* How the reading of a text ended. */
+/* How the reading or the writing of a text ended. */
 enum {
     SYNICBOARD_ALL_RIGHT = 0,
     SYNICBOARD_WRONG_LINE = 1,          /* `line` is the first that is wrong, counted from 1 */
@@ -332,6 +331,13 @@ typedef struct synicboard_verdict {
 
 /* Checks whether a text is the trace of a legal history. */
 synicboard_verdict synicboard_check(const uint8_t *trace, size_t length);
+
+/* Writes the two lines of a trace, each with its line feed, that tell of an event and of the reply to it, as
+ * much of them as fits. So threads that share a board keep a trace of what they did, in the order in which
+ * they held its lock; `actor` is a number of the thread. 76 bytes are enough for any event but a post, and 535 for that.
+ * Where the numbers mean no event, line 1 is wrong; where a board gives no such reply, line 2. Of a reply the
+ * fields are looked at that its kind uses. */
+synicboard_end synicboard_tell(uint8_t actor, const synicboard_event *event, const synicboard_reply *reply, uint8_t *room, size_t length);
 
 #ifdef __cplusplus
 }

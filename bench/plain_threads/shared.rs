@@ -20,9 +20,30 @@ struct Entry {
     reply: Reply,
 }
 
+/// A call as an actor's list keeps it. Where lists are lent (`--cfg lending`), each call has room of its
+/// own for the longest payload, as the events of the proved board have.
+#[derive(Clone, Copy)]
+struct Kept {
+    call: Call,
+    #[cfg(lending)]
+    _payload: std::mem::MaybeUninit<[u8; 240]>,
+    reply: Reply,
+}
+
+impl Kept {
+    fn new(call: Call, reply: Reply) -> Kept {
+        Kept {
+            call,
+            #[cfg(lending)]
+            _payload: std::mem::MaybeUninit::uninit(),
+            reply,
+        }
+    }
+}
+
 pub struct Actor {
     number: u8,
-    calls: Vec<(Call, Reply)>,
+    calls: Vec<Kept>,
 }
 
 impl Actor {
@@ -107,7 +128,7 @@ impl SharedBoard {
                     .iter()
                     .filter(|entry| entry.actor == actor.number)
                     .map(|entry| (entry.call, entry.reply))
-                    .eq(actor.calls.iter().copied())
+                    .eq(actor.calls.iter().map(|kept| (kept.call, kept.reply)))
             })
     }
 }
@@ -120,6 +141,6 @@ impl Recorded {
             call,
             reply,
         });
-        actor.calls.push((call, reply));
+        actor.calls.push(Kept::new(call, reply));
     }
 }

@@ -38,6 +38,7 @@ static void check_requests(synicboard *board, synicboard_line *line, uint8_t vp,
     synicboard_notice notice;
     synicboard_reply reply = synicboard_absorb_line(board, line, vp, part);
     CHECK_REPLY(reply, SYNICBOARD_DONE);
+    CHECK_NUMBER(reply.value, (uint64_t)1 << vector % 64);
     CHECK_NUMBER(reply.notices, 1);
     CHECK_NUMBER(synicboard_notices(board, &notice, 1), 1);
     CHECK_NUMBER(notice.kind, SYNICBOARD_NOTICE_REQUESTED);
@@ -50,6 +51,7 @@ static void check_empty(synicboard *board, synicboard_line *line, uint8_t vp, ui
 {
     synicboard_reply reply = synicboard_absorb_line(board, line, vp, part);
     CHECK_REPLY(reply, SYNICBOARD_DONE);
+    CHECK_NUMBER(reply.value, 0);
     CHECK_NUMBER(reply.notices, 0);
 }
 

@@ -5,8 +5,11 @@
  *   script --batches FILE    up to seven events at a time by synicboard_perform_all
  *   script --text FILE       the whole script by synicboard_replay, into rooms of several sizes
  *
+ * By calls and by structs a trace of what was performed is kept, too, by synicboard_tell, and checked.
+ *
  * The status is 0, or 1 behind a line that is wrong; 2 for a wrong command line, 3 where the library did
  * what its header does not say, and 4 where a file could not be read or memory was wanting. */
+#define _POSIX_C_SOURCE 200809L /* for open_memstream */
 #include <inttypes.h>
 #include <stdbool.h>
 #include <stddef.h>
@@ -20,6 +23,7 @@
 
 enum { LONGEST_LINE = 640, MOST_STORED = 8, SOURCES = 16, FIRST_VECTOR = 16 };
 enum { WRONG_SCRIPT = 1, WRONG_USAGE = 2, WRONG_LIBRARY = 3, NO_FILE = 4 };
+enum { FILLER = 0xee };
 
 static _Noreturn void give_up(int status, const char *why)
 {
@@ -428,6 +432,10 @@ struct script {
     uint8_t pages;
     synicboard_event waiting[MOST_WAITING]; /* for the next batch */
     size_t count;
+    FILE *trace; /* of what was performed by `perform`; its bytes are there once it is closed */
+    char *trace_bytes;
+    size_t trace_length;
+    uint64_t entries;
 };
 
 static void print_summary(struct script *script)
@@ -476,6 +484,14 @@ static bool read_board_line(struct cursor line, uint64_t sizes[2], uint64_t *tic
         && line.at == line.end;
 }
 
+static void open_trace(struct script *script, uint64_t ticket)
+{
+    script->trace = open_memstream(&script->trace_bytes, &script->trace_length);
+    if (script->trace == NULL)
+        give_up(NO_FILE, "out of memory");
+    fprintf(script->trace, "trace 2\nboard %u %u %" PRIu64 "\n", script->processors, script->pages, ticket);
+}
+
 static const char *open_board(struct script *script)
 {
     struct cursor line;
@@ -490,7 +506,10 @@ static const char *open_board(struct script *script)
     script->processors = (uint8_t)sizes[0];
     script->pages = (uint8_t)sizes[1];
     switch (synicboard_open(&script->board, script->processors, script->pages, ticket)) {
-    case SYNICBOARD_OPENED: return NULL;
+    case SYNICBOARD_OPENED:
+        if (script->perform != NULL)
+            open_trace(script, ticket);
+        return NULL;
     case SYNICBOARD_BAD_SIZE: return "size";
     case SYNICBOARD_NO_MEMORY: give_up(NO_FILE, "out of memory");
     }
@@ -521,11 +540,46 @@ static void perform_waiting(struct script *script)
     script->count = 0;
 }
 
-static void perform_line(struct script *script, const synicboard_event *event)
+/* Enters an event and its reply in the trace. The first line is that of the script behind the actor's number,
+ * in a room that is just enough, and as much of both lines as fits in one that is not. */
+static void tell(struct script *script, struct cursor line, const synicboard_event *event, const synicboard_reply *reply)
+{
+    static uint8_t room[LONGEST_LINE], less[LONGEST_LINE];
+    uint8_t actor = (uint8_t)script->entries;
+    char wanted[LONGEST_LINE + 8];
+    int size = snprintf(wanted, sizeof wanted, "%u %.*s\n= ", actor, (int)(line.end - line.at), line.at);
+    synicboard_end end = synicboard_tell(actor, event, reply, room, sizeof room);
+    demand(end.kind == SYNICBOARD_ALL_RIGHT && end.line == 0, "an entry is not told");
+    demand(end.length > (size_t)size && end.length <= sizeof room, "an entry of another length is told");
+    demand(memcmp(room, wanted, (size_t)size) == 0 && room[end.length - 1] == '\n', "another event is told");
+    size_t fitting = script->entries % end.length;
+    memset(less, FILLER, sizeof less);
+    synicboard_end again = synicboard_tell(actor, event, reply, less, fitting);
+    demand(again.kind == end.kind && again.length == end.length, "another room has another end");
+    demand(memcmp(less, room, fitting) == 0 && less[fitting] == FILLER, "another room has another text");
+    fwrite(room, 1, end.length, script->trace);
+    script->entries++;
+}
+
+/* The trace is that of a legal history. */
+static void close_trace(struct script *script)
+{
+    if (script->trace == NULL)
+        return;
+    fprintf(script->trace, "end %" PRIu64 " %" PRIu64 "\n", script->entries, synicboard_next_ticket(&script->board));
+    if (fclose(script->trace) != 0)
+        give_up(NO_FILE, "out of memory");
+    synicboard_verdict verdict = synicboard_check((const uint8_t *)script->trace_bytes, script->trace_length);
+    demand(verdict.kind == SYNICBOARD_ALL_RIGHT && verdict.entries == script->entries, "what was told is no legal trace");
+    free(script->trace_bytes);
+}
+
+static void perform_line(struct script *script, struct cursor line, const synicboard_event *event)
 {
     if (script->perform != NULL) {
         synicboard_reply reply = script->perform(&script->board, event);
         print_answer(&script->board, &reply);
+        tell(script, line, event, &reply);
         return;
     }
     script->waiting[script->count++] = *event;
@@ -543,7 +597,7 @@ static const char *perform_lines(struct script *script)
             perform_waiting(script);
             print_summary(script);
         } else if (read_event(line, &event)) {
-            perform_line(script, &event);
+            perform_line(script, line, &event);
         } else {
             return "form";
         }
@@ -553,11 +607,12 @@ static const char *perform_lines(struct script *script)
 
 static int perform_script(const char *text, size_t length, perform_function *perform)
 {
-    struct script script = { text, text + length, 0, perform, SYNICBOARD_CLOSED, 0, 0, { { 0 } }, 0 };
+    struct script script = { .at = text, .end = text + length, .perform = perform, .board = SYNICBOARD_CLOSED };
     const char *fault = open_board(&script);
     if (fault == NULL)
         fault = perform_lines(&script);
     perform_waiting(&script);
+    close_trace(&script);
     synicboard_close(&script.board);
     if (fault == NULL)
         return 0;
@@ -567,7 +622,7 @@ static int perform_script(const char *text, size_t length, perform_function *per
 
 /* ---- The script as one text ---- */
 
-enum { GUARD = 64, FILLER = 0xee };
+enum { GUARD = 64 };
 
 /* Replays a script into a new room of this size. Nothing behind the text or the room is written. */
 static uint8_t *replayed(const char *text, size_t length, size_t size, synicboard_end *end)

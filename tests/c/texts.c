@@ -1,5 +1,5 @@
-/* What no script shows of the calls for texts: traces that are wrong somewhere, texts that are too long, and
- * refused memory.
+/* What no script shows of the calls for texts: traces that are wrong somewhere, texts that are too long,
+ * numbers of which no entry can be told, and refused memory.
  *
  *   texts RECORDED_TRACE     (examples/recorded.trace) */
 #define _DEFAULT_SOURCE /* for MAP_ANONYMOUS */
@@ -111,6 +111,60 @@ static void test_long_texts(void)
     munmap(text, (size_t)PIECE * (PIECES + 1));
 }
 
+/* ---- Entries ---- */
+
+enum { FILLER = 0xee };
+
+static void check_told(synicboard_event event, synicboard_reply reply, uint64_t wrong, const char *text, int line)
+{
+    uint8_t room[600];
+    memset(room, FILLER, sizeof room);
+    synicboard_end end = synicboard_tell(9, &event, &reply, room, sizeof room);
+    check_number(end.kind, wrong == 0 ? SYNICBOARD_ALL_RIGHT : SYNICBOARD_WRONG_LINE, "the kind of an entry's end", line);
+    check_number(end.line, wrong, "the line of an entry's end", line);
+    check_number(end.length, strlen(text), "the length of an entry", line);
+    check(memcmp(room, text, strlen(text)) == 0, "an entry has its text", line);
+    check(room[strlen(text)] == FILLER, "nothing is written behind an entry", line);
+}
+
+#define CHECK_TOLD(event, reply, wrong, text) check_told((event), (reply), (wrong), (text), __LINE__)
+#define EVENT(...) ((synicboard_event){ __VA_ARGS__ })
+#define REPLY(...) ((synicboard_reply){ __VA_ARGS__ })
+
+static void test_entries(void)
+{
+    const synicboard_event take = { .kind = SYNICBOARD_TAKE, .vp = 255 };
+    const synicboard_reply done = { .kind = SYNICBOARD_DONE };
+    CHECK_TOLD(take, REPLY(.kind = SYNICBOARD_NONE_TAKEN), 0, "9 take 255\n= taken none\n");
+    CHECK_TOLD(take, REPLY(.kind = SYNICBOARD_TAKEN, .vector = 16), 0, "9 take 255\n= taken 10\n");
+    CHECK_TOLD(take, REPLY(.kind = SYNICBOARD_TAKEN, .vector = 15), 2, "");
+    CHECK_TOLD(take, REPLY(.kind = SYNICBOARD_BYTES, .length = 8, .bytes = { 1 }), 0, "9 take 255\n= bytes 0100000000000000\n");
+    CHECK_TOLD(take, REPLY(.kind = SYNICBOARD_BYTES, .length = 9), 2, "");
+    CHECK_TOLD(take, REPLY(.kind = SYNICBOARD_BYTES), 0, "9 take 255\n= bytes -\n");
+    /* of a reply that fields are looked at that its kind uses, as of what a line absorbed */
+    CHECK_TOLD(EVENT(.kind = SYNICBOARD_ABSORB, .part = 1, .value = UINT64_MAX), REPLY(.kind = SYNICBOARD_DONE, .value = UINT64_MAX),
+        0, "9 absorb 0 1 ffffffffffffffff\n= done\n");
+    for (unsigned kind = 0; kind <= UINT8_MAX; kind++) {
+        bool is_told = kind >= SYNICBOARD_DONE && kind <= SYNICBOARD_REFUSED;
+        const synicboard_reply reply = { .kind = (uint8_t)kind, .refusal = 1, .vector = 16 };
+        uint8_t room[80];
+        synicboard_end end = synicboard_tell(0, &take, &reply, room, sizeof room);
+        CHECK_NUMBER(end.line, is_told ? 0 : 2);
+    }
+    for (unsigned refusal = 0; refusal <= UINT8_MAX; refusal++) {
+        bool is_told = refusal >= SYNICBOARD_UNKNOWN_PORT && refusal <= SYNICBOARD_NOT_SUSPENDED;
+        char text[60];
+        snprintf(text, sizeof text, "9 take 255\n= refused %u\n", refusal);
+        CHECK_TOLD(take, REPLY(.kind = SYNICBOARD_REFUSED, .refusal = (uint8_t)refusal), is_told ? 0 : 2, is_told ? text : "");
+    }
+    /* that there is no event is judged first */
+    CHECK_TOLD(EVENT(.kind = 0), REPLY(.kind = 0), 1, "");
+    CHECK_TOLD(EVENT(.kind = SYNICBOARD_RESET + 1), done, 1, "");
+    CHECK_TOLD(EVENT(.kind = SYNICBOARD_ASSERT, .vector = 15), done, 1, "");
+    CHECK_TOLD(EVENT(.kind = SYNICBOARD_STORE, .length = 9), done, 1, "");
+    CHECK_TOLD(EVENT(.kind = SYNICBOARD_POST, .length = 241), done, 1, "");
+}
+
 /* ---- Refused memory ---- */
 
 /* The text grows many times, so memory is asked for at many places of it. */
@@ -155,11 +209,35 @@ static void test_refused_check(void)
     refuse(0);
 }
 
+static void test_refused_entry(void)
+{
+    const synicboard_event event = { .kind = SYNICBOARD_POST, .length = 240 };
+    const synicboard_reply reply = { .kind = SYNICBOARD_ACCEPTED };
+    uint8_t room[600] = { FILLER };
+    synicboard_end end;
+    size_t number = 1;
+    refuse(number);
+    while ((end = synicboard_tell(0, &event, &reply, room, sizeof room)).kind == SYNICBOARD_WANTED_MEMORY) {
+        CHECK_NUMBER(end.line, 0);
+        CHECK_NUMBER(end.length, 0);
+        CHECK_NUMBER(room[0], FILLER);
+        CHECK_NUMBER(blocks_out, 0);
+        refuse(++number);
+    }
+    CHECK_NUMBER(end.kind, SYNICBOARD_ALL_RIGHT);
+    CHECK_NUMBER(requests, number - 1);
+    CHECK(number > 1);
+    refuse(0);
+    CHECK_NUMBER(room[0], '0');
+}
+
 static const struct test tests[] = {
     { "traces", test_check },
     { "texts that are too long", test_long_texts },
+    { "entries", test_entries },
     { "refused memory of a replay", test_refused_replay },
     { "refused memory of a check", test_refused_check },
+    { "refused memory of an entry", test_refused_entry },
 };
 
 int main(int count, char **words)

@@ -264,6 +264,13 @@ impl Board {
         Reply::of(ask!(self, synicboard_absorb_line, &mut line.handle, vp, part))
     }
 
+    /// [`Board::absorb_line`], and the bits that were taken out of the words, for a host that enters what was
+    /// asked in a trace.
+    pub fn absorb_line_bits(&mut self, line: &mut Line, vp: u8, part: u8) -> (Reply, u64) {
+        let plain = ask!(self, synicboard_absorb_line, &mut line.handle, vp, part);
+        (Reply::of(plain), plain.value)
+    }
+
     /// A guest stores 1 to 8 bytes at a guest physical address, all in one page.
     ///
     /// `Done`, or refused: `BadLength` for no bytes, `OutsideSpace`, `CrossesPage`. `NoEvent` for more than

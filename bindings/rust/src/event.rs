@@ -1,6 +1,6 @@
 //! What a board is asked.
 
-use crate::{Moment, Vector};
+use crate::{sys, Moment, Vector};
 use core::fmt;
 use core::ops::Deref;
 
@@ -117,6 +117,65 @@ pub enum Event {
     },
 }
 
+const NO_NUMBERS: sys::synicboard_event = sys::synicboard_event {
+    kind: 0,
+    vp: 0,
+    sint: 0,
+    port: 0,
+    buffers: 0,
+    vector: 0,
+    part: 0,
+    length: 0,
+    flag: 0,
+    count: 0,
+    msr: 0,
+    message_type: 0,
+    value: 0,
+    address: 0,
+    moment: 0,
+    bytes: [0; 240],
+};
+
+/// An event of this kind in plain numbers, with these fields.
+macro_rules! plain {
+    ($kind:ident $(, $field:ident: $value:expr)*) => {
+        sys::synicboard_event { kind: sys::$kind, $($field: $value,)* ..NO_NUMBERS }
+    };
+}
+
+impl Event {
+    /// The plain numbers that mean this event.
+    pub(crate) fn to_plain(self) -> sys::synicboard_event {
+        match self {
+            Event::OpenPort { port, vp, sint, shape } => {
+                sys::synicboard_event { port, vp, sint, ..shape.to_plain() }
+            }
+            Event::ClosePort { port } => plain!(SYNICBOARD_CLOSE_PORT, port: port),
+            Event::Write { vp, register, value } => {
+                plain!(SYNICBOARD_WRITE, vp: vp, msr: register, value: value)
+            }
+            Event::Read { vp, register } => plain!(SYNICBOARD_READ, vp: vp, msr: register),
+            Event::Post { port, kind, payload } => {
+                let (length, bytes) = payload.padded();
+                plain!(SYNICBOARD_POST, port: port, message_type: kind, length: length, bytes: bytes)
+            }
+            Event::Signal { port, flag } => plain!(SYNICBOARD_SIGNAL, port: port, flag: flag),
+            Event::Assert { vp, vector } => plain!(SYNICBOARD_ASSERT, vp: vp, vector: vector.number()),
+            Event::Absorb { vp, part, bits } => plain!(SYNICBOARD_ABSORB, vp: vp, part: part, value: bits),
+            Event::Store { address, bytes } => {
+                let (length, bytes) = bytes.padded();
+                plain!(SYNICBOARD_STORE, address: address, length: length, bytes: bytes)
+            }
+            Event::Load { address, length } => plain!(SYNICBOARD_LOAD, address: address, length: length),
+            Event::Tick { moment } => plain!(SYNICBOARD_TICK, moment: moment),
+            Event::Take { vp } => plain!(SYNICBOARD_TAKE, vp: vp),
+            Event::Suspend { vp } => plain!(SYNICBOARD_SUSPEND, vp: vp),
+            Event::Resume { vp } => plain!(SYNICBOARD_RESUME, vp: vp),
+            Event::Reset { vp } => plain!(SYNICBOARD_RESET, vp: vp),
+        }
+    }
+}
+
 /// What a port is opened for.
 #[derive(Clone, Copy, PartialEq, Eq, Hash, Debug)]
 pub enum PortShape {
@@ -132,6 +191,16 @@ pub enum PortShape {
         /// How many: at least one, and `base` + `count` is at most 2048.
         count: u16,
     },
+}
+
+impl PortShape {
+    /// The plain numbers that mean the opening of a port of this shape.
+    fn to_plain(self) -> sys::synicboard_event {
+        match self {
+            PortShape::Messages { buffers } => plain!(SYNICBOARD_OPEN_MESSAGE_PORT, buffers: buffers),
+            PortShape::Flags { base, count } => plain!(SYNICBOARD_OPEN_EVENT_PORT, flag: base, count: count),
+        }
+    }
 }
 
 /// The payload of a message, at most 240 bytes.
@@ -159,6 +228,13 @@ impl<const MOST: usize> Bytes<MOST> {
     /// The bytes.
     pub fn as_slice(&self) -> &[u8] {
         &self.room[..self.length]
+    }
+
+    /// How many bytes there are, at most 240, and the bytes with zeros behind them, in a room for so many.
+    pub(crate) fn padded<const ROOM: usize>(&self) -> (u8, [u8; ROOM]) {
+        let mut room = [0; ROOM];
+        room[..self.length].copy_from_slice(self);
+        (self.length as u8, room)
     }
 }
 

@@ -34,7 +34,7 @@ pub use line::{Line, Raised, SplitFault};
 pub use notice::{Notice, Notices, MOST_NOTICES};
 pub use reply::{Refusal, Reply};
 pub use terms::{Moment, Owner, Sint, Ticket, TimerId, Vector, Vp};
-pub use text::{check, replay, End, Verdict};
+pub use text::{check, replay, tell, End, TellFault, Verdict};
 
 /// Panics: the library answered what its header does not have, so it is not of this version.
 #[cold]

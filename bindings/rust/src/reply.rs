@@ -59,6 +59,33 @@ impl Reply {
         };
         meant.unwrap_or_else(|| beyond_the_header(&plain))
     }
+
+    /// The plain numbers that mean this reply.
+    pub(crate) fn to_plain(self) -> sys::synicboard_reply {
+        let of_kind = |kind| sys::synicboard_reply { kind, ..sys::synicboard_reply::default() };
+        match self {
+            Reply::Done => of_kind(sys::SYNICBOARD_DONE),
+            Reply::Value(value) => sys::synicboard_reply { value, ..of_kind(sys::SYNICBOARD_VALUE) },
+            Reply::Bytes(bytes) => {
+                let (length, bytes) = bytes.padded();
+                sys::synicboard_reply { length, bytes, ..of_kind(sys::SYNICBOARD_BYTES) }
+            }
+            Reply::Taken(Some(vector)) => {
+                sys::synicboard_reply { vector: vector.number(), ..of_kind(sys::SYNICBOARD_TAKEN) }
+            }
+            Reply::Taken(None) => of_kind(sys::SYNICBOARD_NONE_TAKEN),
+            Reply::Accepted(ticket) => sys::synicboard_reply { ticket, ..of_kind(sys::SYNICBOARD_ACCEPTED) },
+            Reply::FlagWasClear => of_kind(sys::SYNICBOARD_FLAG_WAS_CLEAR),
+            Reply::FlagWasSet => of_kind(sys::SYNICBOARD_FLAG_WAS_SET),
+            Reply::GeneralProtection => of_kind(sys::SYNICBOARD_GENERAL_PROTECTION),
+            Reply::Refused(refusal) => {
+                sys::synicboard_reply { refusal: refusal.number(), ..of_kind(sys::SYNICBOARD_REFUSED) }
+            }
+            Reply::NoEvent => {
+                sys::synicboard_reply { fault: sys::SYNICBOARD_NO_EVENT, ..sys::synicboard_reply::default() }
+            }
+        }
+    }
 }
 
 fn first(bytes: &[u8; 8], length: u8) -> Option<Bytes8> {

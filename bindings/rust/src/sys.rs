@@ -11,7 +11,7 @@ use core::ptr;
 /// The first number of the version of these declarations.
 pub const SYNICBOARD_VERSION_MAJOR: u32 = 1;
 /// The second number of the version of these declarations.
-pub const SYNICBOARD_VERSION_MINOR: u32 = 2;
+pub const SYNICBOARD_VERSION_MINOR: u32 = 3;
 
 /// A handle of a board. It may be moved, and not copied; its fields are the library's.
 #[repr(C)]
@@ -104,7 +104,7 @@ pub const SYNICBOARD_NOT_SUSPENDED: u8 = 16;
 
 /// A reply; what its kind does not use is 0.
 #[repr(C)]
-#[derive(Clone, Copy, PartialEq, Eq, Debug)]
+#[derive(Clone, Copy, PartialEq, Eq, Debug, Default)]
 pub struct synicboard_reply {
     /// Which reply it is.
     pub kind: u8,
@@ -439,7 +439,8 @@ extern "C" {
     pub fn synicboard_close_line(line: *mut synicboard_line);
     /// Raises a vector, from 16 on, of a processor.
     pub fn synicboard_raise(line: *mut synicboard_line, vp: u8, vector: u8) -> u8;
-    /// Takes what was raised of a processor in a part, and has the board absorb it.
+    /// Takes what was raised of a processor in a part, and has the board absorb it; `value` of the reply are
+    /// these bits.
     pub fn synicboard_absorb_line(
         board: *mut synicboard,
         line: *mut synicboard_line,
@@ -478,4 +479,13 @@ extern "C" {
     ) -> synicboard_end;
     /// Checks whether a text is the trace of a legal history.
     pub fn synicboard_check(trace: *const u8, length: usize) -> synicboard_verdict;
+    /// Writes the two lines of a trace that tell of an event and of the reply to it into a room, as much of
+    /// them as fits.
+    pub fn synicboard_tell(
+        actor: u8,
+        event: *const synicboard_event,
+        reply: *const synicboard_reply,
+        room: *mut u8,
+        length: usize,
+    ) -> synicboard_end;
 }

@@ -1,6 +1,8 @@
-//! Whole texts: scripts and traces.
+//! Whole texts: scripts and traces, and the entries of a trace.
 
-use crate::{beyond_the_header, sys};
+use crate::{beyond_the_header, sys, Event, Reply};
+use core::error::Error;
+use core::fmt;
 
 /// How a replay ended.
 #[derive(Clone, Copy, PartialEq, Eq, Debug)]
@@ -89,5 +91,53 @@ pub fn check(trace: &[u8]) -> Verdict {
         sys::SYNICBOARD_WANTED_MEMORY => Verdict::WantedMemory,
         sys::SYNICBOARD_TOO_LONG => Verdict::TooLong,
         _ => beyond_the_header(&verdict),
+    }
+}
+
+/// Why an entry was not told. The room was left as it was.
+#[derive(Clone, Copy, PartialEq, Eq, Debug)]
+pub enum TellFault {
+    /// The reply is [`Reply::NoEvent`], so nothing was performed.
+    NoEvent,
+    /// There was no memory for the lines.
+    Memory,
+}
+
+impl fmt::Display for TellFault {
+    fn fmt(&self, formatter: &mut fmt::Formatter<'_>) -> fmt::Result {
+        formatter.write_str(match self {
+            TellFault::NoEvent => "nothing was performed",
+            TellFault::Memory => "out of memory",
+        })
+    }
+}
+
+impl Error for TellFault {}
+
+/// Writes the two lines of a trace that tell of an event and of the reply to it into a room, as much of them
+/// as fits, and answers how many bytes they have: 76 at most for any event but a post, and 535 for that.
+///
+/// So threads that share a board keep a trace of what they did, in the order in which they held its lock;
+/// `actor` is a number of the thread. It takes memory for the lines, and gives it back.
+///
+/// ```
+/// use synicboard::{tell, Board, Event};
+///
+/// let mut board = Board::open(1, 1, 0).unwrap();
+/// let event = Event::Take { vp: 0 };
+/// let reply = board.perform(&event);
+/// let mut room = [0; 535];
+/// let length = tell(7, &event, &reply, &mut room).unwrap();
+/// assert_eq!(room[..length], *b"7 take 0\n= taken none\n");
+/// ```
+pub fn tell(actor: u8, event: &Event, reply: &Reply, room: &mut [u8]) -> Result<usize, TellFault> {
+    let (event, reply) = (event.to_plain(), reply.to_plain());
+    // SAFETY: both structs and the slice are good, and an empty slice has an address that is not null.
+    let end = unsafe { sys::synicboard_tell(actor, &event, &reply, room.as_mut_ptr(), room.len()) };
+    match (end.kind, end.line) {
+        (sys::SYNICBOARD_ALL_RIGHT, _) => Ok(end.length),
+        (sys::SYNICBOARD_WRONG_LINE, 2) => Err(TellFault::NoEvent),
+        (sys::SYNICBOARD_WANTED_MEMORY, _) => Err(TellFault::Memory),
+        _ => beyond_the_header(&end),
     }
 }

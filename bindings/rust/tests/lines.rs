@@ -168,6 +168,19 @@ fn all_vectors_of_a_part_are_absorbed_at_once() {
 
 /// A vector that is requested already is taken out of the words, and there is nothing to tell.
 #[test]
+fn an_absorb_tells_which_bits_it_took() -> Result<(), Box<dyn Error>> {
+    let (mut board, mut line) = (Board::open(1, 1, 0)?, Line::open(1)?);
+    for vector in [0xc0, 0xc5, 0xff] {
+        assert_eq!(line.raise(0, Vector::new(vector).unwrap()), FRESH);
+    }
+    assert_eq!(board.absorb_line_bits(&mut line, 0, PART), (Reply::Done, 1 | 1 << 5 | 1 << 63));
+    assert_eq!(board.absorb_line_bits(&mut line, 0, PART), (Reply::Done, 0));
+    let no_processor = Reply::Refused(Refusal::NoSuchProcessor);
+    assert_eq!(board.absorb_line_bits(&mut line, 1, PART), (no_processor, 0));
+    Ok(())
+}
+
+#[test]
 fn what_is_requested_already_is_not_told_again() {
     let mut board = Board::open(1, 1, 0).unwrap();
     let mut line = Line::open(1).unwrap();

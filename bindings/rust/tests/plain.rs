@@ -75,6 +75,11 @@ fn told(notices: u16) -> synicboard_reply {
     reply(SYNICBOARD_DONE, |reply| reply.notices = notices)
 }
 
+/// What is told where a line's bits were absorbed.
+fn absorbed(bits: u64) -> synicboard_reply {
+    reply(SYNICBOARD_DONE, |reply| (reply.notices, reply.value) = (bits.count_ones() as u16, bits))
+}
+
 fn fault(fault: u8) -> synicboard_reply {
     reply(SYNICBOARD_NOT_PERFORMED, |reply| reply.fault = fault)
 }
@@ -183,7 +188,7 @@ fn a_closed_board_absorbs_nothing() {
         assert_eq!(synicboard_raise(&mut line.0, 0, 0x60), SYNICBOARD_FRESH);
         assert_eq!(synicboard_absorb_line(&mut closed.0, &mut line.0, 0, 1), fault(SYNICBOARD_NO_BOARD));
         assert_eq!(synicboard_raise(&mut line.0, 0, 0x60), SYNICBOARD_ALREADY);
-        assert_eq!(synicboard_absorb_line(&mut board.0, &mut line.0, 0, 1), told(1));
+        assert_eq!(synicboard_absorb_line(&mut board.0, &mut line.0, 0, 1), absorbed(1 << (0x60 - 64)));
     }
 }
 
@@ -220,8 +225,8 @@ fn vectors_below_16_are_not_raised() {
         assert_eq!(unsafe { synicboard_raise(&mut line.0, 0, vector) }, expected, "{vector}");
     }
     // SAFETY: the handles have no copies.
-    let absorbed = unsafe { synicboard_absorb_line(&mut board.0, &mut line.0, 0, 0) };
-    assert_eq!(absorbed, told(64 - 16));
+    let answer = unsafe { synicboard_absorb_line(&mut board.0, &mut line.0, 0, 0) };
+    assert_eq!(answer, absorbed(u64::MAX << 16));
 }
 
 #[test]

@@ -86,6 +86,45 @@ fn each_script_is_told_as_it_is_stored() {
     }
 }
 
+/// The trace of a script up to its first fault, entered event by event, and how many entries it has. `None`
+/// where no board is opened.
+fn traced(script: &[u8]) -> Option<(Vec<u8>, u64)> {
+    let lines = Lines::of(script).map_while(Result::ok);
+    let mut lines = lines.filter(|line| !line.is_empty() && !line.starts_with(b"#"));
+    let opening = lines.next()?;
+    let mut board = open(opening).ok()?;
+    let mut trace = [b"trace 2\n", opening, b"\n"].concat();
+    let mut entries = 0;
+    for line in lines {
+        match lines::step(line) {
+            None => break,
+            Some(Step::Summary) => {}
+            Some(Step::Event(event)) => {
+                let actor = entries as u8;
+                let reply = board.perform(&event);
+                let mut room = [0; 535];
+                let length =
+                    synicboard::tell(actor, &event, &reply, &mut room).expect("an event, and memory");
+                let wanted = [actor.to_string().as_bytes(), b" ", line, b"\n= "].concat();
+                assert!(room[..length].starts_with(&wanted), "{wanted:?}");
+                trace.extend(&room[..length]);
+                entries += 1;
+            }
+        }
+    }
+    trace.extend(format!("end {entries} {}\n", board.next_ticket()).bytes());
+    Some((trace, entries))
+}
+
+#[test]
+fn what_is_told_of_a_script_is_a_legal_trace() {
+    let traces: Vec<_> = scripts().iter().filter_map(|(_, script, _)| traced(script)).collect();
+    assert!(traces.len() > 80, "only {} scripts open a board", traces.len());
+    for (trace, entries) in traces {
+        assert_eq!(check(&trace), Verdict::Legal { entries }, "{:?}", str::from_utf8(&trace));
+    }
+}
+
 #[test]
 fn a_replay_writes_the_stored_text() {
     for (path, script, stored) in scripts() {

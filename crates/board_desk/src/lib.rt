@@ -51,10 +51,11 @@ impl Desk {
 
     /// `perform` for a place in the code at which there is one kind of event.
     #[inline(always)]
-    pub fn perform_known(&mut self, event: &Event) -> Reply
+    pub fn perform_inline(&mut self, event: &Event) -> Reply
         ensures step { (self.new.board.state, result, self.new.notices) ≡ step self.old.board.state event.now }
+        ensures few { length self.new.notices ≤ most_notices event.now }
         ensures most { length self.new.notices ≤ 276 }
     {
-        self.board.perform_known(event, &mut self.notices)
+        self.board.perform_inline(event, &mut self.notices)
     }
 }

@@ -52,7 +52,7 @@ fn put_opening(
     out.extend_from_slice(b"\n")
 }
 
-/// Writes the two lines of each entry at the end of `out`.
+/// Writes the lines of each entry at the end of `out`.
 fn put_history(out: &mut Vec<u8>, history: &[Entry]) -> Result<(), AllocError>
     ensures written { OnOk result (out.new.items ≡ out.old.items ++ text_of (history_lines history.now)) }
     ensures fits { OnOk result (All (IsEntry Format.Two) history.now) }
@@ -63,7 +63,8 @@ fn put_history(out: &mut Vec<u8>, history: &[Entry]) -> Result<(), AllocError>
     Ok(())
 }
 
-fn put_entry(out: &mut Vec<u8>, entry: &Entry) -> Result<(), AllocError>
+/// Writes the two lines of an entry at the end of `out`.
+pub fn put_entry(out: &mut Vec<u8>, entry: &Entry) -> Result<(), AllocError>
     ensures written { OnOk result (out.new.items ≡ out.old.items ++ text_of (history_lines (entry.now ∷ []))) }
     ensures fits { OnOk result (IsEntry Format.Two entry.now) }
 {

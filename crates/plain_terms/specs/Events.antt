@@ -1,5 +1,5 @@
 -- The event that plain numbers mean.
-use Rattle.std.specs.Prelude.{ℕ, ◌==◌, nat_lt, ◌||◌, List, take, Option, Some, None, if◌then◌else◌}
+use Rattle.std.specs.Prelude.{ℕ, ◌==◌, nat_lt, ◌||◌, List, length, take, Option, Some, None, if◌then◌else◌}
 use Rattle.std.specs.Option.{option_map}
 use Rattle.arrayvec.specs.ArrayVec.{ArrayVec}
 use Rattle.board_terms.specs.declared.messages.PortShape.TheVariants.{Messages, Flags}
@@ -9,7 +9,7 @@ use Rattle.plain_terms.specs.declared.event.PlainEvent.{PlainEvent}
 
 -- the first so many bytes, if there are so many and no more than fit
 abbrev pub bytes_meant : ℕ → List ℕ → ℕ → Option (ArrayVec ℕ)
-bytes_meant most bytes count = if nat_lt most count || nat_lt 240 count then None else Some (record { items = take count bytes })
+bytes_meant most bytes count = if nat_lt most count || nat_lt (length bytes) count then None else Some (record { items = take count bytes })
 
 -- a vector is 16 or above
 abbrev pub vector_meant : ℕ → Option ℕ

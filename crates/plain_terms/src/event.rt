@@ -1,5 +1,5 @@
 // An event in plain numbers.
-ghost use Rattle.std.specs.Prelude.{◌≡◌, take};
+ghost use Rattle.std.specs.Prelude.{◌≡◌, length, take};
 ghost use Rattle.plain_terms.specs.Events.{event_meant, bytes_meant};
 
 use arrayvec::ArrayVec;
@@ -119,8 +119,8 @@ pub fn event_of(plain: &PlainEvent) -> Option<Event>
     }
 }
 
-/// The first bytes, if they fit.
-fn bytes_of<const N: usize>(bytes: &[u8; 240], length: u8) -> Option<ArrayVec<u8, N>>
+/// The first bytes, if there are so many and they fit.
+pub(crate) fn bytes_of<const N: usize>(bytes: &[u8], length: u8) -> Option<ArrayVec<u8, N>>
     ensures { result ≡ bytes_meant N bytes.now length }
 {
     let first = bytes.get(..length as usize)?;

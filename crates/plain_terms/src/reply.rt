@@ -1,8 +1,9 @@
 // A reply in plain numbers.
 ghost use Rattle.std.specs.Prelude.{◌≡◌, ◌≤◌, length};
-ghost use Rattle.plain_terms.specs.Replies.{reply_told, fault_told, silent, padded};
+ghost use Rattle.plain_terms.specs.Replies.{reply_told, fault_told, silent, padded, refusal_meant, reply_meant};
 
-use board_terms::Bytes8;
+use crate::event::bytes_of;
+use board_terms::{Bytes8, Refusal, Vector};
 use synic_board::Reply;
 
 /// A reply in plain numbers. `kind` says which, and which fields are used; the others are 0.
@@ -109,4 +110,49 @@ fn padded(bytes: &Bytes8) -> [u8; 8]
     let mut eight = [0; 8];
     eight[..bytes.len()].copy_from_slice(bytes.as_slice());
     eight
+}
+
+/// The reply that plain numbers tell; `None` where they tell that nothing was performed, where there is
+/// no such kind or refusal, where a vector is below 16, or where there are more than 8 bytes.
+pub fn reply_of(plain: &PlainReply) -> Option<Reply>
+    ensures { result ≡ reply_meant plain.now }
+{
+    match plain.kind {
+        1 => Some(Reply::Done),
+        2 => Some(Reply::Value(plain.value)),
+        3 => Some(Reply::Bytes(bytes_of(&plain.bytes, plain.length)?)),
+        4 => Some(Reply::Taken(Some(Vector::new(plain.vector)?))),
+        5 => Some(Reply::Taken(None)),
+        6 => Some(Reply::Accepted(plain.ticket)),
+        7 => Some(Reply::FlagWasClear),
+        8 => Some(Reply::FlagWasSet),
+        9 => Some(Reply::GeneralProtection),
+        10 => Some(Reply::Refused(refusal_of(plain.refusal)?)),
+        _ => None,
+    }
+}
+
+/// The refusal of that number.
+fn refusal_of(number: u8) -> Option<Refusal>
+    ensures { result ≡ refusal_meant number }
+{
+    match number {
+        1 => Some(Refusal::UnknownPort),
+        2 => Some(Refusal::PortOpen),
+        3 => Some(Refusal::WrongKind),
+        4 => Some(Refusal::BadTarget),
+        5 => Some(Refusal::BadType),
+        6 => Some(Refusal::BadFlag),
+        7 => Some(Refusal::SynicOff),
+        8 => Some(Refusal::NoBuffers),
+        9 => Some(Refusal::TicketsSpent),
+        10 => Some(Refusal::ClockBack),
+        11 => Some(Refusal::OutsideSpace),
+        12 => Some(Refusal::CrossesPage),
+        13 => Some(Refusal::BadLength),
+        14 => Some(Refusal::NoSuchProcessor),
+        15 => Some(Refusal::AlreadySuspended),
+        16 => Some(Refusal::NotSuspended),
+        _ => None,
+    }
 }

@@ -1,5 +1,6 @@
 -- What a call does to the line behind a handle, and what it answers.
-use Rattle.std.specs.Prelude.{◌≡◌, ℕ, nat_lt, nat_eq, ◌&&◌, not, Bool, false, Option, Some, None, [], if◌then◌else◌}
+use Rattle.std.specs.Prelude.{◌≡◌, ℕ, nat_lt, nat_eq, ◌&&◌, not, Bool, false, Option, Some, None, List, [], if◌then◌else◌}
+use Rattle.board_terms.specs.declared.notices.Notice.{Notice}
 use Rattle.board_desk.specs.declared.Desk.{Desk}
 use Rattle.held_line.specs.Lines.{Held, held, new_line, stepped, with_one_less}
 use Rattle.plain_terms.specs.declared.reply.PlainReply.{PlainReply}
@@ -7,8 +8,9 @@ use Rattle.plain_terms.specs.declared.reply.Fault.TheVariants.{Closed, NoLine}
 use Rattle.plain_terms.specs.Replies.{fault_told}
 use Rattle.posted_words.specs.Words.{shared_words, raise_of, sweep_of}
 use Rattle.synic_board.specs.declared.event.Event.TheVariants.{Absorb}
-use Rattle.synic_board.specs.State.{processors}
-use Rattle.synic_c.specs.Asked.{IsAsked}
+use Rattle.synic_board.specs.State.{State, processors}
+use Rattle.synic_board.specs.Step.{step}
+use Rattle.synic_c.specs.Asked.{told, IsOutcome}
 
 -- the first line of new words, which may give 31 away
 abbrev pub IsFirstLine : ℕ → Option Held → Type 0
@@ -43,8 +45,12 @@ has_part desk line vp part = (nat_lt vp (processors desk.board.state) && nat_lt 
 abbrev pub IsSwept : Desk → Held → ℕ → ℕ → ℕ → Option Held → Type 0
 IsSwept desk line vp part bits after = (after ≡ Some (if has_part desk line vp part then stepped line (sweep_of vp part bits) else line)) × (has_part desk line vp part ≡ false → bits ≡ 0)
 
+-- what an event comes to, with bits told beside its reply
+abbrev pub with_bits : ℕ → State × PlainReply × List Notice → State × PlainReply × List Notice
+with_bits bits (s, reply, notices) = (s, record reply { value = bits }, notices)
+
 -- what a line swept was absorbed by the desk: without a board or without a line nothing changes
 abbrev pub IsAbsorbed : ℕ → ℕ → Option Desk → Option Held → Option Desk → Option Held → PlainReply → Type 0
-IsAbsorbed vp part (Some desk) (Some line) desk_after line_after reply = (bits : ℕ) × IsSwept desk line vp part bits line_after × IsAsked (Some (Absorb vp part bits)) (Some desk) desk_after reply
+IsAbsorbed vp part (Some desk) (Some line) desk_after line_after reply = (bits : ℕ) × IsSwept desk line vp part bits line_after × IsOutcome (with_bits bits (told (step desk.board.state (Absorb vp part bits)))) desk_after reply
 IsAbsorbed vp part None line desk_after line_after reply = (desk_after ≡ None) × (line_after ≡ line) × (reply ≡ fault_told Closed)
 IsAbsorbed vp part (Some desk) None desk_after line_after reply = (desk_after ≡ Some desk) × (line_after ≡ None) × (reply ≡ fault_told NoLine)

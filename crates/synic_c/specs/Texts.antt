@@ -1,4 +1,4 @@
--- What is told of a script or a trace in a buffer.
+-- What is told of a script or a trace in a buffer, and of an event and its reply.
 use Rattle.std.specs.Prelude.{◌≡◌, ℕ, List, length, Option, Some, None, ◌⊎◌}
 use Rattle.board_lines.specs.declared.fault.ScriptFault.{ScriptFault}
 use Rattle.board_script.specs.Output.{fault_of, text}
@@ -27,6 +27,11 @@ pub record IsUntold (room_before room_after : List ℕ) (end : PlainEnd) : Type 
   pub line : end.line ≡ 0
   pub length : end.length ≡ 0
   pub room : room_after ≡ room_before
+
+-- lines that there are were told: how long they are, and as much of them as fits
+abbrev pub AreLines : Option (List ℕ) → List ℕ → List ℕ → ℕ → Type 0
+AreLines (Some lines) room_before room_after count = (count ≡ length lines) × Fronts lines room_before room_after
+AreLines None room_before room_after count = ⊥
 
 abbrev pub IsReplay : List ℕ → List ℕ → List ℕ → PlainEnd → Type 0
 IsReplay script room_before room_after end = IsText script room_before room_after end ⊎ IsUntold room_before room_after end

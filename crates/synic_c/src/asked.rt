@@ -14,7 +14,7 @@ pub(crate) fn asked(handle: &mut DeskHandle, event: &Event) -> PlainReply
 {
     match handle.desk_mut() {
         Some(desk) => {
-            let reply = desk.perform_known(event);
+            let reply = desk.perform_inline(event);
             plain_reply(&reply, desk.notices.as_slice().len() as u16)
         }
         None => plain_fault(Fault::Closed),

@@ -105,7 +105,8 @@ pub extern "C" fn synicboard_raise(line: &mut LineHandle, vp: u8, vector: u8) ->
 }
 
 /// Takes the bits of a part, 0 to 3, of processor `vp` out of the line's words, by one atomic step, and
-/// has the board absorb them. Where the board would refuse, nothing is taken.
+/// has the board absorb them; `value` of the reply are these bits. Where the board would refuse, nothing
+/// is taken.
 #[unsafe(no_mangle)]
 pub extern "C" fn synicboard_absorb_line(
     handle: &mut DeskHandle,
@@ -126,6 +127,9 @@ pub extern "C" fn synicboard_absorb_line(
     } else {
         0
     };
-    let reply = desk.perform_known(&Event::Absorb { vp, part, bits });
-    plain_reply(&reply, desk.notices.as_slice().len() as u16)
+    let reply = desk.perform_inline(&Event::Absorb { vp, part, bits });
+    PlainReply {
+        value: bits,
+        ..plain_reply(&reply, desk.notices.as_slice().len() as u16)
+    }
 }

@@ -1,16 +1,20 @@
 // Whole texts, from a buffer into a buffer.
-ghost use Rattle.std.specs.Prelude.{◌≡◌, ◌≢◌, ◌<◌};
+ghost use Rattle.std.specs.Prelude.{◌≡◌, ◌≢◌, ◌<◌, ◌↔◌, None};
 ghost use Rattle.board_trace.specs.Trace.{IsTrace};
 ghost use Rattle.board_trace.specs.Verdicts.{FirstWrong};
-ghost use Rattle.synic_c.specs.Texts.{IsReplay};
+ghost use Rattle.plain_terms.specs.Events.{event_meant};
+ghost use Rattle.plain_terms.specs.Replies.{reply_meant};
+ghost use Rattle.plain_trace.specs.Told.{lines_told};
+ghost use Rattle.synic_c.specs.Texts.{IsReplay, AreLines};
 
 use board_script::{ReplayEnd, replay};
 use board_trace::{CheckEnd, check_trace};
-use plain_terms::put_bytes;
+use plain_terms::{PlainEvent, PlainReply, put_bytes};
+use plain_trace::{Untold, lines_of};
 use std::alloc::Global;
 
-/// How the reading of a text ended. `kind` is 0 where all of it is right, 1 where line `line` is the
-/// first that is not, 2 for want of memory, and 3 for a text of more than 1,073,741,824 bytes.
+/// How the reading or the telling of a text ended. `kind` is 0 where all of it is right, 1 where line
+/// `line` is the first that is not, 2 for want of memory, and 3 for a text of more than 1,073,741,824 bytes.
 /// `length` is how many bytes there are to tell, or 0.
 #[repr(C)]
 #[derive(Clone, Copy)]
@@ -31,13 +35,13 @@ pub struct PlainVerdict {
     pub line: u64,
 }
 
-/// The end of a text of which nothing is told.
-fn untold(kind: u8) -> PlainEnd
-    ensures { result ≡ record { kind = kind; line = 0; length = 0 } }
+/// The end of a text of which nothing is told, since that line is wrong, or for another reason.
+fn untold(kind: u8, line: u64) -> PlainEnd
+    ensures { result ≡ record { kind = kind; line = line; length = 0 } }
 {
     PlainEnd {
         kind,
-        line: 0,
+        line,
         length: 0,
     }
 }
@@ -53,8 +57,8 @@ pub extern "C" fn synicboard_replay(alloc: Global, script: &[u8], room: &mut [u8
     let (kind, line) = match replay(alloc, &mut reader, &mut text) {
         ReplayEnd::Done => (0, 0),
         ReplayEnd::Script { line, .. } => (1, line),
-        ReplayEnd::Memory | ReplayEnd::Writing => return untold(2),
-        ReplayEnd::Reading => return untold(3),
+        ReplayEnd::Memory | ReplayEnd::Writing => return untold(2, 0),
+        ReplayEnd::Reading => return untold(3, 0),
     };
     put_bytes(text.as_slice(), room);
     let length = text.len();
@@ -82,5 +86,40 @@ pub extern "C" fn synicboard_check(alloc: Global, trace: &[u8]) -> PlainVerdict
         kind,
         entries,
         line,
+    }
+}
+
+/// Writes the two lines of a trace that tell what an actor asked and what was answered into a room, as
+/// much as fits. Line 1 is wrong where the numbers mean no event, and else line 2 where they tell no
+/// reply of a board's. This takes memory, for the lines.
+#[unsafe(no_mangle)]
+pub extern "C" fn synicboard_tell(
+    alloc: Global,
+    actor: u8,
+    event: &PlainEvent,
+    reply: &PlainReply,
+    room: &mut [u8],
+) -> PlainEnd
+    ensures kinds { result.kind < 3 }
+    ensures told { result.kind ≡ 0 → AreLines (lines_told actor (event_meant event.now) (reply_meant reply.now)) room.old room.new result.length }
+    ensures event { (result.line ≡ 1) ↔ (event_meant event.now ≡ None) }
+    ensures reply { (result.line ≡ 2) ↔ ((event_meant event.now ≢ None) × (reply_meant reply.now ≡ None)) }
+    ensures line { (result.kind ≡ 1) ↔ (result.line ≢ 0) }
+    ensures lines { result.line < 3 }
+    ensures untold { result.kind ≢ 0 → result.length ≡ 0 }
+    ensures room { result.kind ≢ 0 → room.new ≡ room.old }
+{
+    match lines_of(alloc, actor, event, reply) {
+        Ok(lines) => {
+            put_bytes(lines.as_slice(), room);
+            PlainEnd {
+                kind: 0,
+                line: 0,
+                length: lines.len(),
+            }
+        }
+        Err(Untold::NoEvent) => untold(1, 1),
+        Err(Untold::NoReply) => untold(1, 2),
+        Err(Untold::Memory) => untold(2, 0),
     }
 }
