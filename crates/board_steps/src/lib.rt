@@ -1,9 +1,9 @@
-//! Registers, events and notices that the tests of several crates share.
+//! Registers and events that the tests of several crates share.
 #![tactic(auto)]
 
-ghost use Rattle.std.specs.Prelude.{◌<◌, ◌≤◌};
+ghost use Rattle.std.specs.Prelude.{◌<◌};
 
-use board_terms::{Bytes8, Notice, Notices, PayloadBytes, PortShape, Vector, Vp};
+use board_terms::{Bytes8, Notices, PayloadBytes, PortShape};
 pub use synic_board::msr::{EOM, SCONTROL, SIEFP, SIMP, SINT2, STIMER0_CONFIG, STIMER0_COUNT};
 use synic_board::{Board, Event, Reply};
 
@@ -72,17 +72,6 @@ pub fn start_timer(vp: u8, index: u8, config: u64, count: u64) -> [Event; 2]
         write(vp, STIMER0_COUNT + 2 * index as u32, count),
         write(vp, STIMER0_CONFIG + 2 * index as u32, config),
     ]
-}
-
-/// What is told of a request of that vector at that processor.
-pub fn requested(vp: u8, vector: u8) -> Notice
-    requires on { vp < 8 }
-    requires valid { 16 ≤ vector }
-{
-    Notice::Requested {
-        vp: Vp::new(vp).unwrap(),
-        vector: Vector::new(vector).unwrap(),
-    }
 }
 
 /// Performs events in order. Whether each was done.

@@ -1,15 +1,8 @@
-//! Tests of a whole board: pages, ports, messages and queues. There is nothing else here.
+//! Tests of the calls of a board that no script makes: openings, and lists of events. There is nothing else
+//! here; what scripts show stands in `cases`.
 #![tactic(auto)]
 
 #[cfg(test)]
-mod messages;
-#[cfg(test)]
 mod openings;
 #[cfg(test)]
-mod overlays;
-#[cfg(test)]
-mod ports;
-#[cfg(test)]
-mod queues;
-#[cfg(test)]
-mod resets;
+mod runs;
