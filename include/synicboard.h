@@ -298,8 +298,9 @@ typedef struct synicboard_due {
 synicboard_due synicboard_earliest(synicboard *board);
 
 /* Where a page of 4096 bytes lies, for reading. Whether there is one; if not, `page` is left as it was.
- * The address stays the same until the board is closed, and begins no page of the host's; the bytes change
- * by events and by closing alone, so they are not read while one of these runs. A page of messages or flags is that of the
+ * The address stays the same until the board is closed; the bytes change by events and by closing alone, so
+ * they are not read while one of these runs. Each page is a block of its own, and begins a page of the host's
+ * where malloc aligns blocks of this size so (examples/c/pages.c). A page of messages or flags is that of the
  * processor, wherever its overlay lies; a guest page is what lies below the overlays. */
 bool synicboard_message_page(synicboard *board, uint8_t vp, const uint8_t **page);
 bool synicboard_flag_page(synicboard *board, uint8_t vp, const uint8_t **page);

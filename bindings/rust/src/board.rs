@@ -88,7 +88,7 @@ impl Error for OpenFault {}
 /// # Pages
 ///
 /// A page is lent where it lies, and not copied: as long as it is held, there is no event. It lies anywhere
-/// in the host's memory, and begins no page of the host.
+/// in the host's memory, and begins a page of the host's where `malloc` aligns blocks of its size so.
 ///
 /// ```compile_fail,E0502
 /// # let mut board = synicboard::Board::open(1, 1, 0).unwrap();

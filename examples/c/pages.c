@@ -1,0 +1,50 @@
+/* Pages that can be mapped into a guest as they lie. The library takes each page of a board as a block of its
+ * own; a program whose malloc aligns blocks of a page's size gets each page as a page of the host's, which KVM,
+ * say, takes as a memory slot that a guest may read and not write. Some allocators do so anyway; here the linker
+ * sends the library's calls of malloc to this file.
+ *
+ *   cc -I include examples/c/pages.c build/libsynicboard.a -Wl,--wrap=malloc -o pages */
+#define _DEFAULT_SOURCE /* for mprotect */
+#include <stdint.h>
+#include <stdio.h>
+#include <stdlib.h>
+#include <sys/mman.h>
+
+#include "synicboard.h"
+
+enum { PAGE = 4096, PROCESSORS = 8, PAGES = 64 };
+
+void *__real_malloc(size_t size);
+void *__wrap_malloc(size_t size);
+
+/* What aligned_alloc gives is given back by free, as all else. */
+void *__wrap_malloc(size_t size)
+{
+    return size == PAGE ? aligned_alloc(PAGE, PAGE) : __real_malloc(size);
+}
+
+/* Whether the bytes are a page of the host's and nothing else: its protection can be changed, and back. What
+ * a guest is shown is read-only; the board itself writes there. */
+static bool is_mappable(const uint8_t *page)
+{
+    return (uintptr_t)page % PAGE == 0 && mprotect((void *)page, PAGE, PROT_READ) == 0
+        && mprotect((void *)page, PAGE, PROT_READ | PROT_WRITE) == 0;
+}
+
+int main(void)
+{
+    synicboard board = SYNICBOARD_CLOSED;
+    unsigned mappable = 0;
+    const uint8_t *page;
+    if (synicboard_open(&board, PROCESSORS, PAGES, 0) != SYNICBOARD_OPENED)
+        return 1;
+    for (uint64_t number = 0; number < PAGES; number++)
+        mappable += synicboard_guest_page(&board, number, &page) && is_mappable(page);
+    for (uint8_t vp = 0; vp < PROCESSORS; vp++) {
+        mappable += synicboard_message_page(&board, vp, &page) && is_mappable(page);
+        mappable += synicboard_flag_page(&board, vp, &page) && is_mappable(page);
+    }
+    synicboard_close(&board);
+    printf("%u of %u pages can be mapped\n", mappable, PAGES + 2 * PROCESSORS);
+    return 0;
+}
