@@ -104,6 +104,21 @@ typedef struct synicboard_reply {
     uint8_t bytes[8];
 } synicboard_reply;
 
+/* The registers, by their names in the standard (HV_X64_MSR_..). */
+enum {
+    SYNICBOARD_MSR_TIME_REF_COUNT = 0x40000020, /* the reference counter, in units of 100 ns */
+    SYNICBOARD_MSR_EOI = 0x40000070,            /* end of interrupt */
+    SYNICBOARD_MSR_TPR = 0x40000072,            /* the task priority */
+    SYNICBOARD_MSR_SCONTROL = 0x40000080,       /* the control of the SynIC */
+    SYNICBOARD_MSR_SVERSION = 0x40000081,       /* its version */
+    SYNICBOARD_MSR_SIEFP = 0x40000082,          /* the page of event flags */
+    SYNICBOARD_MSR_SIMP = 0x40000083,           /* the page of messages */
+    SYNICBOARD_MSR_EOM = 0x40000084,            /* end of message */
+    SYNICBOARD_MSR_SINT0 = 0x40000090,          /* the first source; SINT1 to SINT15 follow */
+    SYNICBOARD_MSR_STIMER0_CONFIG = 0x400000b0, /* the first timer; the next is two further on */
+    SYNICBOARD_MSR_STIMER0_COUNT = 0x400000b1
+};
+
 /* A call for each event. */
 synicboard_reply synicboard_open_message_port(synicboard *board, uint8_t port, uint8_t vp, uint8_t sint, uint8_t buffers);
 synicboard_reply synicboard_open_event_port(synicboard *board, uint8_t port, uint8_t vp, uint8_t sint, uint16_t base, uint16_t count);

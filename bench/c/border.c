@@ -19,8 +19,6 @@
 
 enum { PROCESSORS = 8, PORTS = 16, TIMERS = 4, TICKS = 64, STEP = 50, MOST_EVENTS = 64 };
 enum { OVERLAY = 0x1000, SLOT = 256, FIRST_VECTOR = 0x40, PERIODIC_DIRECT = 0x1003 };
-enum { EOI = 0x40000070, SCONTROL = 0x40000080, SIMP = 0x40000083, EOM = 0x40000084, SINT0 = 0x40000090 };
-enum { STIMER0_CONFIG = 0x400000b0, STIMER0_COUNT = 0x400000b1 };
 
 enum way { CALLS, NOTICES, STRUCTS, BATCHES };
 
@@ -68,7 +66,7 @@ static void interrupts(struct scene *scene)
     for (uint8_t vp = 0; vp < PROCESSORS; vp++) {
         append(scene, (synicboard_event){ .kind = SYNICBOARD_ASSERT, .vp = vp, .vector = 0x60 });
         append(scene, (synicboard_event){ .kind = SYNICBOARD_TAKE, .vp = vp });
-        append(scene, (synicboard_event){ .kind = SYNICBOARD_WRITE, .vp = vp, .msr = EOI });
+        append(scene, (synicboard_event){ .kind = SYNICBOARD_WRITE, .vp = vp, .msr = SYNICBOARD_MSR_EOI });
     }
 }
 
@@ -76,17 +74,17 @@ static void interrupts(struct scene *scene)
 static void messages(struct scene *scene)
 {
     open_board(scene, 1, 4);
-    set_register(scene, 0, SCONTROL, 1);
-    set_register(scene, 0, SIMP, OVERLAY + 1);
+    set_register(scene, 0, SYNICBOARD_MSR_SCONTROL, 1);
+    set_register(scene, 0, SYNICBOARD_MSR_SIMP, OVERLAY + 1);
     for (uint8_t port = 0; port < PORTS; port++) {
         synicboard_event post = { .kind = SYNICBOARD_POST, .port = port, .message_type = 1, .length = 1 };
         synicboard_event store = { .kind = SYNICBOARD_STORE, .address = OVERLAY + SLOT * port, .length = 4 };
         post.bytes[0] = 0x0a;
-        set_register(scene, 0, SINT0 + port, FIRST_VECTOR + port);
+        set_register(scene, 0, SYNICBOARD_MSR_SINT0 + port, FIRST_VECTOR + port);
         synicboard_open_message_port(&scene->board, port, 0, port, 2);
         append(scene, post);
         append(scene, store);
-        append(scene, (synicboard_event){ .kind = SYNICBOARD_WRITE, .msr = EOM });
+        append(scene, (synicboard_event){ .kind = SYNICBOARD_WRITE, .msr = SYNICBOARD_MSR_EOM });
     }
 }
 
@@ -97,8 +95,8 @@ static void timers(struct scene *scene)
     for (uint8_t vp = 0; vp < PROCESSORS; vp++) {
         for (uint8_t timer = 0; timer < TIMERS; timer++) {
             uint64_t vector = FIRST_VECTOR + timer;
-            set_register(scene, vp, STIMER0_COUNT + 2 * timer, 1000 + 10 * vp + timer);
-            set_register(scene, vp, STIMER0_CONFIG + 2 * timer, PERIODIC_DIRECT | vector << 4);
+            set_register(scene, vp, SYNICBOARD_MSR_STIMER0_COUNT + 2 * timer, 1000 + 10 * vp + timer);
+            set_register(scene, vp, SYNICBOARD_MSR_STIMER0_CONFIG + 2 * timer, PERIODIC_DIRECT | vector << 4);
         }
     }
     for (uint64_t number = 1; number <= TICKS; number++)

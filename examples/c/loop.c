@@ -13,8 +13,7 @@
 
 enum { PROCESSORS = 2, MESSAGES = 200, WORK = 500, PORT = 3, SOURCE = 2, END = 3000 };
 enum { TIMER_VECTOR = 0x40, MESSAGE_VECTOR = 0x50, WORK_VECTOR = 0x60, SLOT = 0x2000 + 256 * SOURCE };
-enum { EOI = 0x40000070, SCONTROL = 0x40000080, SIMP = 0x40000083, EOM = 0x40000084, SINT0 = 0x40000090 };
-enum { STIMER0_CONFIG = 0x400000b0, STIMER0_COUNT = 0x400000b1, PERIODIC_DIRECT = 0x1003 };
+enum { PERIODIC_DIRECT = 0x1003 };
 
 /* A board takes one call at a time, so who calls it holds the lock. All else here stands under it, too. */
 static pthread_mutex_t lock = PTHREAD_MUTEX_INITIALIZER;
@@ -65,7 +64,7 @@ static void handle_message(uint8_t vp)
     sum += payload;
     answer(synicboard_store(&board, SLOT, empty, sizeof empty));
     pthread_mutex_unlock(&lock);
-    write_register(vp, EOM, 0);
+    write_register(vp, SYNICBOARD_MSR_EOM, 0);
 }
 
 /* The host's timer, when no guest has anything to do: a tick to the moment that is due first. */
@@ -102,7 +101,7 @@ static void *run_processor(void *number)
             pthread_mutex_unlock(&lock);
             if (vector == MESSAGE_VECTOR)
                 handle_message(vp);
-            write_register(vp, EOI, 0);
+            write_register(vp, SYNICBOARD_MSR_EOI, 0);
             pthread_mutex_lock(&lock);
             runs_guest[vp] = false;
         } else if (!tick()) {
@@ -147,13 +146,13 @@ static void run_first_device(void)
 /* Processor 1 has its messages at page 2, and each processor a periodic timer in direct mode. */
 static void set_up(void)
 {
-    write_register(1, SCONTROL, 1);
-    write_register(1, SIMP, 0x2001);
-    write_register(1, SINT0 + SOURCE, MESSAGE_VECTOR);
+    write_register(1, SYNICBOARD_MSR_SCONTROL, 1);
+    write_register(1, SYNICBOARD_MSR_SIMP, 0x2001);
+    write_register(1, SYNICBOARD_MSR_SINT0 + SOURCE, MESSAGE_VECTOR);
     answer(synicboard_open_message_port(&board, PORT, 1, SOURCE, 4));
     for (uint8_t vp = 0; vp < PROCESSORS; vp++) {
-        write_register(vp, STIMER0_COUNT, 100 + 50 * vp);
-        write_register(vp, STIMER0_CONFIG, PERIODIC_DIRECT | TIMER_VECTOR << 4);
+        write_register(vp, SYNICBOARD_MSR_STIMER0_COUNT, 100 + 50 * vp);
+        write_register(vp, SYNICBOARD_MSR_STIMER0_CONFIG, PERIODIC_DIRECT | TIMER_VECTOR << 4);
     }
 }
 

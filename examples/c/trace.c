@@ -10,7 +10,7 @@
 
 #include "synicboard.h"
 
-enum { PROCESSORS = 2, TURNS = 500, RAISES = 2000, PART = 1, EOI = 0x40000070 };
+enum { PROCESSORS = 2, TURNS = 500, RAISES = 2000, PART = 1 };
 
 /* The trace stands under the lock of the board. */
 static pthread_mutex_t lock = PTHREAD_MUTEX_INITIALIZER;
@@ -60,7 +60,7 @@ static void *run_processor(void *number)
     for (int turn = 0; turn < TURNS; turn++) {
         absorb(vp);
         perform(vp, (synicboard_event){ .kind = SYNICBOARD_TAKE, .vp = vp });
-        perform(vp, (synicboard_event){ .kind = SYNICBOARD_WRITE, .vp = vp, .msr = EOI });
+        perform(vp, (synicboard_event){ .kind = SYNICBOARD_WRITE, .vp = vp, .msr = SYNICBOARD_MSR_EOI });
     }
     return NULL;
 }

@@ -6,15 +6,10 @@
 use std::sync::atomic::{AtomicU64, Ordering};
 use std::sync::{Condvar, Mutex};
 use std::thread;
+use synicboard::msr::{EOI, EOM, SCONTROL, SIMP, STIMER0_CONFIG, STIMER0_COUNT};
 use synicboard::{Board, Line, Notice, Raised, Refusal, Reply, Vector};
 
-const EOI: u32 = 0x4000_0070;
-const SCONTROL: u32 = 0x4000_0080;
-const SIMP: u32 = 0x4000_0083;
-const EOM: u32 = 0x4000_0084;
 const SINT2: u32 = 0x4000_0092;
-const STIMER0_CONFIG: u32 = 0x4000_00b0;
-const STIMER0_COUNT: u32 = 0x4000_00b1;
 const TIMER_VECTOR: Vector = Vector::new(0x40).unwrap();
 const WORK_VECTOR: Vector = Vector::new(0x60).unwrap();
 

@@ -6,13 +6,13 @@ use std::error::Error;
 use std::fmt::Write;
 use std::sync::Mutex;
 use std::thread;
+use synicboard::msr::EOI;
 use synicboard::{check, tell, Board, Event, Line, Raised, Reply, Vector, Verdict};
 
 const PROCESSORS: u8 = 2;
 const TURNS: usize = 500;
 const RAISES: usize = 2000;
 const PART: u8 = 1;
-const EOI: u32 = 0x4000_0070;
 
 /// A board, and the trace of what it was asked.
 struct Traced {

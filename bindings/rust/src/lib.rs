@@ -22,6 +22,7 @@
 mod board;
 mod event;
 mod line;
+pub mod msr;
 mod notice;
 mod reply;
 pub mod sys;

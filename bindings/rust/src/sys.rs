@@ -159,6 +159,29 @@ pub const SYNICBOARD_RESUME: u8 = 15;
 /// Event: vp.
 pub const SYNICBOARD_RESET: u8 = 16;
 
+/// The partition reference counter, in units of 100 ns.
+pub const SYNICBOARD_MSR_TIME_REF_COUNT: u32 = 0x40000020;
+/// End of interrupt.
+pub const SYNICBOARD_MSR_EOI: u32 = 0x40000070;
+/// The task priority.
+pub const SYNICBOARD_MSR_TPR: u32 = 0x40000072;
+/// The control of the SynIC.
+pub const SYNICBOARD_MSR_SCONTROL: u32 = 0x40000080;
+/// The version of the SynIC.
+pub const SYNICBOARD_MSR_SVERSION: u32 = 0x40000081;
+/// The page of event flags.
+pub const SYNICBOARD_MSR_SIEFP: u32 = 0x40000082;
+/// The page of messages.
+pub const SYNICBOARD_MSR_SIMP: u32 = 0x40000083;
+/// End of message.
+pub const SYNICBOARD_MSR_EOM: u32 = 0x40000084;
+/// The first synthetic interrupt source; SINT1 to SINT15 follow.
+pub const SYNICBOARD_MSR_SINT0: u32 = 0x40000090;
+/// The configuration of the first timer; that of the next is two further on.
+pub const SYNICBOARD_MSR_STIMER0_CONFIG: u32 = 0x400000b0;
+/// The count of the first timer; that of the next is two further on.
+pub const SYNICBOARD_MSR_STIMER0_COUNT: u32 = 0x400000b1;
+
 /// An event; what its kind does not use is not looked at.
 #[repr(C)]
 #[derive(Clone, Copy, PartialEq, Eq, Debug)]

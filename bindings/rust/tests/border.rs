@@ -5,19 +5,11 @@ use std::error::Error;
 use std::fs;
 use std::sync::Mutex;
 use std::thread;
+use synicboard::msr::{EOI, SCONTROL, SIEFP, SIMP, SINT0, STIMER0_CONFIG, STIMER0_COUNT, SVERSION};
 use synicboard::{
     check, replay, tell, Board, Bytes8, End, Event, Line, Notice, OpenFault, Owner, PayloadBytes, PortShape,
     Refusal, Reply, Sint, TellFault, TimerId, Vector, Verdict, Vp, MOST_NOTICES,
 };
-
-const EOI: u32 = 0x4000_0070;
-const SCONTROL: u32 = 0x4000_0080;
-const SVERSION: u32 = 0x4000_0081;
-const SIEFP: u32 = 0x4000_0082;
-const SIMP: u32 = 0x4000_0083;
-const SINT0: u32 = 0x4000_0090;
-const STIMER0_CONFIG: u32 = 0x4000_00b0;
-const STIMER0_COUNT: u32 = 0x4000_00b1;
 
 const VP: Vp = Vp::new(0).unwrap();
 const SINT: Sint = Sint::new(2).unwrap();

@@ -3,9 +3,9 @@
 
 use std::error::Error;
 use std::thread;
+use synicboard::msr::EOI;
 use synicboard::{Board, Line, Notice, OpenFault, Raised, Refusal, Reply, SplitFault, Vector, Vp};
 
-const EOI: u32 = 0x4000_0070;
 const PARTS: u8 = 4;
 /// A vector of part 3, and its bit is not the first.
 const VECTOR: Vector = Vector::new(0xc5).unwrap();
