@@ -2,7 +2,7 @@
 // or writer fails.
 use crate::gates::Hold;
 use crate::peers::{Narrow, Refuses, Trickle, gives, takes};
-use board_script::{CrewRun, ScriptFault, crew};
+use board_script::{CrewRun, crew};
 use board_threads::{OpenGate, Worker};
 use board_trace::{CheckEnd, check_trace};
 use std::cell::Cell;
@@ -147,51 +147,5 @@ fn a_refused_flush_ends_a_crew(rt: HostRuntime) {
         assert_eq!(rt; end, CrewRun::Writing);
         let text = if room == last { TAKEN } else { "" };
         assert_eq!(rt; writer.text.as_slice(), text.as_bytes());
-    }
-}
-
-#[test]
-fn the_first_fault_of_a_crew_stands_alone(rt: HostRuntime) {
-    let scripts: [(&[u8], &[u8], CrewRun); 4] = [
-        (
-            b"board 1 1 0\nassert 0 60\nactor\ntake x\nline\n",
-            b"! 4 form\n",
-            CrewRun::Script {
-                line: 4,
-                fault: ScriptFault::Form,
-            },
-        ),
-        (
-            b"board 1 1 0\nline\nraise 1 60\n",
-            b"! 3 form\n",
-            CrewRun::Script {
-                line: 3,
-                fault: ScriptFault::Form,
-            },
-        ),
-        (
-            b"board 1 1 0\nassert 0 60\nactor",
-            b"! 3 cut\n",
-            CrewRun::Script {
-                line: 3,
-                fault: ScriptFault::Cut,
-            },
-        ),
-        (
-            b"",
-            b"! 1 first\n",
-            CrewRun::Script {
-                line: 1,
-                fault: ScriptFault::First,
-            },
-        ),
-    ];
-    for (script, text, wanted) in scripts {
-        let held_back = Cell::new(0);
-        let mut reader = script;
-        let mut writer = takes(&held_back);
-        let end = crew(&rt, rt.alloc(), &mut reader, &mut writer, &OpenGate);
-        assert_eq!(rt; end, wanted);
-        assert!(rt; writer.has(text));
     }
 }

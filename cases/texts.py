@@ -1,0 +1,87 @@
+"""Short texts, and what is said of them: one difference each, from a text that is right."""
+
+# scripts that have a fault, and all that is written for them
+SCRIPTS_WITH_A_FAULT = (
+    (b"", b"! 1 first\n"),
+    (b"take 0\n", b"! 1 first\n"),
+    (b"board 256 1 0\n", b"! 1 first\n"),
+    (b"#\n", b"! 2 first\n"),
+    (b"board 9 1 0\n", b"! 1 size\n"),
+    (b"board 0 1 0\n", b"! 1 size\n"),
+    (b"board 1 65 0\n", b"! 1 size\n"),
+    (b"board 9 1 0", b"! 1 cut\n"),
+    (b"board 1 1 0\nassert 0 0f\n", b"! 2 form\n"),
+    (b"board 1 1 0\nassert 0 5F\n", b"! 2 form\n"),
+    (b"board 1 1 0\nboard 1 1 0\n", b"! 2 form\n"),
+    (b"board 1 1 0\nraise 0 60\n", b"! 2 form\n"),
+    (b"board 1 1 0\n take 0\n", b"! 2 form\n"),
+    (b"board 1 1 0\ntake 0\r\n", b"! 2 form\n"),
+    (b"board 1 1 0\ntake  0\n", b"! 2 form\n"),
+    (b"board 1 1 0\ntake 1\n\n# take\nsummary 0\ntake 1\n", b"= refused 14\n! 5 form\n"),
+)
+
+# scripts that have none
+SCRIPTS = (
+    (b"board 1 1 0\n", b""),
+    (b"# one processor\n\nboard 1 64 18446744073709551615\n", b""),
+    (b"board 1 1 0\ntake 1\n", b"= refused 14\n"),
+    (b"board 1 1 0\nread 0 40000070\n", b"= general protection\n"),
+    (b"board 1 1 0\nwrite 0 40000072 1ff\nread 0 40000072\n", b"= done\n= value ff\n"),
+)
+
+# traces that are wrong, and the first line that is
+TRACES_WITH_A_WRONG_LINE = (
+    # the title
+    (b"trace 3\nboard 1 1 0\nend 0 0\n", 1),
+    (b"trace 01\nboard 1 1 0\nend 0\n", 1),
+    (b"trace 1\r\nboard 1 1 0\nend 0\n", 1),
+    (b"board 1 1 0\nend 0\n", 1),
+    # the board line
+    (b"trace 1\n\nboard 1 1 0\nend 0\n", 2),
+    (b"trace 1\nboard 9 1 0\nend 0\n", 2),
+    (b"trace 1\nboard 1 0 0\nend 0\n", 2),
+    (b"trace 1\nend 0\n", 2),
+    # an actor and an event
+    (b"trace 1\nboard 1 1 0\n00 take 0\n= taken none\nend 1\n", 3),
+    (b"trace 1\nboard 1 1 0\n256 take 0\n= taken none\nend 1\n", 3),
+    (b"trace 1\nboard 1 1 0\ntake 0\n= taken none\nend 1\n", 3),
+    (b"trace 1\nboard 1 1 0\n0 summary\n= done\nend 1\n", 3),
+    (b"trace 1\nboard 1 1 0\n0 assert 0 0f\n= done\nend 1\n", 3),
+    # a reply
+    (b"trace 1\nboard 1 1 0\n0 assert 0 60\n= taken none\nend 1\n", 4),
+    (b"trace 1\nboard 1 1 0\n0 take 0\n= taken 60\nend 1\n", 4),
+    (b"trace 1\nboard 1 1 0\n0 take 0\nend 1\n", 4),
+    (b"trace 1\nboard 1 1 0\n0 assert 0 60\n= done\n. requested 0 60\nend 1\n", 5),
+    # the end
+    (b"trace 1\nboard 1 1 0\n0 take 0\n= taken none\nend 2\n", 5),
+    (b"trace 1\nboard 1 1 0\n0 take 0\n= taken none\nend 01\n", 5),
+    (b"trace 1\nboard 1 1 0\n0 take 0\n= taken none\nend 1\nend 1\n", 6),
+    (b"trace 1\nboard 1 1 0\nend 0 0\n", 3),
+    (b"trace 2\nboard 1 1 0\nend 0\n", 3),
+    (b"trace 2\nboard 1 1 0\n0 reset 0\n= done\nend 1 1\n", 5),
+    (b"trace 2\nboard 1 1 0\n0 reset 0\n= done\nend 1 00\n", 5),
+    (b"trace 2\nboard 1 1 0\n0 reset 0\n= done\nend 2 0\n", 5),
+    # a reset, which has no line in format 1
+    (b"trace 1\nboard 1 1 0\n0 reset 0\n= done\nend 1\n", 3),
+    (b"trace 1\nboard 1 1 0\n0 reset 1\n= refused 14\nend 1\n", 3),
+    (b"trace 2\nboard 1 1 0\n0 reset 1\n= done\nend 1 0\n", 4),
+)
+
+# legal traces, and how many entries they have
+TRACES = (
+    (b"trace 1\nboard 1 1 0\nend 0\n", 0),
+    (b"trace 1\nboard 8 64 18446744073709551615\n255 take 8\n= refused 14\nend 1\n", 1),
+    (b"trace 1\nboard 1 1 0\n9 tick 5\n= done\n0 read 0 40000020\n= value 5\nend 2\n", 2),
+    (b"trace 1\nboard 1 1 0\n0 suspend 0\n= done\n1 resume 0\n= done\nend 2\n", 2),
+    (b"trace 2\nboard 1 1 5\n0 reset 0\n= done\n0 resume 0\n= refused 16\nend 2 5\n", 2),
+    (b"trace 2\nboard 1 1 7\n0 write 0 40000080 1\n= done\n0 open 3 message 0 2 1\n= done\n"
+     b"1 post 3 1 -\n= accepted 7\n0 reset 0\n= done\nend 4 8\n", 4),
+)
+
+# crew scripts that have a fault: nothing else is written
+CREWS_WITH_A_FAULT = (
+    (b"board 1 1 0\nassert 0 60\nactor\ntake x\nline\n", b"! 4 form\n"),
+    (b"board 1 1 0\nline\nraise 1 60\n", b"! 3 form\n"),
+    (b"board 1 1 0\nassert 0 60\nactor", b"! 3 cut\n"),
+    (b"", b"! 1 first\n"),
+)
