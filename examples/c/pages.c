@@ -1,7 +1,7 @@
 /* Pages that can be mapped into a guest as they lie. The library takes each page of a board as a block of its
  * own; a program whose malloc aligns blocks of a page's size gets each page as a page of the host's, which KVM,
- * say, takes as a memory slot that a guest may read and not write. Some allocators do so anyway; here the linker
- * sends the library's calls of malloc to this file.
+ * say, takes as a memory slot that a guest may read and not write (docs/EMBEDDING.md says when it may). Some
+ * allocators do so anyway; here the linker sends the library's calls of malloc to this file.
  *
  *   cc -I include examples/c/pages.c build/libsynicboard.a -Wl,--wrap=malloc -o pages */
 #define _DEFAULT_SOURCE /* for mprotect */
