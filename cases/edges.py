@@ -2,7 +2,8 @@
 last ticket, all overlays at one page, the first and the last flags and vectors, the last moments. They are
 too long to be stored, or belong together, and what is expected is worked out here, event by event."""
 
-SCONTROL, SIEFP, SIMP, EOM, TPR = 0x40000080, 0x40000082, 0x40000083, 0x40000084, 0x40000072
+TIME_REF_COUNT, TPR = 0x40000020, 0x40000072
+SCONTROL, SIEFP, SIMP, EOM = 0x40000080, 0x40000082, 0x40000083, 0x40000084
 SINT2 = 0x40000092
 CONFIG, COUNT = 0x400000B0, 0x400000B1
 
@@ -233,8 +234,8 @@ def the_fullest_queue_is_received_in_order():
     for left, message in zip(range(259, -1, -1), messages):
         place(scene, 0, message[0], left == 0)
         receive(scene, 0, message, left == 0)
+        scene.summary(pages={0: "sim 0"}, queues={(0, 2): left} if left else {})
     scene.write(0, EOM, 0)
-    scene.summary(pages={0: "sim 0"})
     return scene
 
 
@@ -361,6 +362,7 @@ def posted_vectors_are_requested_rising():
     for part in (4, 5, 6, 255):
         scene.ask("absorb 0 %d 1" % part, "refused 4")
         scene.ask("absorb 1 %d 1" % part, "refused 14")
+    scene.summary({0: "61"})
     return scene
 
 
@@ -451,6 +453,7 @@ def nothing_is_behind_the_last_moment():
     scene.done("tick %d" % LAST, "tick %d" % LAST)
     scene.ask("tick %d" % (LAST - 1), "refused 10")
     scene.ask("tick 0", "refused 10")
+    scene.ask("read 0 %x" % TIME_REF_COUNT, "value %x" % LAST)
     # a one-shot timer is due at its count, so the write tries it: at the last moment itself too
     scene.start_timer(0, 0, ONE_SHOT, 1, "expired 0 0 1", "requested 0 40")
     scene.start_timer(0, 0, ONE_SHOT, LAST, "expired 0 0 %d" % LAST)

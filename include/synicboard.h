@@ -7,8 +7,9 @@
  * There are handles of boards and handles of lines, which raise vectors beside a board. A handle is closed
  * when it is all zeros, and is opened and closed by the calls below. It may be moved, and not copied; its
  * fields are the library's. One call at a time may use a handle: threads that share one hold a lock of
- * their own. Memory is taken by opening alone, and by the calls on texts, which use no handle. No call ends the program, and none calls back. A pointer that is asked for must not be null;
- * where a count of 0 goes with it, it may point anywhere that is not null.
+ * their own. Memory is taken by opening alone, and by the calls on texts, which use no handle. No call ends
+ * the program, and none calls back. A pointer that is asked for must not be null; where a count of 0 goes with
+ * it, it may point anywhere that is not null.
  */
 #ifndef SYNICBOARD_H
 #define SYNICBOARD_H
@@ -350,9 +351,9 @@ synicboard_verdict synicboard_check(const uint8_t *trace, size_t length);
 
 /* Writes the two lines of a trace, each with its line feed, that tell of an event and of the reply to it, as
  * much of them as fits. So threads that share a board keep a trace of what they did, in the order in which
- * they held its lock; `actor` is a number of the thread. 76 bytes are enough for any event but a post, and 535 for that.
- * Where the numbers mean no event, line 1 is wrong; where a board gives no such reply, line 2. Of a reply the
- * fields are looked at that its kind uses. */
+ * they held its lock; `actor` is a number of the thread. 76 bytes are enough for any event but a post, and 535
+ * for that. Where the numbers mean no event, line 1 is wrong; where they tell no reply of a board's, line 2. Of
+ * both, what their kind does not use is not looked at. */
 synicboard_end synicboard_tell(uint8_t actor, const synicboard_event *event, const synicboard_reply *reply, uint8_t *room, size_t length);
 
 #ifdef __cplusplus
