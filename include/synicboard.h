@@ -8,8 +8,13 @@
  * when it is all zeros, and is opened and closed by the calls below. It may be moved, and not copied; its
  * fields are the library's. One call at a time may use a handle: threads that share one hold a lock of
  * their own. Memory is taken by opening alone, and by the calls on texts, which use no handle. No call ends
- * the program, and none calls back. A pointer that is asked for must not be null; where a count of 0 goes with
- * it, it may point anywhere that is not null.
+ * the program, and none calls back.
+ *
+ * Each call judges its null pointers. A null handle is taken for a closed one, a null event or reply for one of
+ * no kind, a null room for one of no length; of a null `page`, nothing is told. Bytes, events and a text may be
+ * null where there are 0 of them; else null bytes are too many, null events are one of no kind, and a null text
+ * is answered as such. So is a null handle that is to be opened, and to close one does nothing. Any other pointer
+ * points at what the call asks for, or anywhere where a count of 0 goes with it.
  */
 #ifndef SYNICBOARD_H
 #define SYNICBOARD_H
@@ -24,7 +29,7 @@ extern "C" {
 
 /* The version of these declarations; the bindings for Rust have the same. */
 #define SYNICBOARD_VERSION_MAJOR 1
-#define SYNICBOARD_VERSION_MINOR 3
+#define SYNICBOARD_VERSION_MINOR 4
 
 typedef struct synicboard {
     void *at;
@@ -41,7 +46,8 @@ enum {
     SYNICBOARD_NO_MEMORY = 2,
     SYNICBOARD_IS_OPEN = 3,             /* the handle to be opened is open already */
     SYNICBOARD_IS_CLOSED = 4,           /* the handle to be split from is closed */
-    SYNICBOARD_NO_MORE_LINES = 5        /* it has no line left to split off */
+    SYNICBOARD_NO_MORE_LINES = 5,       /* it has no line left to split off */
+    SYNICBOARD_NO_HANDLE = 6            /* the pointer to the handle to be opened is null */
 };
 
 /* Opens a board at moment 0, whose first accepted message takes `first_ticket`. */
@@ -327,7 +333,8 @@ enum {
     SYNICBOARD_ALL_RIGHT = 0,
     SYNICBOARD_WRONG_LINE = 1,          /* `line` is the first that is wrong, counted from 1 */
     SYNICBOARD_WANTED_MEMORY = 2,
-    SYNICBOARD_TOO_LONG = 3             /* more than 1,073,741,824 bytes, and no line of these is wrong */
+    SYNICBOARD_TOO_LONG = 3,            /* more than 1,073,741,824 bytes, and no line of these is wrong */
+    SYNICBOARD_NO_TEXT = 4              /* the pointer to the text is null, and its length is not 0 */
 };
 
 typedef struct synicboard_end {

@@ -339,7 +339,7 @@ static void test_borders(void)
     synicboard_close(&board);
 }
 
-/* With a count of 0 a pointer may point anywhere that is not null. */
+/* With a count of 0 a pointer may point anywhere; nulls.c has null ones. */
 static void test_counts_of_zero(void)
 {
     const uint8_t *nowhere = (const uint8_t *)8;

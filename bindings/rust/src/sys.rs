@@ -1,7 +1,7 @@
 //! The declarations of `synicboard.h`, name for name. A test compares them with the header's text.
 //!
-//! Who calls these by hand keeps what the header asks for: a pointer is not null and is good for its
-//! count, a handle is all zeros or was opened, is not copied, and has one call at a time.
+//! Who calls these by hand keeps what the header asks for: a pointer is null or good for its count, a handle
+//! is all zeros or was opened, is not copied, and has one call at a time.
 
 #![allow(non_camel_case_types)]
 
@@ -11,7 +11,7 @@ use core::ptr;
 /// The first number of the version of these declarations.
 pub const SYNICBOARD_VERSION_MAJOR: u32 = 1;
 /// The second number of the version of these declarations.
-pub const SYNICBOARD_VERSION_MINOR: u32 = 3;
+pub const SYNICBOARD_VERSION_MINOR: u32 = 4;
 
 /// A handle of a board. It may be moved, and not copied; its fields are the library's.
 #[repr(C)]
@@ -38,6 +38,8 @@ pub const SYNICBOARD_IS_OPEN: u8 = 3;
 pub const SYNICBOARD_IS_CLOSED: u8 = 4;
 /// The line has none left to split off.
 pub const SYNICBOARD_NO_MORE_LINES: u8 = 5;
+/// The pointer to the handle to be opened is null.
+pub const SYNICBOARD_NO_HANDLE: u8 = 6;
 
 /// Reply: `fault` says why nothing was performed; nothing was changed.
 pub const SYNICBOARD_NOT_PERFORMED: u8 = 0;
@@ -350,6 +352,8 @@ pub const SYNICBOARD_WRONG_LINE: u8 = 1;
 pub const SYNICBOARD_WANTED_MEMORY: u8 = 2;
 /// Text: more than 1,073,741,824 bytes.
 pub const SYNICBOARD_TOO_LONG: u8 = 3;
+/// Text: the pointer to it is null, and its length is not 0.
+pub const SYNICBOARD_NO_TEXT: u8 = 4;
 
 /// How a replay ended.
 #[repr(C)]

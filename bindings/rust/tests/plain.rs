@@ -1,5 +1,5 @@
-//! The calls of the header by hand: closed handles, which no `Board` and no `Line` has, handles that are
-//! opened twice, and events in plain numbers.
+//! The calls of the header by hand: closed handles and null pointers, which no `Board` and no `Line` has,
+//! handles that are opened twice, and events in plain numbers.
 
 use ::synicboard::sys::*;
 use std::mem;
@@ -114,6 +114,23 @@ fn a_closed_handle_has_no_board() {
         ]
     };
     assert_eq!(answers, [fault(SYNICBOARD_NO_BOARD); 19]);
+}
+
+#[test]
+fn a_null_pointer_is_judged() {
+    let mut handle = Handle::open();
+    let (no_board, no_line) = (ptr::null_mut(), ptr::null_mut());
+    // SAFETY: the handle has no copy, and all other pointers are null.
+    unsafe {
+        assert_eq!(synicboard_open(no_board, 1, 4, 0), SYNICBOARD_NO_HANDLE);
+        assert_eq!(synicboard_open_line(no_line, 1), SYNICBOARD_NO_HANDLE);
+        assert_eq!(synicboard_take(no_board, 0), fault(SYNICBOARD_NO_BOARD));
+        assert_eq!(synicboard_absorb_line(&mut handle.0, no_line, 0, 1), fault(SYNICBOARD_NO_LINE));
+        assert_eq!(synicboard_perform(&mut handle.0, ptr::null()), fault(SYNICBOARD_NO_EVENT));
+        assert_eq!(synicboard_post(&mut handle.0, 3, 1, ptr::null(), 1), fault(SYNICBOARD_NO_EVENT));
+        assert_eq!(synicboard_next(no_board, 0), 0);
+        assert_eq!(synicboard_check(ptr::null(), 1).kind, SYNICBOARD_NO_TEXT);
+    }
 }
 
 #[test]
