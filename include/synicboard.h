@@ -4,11 +4,12 @@
  * reply and its notices; the answers are those of the machine that docs/MACHINE.md says in words.
  * docs/EMBEDDING.md has the run loop round it.
  *
- * There are handles of boards and handles of lines, which raise vectors beside a board. A handle is closed
- * when it is all zeros, and is opened and closed by the calls below. It may be moved, and not copied; its
- * fields are the library's. One call at a time may use a handle: threads that share one hold a lock of
- * their own. Memory is taken by opening alone, and by the calls on texts, which use no handle. No call ends
- * the program, and none calls back.
+ * There are handles of boards, of lines, which raise vectors beside a board, and of boards that threads share,
+ * with a history. A handle is closed when it is all zeros, and is opened and closed by the calls below. It may
+ * be moved, and not copied; its fields are the library's. One call at a time may use a handle, but for that of a
+ * shared board: threads that share another hold a lock of their own. Memory is taken by opening, by the history
+ * of a shared board, and by the calls on texts, which use no handle; by nothing else. No call ends the program,
+ * and none calls back.
  *
  * Each call judges its null pointers. A null handle is taken for a closed one, a null event or reply for one of
  * no kind, a null room for one of no length; of a null `page`, nothing is told. Bytes, events and a text may be
@@ -75,7 +76,8 @@ enum {
 enum {
     SYNICBOARD_NO_BOARD = 1,            /* the handle is closed */
     SYNICBOARD_NO_EVENT = 2,            /* a vector below 16, too many bytes, or no such kind */
-    SYNICBOARD_NO_LINE = 3              /* the handle of the line is closed */
+    SYNICBOARD_NO_LINE = 3,             /* the handle of the line is closed */
+    SYNICBOARD_NO_ENTRY = 4             /* there is no memory for one more entry of a shared board's history */
 };
 
 /* Why an event was refused. */
@@ -334,7 +336,8 @@ enum {
     SYNICBOARD_WRONG_LINE = 1,          /* `line` is the first that is wrong, counted from 1 */
     SYNICBOARD_WANTED_MEMORY = 2,
     SYNICBOARD_TOO_LONG = 3,            /* more than 1,073,741,824 bytes, and no line of these is wrong */
-    SYNICBOARD_NO_TEXT = 4              /* the pointer to the text is null, and its length is not 0 */
+    SYNICBOARD_NO_TEXT = 4              /* there is none: its pointer is null and its length is not 0, or
+                                           nothing is shared that could be settled */
 };
 
 typedef struct synicboard_end {
@@ -362,6 +365,50 @@ synicboard_verdict synicboard_check(const uint8_t *trace, size_t length);
  * for that. Where the numbers mean no event, line 1 is wrong; where they tell no reply of a board's, line 2. Of
  * both, what their kind does not use is not looked at. */
 synicboard_end synicboard_tell(uint8_t actor, const synicboard_event *event, const synicboard_reply *reply, uint8_t *room, size_t length);
+
+/* A board that threads share, with its history: what was asked of it and what it answered, in the order in which
+ * that was done. Who asks is an actor, by a number of its own, and a device raises by a line beside it. These
+ * calls hold a lock of the board's own, so any number of threads may be in them at once, with one handle, but for
+ * opening and closing. The history takes memory for each entry. */
+typedef struct synicboard_shared {
+    void *at;
+    bool is_open;
+} synicboard_shared;
+
+/* A closed handle of a shared board. */
+#define SYNICBOARD_SHARED_CLOSED { 0, false }
+
+/* Opens a shared board at moment 0, with an empty history, whose first accepted message takes `first_ticket`. */
+uint8_t synicboard_open_shared(synicboard_shared *shared, uint8_t processors, uint8_t pages, uint64_t first_ticket);
+
+/* Closes the shared board, if one is open, and gives its memory back. */
+void synicboard_close_shared(synicboard_shared *shared);
+
+/* Performs an event for an actor, enters it with its reply in the history, and copies its notices, as many as
+ * there is room for. Where there is no memory for one more entry, nothing is performed. */
+synicboard_reply synicboard_act(synicboard_shared *shared, uint8_t actor, const synicboard_event *event, synicboard_notice *notices, size_t room);
+
+/* The same for what synicboard_absorb_line does. Another thread may raise at other lines meanwhile. */
+synicboard_reply synicboard_act_absorb(synicboard_shared *shared, uint8_t actor, synicboard_line *line, uint8_t vp, uint8_t part, synicboard_notice *notices, size_t room);
+
+/* Holds the lock, and lends the board to be asked; null where the handle is closed, and then nothing is held. The
+ * thread that holds it makes no other call of the shared board until it has released the lock, and performs no
+ * event on what it was lent, since that would not stand in the history. */
+synicboard *synicboard_hold(synicboard_shared *shared);
+void synicboard_release(synicboard_shared *shared);
+
+/* What a history comes to. */
+typedef struct synicboard_settled {
+    uint8_t kind;                       /* as of a check: SYNICBOARD_ALL_RIGHT where it is legal */
+    uint64_t entries;
+    uint64_t line;
+    size_t length;                      /* of the whole trace, also where it did not fit, and 0 without one */
+} synicboard_settled;
+
+/* Writes the history as a trace, from the opening to here, into a room, as much as fits, and says of it what
+ * synicboard_check says. Nothing is changed, so it may be asked again. SYNICBOARD_NO_TEXT where the handle is
+ * closed. */
+synicboard_settled synicboard_settle(synicboard_shared *shared, uint8_t *room, size_t length);
 
 #ifdef __cplusplus
 }

@@ -1,10 +1,11 @@
 /* What the border costs: performs the events of a workload of board_bench through the C calls.
  *
- *   border calls|notices|structs|batches interrupts|messages|timers EVENTS
+ *   border calls|notices|structs|batches|shared interrupts|messages|timers EVENTS
  *
  * `calls` performs each event by its own call, `notices` asks for its notices too, where there are some,
- * `structs` performs it by synicboard_perform and asks for them, and `batches` performs up to 64 of them by
- * synicboard_perform_all, which gives their notices. Standard output has the events, their notices and the
+ * `structs` performs it by synicboard_perform and asks for them, `batches` performs up to 64 of them by
+ * synicboard_perform_all, which gives their notices, and `shared` performs it by synicboard_act, which gives
+ * them, too, and enters it in a history, under a lock that nobody else wants. Standard output has the events, their notices and the
  * sum of the replies, as board_bench has them, and standard error nanoseconds an event. */
 #define _POSIX_C_SOURCE 200809L /* for clock_gettime */
 #include <inttypes.h>
@@ -20,12 +21,15 @@
 enum { PROCESSORS = 8, PORTS = 16, TIMERS = 4, TICKS = 64, STEP = 50, MOST_EVENTS = 64 };
 enum { OVERLAY = 0x1000, SLOT = 256, FIRST_VECTOR = 0x40, PERIODIC_DIRECT = 0x1003 };
 
-enum way { CALLS, NOTICES, STRUCTS, BATCHES };
+enum way { CALLS, NOTICES, STRUCTS, BATCHES, SHARED };
 
 /* A board on which all was done that comes before the time runs, the events that are then done over and
  * over, and by how much their ticks are put off each time. */
 struct scene {
-    synicboard board;
+    enum way way;
+    synicboard own;
+    synicboard_shared shared;
+    synicboard *board; /* one of these two */
     synicboard_event round[MOST_EVENTS];
     size_t length;
     uint64_t span;
@@ -49,13 +53,20 @@ static void append(struct scene *scene, synicboard_event event)
 
 static void open_board(struct scene *scene, uint8_t processors, uint8_t pages)
 {
-    if (synicboard_open(&scene->board, processors, pages, 0) != SYNICBOARD_OPENED)
+    uint8_t answer;
+    if (scene->way == SHARED)
+        answer = synicboard_open_shared(&scene->shared, processors, pages, 0);
+    else
+        answer = synicboard_open(&scene->own, processors, pages, 0);
+    if (answer != SYNICBOARD_OPENED)
         give_up("no board was opened");
+    /* What comes before the time runs stands in no history. */
+    scene->board = scene->way == SHARED ? synicboard_hold(&scene->shared) : &scene->own;
 }
 
 static void set_register(struct scene *scene, uint8_t vp, uint32_t msr, uint64_t value)
 {
-    if (synicboard_write(&scene->board, vp, msr, value).kind != SYNICBOARD_DONE)
+    if (synicboard_write(scene->board, vp, msr, value).kind != SYNICBOARD_DONE)
         give_up("a register was not written");
 }
 
@@ -81,7 +92,7 @@ static void messages(struct scene *scene)
         synicboard_event store = { .kind = SYNICBOARD_STORE, .address = OVERLAY + SLOT * port, .length = 4 };
         post.bytes[0] = 0x0a;
         set_register(scene, 0, SYNICBOARD_MSR_SINT0 + port, FIRST_VECTOR + port);
-        synicboard_open_message_port(&scene->board, port, 0, port, 2);
+        synicboard_open_message_port(scene->board, port, 0, port, 2);
         append(scene, post);
         append(scene, store);
         append(scene, (synicboard_event){ .kind = SYNICBOARD_WRITE, .msr = SYNICBOARD_MSR_EOM });
@@ -124,16 +135,25 @@ static uint64_t value_of(const synicboard_reply *reply)
     return reply->ticket + reply->vector + reply->refusal;
 }
 
+static inline synicboard_reply perform_by_way(struct scene *scene, const synicboard_event *event, enum way way)
+{
+    static synicboard_notice notices[SYNICBOARD_MOST_NOTICES];
+    if (way == SHARED)
+        return synicboard_act(&scene->shared, 0, event, notices, SYNICBOARD_MOST_NOTICES);
+    bool is_struct = way == STRUCTS;
+    synicboard_reply reply =
+        is_struct ? synicboard_perform(scene->board, event) : perform_by_call(scene->board, event);
+    if (way != CALLS && reply.notices > 0)
+        synicboard_notices(scene->board, notices, SYNICBOARD_MOST_NOTICES);
+    return reply;
+}
+
 /* One event. The way is known where this is called, so it costs nothing. */
 static inline void perform(struct scene *scene, synicboard_event *event, enum way way, struct totals *totals)
 {
-    static synicboard_notice notices[SYNICBOARD_MOST_NOTICES];
-    synicboard *board = &scene->board;
-    synicboard_reply reply = way == STRUCTS ? synicboard_perform(board, event) : perform_by_call(board, event);
+    synicboard_reply reply = perform_by_way(scene, event, way);
     totals->replies += value_of(&reply);
     totals->notices += reply.notices;
-    if (way != CALLS && reply.notices > 0)
-        synicboard_notices(board, notices, SYNICBOARD_MOST_NOTICES);
     event->moment += scene->span;
 }
 
@@ -145,7 +165,7 @@ static void perform_batch(struct scene *scene, size_t count, struct totals *tota
     static synicboard_notice notices[ROOM];
     for (size_t done = 0; done < count;) {
         synicboard_batch batch = synicboard_perform_all(
-            &scene->board, scene->round + done, count - done, replies, MOST_EVENTS, notices, ROOM);
+            scene->board, scene->round + done, count - done, replies, MOST_EVENTS, notices, ROOM);
         if (batch.done == 0)
             give_up("a batch performed nothing");
         for (size_t at = 0; at < batch.done; at++)
@@ -178,6 +198,7 @@ static struct totals total(struct scene *scene, uint64_t events, enum way way)
     case NOTICES: perform_all(scene, events, NOTICES, &totals); break;
     case STRUCTS: perform_all(scene, events, STRUCTS, &totals); break;
     case BATCHES: perform_batches(scene, events, &totals); break;
+    case SHARED: perform_all(scene, events, SHARED, &totals); break;
     }
     return totals;
 }
@@ -205,22 +226,25 @@ static size_t number_of(const char *word, const char *const words[], size_t coun
     for (size_t at = 0; at < count; at++)
         if (strcmp(word, words[at]) == 0)
             return at;
-    give_up("border calls|notices|structs|batches interrupts|messages|timers EVENTS");
+    give_up("border calls|notices|structs|batches|shared interrupts|messages|timers EVENTS");
 }
 
 int main(int count, char **words)
 {
-    static const char *const ways[] = { "calls", "notices", "structs", "batches" };
+    static const char *const ways[] = { "calls", "notices", "structs", "batches", "shared" };
     static const char *const names[] = { "interrupts", "messages", "timers" };
     static void (*const set_up[])(struct scene *) = { interrupts, messages, timers };
     static struct scene scene;
-    enum way way = (enum way)number_of(count == 4 ? words[1] : "", ways, 4);
+    enum way way = (enum way)number_of(count == 4 ? words[1] : "", ways, 5);
     size_t name = number_of(words[2], names, 3);
     uint64_t events = strtoull(words[3], NULL, 10);
     if (events == 0)
         give_up("how many events?");
+    scene.way = way;
     set_up[name](&scene);
+    synicboard_release(&scene.shared);
     show(names[name], &scene, events, way);
-    synicboard_close(&scene.board);
+    synicboard_close_shared(&scene.shared);
+    synicboard_close(&scene.own);
     return 0;
 }

@@ -1,123 +1,104 @@
-/* Threads on one board that keep a trace of what they did, in the order in which they held its lock. At the
- * end the library is asked whether that is the trace of a legal history, and it is in whatever order they
- * came. Two processors have a thread each; a device raises vectors at both, without the lock.
+/* Threads that share a board, which keeps the history of what they did. At the end it is settled: its trace is
+ * that of a legal history, in whatever order they came. Two processors have a thread each; a device raises
+ * vectors at both, without the lock.
  *
  *   cc -I include examples/c/trace.c build/libsynicboard.a -pthread -o trace */
 #include <inttypes.h>
 #include <pthread.h>
 #include <stdio.h>
-#include <stdlib.h>
 
 #include "synicboard.h"
 
 enum { PROCESSORS = 2, TURNS = 500, RAISES = 2000, PART = 1 };
 
-/* The trace stands under the lock of the board. */
-static pthread_mutex_t lock = PTHREAD_MUTEX_INITIALIZER;
-static synicboard board = SYNICBOARD_CLOSED;
-static char trace[1 << 18];
-static size_t length;
-static unsigned entries, absorbed;
+static synicboard_shared board = SYNICBOARD_SHARED_CLOSED;
+static synicboard_line device_line = SYNICBOARD_LINE_CLOSED;
 
-/* Each line is used by one thread. */
-static synicboard_line lines[PROCESSORS], device_line = SYNICBOARD_LINE_CLOSED;
-static unsigned fresh;
+/* A processor is an actor of its own number. Its line is used by its thread alone. */
+struct processor {
+    uint8_t vp;
+    synicboard_line line;
+    unsigned absorbed;
+    pthread_t thread;
+};
 
-/* Enters an event and the reply to it behind the others. */
-static void enter(uint8_t actor, const synicboard_event *event, const synicboard_reply *reply)
+static void absorb(struct processor *processor)
 {
-    size_t room = sizeof trace - length;
-    synicboard_end told = synicboard_tell(actor, event, reply, (uint8_t *)trace + length, room);
-    if (told.kind != SYNICBOARD_ALL_RIGHT || told.length > room)
-        exit(1);
-    length += told.length;
-    entries++;
-}
-
-static void perform(uint8_t actor, synicboard_event event)
-{
-    pthread_mutex_lock(&lock);
-    synicboard_reply reply = synicboard_perform(&board, &event);
-    enter(actor, &event, &reply);
-    pthread_mutex_unlock(&lock);
-}
-
-/* What was raised is told by the reply, and is part of what was asked. */
-static void absorb(uint8_t vp)
-{
-    pthread_mutex_lock(&lock);
-    synicboard_reply reply = synicboard_absorb_line(&board, &lines[vp], vp, PART);
-    synicboard_event event = { .kind = SYNICBOARD_ABSORB, .vp = vp, .part = PART, .value = reply.value };
-    enter(vp, &event, &reply);
+    uint8_t vp = processor->vp;
+    synicboard_reply reply = synicboard_act_absorb(&board, vp, &processor->line, vp, PART, NULL, 0);
     for (uint64_t bits = reply.value; bits != 0; bits &= bits - 1)
-        absorbed++;
-    pthread_mutex_unlock(&lock);
+        processor->absorbed++;
 }
 
-static void *run_processor(void *number)
+static void perform(const struct processor *processor, synicboard_event event)
 {
-    uint8_t vp = *(const uint8_t *)number;
+    event.vp = processor->vp;
+    synicboard_act(&board, processor->vp, &event, NULL, 0);
+}
+
+static void *run_processor(void *argument)
+{
+    struct processor *processor = argument;
     for (int turn = 0; turn < TURNS; turn++) {
-        absorb(vp);
-        perform(vp, (synicboard_event){ .kind = SYNICBOARD_TAKE, .vp = vp });
-        perform(vp, (synicboard_event){ .kind = SYNICBOARD_WRITE, .vp = vp, .msr = SYNICBOARD_MSR_EOI });
+        absorb(processor);
+        perform(processor, (synicboard_event){ .kind = SYNICBOARD_TAKE });
+        perform(processor, (synicboard_event){ .kind = SYNICBOARD_WRITE, .msr = SYNICBOARD_MSR_EOI });
     }
     return NULL;
 }
 
-static void run_device(void)
+/* How many vectors were raised that were not raised before. */
+static unsigned run_device(void)
 {
+    unsigned fresh = 0;
     for (unsigned turn = 0; turn < RAISES; turn++) {
         uint8_t vector = 64 * PART + turn / PROCESSORS % 64;
         fresh += synicboard_raise(&device_line, turn % PROCESSORS, vector) == SYNICBOARD_FRESH;
     }
+    return fresh;
 }
 
-static bool open_all(void)
+static bool open_all(struct processor *processors)
 {
-    return synicboard_open(&board, PROCESSORS, 1, 0) == SYNICBOARD_OPENED
-        && synicboard_open_line(&lines[0], PROCESSORS) == SYNICBOARD_OPENED
-        && synicboard_split_line(&lines[0], &lines[1]) == SYNICBOARD_OPENED
-        && synicboard_split_line(&lines[0], &device_line) == SYNICBOARD_OPENED;
+    bool is_open = synicboard_open_shared(&board, PROCESSORS, 1, 0) == SYNICBOARD_OPENED
+        && synicboard_open_line(&device_line, PROCESSORS) == SYNICBOARD_OPENED;
+    for (uint8_t vp = 0; is_open && vp < PROCESSORS; vp++) {
+        processors[vp].vp = vp;
+        is_open = synicboard_split_line(&device_line, &processors[vp].line) == SYNICBOARD_OPENED;
+    }
+    return is_open;
 }
 
-static void close_all(void)
-{
-    synicboard_close_line(&device_line);
-    for (int vp = 0; vp < PROCESSORS; vp++)
-        synicboard_close_line(&lines[vp]);
-    synicboard_close(&board);
-}
-
-/* Adds the line that ends a trace, and has all of it checked. */
+/* With a room, this would write the trace, too. */
 static void settle(void)
 {
-    char *end = trace + length;
-    length += (size_t)snprintf(end, sizeof trace - length, "end %u %" PRIu64 "\n", entries, synicboard_next_ticket(&board));
-    synicboard_verdict verdict = synicboard_check((const uint8_t *)trace, length);
-    if (verdict.kind == SYNICBOARD_ALL_RIGHT)
-        printf("legal %" PRIu64 "\n", verdict.entries);
+    synicboard_settled settled = synicboard_settle(&board, NULL, 0);
+    if (settled.kind == SYNICBOARD_ALL_RIGHT)
+        printf("legal %" PRIu64 "\n", settled.entries);
     else
-        printf("refused %" PRIu64 "\n", verdict.line);
-    printf("%s\n", fresh == absorbed ? "each fresh vector was absorbed once" : "a vector was lost");
+        printf("refused %" PRIu64 "\n", settled.line);
 }
 
 int main(void)
 {
-    static const uint8_t numbers[PROCESSORS] = { 0, 1 };
-    pthread_t threads[PROCESSORS];
-    if (!open_all())
+    struct processor processors[PROCESSORS] = { 0 };
+    unsigned absorbed = 0;
+    if (!open_all(processors))
         return 1;
-    length = (size_t)snprintf(trace, sizeof trace, "trace 2\nboard %d 1 0\n", PROCESSORS);
     for (int vp = 0; vp < PROCESSORS; vp++)
-        if (pthread_create(&threads[vp], NULL, run_processor, (void *)&numbers[vp]) != 0)
+        if (pthread_create(&processors[vp].thread, NULL, run_processor, &processors[vp]) != 0)
             return 1;
-    run_device();
+    unsigned fresh = run_device();
     for (int vp = 0; vp < PROCESSORS; vp++)
-        pthread_join(threads[vp], NULL);
-    for (uint8_t vp = 0; vp < PROCESSORS; vp++)
-        absorb(vp);
+        pthread_join(processors[vp].thread, NULL);
+    for (int vp = 0; vp < PROCESSORS; vp++) {
+        absorb(&processors[vp]);
+        absorbed += processors[vp].absorbed;
+        synicboard_close_line(&processors[vp].line);
+    }
     settle();
-    close_all();
+    printf("%s\n", fresh == absorbed ? "each fresh vector was absorbed once" : "a vector was lost");
+    synicboard_close_line(&device_line);
+    synicboard_close_shared(&board);
     return 0;
 }

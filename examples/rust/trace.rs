@@ -1,95 +1,39 @@
-//! Threads on one board that keep a trace of what they did, in the order in which they held its lock. At the
-//! end the library is asked whether that is the trace of a legal history, and it is in whatever order they
-//! came. Two processors have a thread each; a device raises vectors at both, without the lock.
+//! Threads that share a board, which keeps the history of what they did. At the end it is settled: its trace
+//! is that of a legal history, in whatever order they came. Two processors have a thread each; a device raises
+//! vectors at both, without the lock.
 
 use std::error::Error;
-use std::fmt::Write;
-use std::sync::Mutex;
 use std::thread;
 use synicboard::msr::EOI;
-use synicboard::{check, tell, Board, Event, Line, Raised, Reply, Vector, Verdict};
+use synicboard::{Event, Line, NoEntry, NoticeRoom, Raised, SharedBoard, Vector};
 
 const PROCESSORS: u8 = 2;
 const TURNS: usize = 500;
 const RAISES: usize = 2000;
 const PART: u8 = 1;
 
-/// A board, and the trace of what it was asked.
-struct Traced {
-    board: Board,
-    trace: String,
-    entries: u64,
+/// A processor takes in what was raised. How many vectors these were.
+fn absorb(board: &SharedBoard, line: &mut Line, vp: u8) -> Result<u64, NoEntry> {
+    let (_, bits) = board.absorb(vp, line, vp, PART, &mut NoticeRoom::new())?;
+    Ok(bits.count_ones().into())
 }
 
-impl Traced {
-    fn open() -> Result<Traced, Box<dyn Error>> {
-        let board = Board::open(PROCESSORS, 1, 0)?;
-        Ok(Traced {
-            board,
-            trace: format!("trace 2\nboard {PROCESSORS} 1 0\n"),
-            entries: 0,
-        })
-    }
-
-    /// Enters an event and the reply to it behind the others.
-    fn enter(&mut self, actor: u8, event: &Event, reply: &Reply) {
-        let mut room = [0; 535];
-        let length =
-            tell(actor, event, reply, &mut room).expect("a reply of the board's, and memory");
-        self.trace
-            .push_str(std::str::from_utf8(&room[..length]).expect("a trace is in ASCII"));
-        self.entries += 1;
-    }
-
-    fn perform(&mut self, actor: u8, event: &Event) {
-        let reply = self.board.perform(event);
-        self.enter(actor, event, &reply);
-    }
-
-    /// What was raised is told beside the reply, and is part of what was asked.
-    fn absorb(&mut self, line: &mut Line, vp: u8) -> u64 {
-        let (reply, bits) = self.board.absorb_line_bits(line, vp, PART);
-        self.enter(
-            vp,
-            &Event::Absorb {
-                vp,
-                part: PART,
-                bits,
-            },
-            &reply,
-        );
-        bits.count_ones().into()
-    }
-
-    /// Adds the line that ends a trace, and has all of it checked.
-    fn settle(mut self) -> Result<Verdict, Box<dyn Error>> {
-        writeln!(
-            self.trace,
-            "end {} {}",
-            self.entries,
-            self.board.next_ticket()
-        )?;
-        Ok(check(self.trace.as_bytes()))
-    }
-}
-
-/// The loop of a processor's thread. How many vectors it absorbed.
-fn run_processor(traced: &Mutex<Traced>, line: &mut Line, vp: u8) -> u64 {
-    let lock = || traced.lock().expect("no thread panics");
+/// The loop of a processor's thread: an actor of its own number. How many vectors it absorbed.
+fn run_processor(board: &SharedBoard, line: &mut Line, vp: u8) -> Result<u64, NoEntry> {
+    let end = Event::Write {
+        vp,
+        register: EOI,
+        value: 0,
+    };
+    let mut room = NoticeRoom::new();
     let mut absorbed = 0;
     for _ in 0..TURNS {
-        absorbed += lock().absorb(line, vp);
-        lock().perform(vp, &Event::Take { vp });
-        lock().perform(
-            vp,
-            &Event::Write {
-                vp,
-                register: EOI,
-                value: 0,
-            },
-        );
+        absorbed += absorb(board, line, vp)?;
+        for event in [Event::Take { vp }, end] {
+            let _ = board.act(vp, &event, &mut room)?;
+        }
     }
-    absorbed
+    Ok(absorbed)
 }
 
 /// The device waits for nobody. How many vectors it raised that were not raised before.
@@ -105,27 +49,27 @@ fn run_device(line: &mut Line) -> u64 {
 }
 
 fn main() -> Result<(), Box<dyn Error>> {
-    let traced = Mutex::new(Traced::open()?);
+    let board = SharedBoard::open(PROCESSORS, 1, 0)?;
     let mut device_line = Line::open(PROCESSORS)?;
     let mut lines = [device_line.split()?, device_line.split()?];
-    let (fresh, mut absorbed) = thread::scope(|scope| {
-        let shared = &traced;
+    let (fresh, in_turns) = thread::scope(|scope| {
+        let board = &board;
         let threads: Vec<_> = lines
             .iter_mut()
             .zip(0..)
-            .map(|(line, vp)| scope.spawn(move || run_processor(shared, line, vp)))
+            .map(|(line, vp)| scope.spawn(move || run_processor(board, line, vp)))
             .collect();
         let fresh = run_device(&mut device_line);
         let absorbed = threads
             .into_iter()
             .map(|thread| thread.join().expect("no thread panics"));
-        (fresh, absorbed.sum::<u64>())
+        (fresh, absorbed.sum::<Result<u64, NoEntry>>())
     });
-    let mut traced = traced.into_inner()?;
+    let mut absorbed = in_turns?;
     for vp in 0..PROCESSORS {
-        absorbed += traced.absorb(&mut device_line, vp);
+        absorbed += absorb(&board, &mut device_line, vp)?;
     }
-    println!("{:?}", traced.settle()?);
+    println!("{:?}", board.settle(&mut []).verdict);
     println!("fresh vectors were absorbed once: {}", fresh == absorbed);
     Ok(())
 }

@@ -4,8 +4,8 @@
 //! These are bindings for the C library `libsynicboard.a`, whose code is proved to be the machine that
 //! `docs/MACHINE.md` says in words. A host hands a [`Board`] its events; the board answers each with a
 //! [`Reply`] and its [`Notices`], and has no clock, no thread and no callback. Where threads share it they
-//! put it under a lock, beside which devices raise vectors by a [`Line`]. `docs/EMBEDDING.md` has the run
-//! loop round it, and `examples/rust/loop.rs` is one.
+//! put it under a lock, or have a [`SharedBoard`], which keeps its history; beside either, devices raise
+//! vectors by a [`Line`]. `docs/EMBEDDING.md` has the run loop round it, and `examples/rust/loop.rs` is one.
 //!
 //! Moments are in units of 100 ns. Numbers that name a processor, a source, a port, a register or a page
 //! are plain in what is asked, and the board judges them; in what it answers their range is in the type.
@@ -25,6 +25,7 @@ mod line;
 pub mod msr;
 mod notice;
 mod reply;
+mod shared;
 pub mod sys;
 mod terms;
 mod text;
@@ -34,6 +35,7 @@ pub use event::{Bytes, Bytes8, Event, PayloadBytes, PortShape};
 pub use line::{Line, Raised, SplitFault};
 pub use notice::{Notice, Notices, MOST_NOTICES};
 pub use reply::{Refusal, Reply};
+pub use shared::{NoEntry, NoticeRoom, Settled, SharedBoard};
 pub use terms::{Moment, Owner, Sint, Ticket, TimerId, Vector, Vp};
 pub use text::{check, replay, tell, End, TellFault, Verdict};
 

@@ -70,6 +70,8 @@ pub const SYNICBOARD_NO_BOARD: u8 = 1;
 pub const SYNICBOARD_NO_EVENT: u8 = 2;
 /// Fault: the handle of the line is closed.
 pub const SYNICBOARD_NO_LINE: u8 = 3;
+/// Fault: there is no memory for one more entry of a shared board's history.
+pub const SYNICBOARD_NO_ENTRY: u8 = 4;
 
 /// Refusal: the port is not open.
 pub const SYNICBOARD_UNKNOWN_PORT: u8 = 1;
@@ -379,6 +381,34 @@ pub struct synicboard_verdict {
     pub line: u64,
 }
 
+/// A handle of a shared board. It may be moved, and not copied; its fields are the library's.
+#[repr(C)]
+#[derive(Debug)]
+pub struct synicboard_shared {
+    /// Where the shared board lies.
+    pub at: *mut c_void,
+    /// Whether there is one.
+    pub is_open: bool,
+}
+
+/// A closed handle of a shared board.
+pub const SYNICBOARD_SHARED_CLOSED: synicboard_shared =
+    synicboard_shared { at: ptr::null_mut(), is_open: false };
+
+/// What a history comes to.
+#[repr(C)]
+#[derive(Clone, Copy, PartialEq, Eq, Debug)]
+pub struct synicboard_settled {
+    /// How the reading of the trace ended.
+    pub kind: u8,
+    /// The entries of the legal history.
+    pub entries: u64,
+    /// The first line that is wrong, counted from 1.
+    pub line: u64,
+    /// The bytes of the whole trace, also where it did not fit.
+    pub length: usize,
+}
+
 extern "C" {
     /// Opens a board at moment 0, whose first accepted message takes `first_ticket`.
     pub fn synicboard_open(board: *mut synicboard, processors: u8, pages: u8, first_ticket: u64) -> u8;
@@ -515,4 +545,42 @@ extern "C" {
         room: *mut u8,
         length: usize,
     ) -> synicboard_end;
+
+    /// Opens a shared board at moment 0, whose first accepted message takes `first_ticket`.
+    pub fn synicboard_open_shared(
+        shared: *mut synicboard_shared,
+        processors: u8,
+        pages: u8,
+        first_ticket: u64,
+    ) -> u8;
+    /// Closes the shared board, if one is open, and gives its memory back.
+    pub fn synicboard_close_shared(shared: *mut synicboard_shared);
+    /// Performs an event for an actor, enters it in the history, and copies its notices.
+    pub fn synicboard_act(
+        shared: *mut synicboard_shared,
+        actor: u8,
+        event: *const synicboard_event,
+        notices: *mut synicboard_notice,
+        room: usize,
+    ) -> synicboard_reply;
+    /// The same for what `synicboard_absorb_line` does.
+    pub fn synicboard_act_absorb(
+        shared: *mut synicboard_shared,
+        actor: u8,
+        line: *mut synicboard_line,
+        vp: u8,
+        part: u8,
+        notices: *mut synicboard_notice,
+        room: usize,
+    ) -> synicboard_reply;
+    /// Holds the lock, and lends the board to be asked; null where the handle is closed.
+    pub fn synicboard_hold(shared: *mut synicboard_shared) -> *mut synicboard;
+    /// Gives the lock back.
+    pub fn synicboard_release(shared: *mut synicboard_shared);
+    /// Writes the history as a trace into a room, as much as fits, and has it checked.
+    pub fn synicboard_settle(
+        shared: *mut synicboard_shared,
+        room: *mut u8,
+        length: usize,
+    ) -> synicboard_settled;
 }

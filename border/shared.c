@@ -1,0 +1,273 @@
+/* Shared boards: a lock, a board, and the history of what was done under the lock. Nothing is answered here
+ * that a call of the header has not answered: the replies are those of the board, and whether the history is
+ * legal is what synicboard_check says of it. */
+#include <inttypes.h>
+#include <pthread.h>
+#include <stddef.h>
+#include <stdio.h>
+#include <stdlib.h>
+#include <string.h>
+
+#include "synicboard.h"
+
+/* Bytes that grow. */
+struct bytes {
+    uint8_t *at;
+    size_t length, room;
+};
+
+/* What the handle of a shared board points to. */
+struct shared {
+    pthread_mutex_t lock;
+    synicboard board;
+    uint8_t processors, pages;
+    uint64_t first_ticket;
+    /* The entries, one behind another: each is the actor, the reply, and as much of the event as its kind has. */
+    struct bytes history;
+    uint64_t entries;
+};
+
+enum {
+    EVENT_HEAD = offsetof(synicboard_event, bytes),
+    MOST_ENTRY = 1 + sizeof(synicboard_reply) + sizeof(synicboard_event),
+    FIRST_ROOM = 4096,
+    MOST_LINES = 535,   /* what the lines of an entry take */
+    MOST_LINE = 64      /* what a line around them takes */
+};
+
+/* Makes room for so many more bytes; nothing is changed where there is no memory. */
+static bool reserve(struct bytes *bytes, size_t more)
+{
+    if (bytes->room - bytes->length >= more)
+        return true;
+    size_t room = bytes->room < FIRST_ROOM ? FIRST_ROOM : 2 * bytes->room;
+    uint8_t *at = realloc(bytes->at, room);
+    if (at == NULL)
+        return false;
+    bytes->at = at;
+    bytes->room = room;
+    return true;
+}
+
+/* Appends bytes, for which there is room. */
+static void put(struct bytes *bytes, const void *from, size_t length)
+{
+    memcpy(bytes->at + bytes->length, from, length);
+    bytes->length += length;
+}
+
+/* Copies the next bytes of an entry, and answers where those behind them are. */
+static const uint8_t *get(const uint8_t *at, void *to, size_t length)
+{
+    memcpy(to, at, length);
+    return at + length;
+}
+
+/* How many bytes an event has beside its numbers. */
+static size_t event_bytes(const synicboard_event *event)
+{
+    bool has_bytes = event->kind == SYNICBOARD_POST || event->kind == SYNICBOARD_STORE;
+    return has_bytes ? event->length : 0;
+}
+
+/* Enters what was performed, in room that was made before. */
+static void enter(struct shared *shared, uint8_t actor, const synicboard_event *event, const synicboard_reply *reply)
+{
+    put(&shared->history, &actor, 1);
+    put(&shared->history, reply, sizeof *reply);
+    put(&shared->history, event, EVENT_HEAD + event_bytes(event));
+    shared->entries++;
+}
+
+/* Tells the next entry, and answers where the one behind it is; null where memory is wanting. */
+static const uint8_t *tell_entry(const uint8_t *at, struct bytes *text)
+{
+    uint8_t actor;
+    synicboard_reply reply;
+    synicboard_event event;
+    at = get(at, &actor, 1);
+    at = get(at, &reply, sizeof reply);
+    at = get(at, &event, EVENT_HEAD);
+    at = get(at, event.bytes, event_bytes(&event));
+    if (!reserve(text, MOST_LINES))
+        return NULL;
+    synicboard_end told = synicboard_tell(actor, &event, &reply, text->at + text->length, MOST_LINES);
+    if (told.kind != SYNICBOARD_ALL_RIGHT)
+        return NULL;
+    text->length += told.length;
+    return at;
+}
+
+/* Tells the whole history as a trace; false where memory is wanting. */
+static bool tell_all(struct shared *shared, struct bytes *text)
+{
+    if (!reserve(text, MOST_LINE))
+        return false;
+    text->length = (size_t)snprintf((char *)text->at, MOST_LINE, "trace 2\nboard %u %u %" PRIu64 "\n",
+                                    shared->processors, shared->pages, shared->first_ticket);
+    const uint8_t *at = shared->history.at;
+    for (uint64_t entry = 0; entry < shared->entries; entry++) {
+        at = tell_entry(at, text);
+        if (at == NULL)
+            return false;
+    }
+    if (!reserve(text, MOST_LINE))
+        return false;
+    text->length += (size_t)snprintf((char *)text->at + text->length, MOST_LINE, "end %" PRIu64 " %" PRIu64 "\n",
+                                     shared->entries, synicboard_next_ticket(&shared->board));
+    return true;
+}
+
+/* ---- The calls of the header ---- */
+
+/* The shared board of a handle, with its lock held; null where the handle is closed. */
+static struct shared *lock(const synicboard_shared *handle)
+{
+    if (handle == NULL || !handle->is_open)
+        return NULL;
+    struct shared *shared = handle->at;
+    pthread_mutex_lock(&shared->lock);
+    return shared;
+}
+
+static void unlock(struct shared *shared)
+{
+    pthread_mutex_unlock(&shared->lock);
+}
+
+/* Opens a board, and a lock for it. */
+static uint8_t open_parts(struct shared *shared)
+{
+    uint8_t answer = synicboard_open(&shared->board, shared->processors, shared->pages, shared->first_ticket);
+    if (answer == SYNICBOARD_OPENED && pthread_mutex_init(&shared->lock, NULL) != 0) {
+        synicboard_close(&shared->board);
+        return SYNICBOARD_NO_MEMORY;
+    }
+    return answer;
+}
+
+uint8_t synicboard_open_shared(synicboard_shared *handle, uint8_t processors, uint8_t pages, uint64_t first_ticket)
+{
+    if (handle == NULL)
+        return SYNICBOARD_NO_HANDLE;
+    if (handle->is_open)
+        return SYNICBOARD_IS_OPEN;
+    struct shared *shared = malloc(sizeof *shared);
+    if (shared == NULL)
+        return SYNICBOARD_NO_MEMORY;
+    *shared = (struct shared){ .processors = processors, .pages = pages, .first_ticket = first_ticket };
+    uint8_t answer = open_parts(shared);
+    if (answer == SYNICBOARD_OPENED)
+        *handle = (synicboard_shared){ shared, true };
+    else
+        free(shared);
+    return answer;
+}
+
+void synicboard_close_shared(synicboard_shared *handle)
+{
+    if (handle == NULL || !handle->is_open)
+        return;
+    struct shared *shared = handle->at;
+    pthread_mutex_destroy(&shared->lock);
+    synicboard_close(&shared->board);
+    free(shared->history.at);
+    free(shared);
+    *handle = (synicboard_shared)SYNICBOARD_SHARED_CLOSED;
+}
+
+static synicboard_reply not_performed(uint8_t fault)
+{
+    return (synicboard_reply){ .kind = SYNICBOARD_NOT_PERFORMED, .fault = fault };
+}
+
+/* The shared board with its lock held and room for one more entry, so that what is performed is always in the
+ * history; else null, and why not. */
+static struct shared *begin(const synicboard_shared *handle, synicboard_reply *reply)
+{
+    struct shared *shared = lock(handle);
+    if (shared == NULL) {
+        *reply = not_performed(SYNICBOARD_NO_BOARD);
+    } else if (!reserve(&shared->history, MOST_ENTRY)) {
+        *reply = not_performed(SYNICBOARD_NO_ENTRY);
+        unlock(shared);
+        shared = NULL;
+    }
+    return shared;
+}
+
+/* Enters what was performed, copies its notices, and gives the lock back. */
+static void end(struct shared *shared, uint8_t actor, const synicboard_event *event, const synicboard_reply *reply,
+                synicboard_notice *notices, size_t room)
+{
+    if (reply->kind != SYNICBOARD_NOT_PERFORMED) {
+        enter(shared, actor, event, reply);
+        synicboard_notices(&shared->board, notices, room);
+    }
+    unlock(shared);
+}
+
+synicboard_reply synicboard_act(synicboard_shared *handle, uint8_t actor, const synicboard_event *event,
+                                synicboard_notice *notices, size_t room)
+{
+    synicboard_reply reply;
+    struct shared *shared = begin(handle, &reply);
+    if (shared != NULL) {
+        reply = synicboard_perform(&shared->board, event);
+        end(shared, actor, event, &reply, notices, room);
+    }
+    return reply;
+}
+
+synicboard_reply synicboard_act_absorb(synicboard_shared *handle, uint8_t actor, synicboard_line *line, uint8_t vp,
+                                       uint8_t part, synicboard_notice *notices, size_t room)
+{
+    synicboard_reply reply;
+    struct shared *shared = begin(handle, &reply);
+    if (shared != NULL) {
+        reply = synicboard_absorb_line(&shared->board, line, vp, part);
+        synicboard_event event = { .kind = SYNICBOARD_ABSORB, .vp = vp, .part = part, .value = reply.value };
+        end(shared, actor, &event, &reply, notices, room);
+    }
+    return reply;
+}
+
+synicboard *synicboard_hold(synicboard_shared *handle)
+{
+    struct shared *shared = lock(handle);
+    return shared == NULL ? NULL : &shared->board;
+}
+
+void synicboard_release(synicboard_shared *handle)
+{
+    if (handle != NULL && handle->is_open)
+        unlock(handle->at);
+}
+
+/* What a check says of the text of a history. Where it says something of its lines, the text is copied as far as
+ * there is room. */
+static synicboard_settled judged(const struct bytes *text, uint8_t *room, size_t length)
+{
+    synicboard_verdict verdict = synicboard_check(text->at, text->length);
+    bool is_judged = verdict.kind == SYNICBOARD_ALL_RIGHT || verdict.kind == SYNICBOARD_WRONG_LINE;
+    if (is_judged && room != NULL)
+        memcpy(room, text->at, length < text->length ? length : text->length);
+    size_t told = is_judged ? text->length : 0;
+    return (synicboard_settled){ verdict.kind, verdict.entries, verdict.line, told };
+}
+
+synicboard_settled synicboard_settle(synicboard_shared *handle, uint8_t *room, size_t length)
+{
+    struct bytes text = { 0 };
+    synicboard_settled settled = { .kind = SYNICBOARD_NO_TEXT };
+    struct shared *shared = lock(handle);
+    if (shared == NULL)
+        return settled;
+    bool is_told = tell_all(shared, &text);
+    unlock(shared);
+    settled.kind = SYNICBOARD_WANTED_MEMORY;
+    if (is_told)
+        settled = judged(&text, room, length);
+    free(text.at);
+    return settled;
+}
