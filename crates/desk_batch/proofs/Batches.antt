@@ -1,15 +1,16 @@
 -- A batch goes on by one event.
-use Rattle.std.proofs.Common.{◌≡◌, ℕ, ◌+◌, ◌<◌, ◌≤◌, List, [], ◌∷◌, ◌++◌, ap, sym, subst, ◌∙◌, refl, arith, length, take, map, drop, set, slice_get, get_or, None, Some, append_assoc, append-nil}
+use Rattle.std.proofs.Common.{◌≡◌, ℕ, ◌+◌, ◌<◌, ◌≤◌, List, [], ◌∷◌, ◌++◌, ap, sym, subst, ◌∙◌, refl, arith, length, take, map, drop, set, slice_get, get_or, None, Some, Option, append_assoc, append-nil}
 use Rattle.std.proofs.lemmas.List.{take_more, map-append, length-map, length_push, length-take-le, length-append}
 use Rattle.std.proofs.lemmas.Option.{slice_get-get_or}
 use Rattle.plain_terms.specs.declared.event.PlainEvent.{PlainEvent}
 use Rattle.plain_terms.specs.declared.notice.PlainNotice.{PlainNotice}
 use Rattle.plain_terms.specs.declared.reply.PlainReply.{PlainReply}
-use Rattle.plain_terms.specs.Events.{event_meant}
+use Rattle.plain_terms.specs.Events.{event_meant, ComesTo}
 use Rattle.plain_terms.specs.Notices.{notice_told}
 use Rattle.plain_terms.specs.Replies.{reply_told}
 use Rattle.plain_terms.specs.Rooms.{Fronts}
 use Rattle.synic_board.specs.declared.event.Event.{Event}
+use Rattle.synic_board.specs.State.{State}
 use Rattle.synic_board.specs.Effects.{Outcome}
 use Rattle.synic_board.specs.Step.{step}
 use Rattle.desk_batch.specs.Batches.{Performed, Behind, batch, empty, followed_by, MeansNone}
@@ -66,11 +67,20 @@ pub done_none : (d : Behind) (rs : List PlainReply) (ns : List PlainNotice) → 
 unfolding batch
 done_none d rs ns = record { desk = refl; replies = fronts_none rs; notices = fronts_none ns; done = refl; told = refl; fits = (omega arith, omega arith) }
 
+-- what comes to something means an event
+means_one : (meant : Option Event) (s : State) (o : Outcome) → ComesTo meant s o → (event : Event) × (meant ≡ Some event) × (o ≡ step s event)
+means_one None s o none = absurd none
+means_one (Some event) s o is = (event, refl, is)
+
 -- the next event means one, is performed, and what it tells is put behind the rest
-pub done_more : (d : Behind) (es : List PlainEvent) (x : PlainEvent) (event : Event) (now : Behind) (o : Outcome) (n m : ℕ) (rs rs' : List PlainReply) (ns ns' rest : List PlainNotice) →
-    IsDone (batch d (take n es)) now n m rs rs' ns ns' → n < length es → event_meant (get_or es n x) ≡ Some event → o ≡ step now.0 event → n < length rs → m + length o.2 ≤ length ns → Fronts (map notice_told o.2) (drop m ns') rest →
+pub done_more : (d : Behind) (es : List PlainEvent) (x : PlainEvent) (now : Behind) (o : Outcome) (n m : ℕ) (rs rs' : List PlainReply) (ns ns' rest : List PlainNotice) →
+    IsDone (batch d (take n es)) now n m rs rs' ns ns' → n < length es → ComesTo (event_meant (get_or es n x)) now.0 o → n < length rs → m + length o.2 ≤ length ns → Fronts (map notice_told o.2) (drop m ns') rest →
     IsDone (batch d (take (n + 1) es)) (o.0, o.2) (n + 1) (m + length o.2) rs (set rs' n (reply_told o.1 (length o.2))) ns (take m ns' ++ rest)
-done_more d es x event now o n m rs rs' ns ns' rest h lt means is answered told put =
+done_more d es x now o n m rs rs' ns ns' rest h lt comes answered told put =
+    let one : (event : Event) × (event_meant (get_or es n x) ≡ Some event) × (o ≡ step now.0 event) = means_one (event_meant (get_or es n x)) now.0 o comes in
+    let event : Event = one.0 in
+    let means : event_meant (get_or es n x) ≡ Some event = one.1 in
+    let is : o ≡ step now.0 event = one.2 in
     let b : Performed = batch d (take n es) in
     let next : Performed = and_then b o in
     let all : length b.replies ≡ length (take n es) = h.done ∙ sym (length-take-le n es (omega arith)) in

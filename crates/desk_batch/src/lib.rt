@@ -10,7 +10,7 @@ ghost use Rattle.desk_batch.specs.Batches.{behind, batch, MeansNone};
 mod tests;
 
 use board_desk::Desk;
-use plain_terms::{PlainEvent, PlainNotice, PlainReply, event_of, plain_reply, put_plain};
+use plain_terms::{PlainEvent, PlainNotice, PlainReply, perform_plain, plain_reply, put_plain};
 
 /// No event gives more notices.
 const MOST_NOTICES: usize = 276;
@@ -65,14 +65,13 @@ pub fn perform_all(
                 told,
             };
         }
-        let Some(event) = event_of(&events[done]) else {
+        let Some(reply) = perform_plain(&mut desk.board, &mut desk.notices, &events[done]) else {
             return Batch {
                 end: BatchEnd::NoEvent,
                 done,
                 told,
             };
         };
-        let reply = desk.perform(&event);
         let given = desk.notices.as_slice();
         replies[done] = plain_reply(&reply, given.len() as u16);
         put_plain(given, &mut notices[told..]);

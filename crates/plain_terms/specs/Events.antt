@@ -1,10 +1,13 @@
 -- The event that plain numbers mean.
-use Rattle.std.specs.Prelude.{ℕ, ◌==◌, nat_lt, ◌||◌, List, length, take, Option, Some, None, if◌then◌else◌}
+use Rattle.std.specs.Prelude.{◌≡◌, ℕ, ◌==◌, nat_lt, ◌||◌, List, length, take, Option, Some, None, if◌then◌else◌}
 use Rattle.std.specs.Option.{option_map}
 use Rattle.arrayvec.specs.ArrayVec.{ArrayVec}
 use Rattle.board_terms.specs.declared.messages.PortShape.TheVariants.{Messages, Flags}
 use Rattle.synic_board.specs.declared.event.Event.{Event}
 use Rattle.synic_board.specs.declared.event.Event.TheVariants.{OpenPort, ClosePort, Write, Read, Post, Signal, Assert, Absorb, Store, Load, Tick, Take, Suspend, Resume, Reset}
+use Rattle.synic_board.specs.State.{State}
+use Rattle.synic_board.specs.Effects.{Outcome}
+use Rattle.synic_board.specs.Step.{step}
 use Rattle.plain_terms.specs.declared.event.PlainEvent.{PlainEvent}
 
 -- the first so many bytes, if there are so many and no more than fit
@@ -35,3 +38,8 @@ event_meant e =
     else if e.kind == 15 then Some (Resume e.vp)
     else if e.kind == 16 then Some (Reset e.vp)
     else None
+
+-- there is an event, and this is what it comes to
+abbrev pub ComesTo : Option Event → State → Outcome → Type 0
+ComesTo None s outcome = ⊥
+ComesTo (Some event) s outcome = outcome ≡ step s event

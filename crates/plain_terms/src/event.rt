@@ -1,10 +1,10 @@
 // An event in plain numbers.
-ghost use Rattle.std.specs.Prelude.{◌≡◌, length, take};
-ghost use Rattle.plain_terms.specs.Events.{event_meant, bytes_meant};
+ghost use Rattle.std.specs.Prelude.{◌≡◌, ◌≤◌, length, take, None, IfSome, IfNone};
+ghost use Rattle.plain_terms.specs.Events.{event_meant, bytes_meant, ComesTo};
 
 use arrayvec::ArrayVec;
-use board_terms::{PortShape, Vector};
-use synic_board::Event;
+use board_terms::{Notices, PortShape, Vector};
+use synic_board::{Board, Event, Reply};
 
 /// An event in plain numbers. `kind` says which, and which fields are looked at.
 #[repr(C)]
@@ -47,76 +47,142 @@ pub struct PlainEvent {
     pub bytes: [u8; 240],
 }
 
+/// Does something with the event that plain numbers mean, or answers `None` where they mean none. It is
+/// written out for each kind, so that it is known there which event it is.
+macro_rules! with_meant {
+    ($kind:expr, $plain:ident, $event:ident, $done:expr) => {
+        match $kind {
+            1 => {
+                let shape = PortShape::Messages { buffers: $plain.buffers };
+                let $event = Event::OpenPort { port: $plain.port, vp: $plain.vp, sint: $plain.sint, shape };
+                $done
+            }
+            2 => {
+                let shape = PortShape::Flags { base: $plain.flag, count: $plain.count };
+                let $event = Event::OpenPort { port: $plain.port, vp: $plain.vp, sint: $plain.sint, shape };
+                $done
+            }
+            3 => {
+                let $event = Event::ClosePort { port: $plain.port };
+                $done
+            }
+            4 => {
+                let $event = Event::Write { vp: $plain.vp, register: $plain.register, value: $plain.value };
+                $done
+            }
+            5 => {
+                let $event = Event::Read { vp: $plain.vp, register: $plain.register };
+                $done
+            }
+            6 => {
+                let payload = bytes_of(&$plain.bytes, $plain.length)?;
+                let $event = Event::Post { port: $plain.port, kind: $plain.message_type, payload };
+                $done
+            }
+            7 => {
+                let $event = Event::Signal { port: $plain.port, flag: $plain.flag };
+                $done
+            }
+            8 => {
+                let $event = Event::Assert { vp: $plain.vp, vector: Vector::new($plain.vector)? };
+                $done
+            }
+            9 => {
+                let $event = Event::Absorb { vp: $plain.vp, part: $plain.part, bits: $plain.value };
+                $done
+            }
+            10 => {
+                let bytes = bytes_of(&$plain.bytes, $plain.length)?;
+                let $event = Event::Store { address: $plain.address, bytes };
+                $done
+            }
+            11 => {
+                let $event = Event::Load { address: $plain.address, length: $plain.length };
+                $done
+            }
+            12 => {
+                let $event = Event::Tick { moment: $plain.moment };
+                $done
+            }
+            13 => {
+                let $event = Event::Take { vp: $plain.vp };
+                $done
+            }
+            14 => {
+                let $event = Event::Suspend { vp: $plain.vp };
+                $done
+            }
+            15 => {
+                let $event = Event::Resume { vp: $plain.vp };
+                $done
+            }
+            16 => {
+                let $event = Event::Reset { vp: $plain.vp };
+                $done
+            }
+            _ => None,
+        }
+    };
+}
+
 /// The event that plain numbers mean; `None` where there is no such kind, where a vector is below 16,
 /// or where there are more bytes than the event takes.
-#[inline(always)]
 pub fn event_of(plain: &PlainEvent) -> Option<Event>
     ensures { result ≡ event_meant plain.now }
 {
-    let plain_vp = plain.vp;
+    with_meant!(plain.kind, plain, event, Some(event))
+}
+
+/// Performs the event that plain numbers mean, with its notices in place of those before; `None` where they
+/// mean none, and then nothing is changed.
+pub fn perform_plain(board: &mut Board, notices: &mut Notices, plain: &PlainEvent) -> Option<Reply>
+    ensures step { IfSome result (λ r. ComesTo (event_meant plain.now) board.old.state (board.new.state, r, notices.new)) }
+    ensures few { IfSome result (λ _. length notices.new ≤ 276) }
+    ensures none { IfNone result (event_meant plain.now ≡ None) }
+    ensures board { IfNone result (board.new ≡ board.old) }
+    ensures notices { IfNone result (notices.new ≡ notices.old) }
+{
     match plain.kind {
-        1 => Some(Event::OpenPort {
-            port: plain.port,
-            vp: plain_vp,
-            sint: plain.sint,
-            shape: PortShape::Messages {
-                buffers: plain.buffers,
-            },
-        }),
-        2 => Some(Event::OpenPort {
-            port: plain.port,
-            vp: plain_vp,
-            sint: plain.sint,
-            shape: PortShape::Flags {
-                base: plain.flag,
-                count: plain.count,
-            },
-        }),
-        3 => Some(Event::ClosePort { port: plain.port }),
-        4 => Some(Event::Write {
-            vp: plain_vp,
-            register: plain.register,
-            value: plain.value,
-        }),
-        5 => Some(Event::Read {
-            vp: plain_vp,
-            register: plain.register,
-        }),
-        6 => Some(Event::Post {
-            port: plain.port,
-            kind: plain.message_type,
-            payload: bytes_of(&plain.bytes, plain.length)?,
-        }),
-        7 => Some(Event::Signal {
-            port: plain.port,
-            flag: plain.flag,
-        }),
-        8 => Some(Event::Assert {
-            vp: plain_vp,
-            vector: Vector::new(plain.vector)?,
-        }),
-        9 => Some(Event::Absorb {
-            vp: plain_vp,
-            part: plain.part,
-            bits: plain.value,
-        }),
-        10 => Some(Event::Store {
-            address: plain.address,
-            bytes: bytes_of(&plain.bytes, plain.length)?,
-        }),
-        11 => Some(Event::Load {
-            address: plain.address,
-            length: plain.length,
-        }),
-        12 => Some(Event::Tick {
-            moment: plain.moment,
-        }),
-        13 => Some(Event::Take { vp: plain_vp }),
-        14 => Some(Event::Suspend { vp: plain_vp }),
-        15 => Some(Event::Resume { vp: plain_vp }),
-        16 => Some(Event::Reset { vp: plain_vp }),
+        1 => perform_kind::<1>(board, notices, plain),
+        2 => perform_kind::<2>(board, notices, plain),
+        3 => perform_kind::<3>(board, notices, plain),
+        4 => perform_kind::<4>(board, notices, plain),
+        5 => perform_kind::<5>(board, notices, plain),
+        6 => perform_kind::<6>(board, notices, plain),
+        7 => perform_kind::<7>(board, notices, plain),
+        8 => perform_kind::<8>(board, notices, plain),
+        9 => perform_kind::<9>(board, notices, plain),
+        10 => perform_kind::<10>(board, notices, plain),
+        11 => perform_kind::<11>(board, notices, plain),
+        12 => perform_kind::<12>(board, notices, plain),
+        13 => perform_kind::<13>(board, notices, plain),
+        14 => perform_kind::<14>(board, notices, plain),
+        15 => perform_kind::<15>(board, notices, plain),
+        16 => perform_kind::<16>(board, notices, plain),
         _ => None,
     }
+}
+
+/// The same for one kind. A function of its own has no place but for the event of that kind, and of this one
+/// it needs no more than the numbers.
+fn perform_kind<const KIND: u8>(
+    board: &mut Board,
+    notices: &mut Notices,
+    plain: &PlainEvent,
+) -> Option<Reply>
+    requires { plain.now.kind ≡ KIND }
+    ensures step { IfSome result (λ r. ComesTo (event_meant plain.now) board.old.state (board.new.state, r, notices.new)) }
+    ensures few { IfSome result (λ _. length notices.new ≤ 276) }
+    ensures none { IfNone result (event_meant plain.now ≡ None) }
+    ensures board { IfNone result (board.new ≡ board.old) }
+    ensures notices { IfNone result (notices.new ≡ notices.old) }
+{
+    with_meant!(
+        KIND,
+        plain,
+        event,
+        Some(board.perform_inline(&event, notices))
+    )
 }
 
 /// The first bytes, if there are so many and they fit.

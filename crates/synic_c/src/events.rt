@@ -8,7 +8,7 @@ ghost use Rattle.board_terms.specs.declared.messages.PortShape.TheVariants as sh
 use crate::asked::{asked, asked_nothing};
 use board_terms::{Bytes8, PayloadBytes, PortShape, Vector};
 use handles::DeskHandle;
-use plain_terms::{PlainEvent, PlainReply, event_of};
+use plain_terms::{Fault, PlainEvent, PlainReply, perform_plain, plain_fault, plain_reply};
 use synic_board::Event;
 
 /// A port for messages is opened to source `sint` of processor `vp`, with 1 to 16 buffers.
@@ -102,18 +102,19 @@ pub extern "C" fn synicboard_post(
 ) -> PlainReply
     ensures { IsAsked (message_meant port message_type payload.now) handle.old.desk handle.new.desk result }
 {
-    let mut fitting = PayloadBytes::new();
-    if fitting.try_extend_from_slice(payload).is_err() {
+    // The payload is copied where it is read: into the event.
+    let mut event = Event::Post {
+        port,
+        kind: message_type,
+        payload: PayloadBytes::new(),
+    };
+    let Event::Post { payload: place, .. } = &mut event else {
         return asked_nothing(handle);
+    };
+    match place.try_extend_from_slice(payload) {
+        Ok(()) => asked(handle, &event),
+        Err(_) => asked_nothing(handle),
     }
-    asked(
-        handle,
-        &Event::Post {
-            port,
-            kind: message_type,
-            payload: fitting,
-        },
-    )
 }
 
 /// An event flag of a port is signalled.
@@ -223,8 +224,11 @@ pub extern "C" fn synicboard_reset(handle: &mut DeskHandle, vp: u8) -> PlainRepl
 pub extern "C" fn synicboard_perform(handle: &mut DeskHandle, plain: &PlainEvent) -> PlainReply
     ensures { IsAsked (event_meant plain.now) handle.old.desk handle.new.desk result }
 {
-    match event_of(plain) {
-        None => asked_nothing(handle),
-        Some(event) => asked(handle, &event),
+    let Some(desk) = handle.desk_mut() else {
+        return plain_fault(Fault::Closed);
+    };
+    match perform_plain(&mut desk.board, &mut desk.notices, plain) {
+        Some(reply) => plain_reply(&reply, desk.notices.as_slice().len() as u16),
+        None => plain_fault(Fault::NoEvent),
     }
 }

@@ -8,11 +8,12 @@ pub loop-done-init : goal.loop-done-init
 loop-done-init c = done_none _ _ _
 
 pub returns-in_default-clause-none : goal.returns-in_default-clause-none
-returns-in_default-clause-none c = λ _. next_none _ _ _ c.loop-done-test.true (sym c.event_of.ensures ∙ c.in_default.is)
+returns-in_default-clause-none c = λ _. next_none _ _ _ c.loop-done-test.true (rw c.in_default.is at c.perform_plain.ensures.none)
 
 pub loop-done-preserved : goal.loop-done-preserved
 loop-done-preserved c =
     let put = rw (c.as_slice-given.ensures.value, take_rest c.loop-done.notices c.loop-done.told) at c.put_plain.ensures in
+    let few = rw c.in-Some.is at c.perform_plain.ensures.few in
     rw (c.plain_reply.ensures, c.as_slice-given.ensures.value, put_rest c.loop-done.notices c.put_plain.new.room c.loop-done.told)
-    (done_more _ _ _ _ _ (c.perform-reply.new.self.board.state, c.perform-reply.result, c.perform-reply.new.self.notices) _ _ _ _ _ _ _ c.loop-done.invariant
-    (omega arith) (sym c.event_of.ensures ∙ c.in-Some.is) c.perform-reply.ensures.step (omega arith) (omega arith) put)
+    (done_more _ _ _ _ (c.perform_plain.new.board.state, c.in-Some.reply, c.perform_plain.new.notices) _ _ _ _ _ _ _ c.loop-done.invariant
+    (omega arith) (rw c.in-Some.is at c.perform_plain.ensures.step) (omega arith) (omega (arith, few)) put)
