@@ -1,9 +1,9 @@
 // An event in plain numbers.
-ghost use Rattle.std.specs.Prelude.{◌≡◌, ◌≤◌, length, take, None, IfSome, IfNone};
+ghost use Rattle.std.specs.Prelude.{◌≡◌, ◌≤◌, [], length, take, None, Some, IfSome, IfNone};
 ghost use Rattle.plain_terms.specs.Events.{event_meant, bytes_meant, ComesTo};
 
 use arrayvec::ArrayVec;
-use board_terms::{Notices, PortShape, Vector};
+use board_terms::{Bytes8, Notices, PayloadBytes, PortShape, Vector};
 use synic_board::{Board, Event, Reply};
 
 /// An event in plain numbers. `kind` says which, and which fields are looked at.
@@ -75,8 +75,10 @@ macro_rules! with_meant {
                 $done
             }
             6 => {
-                let payload = bytes_of(&$plain.bytes, $plain.length)?;
-                let $event = Event::Post { port: $plain.port, kind: $plain.message_type, payload };
+                let (kind, payload) = ($plain.message_type, PayloadBytes::new());
+                let mut $event = Event::Post { port: $plain.port, kind, payload };
+                let Event::Post { payload: place, .. } = &mut $event else { return None };
+                put_first(place, &$plain.bytes, $plain.length)?;
                 $done
             }
             7 => {
@@ -92,8 +94,9 @@ macro_rules! with_meant {
                 $done
             }
             10 => {
-                let bytes = bytes_of(&$plain.bytes, $plain.length)?;
-                let $event = Event::Store { address: $plain.address, bytes };
+                let mut $event = Event::Store { address: $plain.address, bytes: Bytes8::new() };
+                let Event::Store { bytes: place, .. } = &mut $event else { return None };
+                put_first(place, &$plain.bytes, $plain.length)?;
                 $done
             }
             11 => {
@@ -185,14 +188,25 @@ fn perform_kind<const KIND: u8>(
     )
 }
 
+/// Puts the first bytes into a place that is empty, if there are so many and they fit.
+pub(crate) fn put_first<const N: usize>(
+    place: &mut ArrayVec<u8, N>,
+    bytes: &[u8],
+    length: u8,
+) -> Option<()>
+    requires { place.old.items ≡ [] }
+    ensures put { IfSome result (λ _. bytes_meant N bytes.now length ≡ Some place.new) }
+    ensures none { IfNone result (bytes_meant N bytes.now length ≡ None) }
+{
+    let first = bytes.get(..length as usize)?;
+    place.try_extend_from_slice(first).ok()
+}
+
 /// The first bytes, if there are so many and they fit.
 pub(crate) fn bytes_of<const N: usize>(bytes: &[u8], length: u8) -> Option<ArrayVec<u8, N>>
     ensures { result ≡ bytes_meant N bytes.now length }
 {
-    let first = bytes.get(..length as usize)?;
     let mut fitting = ArrayVec::new();
-    match fitting.try_extend_from_slice(first) {
-        Ok(()) => Some(fitting),
-        Err(_) => None,
-    }
+    put_first(&mut fitting, bytes, length)?;
+    Some(fitting)
 }

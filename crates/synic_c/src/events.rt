@@ -158,17 +158,17 @@ pub extern "C" fn synicboard_store(
 ) -> PlainReply
     ensures { IsAsked (stored_meant address bytes.now) handle.old.desk handle.new.desk result }
 {
-    let mut fitting = Bytes8::new();
-    if fitting.try_extend_from_slice(bytes).is_err() {
+    let mut event = Event::Store {
+        address,
+        bytes: Bytes8::new(),
+    };
+    let Event::Store { bytes: place, .. } = &mut event else {
         return asked_nothing(handle);
+    };
+    match place.try_extend_from_slice(bytes) {
+        Ok(()) => asked(handle, &event),
+        Err(_) => asked_nothing(handle),
     }
-    asked(
-        handle,
-        &Event::Store {
-            address,
-            bytes: fitting,
-        },
-    )
 }
 
 /// A guest loads so many bytes from a guest physical address.
