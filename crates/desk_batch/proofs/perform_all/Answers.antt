@@ -1,4 +1,4 @@
-use Rattle.std.proofs.Common.{arith, sym, ◌∙◌}
+use Rattle.std.proofs.Common.{arith}
 use Rattle.std.proofs.lemmas.List.{take_rest}
 use Rattle.desk_batch.proofs.Batches.{next_none, done_none, done_more}
 use Rattle.desk_batch.proofs.Rooms.{put_rest}
