@@ -1,6 +1,6 @@
-/* Shared boards: a lock, a board, and the history of what was done under the lock. Nothing is answered here
- * that a call of the header has not answered: the replies are those of the board, and whether the history is
- * legal is what synicboard_check says of it. */
+/* Shared boards: a lock, a board, and the history of what was done under the lock. But for closed handles and
+ * want of memory, nothing is answered here that a proved call has not answered: the replies are those of the
+ * board, and whether the history is legal is what synicboard_check says of it. */
 #include <inttypes.h>
 #include <pthread.h>
 #include <stddef.h>
@@ -135,33 +135,28 @@ static void unlock(struct shared *shared)
     pthread_mutex_unlock(&shared->lock);
 }
 
-/* Opens a board, and a lock for it. */
-static uint8_t open_parts(struct shared *shared)
-{
-    uint8_t answer = synicboard_open(&shared->board, shared->processors, shared->pages, shared->first_ticket);
-    if (answer == SYNICBOARD_OPENED && pthread_mutex_init(&shared->lock, NULL) != 0) {
-        synicboard_close(&shared->board);
-        return SYNICBOARD_NO_MEMORY;
-    }
-    return answer;
-}
-
 uint8_t synicboard_open_shared(synicboard_shared *handle, uint8_t processors, uint8_t pages, uint64_t first_ticket)
 {
     if (handle == NULL)
         return SYNICBOARD_NO_HANDLE;
     if (handle->is_open)
         return SYNICBOARD_IS_OPEN;
-    struct shared *shared = malloc(sizeof *shared);
-    if (shared == NULL)
-        return SYNICBOARD_NO_MEMORY;
-    *shared = (struct shared){ .processors = processors, .pages = pages, .first_ticket = first_ticket };
-    uint8_t answer = open_parts(shared);
-    if (answer == SYNICBOARD_OPENED)
-        *handle = (synicboard_shared){ shared, true };
-    else
+    synicboard board = SYNICBOARD_CLOSED;
+    uint8_t answer = synicboard_open(&board, processors, pages, first_ticket);
+    if (answer != SYNICBOARD_OPENED)
+        return answer;
+    struct shared *shared = calloc(1, sizeof *shared);
+    if (shared == NULL || pthread_mutex_init(&shared->lock, NULL) != 0) {
         free(shared);
-    return answer;
+        synicboard_close(&board);
+        return SYNICBOARD_NO_MEMORY;
+    }
+    shared->board = board;
+    shared->processors = processors;
+    shared->pages = pages;
+    shared->first_ticket = first_ticket;
+    *handle = (synicboard_shared){ shared, true };
+    return SYNICBOARD_OPENED;
 }
 
 void synicboard_close_shared(synicboard_shared *handle)

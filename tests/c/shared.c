@@ -99,7 +99,10 @@ static void test_sizes(void)
     static const uint8_t sizes[][2] = { { 0, 1 }, { 9, 1 }, { 1, 0 }, { 1, 65 } };
     for (size_t at = 0; at < sizeof sizes / sizeof sizes[0]; at++) {
         synicboard_shared shared = SYNICBOARD_SHARED_CLOSED;
+        refuse(1);
         CHECK_NUMBER(synicboard_open_shared(&shared, sizes[at][0], sizes[at][1], 0), SYNICBOARD_BAD_SIZE);
+        CHECK_NUMBER(requests, 0);
+        refuse(0);
         CHECK(shared.at == NULL && !shared.is_open);
         CHECK_NUMBER(blocks_out, 0);
     }
