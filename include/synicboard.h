@@ -392,8 +392,8 @@ synicboard_reply synicboard_act(synicboard_shared *shared, uint8_t actor, const 
 synicboard_reply synicboard_act_absorb(synicboard_shared *shared, uint8_t actor, synicboard_line *line, uint8_t vp, uint8_t part, synicboard_notice *notices, size_t room);
 
 /* Holds the lock, and lends the board to be asked; null where the handle is closed, and then nothing is held. The
- * thread that holds it makes no other call of the shared board until it has released the lock, and performs no
- * event on what it was lent, since that would not stand in the history. */
+ * thread that holds it makes no other call of the shared board until it has released the lock. It does not close
+ * what it was lent, and performs no event on it, since that would not stand in the history. */
 synicboard *synicboard_hold(synicboard_shared *shared);
 void synicboard_release(synicboard_shared *shared);
 
