@@ -60,7 +60,7 @@ static const uint8_t too_many[sizeof no_event.bytes + 1] = { 0 };
     }
 
 /* The same of a call that answers a struct in memory. On x86-64 the address of the place for it is handed in
- * before all else, and answered; here both are written out, since no compiler jumps where they are hidden. */
+ * before all else, and answered; here both are written out, since the compilers that were tried make no jump where they are hidden. */
 #define CALL_FOR_STRUCT(answer, name, is_null, stand_ins, arguments, ...)                               \
     _Static_assert(__builtin_types_compatible_p(__typeof__(name), answer(__VA_ARGS__)), "as declared"); \
     answer *proved_##name(answer *told, __VA_ARGS__);                                                   \

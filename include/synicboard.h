@@ -406,8 +406,8 @@ typedef struct synicboard_settled {
 } synicboard_settled;
 
 /* Writes the history as a trace, from the opening to here, into a room, as much as fits, and says of it what
- * synicboard_check says. Nothing is changed, so it may be asked again. SYNICBOARD_NO_TEXT where the handle is
- * closed. */
+ * synicboard_check says. It holds the lock while it writes. Nothing is changed, so it may be asked again.
+ * SYNICBOARD_NO_TEXT where the handle is closed. */
 synicboard_settled synicboard_settle(synicboard_shared *shared, uint8_t *room, size_t length);
 
 #ifdef __cplusplus

@@ -1,5 +1,5 @@
-/* What the checks of calls.c, lines.c, batches.c, nulls.c and texts.c stand on: checks that are counted, memory
- * that can be refused, and all that a board can be asked as a text. */
+/* What the checks of calls.c, lines.c, batches.c, shared.c, nulls.c and texts.c stand on: checks that are
+ * counted, memory that can be refused, and all that a board can be asked as a text. */
 #ifndef CHECKS_H
 #define CHECKS_H
 

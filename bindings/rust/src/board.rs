@@ -22,6 +22,18 @@ pub enum OpenFault {
     Memory,
 }
 
+impl OpenFault {
+    /// What opening a handle that was closed answered.
+    pub(crate) fn judged(answer: u8) -> Result<(), OpenFault> {
+        match answer {
+            sys::SYNICBOARD_OPENED => Ok(()),
+            sys::SYNICBOARD_BAD_SIZE => Err(OpenFault::BadSize),
+            sys::SYNICBOARD_NO_MEMORY => Err(OpenFault::Memory),
+            _ => beyond_the_header(&answer),
+        }
+    }
+}
+
 impl fmt::Display for OpenFault {
     fn fmt(&self, formatter: &mut fmt::Formatter<'_>) -> fmt::Result {
         formatter.write_str(match self {
@@ -150,12 +162,8 @@ impl Board {
     pub fn open(processors: u8, pages: u8, first_ticket: Ticket) -> Result<Board, OpenFault> {
         let handle = UnsafeCell::new(sys::SYNICBOARD_CLOSED);
         let board = Board { handle, room: Room::new(), processors, pages };
-        match ask!(board, synicboard_open, processors, pages, first_ticket) {
-            sys::SYNICBOARD_OPENED => Ok(board),
-            sys::SYNICBOARD_BAD_SIZE => Err(OpenFault::BadSize),
-            sys::SYNICBOARD_NO_MEMORY => Err(OpenFault::Memory),
-            answer => beyond_the_header(&answer),
-        }
+        OpenFault::judged(ask!(board, synicboard_open, processors, pages, first_ticket))?;
+        Ok(board)
     }
 
     /// Performs any event: the call below that has its name.
@@ -380,13 +388,7 @@ impl Board {
     /// `None` where no timer is due at any moment. Timers of suspended processors are left out. A moment
     /// above 2^64 - 1 never comes: no tick reaches it.
     pub fn earliest(&self) -> Option<(u128, TimerId)> {
-        let due = ask!(self, synicboard_earliest);
-        if !due.is_due {
-            return None;
-        }
-        let timer = Vp::new(due.vp).and_then(|vp| TimerId::new(vp, due.timer));
-        let timer = timer.unwrap_or_else(|| beyond_the_header(&due));
-        Some((u128::from(due.high) << 64 | u128::from(due.low), timer))
+        first_due(&ask!(self, synicboard_earliest))
     }
 
     /// The present moment, in units of 100 ns.
@@ -415,6 +417,16 @@ impl Board {
     pub fn guest_page(&self, number: u64) -> Option<&[u8; PAGE_BYTES]> {
         lent!(self, synicboard_guest_page, number)
     }
+}
+
+/// When the timer that is due first is due, and which it is.
+pub(crate) fn first_due(due: &sys::synicboard_due) -> Option<(u128, TimerId)> {
+    if !due.is_due {
+        return None;
+    }
+    let timer = Vp::new(due.vp).and_then(|vp| TimerId::new(vp, due.timer));
+    let timer = timer.unwrap_or_else(|| beyond_the_header(due));
+    Some((u128::from(due.high) << 64 | u128::from(due.low), timer))
 }
 
 impl Drop for Board {

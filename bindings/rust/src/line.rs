@@ -123,12 +123,8 @@ impl Line {
     /// [`OpenFault::BadSize`] where the number is outside its range, [`OpenFault::Memory`] for want of memory.
     pub fn open(processors: u8) -> Result<Line, OpenFault> {
         let mut line = Line::closed(processors);
-        match ask!(line, synicboard_open_line, processors) {
-            sys::SYNICBOARD_OPENED => Ok(line),
-            sys::SYNICBOARD_BAD_SIZE => Err(OpenFault::BadSize),
-            sys::SYNICBOARD_NO_MEMORY => Err(OpenFault::Memory),
-            answer => beyond_the_header(&answer),
-        }
+        OpenFault::judged(ask!(line, synicboard_open_line, processors))?;
+        Ok(line)
     }
 
     /// Makes another line of the same words, for another thread. The first line of some words gives 31, and

@@ -1,10 +1,8 @@
 //! A board that threads share, with its history.
 
+use crate::board::first_due;
 use crate::notice::Room;
-use crate::{
-    beyond_the_header, sys, Event, Line, Notices, OpenFault, Reply, Ticket, TimerId, Vector, Verdict, Vp,
-    MOST_NOTICES,
-};
+use crate::{sys, Event, Line, Notices, OpenFault, Reply, Ticket, TimerId, Vector, Verdict, MOST_NOTICES};
 use core::cell::UnsafeCell;
 use core::error::Error;
 use core::fmt;
@@ -116,12 +114,8 @@ impl SharedBoard {
     /// [`OpenFault::BadSize`] where a number is outside its range, [`OpenFault::Memory`] for want of memory.
     pub fn open(processors: u8, pages: u8, first_ticket: Ticket) -> Result<SharedBoard, OpenFault> {
         let board = SharedBoard { handle: UnsafeCell::new(sys::SYNICBOARD_SHARED_CLOSED) };
-        match ask!(board, synicboard_open_shared, processors, pages, first_ticket) {
-            sys::SYNICBOARD_OPENED => Ok(board),
-            sys::SYNICBOARD_BAD_SIZE => Err(OpenFault::BadSize),
-            sys::SYNICBOARD_NO_MEMORY => Err(OpenFault::Memory),
-            answer => beyond_the_header(&answer),
-        }
+        OpenFault::judged(ask!(board, synicboard_open_shared, processors, pages, first_ticket))?;
+        Ok(board)
     }
 
     /// Performs an event for an actor, and enters it with its reply in the history. Its notices are in the
@@ -166,13 +160,7 @@ impl SharedBoard {
     /// The timer that is due first, and its moment.
     pub fn earliest(&self) -> Option<(u128, TimerId)> {
         // SAFETY: what is held is a board, with its lock.
-        let due = self.looked_at(|board| unsafe { sys::synicboard_earliest(board) });
-        if !due.is_due {
-            return None;
-        }
-        let timer = Vp::new(due.vp).and_then(|vp| TimerId::new(vp, due.timer));
-        let timer = timer.unwrap_or_else(|| beyond_the_header(&due));
-        Some((u128::from(due.high) << 64 | u128::from(due.low), timer))
+        first_due(&self.looked_at(|board| unsafe { sys::synicboard_earliest(board) }))
     }
 
     /// Holds the lock as long as something looks at the board.
@@ -186,13 +174,7 @@ impl SharedBoard {
     /// is changed, so it may be asked again.
     pub fn settle(&self, room: &mut [u8]) -> Settled {
         let settled = ask!(self, synicboard_settle, room.as_mut_ptr(), room.len());
-        let verdict = match settled.kind {
-            sys::SYNICBOARD_ALL_RIGHT => Verdict::Legal { entries: settled.entries },
-            sys::SYNICBOARD_WRONG_LINE => Verdict::Refused { line: settled.line },
-            sys::SYNICBOARD_WANTED_MEMORY => Verdict::WantedMemory,
-            sys::SYNICBOARD_TOO_LONG => Verdict::TooLong,
-            _ => beyond_the_header(&settled),
-        };
+        let verdict = Verdict::of(settled.kind, settled.entries, settled.line);
         Settled { verdict, length: settled.length }
     }
 }

@@ -71,6 +71,19 @@ pub enum Verdict {
     TooLong,
 }
 
+impl Verdict {
+    /// What the numbers say of a trace that was handed in.
+    pub(crate) fn of(kind: u8, entries: u64, line: u64) -> Verdict {
+        match kind {
+            sys::SYNICBOARD_ALL_RIGHT => Verdict::Legal { entries },
+            sys::SYNICBOARD_WRONG_LINE => Verdict::Refused { line },
+            sys::SYNICBOARD_WANTED_MEMORY => Verdict::WantedMemory,
+            sys::SYNICBOARD_TOO_LONG => Verdict::TooLong,
+            _ => beyond_the_header(&kind),
+        }
+    }
+}
+
 /// Checks whether a text is the trace of a legal history.
 ///
 /// It takes memory for a board, and gives it back.
@@ -85,13 +98,7 @@ pub enum Verdict {
 pub fn check(trace: &[u8]) -> Verdict {
     // SAFETY: the slice is good for its length, and an empty one has an address that is not null.
     let verdict = unsafe { sys::synicboard_check(trace.as_ptr(), trace.len()) };
-    match verdict.kind {
-        sys::SYNICBOARD_ALL_RIGHT => Verdict::Legal { entries: verdict.entries },
-        sys::SYNICBOARD_WRONG_LINE => Verdict::Refused { line: verdict.line },
-        sys::SYNICBOARD_WANTED_MEMORY => Verdict::WantedMemory,
-        sys::SYNICBOARD_TOO_LONG => Verdict::TooLong,
-        _ => beyond_the_header(&verdict),
-    }
+    Verdict::of(verdict.kind, verdict.entries, verdict.line)
 }
 
 /// Why an entry was not told. The room was left as it was.

@@ -49,7 +49,7 @@ pub struct PlainEvent {
 
 /// Does something with the event that plain numbers mean, or answers `None` where they mean none. It is
 /// written out for each kind, so that it is known there which event it is.
-macro_rules! with_meant {
+macro_rules! with_event {
     ($kind:expr, $plain:ident, $event:ident, $done:expr) => {
         match $kind {
             1 => {
@@ -133,7 +133,7 @@ macro_rules! with_meant {
 pub fn event_of(plain: &PlainEvent) -> Option<Event>
     ensures { result ≡ event_meant plain.now }
 {
-    with_meant!(plain.kind, plain, event, Some(event))
+    with_event!(plain.kind, plain, event, Some(event))
 }
 
 /// Performs the event that plain numbers mean, with its notices in place of those before; `None` where they
@@ -180,7 +180,7 @@ fn perform_kind<const KIND: u8>(
     ensures board { IfNone result (board.new ≡ board.old) }
     ensures notices { IfNone result (notices.new ≡ notices.old) }
 {
-    with_meant!(
+    with_event!(
         KIND,
         plain,
         event,
