@@ -2,6 +2,7 @@
 #![tactic(auto)]
 
 ghost use Rattle.std.specs.Prelude.{◌≡◌, ◌↔◌, ◌≤◌, [], length, IfOk, IsErrOf};
+ghost use Rattle.synic_board.specs.declared.event.Event.TheVariants.{Post};
 ghost use Rattle.synic_board.specs.Bounds.{most_notices};
 ghost use Rattle.synic_board.specs.State.{AreSizes, opened};
 ghost use Rattle.synic_board.specs.Step.{step};
@@ -57,5 +58,14 @@ impl Desk {
         ensures most { length self.new.notices ≤ 276 }
     {
         self.board.perform_inline(event, &mut self.notices)
+    }
+
+    /// `perform` of a post whose payload, at most 240 bytes, is lent.
+    pub fn post(&mut self, port: u8, kind: u32, payload: &[u8]) -> Reply
+        requires { length payload.now ≤ 240 }
+        ensures step { (self.new.board.state, result, self.new.notices) ≡ step self.old.board.state (Post port kind (record { items = payload.now })) }
+        ensures few { length self.new.notices ≤ 192 }
+    {
+        self.board.post(port, kind, payload, &mut self.notices)
     }
 }

@@ -7,8 +7,6 @@ pub mod laws;
 mod numbers;
 mod opening;
 mod print;
-#[cfg(test)]
-mod tests;
 
 pub use event::{event_of, read_event};
 pub use fault::{ScriptFault, put_fault, skips};

@@ -6,8 +6,6 @@ mod notices;
 mod pages;
 mod refusal;
 mod sint;
-#[cfg(test)]
-mod tests;
 mod timer_id;
 mod vector;
 mod vp;

@@ -6,9 +6,6 @@ ghost use Rattle.plain_terms.specs.Notices.{notice_told};
 ghost use Rattle.plain_terms.specs.Rooms.{Fronts};
 ghost use Rattle.desk_batch.specs.Batches.{behind, batch, MeansNone};
 
-#[cfg(test)]
-mod tests;
-
 use board_desk::Desk;
 use plain_terms::{PlainEvent, PlainNotice, PlainReply, perform_plain, plain_reply, put_plain};
 

@@ -4,7 +4,5 @@
 
 mod compact;
 mod log;
-#[cfg(test)]
-mod tests;
 
 pub use log::EntryLog;

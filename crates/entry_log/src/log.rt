@@ -5,6 +5,7 @@ ghost use Rattle.entry_log.specs.Log.{entry};
 use crate::compact::{CompactEntry, CompactEvent, CompactReply, bytes_of_event, bytes_of_reply};
 use std::alloc::{AllocError, Global};
 use std::marker::Model;
+use std::mem::size_of;
 use synic_board::{Entry, Event, Reply};
 
 /// How many bytes one entry has at most: 240 of its event, and 8 of its reply.
@@ -31,6 +32,9 @@ impl Model for EntryLog {
 }
 
 impl EntryLog {
+    /// How many bytes the numbers of an entry take.
+    pub const NUMBERS_SIZE: usize = size_of::<CompactEntry>();
+
     /// An empty log. It takes no memory.
     pub fn new(alloc: Global) -> EntryLog
         ensures { result.entries ≡ [] }

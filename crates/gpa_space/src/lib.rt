@@ -7,8 +7,6 @@ mod lying;
 mod overlay;
 mod page;
 mod space;
-#[cfg(test)]
-mod tests;
 
 pub use laws::{overlays_lie_in_order, stored_bytes_are_loaded};
 pub use space::Space;

@@ -6,6 +6,3 @@ mod line;
 
 pub use desk::DeskHandle;
 pub use line::LineHandle;
-
-#[cfg(test)]
-mod tests;

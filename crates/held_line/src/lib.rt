@@ -133,6 +133,3 @@ impl HeldLine {
         }
     }
 }
-
-#[cfg(test)]
-mod tests;

@@ -3,10 +3,6 @@
 #![tactic(auto)]
 
 mod lapic;
-#[cfg(test)]
-mod plain;
-#[cfg(test)]
-mod tests;
 mod vector_set;
 
 pub use lapic::Lapic;

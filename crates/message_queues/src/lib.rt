@@ -5,8 +5,6 @@ mod chains;
 mod owners;
 mod queues;
 mod slots;
-#[cfg(test)]
-mod tests;
 
 pub use queues::Queues;
 pub use slots::{header, image, slot_type};

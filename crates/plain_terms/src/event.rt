@@ -151,7 +151,7 @@ pub fn perform_plain(board: &mut Board, notices: &mut Notices, plain: &PlainEven
         3 => perform_kind::<3>(board, notices, plain),
         4 => perform_kind::<4>(board, notices, plain),
         5 => perform_kind::<5>(board, notices, plain),
-        6 => perform_kind::<6>(board, notices, plain),
+        6 => post_plain(board, notices, plain),
         7 => perform_kind::<7>(board, notices, plain),
         8 => perform_kind::<8>(board, notices, plain),
         9 => perform_kind::<9>(board, notices, plain),
@@ -186,6 +186,19 @@ fn perform_kind<const KIND: u8>(
         event,
         Some(board.perform_inline(&event, notices))
     )
+}
+
+/// The same for a post, whose payload is lent from where it lies.
+fn post_plain(board: &mut Board, notices: &mut Notices, plain: &PlainEvent) -> Option<Reply>
+    requires { plain.now.kind ≡ 6 }
+    ensures step { IfSome result (λ r. ComesTo (event_meant plain.now) board.old.state (board.new.state, r, notices.new)) }
+    ensures few { IfSome result (λ _. length notices.new ≤ 276) }
+    ensures none { IfNone result (event_meant plain.now ≡ None) }
+    ensures board { IfNone result (board.new ≡ board.old) }
+    ensures notices { IfNone result (notices.new ≡ notices.old) }
+{
+    let payload = plain.bytes.get(..plain.length as usize)?;
+    Some(board.post(plain.port, plain.message_type, payload, notices))
 }
 
 /// Puts the first bytes into a place that is empty, if there are so many and they fit.

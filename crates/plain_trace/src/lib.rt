@@ -6,9 +6,6 @@ ghost use Rattle.plain_terms.specs.Events.{event_meant};
 ghost use Rattle.plain_terms.specs.Replies.{reply_meant};
 ghost use Rattle.plain_trace.specs.Told.{lines_told};
 
-#[cfg(test)]
-mod tests;
-
 use board_trace::put_entry;
 use plain_terms::{PlainEvent, PlainReply, event_of, reply_of};
 use std::alloc::Global;

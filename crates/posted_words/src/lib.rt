@@ -11,6 +11,3 @@ pub use line::{Line, Raised, Sweeper};
 pub use rule::Did;
 pub use standing::Standing;
 pub use words::{GatherFault, PostedFault, PostedWords};
-
-#[cfg(test)]
-mod tests;

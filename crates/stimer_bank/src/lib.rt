@@ -4,8 +4,6 @@
 mod bank;
 mod config;
 mod laws;
-#[cfg(test)]
-mod tests;
 mod timer;
 
 pub use bank::TimerBank;

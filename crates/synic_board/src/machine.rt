@@ -1,5 +1,6 @@
 // The parts of a board, which together are the written machine.
 ghost use Rattle.std.specs.Prelude.{◌≡◌, ◌<◌, ◌≤◌, ◌+◌, ◌↔◌, length, replicate, None, IfOk, IsSome, IfSome};
+ghost use Rattle.synic_board.specs.declared.event.Event.TheVariants.{Post};
 ghost use Rattle.synic_board.specs.State.{AreSizes, opened, processors};
 ghost use Rattle.synic_board.specs.Scratch.{scratch, kept, TellsOf};
 ghost use Rattle.synic_board.specs.Step.{step};
@@ -206,6 +207,24 @@ impl Machine {
                 None => Reply::Refused(Refusal::NoSuchProcessor),
             },
         }
+    }
+
+    /// Performs a post whose payload is lent.
+    #[tactic(auto, unfolding(crate::specs::Step::step))]
+    pub(crate) fn perform_post(
+        &mut self,
+        port: u8,
+        kind: u32,
+        payload: &[u8],
+        notices: &mut Notices,
+    ) -> Reply
+        requires { length payload.now ≤ 240 }
+        ensures step { (self.new.state, result, notices.new) ≡ step self.old.state (Post port kind (record { items = payload.now })) }
+        ensures rises { self.old.writes ≤ self.new.writes }
+        ensures few { self.new.writes ≤ self.old.writes + length notices.new }
+    {
+        notices.clear();
+        self.post(port, kind, payload, notices)
     }
 
     /// The processor of that number, if it is on the board.

@@ -6,10 +6,13 @@ ghost use Rattle.synic_board.specs.declared.event.Event.TheVariants as event;
 ghost use Rattle.board_terms.specs.declared.messages.PortShape.TheVariants as shape;
 
 use crate::asked::{asked, asked_nothing};
-use board_terms::{Bytes8, PayloadBytes, PortShape, Vector};
+use board_terms::{Bytes8, PortShape, Vector};
 use handles::DeskHandle;
 use plain_terms::{Fault, PlainEvent, PlainReply, perform_plain, plain_fault, plain_reply};
 use synic_board::Event;
+
+/// How many bytes a message has at most.
+const MOST_PAYLOAD: usize = 240;
 
 /// A port for messages is opened to source `sint` of processor `vp`, with 1 to 16 buffers.
 #[unsafe(no_mangle)]
@@ -102,18 +105,15 @@ pub extern "C" fn synicboard_post(
 ) -> PlainReply
     ensures { IsAsked (message_meant port message_type payload.now) handle.old.desk handle.new.desk result }
 {
-    // The payload is copied where it is read: into the event.
-    let mut event = Event::Post {
-        port,
-        kind: message_type,
-        payload: PayloadBytes::new(),
-    };
-    let Event::Post { payload: place, .. } = &mut event else {
+    if payload.len() > MOST_PAYLOAD {
         return asked_nothing(handle);
-    };
-    match place.try_extend_from_slice(payload) {
-        Ok(()) => asked(handle, &event),
-        Err(_) => asked_nothing(handle),
+    }
+    match handle.desk_mut() {
+        Some(desk) => {
+            let reply = desk.post(port, message_type, payload);
+            plain_reply(&reply, desk.notices.as_slice().len() as u16)
+        }
+        None => plain_fault(Fault::Closed),
     }
 }
 

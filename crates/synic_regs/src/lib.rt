@@ -6,8 +6,6 @@ mod laws;
 pub mod msr;
 mod register;
 mod regs;
-#[cfg(test)]
-mod tests;
 mod words;
 
 pub use laws::registers_have_their_numbers;

@@ -7,8 +7,6 @@ mod entry;
 mod heap;
 mod laws;
 mod table;
-#[cfg(test)]
-mod tests;
 
 pub use heap::TimerHeap;
 pub use laws::the_first_is_the_least;

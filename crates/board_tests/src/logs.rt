@@ -1,0 +1,203 @@
+// Entries of each kind, with bytes at their limits, and logs that grow.
+use arrayvec::ArrayVec;
+use board_terms::{PortShape, Refusal, Vector};
+use entry_log::EntryLog;
+use std::alloc::{AllocError, Global};
+use std::test::Fail;
+use synic_board::{Event, Reply};
+
+/// So many bytes: 255, 254 and so on.
+fn falling<const N: usize>(count: u8) -> ArrayVec<u8, N> {
+    let mut array = ArrayVec::new();
+    for number in 0..count {
+        let _ = array.try_push(255 - number);
+    }
+    array
+}
+
+fn open_port(port: u8, shape: PortShape) -> Event {
+    let (vp, sint) = (7, 15);
+    Event::OpenPort {
+        port,
+        vp,
+        sint,
+        shape,
+    }
+}
+
+fn post(count: u8) -> Event {
+    Event::Post {
+        port: 9,
+        kind: 0x7fff_ffff,
+        payload: falling(count),
+    }
+}
+
+fn store(count: u8) -> Event {
+    Event::Store {
+        address: 0xffff_ffff_ffff_fff8,
+        bytes: falling(count),
+    }
+}
+
+fn load(length: u8) -> Event {
+    Event::Load {
+        address: 0x1_0000_0001,
+        length,
+    }
+}
+
+fn write(vp: u8) -> Event {
+    Event::Write {
+        vp,
+        register: 0x4000_00b7,
+        value: u64::MAX - 1,
+    }
+}
+
+fn absorb(part: u8) -> Event {
+    Event::Absorb {
+        vp: 3,
+        part,
+        bits: 0x8000_0000_0000_0001,
+    }
+}
+
+fn calls_of_the_host() -> [(Event, Reply); 9] {
+    let flags = PortShape::Flags {
+        base: 2000,
+        count: 48,
+    };
+    let buffers = PortShape::Messages { buffers: 16 };
+    let (port, flag) = (15, 2047);
+    let unknown = Reply::Refused(Refusal::UnknownPort);
+    [
+        (open_port(0, flags), Reply::Done),
+        (open_port(255, buffers), Reply::Refused(Refusal::PortOpen)),
+        (Event::ClosePort { port }, unknown),
+        (post(0), Reply::Accepted(0)),
+        (post(240), Reply::Accepted(u64::MAX)),
+        (post(1), Reply::Refused(Refusal::NotSuspended)),
+        (Event::Signal { port, flag }, Reply::FlagWasClear),
+        (Event::Signal { port, flag }, Reply::FlagWasSet),
+        (Event::Tick { moment: u64::MAX }, Reply::Done),
+    ]
+}
+
+fn calls_of_a_guest() -> [(Event, Reply); 9] {
+    let register = 0x4000_0080;
+    [
+        (write(0), Reply::GeneralProtection),
+        (write(255), Reply::Refused(Refusal::NoSuchProcessor)),
+        (Event::Read { vp: 2, register }, Reply::Value(u64::MAX)),
+        (Event::Read { vp: 3, register }, Reply::Value(0)),
+        (store(8), Reply::Done),
+        (store(0), Reply::Refused(Refusal::BadLength)),
+        (load(8), Reply::Bytes(falling(8))),
+        (load(1), Reply::Bytes(falling(1))),
+        (load(255), Reply::Refused(Refusal::BadLength)),
+    ]
+}
+
+/// Among them calls that no board answers so: a log keeps what it is handed.
+fn calls_of_a_processor() -> [(Event, Reply); 9] {
+    let (least, greatest) = (Vector::new(16).unwrap(), Vector::new(255).unwrap());
+    [
+        (
+            Event::Assert {
+                vp: 1,
+                vector: least,
+            },
+            Reply::Done,
+        ),
+        (Event::Take { vp: 1 }, Reply::Taken(Some(greatest))),
+        (Event::Take { vp: 2 }, Reply::Taken(None)),
+        (absorb(3), Reply::Done),
+        (Event::Suspend { vp: 4 }, Reply::Done),
+        (Event::Resume { vp: 5 }, Reply::Done),
+        (Event::Reset { vp: 6 }, Reply::Done),
+        (post(240), Reply::Bytes(falling(8))),
+        (store(1), Reply::Bytes(falling(0))),
+    ]
+}
+
+fn calls_of_all(alloc: Global) -> Result<Vec<(Event, Reply)>, AllocError> {
+    let mut calls = Vec::new(alloc);
+    for some in [
+        calls_of_the_host(),
+        calls_of_a_guest(),
+        calls_of_a_processor(),
+    ] {
+        for call in some {
+            calls.push(call)?;
+        }
+    }
+    Ok(calls)
+}
+
+/// Enters calls, by actors that are numbered downwards.
+fn enter(log: &mut EntryLog, calls: &[(Event, Reply)]) -> Result<(), AllocError> {
+    let mut actor = 255u8;
+    for (event, reply) in calls {
+        log.reserve()?;
+        log.push(actor, event, reply);
+        actor = actor.saturating_sub(1);
+    }
+    Ok(())
+}
+
+#[test]
+fn each_kind_reads_back(rt: HostRuntime) -> Result<(), Fail> {
+    let calls = calls_of_all(rt.alloc())?;
+    let mut log = EntryLog::new(rt.alloc());
+    enter(&mut log, calls.as_slice())?;
+    assert_eq!(rt; (calls.len(), log.len()), (27, 27));
+    let entries = log.to_entries(rt.alloc())?;
+    assert_eq!(rt; entries.len(), 27);
+    let mut actor = 255u8;
+    for (entry, (event, reply)) in entries.iter().zip(calls.iter()) {
+        assert_eq!(rt; entry.actor, actor);
+        assert!(rt;
+            entry.event == *event && entry.reply == *reply,
+            "of {actor}"
+        );
+        actor = actor.saturating_sub(1);
+    }
+    Ok(())
+}
+
+#[test]
+fn a_log_of_nothing_reads_as_nothing(rt: HostRuntime) -> Result<(), Fail> {
+    let mut log = EntryLog::new(rt.alloc());
+    for _ in 0..2 {
+        assert_eq!(rt; log.len(), 0);
+        assert!(rt; log.to_entries(rt.alloc())?.is_empty());
+        // Room is no entry.
+        log.reserve()?;
+    }
+    Ok(())
+}
+
+#[test]
+fn a_log_grows_and_is_read_again_and_again(rt: HostRuntime) -> Result<(), Fail> {
+    let calls = calls_of_all(rt.alloc())?;
+    let mut log = EntryLog::new(rt.alloc());
+    for turn in 1..=100usize {
+        enter(&mut log, calls.as_slice())?;
+        assert_eq!(rt; log.len(), 27 * turn);
+    }
+    let entries = log.to_entries(rt.alloc())?;
+    assert_eq!(rt; entries.len(), 2700);
+    for part in entries.as_slice().chunks(27) {
+        for (entry, (event, reply)) in part.iter().zip(calls.iter()) {
+            assert!(rt; entry.event == *event && entry.reply == *reply);
+        }
+    }
+    Ok(())
+}
+
+#[test]
+fn the_numbers_of_an_entry_take_40_bytes(rt: HostRuntime) -> Result<(), Fail> {
+    assert_eq!(rt; EntryLog::NUMBERS_SIZE, 40);
+    Ok(())
+}
