@@ -1,10 +1,10 @@
-// Shared boards, and taking actors and lines out of their lists and putting them back.
+// Shared boards with their actors and lines.
 ghost use Rattle.std.specs.Prelude.{◌≡◌, true, All, IfSome};
 ghost use Rattle.posted_words.specs.Words.{IsOf};
 ghost use Rattle.board_threads.specs.Settling.{only_raises};
 
 use board_threads::{Actor, Line, SharedBoard};
-use std::alloc::{AllocError, Global};
+use std::alloc::Global;
 
 /// A board with one page and first ticket 0, its actors and its lines.
 pub(crate) fn opened(
@@ -33,18 +33,14 @@ pub(crate) fn take_actor(board: &SharedBoard, actors: &mut Vec<Actor>) -> Option
     actors.pop()
 }
 
-/// The actor is back among the others.
-pub(crate) fn put_actor(
-    board: &SharedBoard,
-    actors: &mut Vec<Actor>,
-    actor: Actor,
-) -> Result<(), AllocError>
-    requires others { All (λ a. a.of ≡ board.now.words.name) actors.old.items }
-    requires actor { actor.of ≡ board.now.words.name }
-    ensures { All (λ a. a.of ≡ board.now.words.name) actors.new.items }
+/// The last of a board's lines.
+pub(crate) fn take_line(board: &SharedBoard, lines: &mut Vec<Line>) -> Option<Line>
+    requires own { All (IsOf board.now.words.name) lines.old.items }
+    requires raises { All (λ l. only_raises l.did ≡ true) lines.old.items }
+    ensures own { IfSome result (IsOf board.now.words.name) }
+    ensures raises { IfSome result (λ l. only_raises l.did ≡ true) }
 {
-    actors.push(actor)?;
-    Ok(())
+    lines.pop()
 }
 
 /// Lets go of all actors but that many.
@@ -53,35 +49,6 @@ pub(crate) fn keep_actors(board: &SharedBoard, actors: &mut Vec<Actor>, count: u
     ensures { All (λ a. a.of ≡ board.now.words.name) actors.new.items }
 {
     actors.truncate(count);
-}
-
-/// The last of a board's lines.
-pub(crate) fn take_line(board: &SharedBoard, lines: &mut Vec<Line>) -> Option<Line>
-    requires own { All (IsOf board.now.words.name) lines.old.items }
-    requires raises { All (λ l. only_raises l.did ≡ true) lines.old.items }
-    ensures own { IfSome result (IsOf board.now.words.name) }
-    ensures raises { IfSome result (λ l. only_raises l.did ≡ true) }
-    ensures others_own { All (IsOf board.now.words.name) lines.new.items }
-    ensures others_raise { All (λ l. only_raises l.did ≡ true) lines.new.items }
-{
-    lines.pop()
-}
-
-/// The line is back among the others.
-pub(crate) fn put_line(
-    board: &SharedBoard,
-    lines: &mut Vec<Line>,
-    line: Line,
-) -> Result<(), AllocError>
-    requires own { IsOf board.now.words.name line }
-    requires raises { only_raises line.did ≡ true }
-    requires others_own { All (IsOf board.now.words.name) lines.old.items }
-    requires others_raise { All (λ l. only_raises l.did ≡ true) lines.old.items }
-    ensures own { All (IsOf board.now.words.name) lines.new.items }
-    ensures raises { All (λ l. only_raises l.did ≡ true) lines.new.items }
-{
-    lines.push(line)?;
-    Ok(())
 }
 
 /// Lets go of all lines but that many.

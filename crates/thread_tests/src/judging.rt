@@ -162,5 +162,6 @@ fn a_crew_may_fill_the_history(rt: HostRuntime) -> Result<(), Fail> {
     let end = run_crew(&rt, rt.alloc(), &setup, &scripts, &gate)?;
     assert_eq!(rt; end.ended.history.len(), 65_536);
     assert_eq!(rt; gate.count_all(&rt), 31);
+    assert!(rt; !gate.is_out_of_turn(&rt));
     Ok(())
 }

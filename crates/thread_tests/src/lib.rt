@@ -6,11 +6,11 @@ mod boards;
 #[cfg(test)]
 mod crews;
 #[cfg(test)]
-mod crowds;
-#[cfg(test)]
 mod gates;
 #[cfg(test)]
 mod judging;
+#[cfg(test)]
+mod scenes;
 #[cfg(test)]
 mod scripts;
 #[cfg(test)]

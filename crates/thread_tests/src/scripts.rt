@@ -1,4 +1,6 @@
 // Setups and scripts.
+ghost use Rattle.std.specs.Prelude.{◌≡◌, IfOk};
+
 use board_steps::{SCONTROL, SIMP, SINT2, open_messages, post, write};
 use board_terms::{Vector, Vp};
 use board_threads::{Scripts, Setup, Step};
@@ -6,7 +8,9 @@ use std::alloc::{AllocError, Global};
 use synic_board::Event;
 
 /// One processor with its SynIC, its message page and SINT2, and port 3 with two buffers.
-pub(crate) fn with_port(alloc: Global) -> Result<Setup, AllocError> {
+pub(crate) fn with_port(alloc: Global) -> Result<Setup, AllocError>
+    ensures { IfOk result (λ s. s.processors ≡ 1) }
+{
     let events = [
         write(0, SCONTROL, 1),
         write(0, SIMP, 0x2001),

@@ -1,5 +1,6 @@
 // What settling looks at.
-use crate::boards::{keep_actors, keep_lines, opened, put_actor, take_actor};
+use crate::boards::{keep_actors, keep_lines, opened};
+use crate::scenes::Scene;
 use board_threads::SettleFault;
 use std::test::Fail;
 use synic_board::{Event, Reply};
@@ -27,26 +28,15 @@ fn a_missing_actor_or_line_is_a_mismatch(rt: HostRuntime) -> Result<(), Fail> {
 
 #[test]
 fn a_call_on_another_board_is_a_mismatch(rt: HostRuntime) -> Result<(), Fail> {
-    let (Some((first, mut of_first, none)), Some((second, of_second, none_either))) = (
-        opened(rt.alloc(), 1, 1, 0),
-        opened(rt.alloc(), 1, 1, 0),
-    ) else {
-        panic!(rt; "memory")
-    };
-    let Some(mut actor) = take_actor(&first, &mut of_first) else {
-        panic!(rt; "nobody")
-    };
+    let mismatch = Some(SettleFault::Mismatch);
+    let (mut first, second) = (Scene::open(rt.alloc())?, Scene::open(rt.alloc())?);
     let tick = Event::Tick { moment: 0 };
-    assert_eq!(rt; second.perform(&rt, &mut actor, tick), Ok(Reply::Done));
-    put_actor(&first, &mut of_first, actor)?;
+    assert_eq!(rt;
+        second.board.perform(&rt, &mut first.actor, tick),
+        Ok(Reply::Done)
+    );
     // The one lacks the call in its history, and the other has one that none of its actors made.
-    assert_eq!(rt;
-        first.settle(of_first, none).err(),
-        Some(SettleFault::Mismatch)
-    );
-    assert_eq!(rt;
-        second.settle(of_second, none_either).err(),
-        Some(SettleFault::Mismatch)
-    );
+    assert_eq!(rt; first.settle(rt.alloc()).err(), mismatch);
+    assert_eq!(rt; second.settle(rt.alloc()).err(), mismatch);
     Ok(())
 }
