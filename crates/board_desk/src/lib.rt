@@ -2,7 +2,7 @@
 #![tactic(auto)]
 
 ghost use Rattle.std.specs.Prelude.{◌≡◌, ◌↔◌, ◌≤◌, [], length, IfOk, IsErrOf};
-ghost use Rattle.synic_board.specs.declared.event.Event.TheVariants.{Post};
+ghost use Rattle.synic_board.specs.declared.event.Event.TheVariants.{Post, Store};
 ghost use Rattle.synic_board.specs.Bounds.{most_notices};
 ghost use Rattle.synic_board.specs.State.{AreSizes, opened};
 ghost use Rattle.synic_board.specs.Step.{step};
@@ -61,11 +61,22 @@ impl Desk {
     }
 
     /// `perform` of a post whose payload, at most 240 bytes, is lent.
+    #[inline(always)]
     pub fn post(&mut self, port: u8, kind: u32, payload: &[u8]) -> Reply
         requires { length payload.now ≤ 240 }
         ensures step { (self.new.board.state, result, self.new.notices) ≡ step self.old.board.state (Post port kind (record { items = payload.now })) }
         ensures few { length self.new.notices ≤ 192 }
     {
         self.board.post(port, kind, payload, &mut self.notices)
+    }
+
+    /// `perform` of a store whose bytes are lent. Of 1 to 8 bytes it is that of `Event::Store`; more are
+    /// refused as none are, with `BadLength`.
+    #[inline(always)]
+    pub fn store(&mut self, address: u64, bytes: &[u8]) -> Reply
+        ensures step { (self.new.board.state, result, self.new.notices) ≡ step self.old.board.state (Store address (record { items = bytes.now })) }
+        ensures few { length self.new.notices ≤ 192 }
+    {
+        self.board.store(address, bytes, &mut self.notices)
     }
 }

@@ -134,9 +134,9 @@ impl Space {
 
     /// Stores bytes at an address in the page that a guest sees there, and tells whose it is. It is
     /// refused as a load is, and then changes nothing.
-    pub fn store(&mut self, address: u64, bytes: &Bytes8) -> Result<Owner, Refusal>
-        ensures answer { result ≡ store_answer self.old address bytes.now.items }
-        ensures after { self.new ≡ after_store self.old address bytes.now.items }
+    pub fn store(&mut self, address: u64, bytes: &[u8]) -> Result<Owner, Refusal>
+        ensures answer { result ≡ store_answer self.old address bytes.now }
+        ensures after { self.new ≡ after_store self.old address bytes.now }
     {
         if let Some(refusal) = self.judge(address, bytes.len()) {
             return Err(refusal);
@@ -145,11 +145,11 @@ impl Space {
         let at = (address % SIZE as u64) as usize;
         match self.visible(page) {
             None => {
-                self.pages[page as usize].store(at, bytes.as_slice());
+                self.pages[page as usize].store(at, bytes);
                 Ok(Owner::Guest)
             }
             Some(overlay) => {
-                self.own[overlay].store(at, bytes.as_slice());
+                self.own[overlay].store(at, bytes);
                 Ok(overlay_owner(overlay))
             }
         }

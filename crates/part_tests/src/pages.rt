@@ -1,7 +1,7 @@
 // Each public call once, at worked values.
 ghost use Rattle.std.specs.Prelude.{◌≡◌, ◌<◌};
 
-use board_terms::{Bytes8, Kind, Owner, Refusal, Sint, Vp};
+use board_terms::{Kind, Owner, Refusal, Sint, Vp};
 use gpa_space::Space;
 use std::test::Fail;
 
@@ -18,12 +18,6 @@ fn sint(number: u8) -> Sint
     Sint::new(number).unwrap()
 }
 
-fn bytes(items: &[u8]) -> Bytes8 {
-    let mut bytes = Bytes8::new();
-    let _ = bytes.try_extend_from_slice(items);
-    bytes
-}
-
 fn loaded(space: &Space, address: u64) -> Option<u8> {
     space.load(address, 1).ok()?.first().copied()
 }
@@ -31,11 +25,11 @@ fn loaded(space: &Space, address: u64) -> Option<u8> {
 #[test]
 fn overlays_hide_what_is_below(rt: HostRuntime) -> Result<(), Fail> {
     let mut space = Space::open(rt.alloc(), 2, 4)?;
-    let guest = space.store(0x2200, &bytes(&[5]));
+    let guest = space.store(0x2200, &[5]);
     assert!(rt; guest == Ok(Owner::Guest));
     space.set_overlay(vp(1), Kind::Sim, 0x2001);
     assert_eq!(rt; loaded(&space, 0x2200), Some(0));
-    let sim = space.store(0x2200, &bytes(&[7]));
+    let sim = space.store(0x2200, &[7]);
     assert!(rt; sim == Ok(Owner::Sim(vp(1))));
     space.set_overlay(vp(0), Kind::Sief, 0x2001);
     assert!(rt; space.owner(2) == Owner::Sief(vp(0)));
@@ -63,7 +57,7 @@ fn addresses_are_refused_in_order(rt: HostRuntime) -> Result<(), Fail> {
         let answer = space.load(address, length).err();
         assert!(rt; answer == Some(refusal), "at {address:x}");
     }
-    let empty = space.store(0, &bytes(&[]));
+    let empty = space.store(0, &[]);
     assert!(rt; empty == Err(Refusal::BadLength));
     let last = space.load(0x3ff8, 8);
     assert!(rt; last.is_ok_and(|bytes| bytes.as_slice() == [0; 8].as_slice()));

@@ -1,6 +1,6 @@
 // The parts of a board, which together are the written machine.
 ghost use Rattle.std.specs.Prelude.{◌≡◌, ◌<◌, ◌≤◌, ◌+◌, ◌↔◌, length, replicate, None, IfOk, IsSome, IfSome};
-ghost use Rattle.synic_board.specs.declared.event.Event.TheVariants.{Post};
+ghost use Rattle.synic_board.specs.declared.event.Event.TheVariants.{Post, Store};
 ghost use Rattle.synic_board.specs.State.{AreSizes, opened, processors};
 ghost use Rattle.synic_board.specs.Scratch.{scratch, kept, TellsOf};
 ghost use Rattle.synic_board.specs.Step.{step};
@@ -187,7 +187,7 @@ impl Machine {
                 Some(vp) => self.absorb(vp, *part, *bits, notices),
                 None => Reply::Refused(Refusal::NoSuchProcessor),
             },
-            Event::Store { address, bytes } => self.store(*address, bytes, notices),
+            Event::Store { address, bytes } => self.store(*address, bytes.as_slice(), notices),
             Event::Load { address, length } => self.load(*address, *length),
             Event::Tick { moment } => self.tick(*moment, notices),
             Event::Take { vp } => match self.processor(*vp) {
@@ -211,6 +211,7 @@ impl Machine {
 
     /// Performs a post whose payload is lent.
     #[tactic(auto, unfolding(crate::specs::Step::step))]
+    #[inline(always)]
     pub(crate) fn perform_post(
         &mut self,
         port: u8,
@@ -225,6 +226,23 @@ impl Machine {
     {
         notices.clear();
         self.post(port, kind, payload, notices)
+    }
+
+    /// Performs a store whose bytes are lent.
+    #[tactic(auto, unfolding(crate::specs::Step::step))]
+    #[inline(always)]
+    pub(crate) fn perform_store(
+        &mut self,
+        address: u64,
+        bytes: &[u8],
+        notices: &mut Notices,
+    ) -> Reply
+        requires { IsSound self.old.state }
+        ensures step { (self.new.state, result, notices.new) ≡ step self.old.state (Store address (record { items = bytes.now })) }
+        ensures writes { self.new.writes ≡ self.old.writes }
+    {
+        notices.clear();
+        self.store(address, bytes, notices)
     }
 
     /// The processor of that number, if it is on the board.

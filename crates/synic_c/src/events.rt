@@ -6,13 +6,16 @@ ghost use Rattle.synic_board.specs.declared.event.Event.TheVariants as event;
 ghost use Rattle.board_terms.specs.declared.messages.PortShape.TheVariants as shape;
 
 use crate::asked::{asked, asked_nothing};
-use board_terms::{Bytes8, PortShape, Vector};
+use board_terms::{PortShape, Vector};
 use handles::DeskHandle;
 use plain_terms::{Fault, PlainEvent, PlainReply, perform_plain, plain_fault, plain_reply};
 use synic_board::Event;
 
 /// How many bytes a message has at most.
 const MOST_PAYLOAD: usize = 240;
+
+/// How many bytes a store has at most.
+const MOST_STORED: usize = 8;
 
 /// A port for messages is opened to source `sint` of processor `vp`, with 1 to 16 buffers.
 #[unsafe(no_mangle)]
@@ -158,16 +161,15 @@ pub extern "C" fn synicboard_store(
 ) -> PlainReply
     ensures { IsAsked (stored_meant address bytes.now) handle.old.desk handle.new.desk result }
 {
-    let mut event = Event::Store {
-        address,
-        bytes: Bytes8::new(),
-    };
-    let Event::Store { bytes: place, .. } = &mut event else {
+    if bytes.len() > MOST_STORED {
         return asked_nothing(handle);
-    };
-    match place.try_extend_from_slice(bytes) {
-        Ok(()) => asked(handle, &event),
-        Err(_) => asked_nothing(handle),
+    }
+    match handle.desk_mut() {
+        Some(desk) => {
+            let reply = desk.store(address, bytes);
+            plain_reply(&reply, desk.notices.as_slice().len() as u16)
+        }
+        None => plain_fault(Fault::Closed),
     }
 }
 

@@ -10,7 +10,7 @@ ghost use Rattle.synic_board.specs.inside.Touches.{touched, OthersFree};
 
 use crate::event::Reply;
 use crate::machine::Machine;
-use board_terms::{Bytes8, Kind, Notice, Notices, Owner, Sint, Vp, source_number};
+use board_terms::{Kind, Notice, Notices, Owner, Sint, Vp, source_number};
 
 /// The number of bytes of a page.
 const PAGE_SIZE: u64 = 4096;
@@ -49,10 +49,10 @@ impl Machine {
 
     /// Stores bytes in the page that the guest sees at the address. The board keeps that a slot is
     /// empty only where it holds no ticket, so only the slot whose type was written may hold one still.
-    pub(crate) fn store(&mut self, address: u64, bytes: &Bytes8, notices: &mut Notices) -> Reply
+    pub(crate) fn store(&mut self, address: u64, bytes: &[u8], notices: &mut Notices) -> Reply
         requires none { notices.old ≡ [] }
         requires sound { IsSound self.old.state }
-        ensures step { (self.new.state, result, notices.new) ≡ stored_bytes self.old.state address bytes.now.items }
+        ensures step { (self.new.state, result, notices.new) ≡ stored_bytes self.old.state address bytes.now }
         ensures writes { self.new.writes ≡ self.old.writes }
     {
         let owner = match self.space.store(address, bytes) {

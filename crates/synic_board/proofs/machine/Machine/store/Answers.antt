@@ -1,9 +1,9 @@
-use Rattle.std.proofs.Common.{◌≡◌, ◌%◌, ap, sym, subst, ◌∙◌}
+use Rattle.std.proofs.Common.{◌≡◌, ap, sym, subst, ◌∙◌}
 use Rattle.gpa_space.specs.Space.{store_answer, after_store}
 use Rattle.synic_board.specs.State.{Held, State, space_of, with_space}
 use Rattle.synic_board.specs.Stores.{stored_bytes}
 use Rattle.synic_board.specs.Sound.{IsSound}
-use Rattle.synic_board.specs.inside.Touches.{touched, OthersFree}
+use Rattle.synic_board.specs.inside.Touches.{OthersFree}
 use Rattle.synic_board.specs.inside.View.{state_of}
 use Rattle.synic_board.proofs.Storing.{stored_is}
 use Rattle.synic_board.proofs.Touching.{others-free}
@@ -13,18 +13,17 @@ pub consume_in-requires-clause-others : goal.consume_in-requires-clause-others
 consume_in-requires-clause-others c =
     let s : State = state_of c.self.inside in
     let address = c.args.address in
-    let bytes = c.args.bytes.now.items in
+    let bytes = c.args.bytes.now in
     let space : c.self.inside.space ≡ space_of s = (λ i. record { pages = c.self.inside.space.pages; registers = c.self.invariant.overlays i; own = c.self.inside.space.own }) in
     let sound = subst (λ (h : Held). IsSound h.state) (sym c.self.view_is) c.requires.sound in
     let answer = sym c.in-Ok.is ∙ c.store.ensures.answer ∙ ap (λ x. store_answer x address bytes) space in
     let after = c.store.ensures.after ∙ ap (λ x. after_store x address bytes) space in
-    let slot = c.touched-slot.ensures.value ∙ ap (touched (address % 4096)) c.len.ensures.value in
-    subst (OthersFree (with_space s c.store.new.self) c.in-Ok.owner) (sym slot) (others-free s address bytes c.store.new.self c.in-Ok.owner sound answer after)
+    subst (OthersFree (with_space s c.store.new.self) c.in-Ok.owner) (sym c.touched-slot.ensures.value) (others-free s address bytes c.store.new.self c.in-Ok.owner sound answer after)
 
 pub returns-clause-step : goal.returns-clause-step
 returns-clause-step c =
     let s : State = state_of c.self.inside in
     let space : c.self.inside.space ≡ space_of s = (λ i. record { pages = c.self.inside.space.pages; registers = c.self.invariant.overlays i; own = c.self.inside.space.own }) in
-    stored_is s c.consume_in.new.self.state c.args.address c.args.bytes.now.items c.self.inside.space c.store.new.self c.in-Ok.owner c.args.notices.now c.consume_in.new.notices
+    stored_is s c.consume_in.new.self.state c.args.address c.args.bytes.now c.self.inside.space c.store.new.self c.in-Ok.owner c.args.notices.now c.consume_in.new.notices
     space (sym c.in-Ok.is ∙ c.store.ensures.answer) c.store.ensures.after c.requires.none c.consume_in.ensures.effect
-    ∙ ap (λ (h : Held). stored_bytes h.state c.args.address c.args.bytes.now.items) c.self.view_is
+    ∙ ap (λ (h : Held). stored_bytes h.state c.args.address c.args.bytes.now) c.self.view_is
