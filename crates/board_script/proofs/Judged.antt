@@ -11,7 +11,7 @@ use Rattle.line_driver.specs.declared.driving.End.{End}
 use Rattle.line_driver.specs.declared.driving.End.TheVariants as ends
 use Rattle.board_script.specs.Script.{line_fault, rest_fault, first_fault}
 use Rattle.board_script.specs.Output.{Machine, output_from, output_of, fault_of, fault_text, text}
-use Rattle.board_script.specs.Streams.{BegunText, Replays, Finishes, IsAnswered, IsFaulty}
+use Rattle.board_script.specs.Streams.{BegunText, Replays, conclusion, Concludes, Finishes, IsAnswered, IsFaulty}
 use Rattle.board_lines.specs.declared.fault.ScriptFault.{ScriptFault}
 use Rattle.board_lines.specs.declared.fault.ScriptFault.TheVariants as faults
 use Rattle.board_script.specs.declared.stream.ReplayEnd.{ReplayEnd}
@@ -19,7 +19,7 @@ use Rattle.board_script.specs.declared.stream.ReplayEnd.TheVariants.{Done, Scrip
 use Rattle.board_script.proofs.ScriptLemmas.{output_from-line, first_fault-line, output_from-bad, first_fault-bad}
 
 -- The fault that a drive found, the board being open or not.
-abbrev pub FaultAt : End ScriptFault → Bool → Option (ℕ × ScriptFault) → Type 0
+abbrev FaultAt : End ScriptFault → Bool → Option (ℕ × ScriptFault) → Type 0
 FaultAt (ends.Last line) opened fault = cond opened None (Some (line, faults.First)) ≡ fault
 FaultAt (ends.Wrong line f) opened fault = Some (line, f) ≡ fault
 FaultAt (ends.Long line) opened fault = Some (line, faults.Long) ≡ fault
@@ -110,7 +110,7 @@ module _ {J : Type 0} (seen : J → Machine) (old new : J) (start : seen old ≡
   known end fault answers text is h = absurd is
 
   -- The fault is said, if there is one.
-  pub replays-finished : (end : End ScriptFault) (fault : Option (ℕ × ScriptFault)) (result : ReplayEnd) (r0 r1 w0 w w1 : Option (List ℕ)) → FaultAt end (is_some (seen new)) fault → Driven end r0 r1 w0 w → Finishes result fault w w1 → Replays result r0 r1 w0 w1
+  replays-finished : (end : End ScriptFault) (fault : Option (ℕ × ScriptFault)) (result : ReplayEnd) (r0 r1 w0 w w1 : Option (List ℕ)) → FaultAt end (is_some (seen new)) fault → Driven end r0 r1 w0 w → Finishes result fault w w1 → Replays result r0 r1 w0 w1
   replays-finished end fault result r0 r1 w0 w w1 is d = by result
     where
       writes : Appends w0 w d.answers
@@ -137,15 +137,25 @@ module _ {J : Type 0} (seen : J → Machine) (old new : J) (start : seen old ≡
       }
 
   -- What was sent begins what is answered to the bytes that came.
-  pub replays-begun : (end : End ScriptFault) (r0 r1 w0 w1 : Option (List ℕ)) (d : Driven end r0 r1 w0 w1) → d.answers ≡ d.sent → BegunText output_of r0 r1 w0 w1
+  replays-begun : (end : End ScriptFault) (r0 r1 w0 w1 : Option (List ℕ)) (d : Driven end r0 r1 w0 w1) → d.answers ≡ d.sent → BegunText output_of r0 r1 w0 w1
   replays-begun end r0 r1 w0 w1 d sent = record { taken = d.taken; sent = d.sent; unsent = output_from (seen d.read.state) d.read.left; reads = d.reads; writes = d.writes; begins = (on-text end d.answers d.taken d.read).0 ∙ ap (λ (x : List ℕ). x ++ output_from (seen d.read.state) d.read.left) sent }
 
   -- A write failed.
-  pub replays-writing : (r0 r1 w0 w1 : Option (List ℕ)) → Driven ends.Writing r0 r1 w0 w1 → BegunText text r0 r1 w0 w1
+  replays-writing : (r0 r1 w0 w1 : Option (List ℕ)) → Driven ends.Writing r0 r1 w0 w1 → BegunText text r0 r1 w0 w1
   replays-writing r0 r1 w0 w1 d =
       let more = output_from (seen d.read.state) d.read.left in
       let tail = fault_text (fault_of d.taken) in
       record { taken = d.taken; sent = d.sent; unsent = (d.sends.0 ++ more) ++ tail; reads = d.reads; writes = d.writes; begins = ap (λ (x : List ℕ). x ++ tail) ((on-text ends.Writing d.answers d.taken d.read).0 ∙ ap (λ (x : List ℕ). x ++ more) d.sends.1) ∙ simp append_assoc }
+
+  -- What a drive and what is written behind it come to.
+  pub replays-concluded : (end : End ScriptFault) (result : ReplayEnd) (r0 r1 w0 w w1 : Option (List ℕ)) → Driven end r0 r1 w0 w → Concludes (conclusion end (is_some (seen new))) result w w1 → Replays result r0 r1 w0 w1
+  replays-concluded (ends.Last line) result r0 r1 w0 w w1 d f = replays-finished (ends.Last line) (cond (is_some (seen new)) None (Some (line, faults.First))) result r0 r1 w0 w w1 refl d f
+  replays-concluded (ends.Wrong line g) result r0 r1 w0 w w1 d f = replays-finished (ends.Wrong line g) (Some (line, g)) result r0 r1 w0 w w1 refl d f
+  replays-concluded (ends.Long line) result r0 r1 w0 w w1 d f = replays-finished (ends.Long line) (Some (line, faults.Long)) result r0 r1 w0 w w1 refl d f
+  replays-concluded (ends.Cut line) result r0 r1 w0 w w1 d f = replays-finished (ends.Cut line) (Some (line, faults.Cut)) result r0 r1 w0 w w1 refl d f
+  replays-concluded ends.Memory result r0 r1 w0 w w1 d f = rw (f.0, f.1) (replays-begun ends.Memory r0 r1 w0 w d d.sends)
+  replays-concluded ends.Reading result r0 r1 w0 w w1 d f = rw (f.0, f.1) (replays-begun ends.Reading r0 r1 w0 w d d.sends)
+  replays-concluded ends.Writing result r0 r1 w0 w w1 d f = rw (f.0, f.1) (replays-writing r0 r1 w0 w d)
 
 -- Before anything was read.
 pub replays-nothing : (r w : Option (List ℕ)) → BegunText output_of r r w w

@@ -1,15 +1,18 @@
 -- What a replay reads and writes.
-use Rattle.std.specs.Prelude.{◌≡◌, ℕ, List, [], ◌++◌, Option, None, Some, IfSome, is_some}
+use Rattle.std.specs.Prelude.{◌≡◌, ℕ, List, [], ◌++◌, Bool, if◌then◌else◌, Option, None, Some, IfSome, is_some, Result, Ok, Err}
 use Rattle.std.specs.Option.{option_map}
 use Rattle.std.specs.Io.KnownBytes.{Consumes, Appends}
 use Rattle.synic_board.specs.State.{Held}
 use Rattle.board_lines.specs.Items.{Item}
 use Rattle.line_driver.specs.Driving.{ReadsNear}
+use Rattle.line_driver.specs.declared.driving.End.{End}
+use Rattle.line_driver.specs.declared.driving.End.TheVariants as ends
 use Rattle.line_driver.specs.declared.judge.Taken.{Taken}
 use Rattle.line_driver.specs.declared.judge.Taken.TheVariants as taken
 use Rattle.board_script.specs.Script.{item_in, item_fault, line_fault}
 use Rattle.board_script.specs.Output.{Machine, machine_after, answer, output_of, fault_of, fault_text, text}
 use Rattle.board_lines.specs.declared.fault.ScriptFault.{ScriptFault}
+use Rattle.board_lines.specs.declared.fault.ScriptFault.TheVariants as faults
 use Rattle.board_script.specs.declared.stream.ReplayEnd.{ReplayEnd}
 use Rattle.board_script.specs.declared.stream.ReplayEnd.TheVariants.{Done, Script, Memory, Reading, Writing}
 
@@ -40,6 +43,16 @@ abbrev pub StopsNear : ReplayEnd → Option (List ℕ) → Option (List ℕ) →
 StopsNear (Script line fault) r0 r1 = ReadsNear line r0 r1
 StopsNear end r0 r1 = Unit {0}
 
+-- the fault that is written where the reading ends so, the board being open or not, or the end with nothing written
+abbrev pub conclusion : End ScriptFault → Bool → Result (Option (ℕ × ScriptFault)) ReplayEnd
+conclusion (ends.Last line) opened = Ok (if opened then None else Some (line, faults.First))
+conclusion (ends.Wrong line fault) opened = Ok (Some (line, fault))
+conclusion (ends.Long line) opened = Ok (Some (line, faults.Long))
+conclusion (ends.Cut line) opened = Ok (Some (line, faults.Cut))
+conclusion ends.Memory opened = Err Memory
+conclusion ends.Reading opened = Err Reading
+conclusion ends.Writing opened = Err Writing
+
 -- the fault's line was written, if there is one, or a part of it
 abbrev pub Finishes : ReplayEnd → Option (ℕ × ScriptFault) → Option (List ℕ) → Option (List ℕ) → Type 0
 Finishes Done fault w0 w1 = (fault ≡ None) × Appends w0 w1 []
@@ -47,6 +60,11 @@ Finishes (Script l f) fault w0 w1 = (fault ≡ Some (l, f)) × Appends w0 w1 (fa
 Finishes Memory fault w0 w1 = w1 ≡ w0
 Finishes Reading fault w0 w1 = ⊥
 Finishes Writing fault w0 w1 = (sent rest : List ℕ) × Appends w0 w1 sent × (fault_text fault ≡ sent ++ rest)
+
+-- the fault was said, or nothing more was written
+abbrev pub Concludes : Result (Option (ℕ × ScriptFault)) ReplayEnd → ReplayEnd → Option (List ℕ) → Option (List ℕ) → Type 0
+Concludes (Ok fault) result w0 w1 = Finishes result fault w0 w1
+Concludes (Err end) result w0 w1 = (result ≡ end) × (w1 ≡ w0)
 
 -- the machine that a board is
 abbrev pub machine_of : Option Held → Machine

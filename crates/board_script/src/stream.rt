@@ -1,6 +1,6 @@
 // A script from a reader, its text to a writer.
 ghost use Rattle.board_text.specs.Streams.{ReadsUpTo};
-ghost use Rattle.board_script.specs.Streams.{Replays, most_read, StopsNear, Finishes};
+ghost use Rattle.board_script.specs.Streams.{Replays, most_read, StopsNear, conclusion, Concludes, Finishes};
 
 use crate::judge::ScriptJudge;
 use board_lines::{ScriptFault, put_fault};
@@ -44,14 +44,26 @@ pub fn replay<R: Read, W: Write>(alloc: Global, reader: &mut R, writer: &mut W) 
         notices,
     };
     let mut out = Vec::new(alloc);
-    match drive(alloc, reader, writer, &mut judge, &mut out) {
-        End::Last { line } => match judge.board {
-            Some(_) => finish(writer, &mut out, None),
-            None => finish(writer, &mut out, Some((line, ScriptFault::First))),
-        },
-        End::Wrong { line, fault } => finish(writer, &mut out, Some((line, fault))),
-        End::Long { line } => finish(writer, &mut out, Some((line, ScriptFault::Long))),
-        End::Cut { line } => finish(writer, &mut out, Some((line, ScriptFault::Cut))),
+    let end = drive(alloc, reader, writer, &mut judge, &mut out);
+    conclude(writer, &mut out, end, judge.board.is_some())
+}
+
+/// Writes what the end of the reading leaves to write. It stands apart from `replay`, which so lets go of
+/// all that it owns at one place.
+fn conclude<W: Write>(
+    writer: &mut W,
+    out: &mut Vec<u8>,
+    end: End<ScriptFault>,
+    is_open: bool,
+) -> ReplayEnd
+    ensures { Concludes (conclusion end is_open) result (W.contents writer.old) (W.contents writer.new) }
+{
+    match end {
+        End::Last { .. } if is_open => finish(writer, out, None),
+        End::Last { line } => finish(writer, out, Some((line, ScriptFault::First))),
+        End::Wrong { line, fault } => finish(writer, out, Some((line, fault))),
+        End::Long { line } => finish(writer, out, Some((line, ScriptFault::Long))),
+        End::Cut { line } => finish(writer, out, Some((line, ScriptFault::Cut))),
         End::Memory => ReplayEnd::Memory,
         End::Reading => ReplayEnd::Reading,
         End::Writing => ReplayEnd::Writing,

@@ -9,13 +9,16 @@ ghost use Rattle.synic_board.specs.inside.Codes.{state_code};
 ghost use Rattle.synic_board.specs.Step.{step};
 ghost use Rattle.synic_board.specs.History.{IsLegal, leads_to};
 ghost use Rattle.entry_log.specs.Log.{entry};
+ghost use Rattle.board_threads.specs.Settling.{AreAllOf};
+ghost use Rattle.board_threads.specs.inside.Ending.{IsEnd};
 
 use crate::actor::CallFault;
+use crate::settling::{ActorCalls, Ended, SettleFault, are_all_of};
 use board_terms::{Notices, Ticket, Vp};
 use entry_log::EntryLog;
-use posted_words::{PostedWords, Sweeper};
+use posted_words::{PostedWords, Standing, Sweeper};
 use std::alloc::{AllocError, Global};
-use synic_board::{Board, Event, Reply};
+use synic_board::{Board, Entry, Event, Reply};
 
 /// How many entries a history has at most.
 pub(crate) const MOST: usize = 65_536;
@@ -110,6 +113,49 @@ impl Recorded {
         let bits = sweep_if_there(words, sweeper, vp, part);
         let reply = self.perform(actor, &Event::Absorb { vp, part, bits });
         Ok((bits, reply))
+    }
+
+    /// What the board comes to, if it was opened so and its history is what these actors called and
+    /// nothing else.
+    pub(crate) fn end(
+        self,
+        alloc: Global,
+        opening: Opening,
+        actors: Vec<ActorCalls>,
+        standing: Standing,
+    ) -> Result<Ended, SettleFault>
+        ensures opening { OnOk result (self.opening ≡ opening) }
+        ensures ended { IfOk result (IsEnd self.board self.history.entries actors.items standing) }
+    {
+        let history = self.history_of(alloc, opening, actors.as_slice())?;
+        let Recorded { board, .. } = self;
+        Ok(Ended {
+            board,
+            history,
+            actors,
+            standing,
+        })
+    }
+
+    /// The entries of that history.
+    fn history_of(
+        &self,
+        alloc: Global,
+        opening: Opening,
+        actors: &[ActorCalls],
+    ) -> Result<Vec<Entry>, SettleFault>
+        ensures opening { OnOk result (self.now.opening ≡ opening) }
+        ensures history { IfOk result (λ v. v.items ≡ self.now.history.entries) }
+        ensures all { IfOk result (λ v. AreAllOf v.items actors.now) }
+    {
+        if self.opening != opening {
+            return Err(SettleFault::Mismatch);
+        }
+        let history = self.history.to_entries(alloc)?;
+        if !are_all_of(history.as_slice(), actors) {
+            return Err(SettleFault::Mismatch);
+        }
+        Ok(history)
     }
 
     /// Makes room for one more entry, where the actor has room for one more call.

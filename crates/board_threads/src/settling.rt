@@ -8,7 +8,7 @@ ghost use Rattle.board_threads.specs.Settling.{HaveOwnNumbers, AreAllOf, calls_h
 ghost use Rattle.board_threads.specs.Sharing.{Acting};
 
 use crate::actor::Actor;
-use posted_words::{Standing, Sweeper};
+use posted_words::{GatherFault, Standing, Sweeper};
 use std::alloc::{AllocError, Global};
 use synic_board::{Board, Entry, Event, Reply};
 use thiserror::Error;
@@ -22,6 +22,21 @@ pub enum SettleFault {
     /// There was no memory.
     #[error("out of memory")]
     Memory = 2,
+}
+
+impl From<AllocError> for SettleFault {
+    fn from(_: AllocError) -> SettleFault {
+        SettleFault::Memory
+    }
+}
+
+impl From<GatherFault> for SettleFault {
+    fn from(fault: GatherFault) -> SettleFault {
+        match fault {
+            GatherFault::Missing => SettleFault::Mismatch,
+            GatherFault::Memory => SettleFault::Memory,
+        }
+    }
 }
 
 /// An actor that has ended.

@@ -11,9 +11,9 @@ ghost use Rattle.board_threads.specs.Settling.{IsSettled, AreAbsorbed, only_rais
 
 use crate::actor::{Actor, CallFault};
 use crate::recorded::{Opening, Recorded};
-use crate::settling::{Ended, SettleFault, are_all_of, split_all};
+use crate::settling::{Ended, SettleFault, split_all};
 use board_terms::{Ticket, Vector, Vp};
-use posted_words::{GatherFault, Line, PostedWords, Raised, Sweeper};
+use posted_words::{Line, PostedWords, Raised, Sweeper};
 use std::alloc::{AllocError, Global};
 use std::marker::Model;
 use std::sync::{Mutex, Wait};
@@ -187,30 +187,8 @@ impl SharedBoard {
             words,
             recorded,
         } = self;
-        let recorded = recorded.into_inner();
-        if recorded.opening != opening {
-            return Err(SettleFault::Mismatch);
-        }
-        let Ok(history) = recorded.history.to_entries(alloc) else {
-            return Err(SettleFault::Memory);
-        };
-        let Ok((sweepers, actors)) = split_all(alloc, actors) else {
-            return Err(SettleFault::Memory);
-        };
-        if !are_all_of(history.as_slice(), actors.as_slice()) {
-            return Err(SettleFault::Mismatch);
-        }
-        let standing = match words.gather(sweepers, lines) {
-            Ok(standing) => standing,
-            Err(GatherFault::Missing) => return Err(SettleFault::Mismatch),
-            Err(GatherFault::Memory) => return Err(SettleFault::Memory),
-        };
-        let Recorded { board, .. } = recorded;
-        Ok(Ended {
-            board,
-            history,
-            actors,
-            standing,
-        })
+        let (sweepers, actors) = split_all(alloc, actors)?;
+        let standing = words.gather(sweepers, lines)?;
+        recorded.into_inner().end(alloc, opening, actors, standing)
     }
 }

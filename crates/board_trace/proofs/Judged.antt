@@ -11,8 +11,8 @@ use Rattle.line_driver.specs.Driving.{next_of, Ends, Stops, Sends, Drives}
 use Rattle.line_driver.specs.declared.driving.End.{End}
 use Rattle.line_driver.specs.declared.driving.End.TheVariants as ends
 use Rattle.board_trace.specs.Trace.{IsTrace, Begins}
-use Rattle.board_trace.specs.inside.Stages.{Stage, Title, Over, IsGood, IsWrong}
-use Rattle.board_trace.specs.Verdicts.{FirstWrong, Judges, verdict_text, Checks, Says}
+use Rattle.board_trace.specs.inside.Stages.{Stage, Title, Over, IsOver, IsGood, IsWrong}
+use Rattle.board_trace.specs.Verdicts.{FirstWrong, Judges, verdict_text, Checks, conclusion, Concludes, Says}
 use Rattle.board_trace.specs.declared.check.Verdict.{Verdict}
 use Rattle.board_trace.specs.declared.check.Verdict.TheVariants as verdicts
 use Rattle.board_trace.specs.declared.check.CheckEnd.{CheckEnd}
@@ -125,16 +125,11 @@ part-left text lines left stage split leads none one still =
     (λ n t. no_part stage (rest_of text) n leads.fits one still (subst (λ (x : List (List ℕ)). Continues stage (joined x ++ rest_of text) n) none t))
 
 -- the line at which a drive ended
-abbrev pub IsAt : End (Unit {0}) → ℕ → Type 0
+abbrev IsAt : End (Unit {0}) → ℕ → Type 0
 IsAt (ends.Wrong line fault) k = line ≡ k
 IsAt (ends.Long line) k = line ≡ k
 IsAt (ends.Cut line) k = line ≡ k
 IsAt end k = ⊥
-
-pub at-line : (end : End (Unit {0})) (k : ℕ) → ((fault : Unit {0}) × (end ≡ ends.Wrong k fault)) ⊎ ((end ≡ ends.Long k) ⊎ (end ≡ ends.Cut k)) → IsAt end k
-at-line end k (inl is) = rw is.1 refl
-at-line end k (inr (inl is)) = rw is refl
-at-line end k (inr (inr is)) = rw is refl
 
 some-on : (r : Option (List ℕ)) (P Q : List ℕ → Type 0) → ((text : List ℕ) → P text → Q text) → IfSome r P → IfSome r Q
 some-on None P Q f h = tt
@@ -192,14 +187,25 @@ module _ {J : Type 0} (seen : J → Stage) (old new : J) (start : seen old ≡ T
       subst (λ (x : List ℕ). IsTrace x n) whole ((led (ends.Last line) answers text h).may [] n (subst (λ (s : Stage). Continues s [] n) stage (refl, refl)))
 
   -- A drive over the lines of a trace writes nothing.
-  pub quiet : (end : End (Unit {0})) (r0 r1 w0 w1 : Option (List ℕ)) → Driven end r0 r1 w0 w1 → Appends w0 w1 []
+  quiet : (end : End (Unit {0})) (r0 r1 w0 w1 : Option (List ℕ)) → Driven end r0 r1 w0 w1 → Appends w0 w1 []
   quiet end r0 r1 w0 w1 d = subst (λ (x : List ℕ). Appends w0 w1 x) (nothing-sent end d.answers d.sent (silent seen old d.read.state d.read.lines d.answers d.read.follows) d.sends) d.writes
 
-  pub refused-said : (end : End (Unit {0})) (result : CheckEnd) (k : ℕ) (r0 r1 w0 w w1 : Option (List ℕ)) → IsAt end k → Driven end r0 r1 w0 w → Says result (verdicts.Refused k) w w1 → Checks result r0 w0 w1
+  refused-said : (end : End (Unit {0})) (result : CheckEnd) (k : ℕ) (r0 r1 w0 w w1 : Option (List ℕ)) → IsAt end k → Driven end r0 r1 w0 w → Says result (verdicts.Refused k) w w1 → Checks result r0 w0 w1
   refused-said end result k r0 r1 w0 w w1 is d says = checks-said result (verdicts.Refused k) r0 w0 w w1 (some-on r0 (Ended end d.answers) (λ text. FirstWrong text k) (λ text h. refused end k d.answers text is h) d.whole) (quiet end r0 r1 w0 w d) says
 
-  pub unfinished-said : (result : CheckEnd) (line : ℕ) (r0 r1 w0 w w1 : Option (List ℕ)) → ((n : ℕ) → seen new ≡ Over n → ⊥) → Driven (ends.Last line) r0 r1 w0 w → Says result (verdicts.Refused line) w w1 → Checks result r0 w0 w1
+  unfinished-said : (result : CheckEnd) (line : ℕ) (r0 r1 w0 w w1 : Option (List ℕ)) → ((n : ℕ) → seen new ≡ Over n → ⊥) → Driven (ends.Last line) r0 r1 w0 w → Says result (verdicts.Refused line) w w1 → Checks result r0 w0 w1
   unfinished-said result line r0 r1 w0 w w1 still d says = checks-said result (verdicts.Refused line) r0 w0 w w1 (some-on r0 (Ended (ends.Last line) d.answers) (λ text. FirstWrong text line) (λ text h. unfinished line d.answers text still h) d.whole) (quiet (ends.Last line) r0 r1 w0 w d) says
 
-  pub finished-said : (result : CheckEnd) (line n : ℕ) (r0 r1 w0 w w1 : Option (List ℕ)) → seen new ≡ Over n → Driven (ends.Last line) r0 r1 w0 w → Says result (verdicts.Legal n) w w1 → Checks result r0 w0 w1
+  finished-said : (result : CheckEnd) (line n : ℕ) (r0 r1 w0 w w1 : Option (List ℕ)) → seen new ≡ Over n → Driven (ends.Last line) r0 r1 w0 w → Says result (verdicts.Legal n) w w1 → Checks result r0 w0 w1
   finished-said result line n r0 r1 w0 w w1 over d says = checks-said result (verdicts.Legal n) r0 w0 w w1 (some-on r0 (Ended (ends.Last line) d.answers) (λ text. IsTrace text n) (λ text h. finished line n d.answers text over h) d.whole) (quiet (ends.Last line) r0 r1 w0 w d) says
+
+  -- What a drive and what is said behind it come to.
+  pub checks-concluded : (end : End (Unit {0})) (entries : Option ℕ) (result : CheckEnd) (r0 r1 w0 w w1 : Option (List ℕ)) → IsOver entries (seen new) → Driven end r0 r1 w0 w → Concludes (conclusion end entries) result w w1 → Checks result r0 w0 w1
+  checks-concluded (ends.Last line) (Some n) result r0 r1 w0 w w1 over d says = finished-said result line n r0 r1 w0 w w1 over d says
+  checks-concluded (ends.Last line) None result r0 r1 w0 w w1 still d says = unfinished-said result line r0 r1 w0 w w1 still d says
+  checks-concluded (ends.Wrong line fault) entries result r0 r1 w0 w w1 over d says = refused-said (ends.Wrong line fault) result line r0 r1 w0 w w1 refl d says
+  checks-concluded (ends.Long line) entries result r0 r1 w0 w w1 over d says = refused-said (ends.Long line) result line r0 r1 w0 w w1 refl d says
+  checks-concluded (ends.Cut line) entries result r0 r1 w0 w w1 over d says = refused-said (ends.Cut line) result line r0 r1 w0 w w1 refl d says
+  checks-concluded ends.Memory entries result r0 r1 w0 w w1 over d is = rw (is.0, is.1) (quiet ends.Memory r0 r1 w0 w d)
+  checks-concluded ends.Reading entries result r0 r1 w0 w w1 over d is = rw (is.0, is.1) (quiet ends.Reading r0 r1 w0 w d)
+  checks-concluded ends.Writing entries result r0 r1 w0 w w1 over d is = rw (is.0, is.1) (record { sent = []; writes = quiet ends.Writing r0 r1 w0 w d; begins = inl refl })

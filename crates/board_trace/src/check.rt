@@ -1,7 +1,7 @@
 // The check of a trace.
 ghost use Rattle.std.specs.Prelude.{◌≡◌, ◌++◌, OnOk};
 ghost use Rattle.board_text.specs.Streams.{ReadsUpTo};
-ghost use Rattle.board_trace.specs.Verdicts.{Checks, Says, most_read, StopsNear, verdict_text};
+ghost use Rattle.board_trace.specs.Verdicts.{Checks, conclusion, Concludes, Says, most_read, StopsNear, verdict_text};
 
 use crate::judge::TraceJudge;
 use crate::stage::{Stage, entries_of};
@@ -51,13 +51,27 @@ pub fn check_trace<R: Read, W: Write>(alloc: Global, reader: &mut R, writer: &mu
         text: Vec::new(alloc),
     };
     let mut out = Vec::new(alloc);
-    match drive(alloc, reader, writer, &mut judge, &mut out) {
-        End::Last { line } => match entries_of(&judge.stage) {
-            Some(entries) => say(writer, &mut out, Verdict::Legal(entries)),
-            None => say(writer, &mut out, Verdict::Refused(line)),
+    let end = drive(alloc, reader, writer, &mut judge, &mut out);
+    conclude(writer, &mut out, end, entries_of(&judge.stage))
+}
+
+/// Says what the end of the reading comes to, behind so many entries of a trace that is over. It stands
+/// apart from `check_trace`, which so lets go of all that it owns at one place.
+fn conclude<W: Write>(
+    writer: &mut W,
+    out: &mut Vec<u8>,
+    end: End<()>,
+    entries: Option<u64>,
+) -> CheckEnd
+    ensures { Concludes (conclusion end entries) result (W.contents writer.old) (W.contents writer.new) }
+{
+    match end {
+        End::Last { line } => match entries {
+            Some(entries) => say(writer, out, Verdict::Legal(entries)),
+            None => say(writer, out, Verdict::Refused(line)),
         },
         End::Wrong { line, .. } | End::Long { line } | End::Cut { line } => {
-            say(writer, &mut out, Verdict::Refused(line))
+            say(writer, out, Verdict::Refused(line))
         }
         End::Memory => CheckEnd::Memory,
         End::Reading => CheckEnd::Reading,

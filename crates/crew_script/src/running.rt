@@ -3,12 +3,13 @@ ghost use Rattle.board_text.specs.Streams.{ReadsUpTo};
 ghost use Rattle.crew_script.specs.inside.View.{crew_of};
 ghost use Rattle.crew_script.specs.Crew.{finished, IsGood};
 ghost use Rattle.crew_script.specs.Running.{Crews, most_read, StopsNear, Refuses, Runs, Prepares};
+ghost use Rattle.crew_script.specs.inside.Telling.{IsTold};
 ghost use Rattle.std.specs.Prelude.{◌≡◌, ◌≢◌, []};
 
 use crate::held::CrewScript;
 use crate::judge::CrewJudge;
 use board_lines::{ScriptFault, put_fault};
-use board_threads::{CrewFault, Gate, run_crew};
+use board_threads::{CrewFault, Ended, Gate, Setup, run_crew};
 use board_trace::put_trace;
 use line_driver::{End, close, drive};
 use std::alloc::Global;
@@ -87,7 +88,7 @@ fn refuse<W: Write>(alloc: Global, writer: &mut W, line: u64, fault: ScriptFault
 fn run<T: Threads + Wait + Sync, W: Write, G: Gate + Sync>(
     rt: &T,
     alloc: Global,
-    script: CrewScript,
+    mut script: CrewScript,
     writer: &mut W,
     gate: &G,
 ) -> CrewRun
@@ -95,7 +96,7 @@ fn run<T: Threads + Wait + Sync, W: Write, G: Gate + Sync>(
     ensures { Runs result (crew_of script) (W.contents writer.old) (W.contents writer.new) }
 {
     let mut out = Vec::new(alloc);
-    match prepare(rt, alloc, script, gate, &mut out) {
+    match prepare(rt, alloc, &mut script, gate, &mut out) {
         Outcome::Memory => CrewRun::Memory,
         Outcome::NoThread => CrewRun::NoThread,
         Outcome::Unsettled => {
@@ -126,29 +127,35 @@ enum Outcome {
 fn prepare<T: Threads + Wait + Sync, G: Gate + Sync>(
     rt: &T,
     alloc: Global,
-    mut script: CrewScript,
+    script: &mut CrewScript,
     gate: &G,
     out: &mut Vec<u8>,
 ) -> Outcome
     requires empty { out.old.items ≡ [] }
-    requires good { IsGood (finished (crew_of script)) }
-    ensures { Prepares result (finished (crew_of script)) out.new.items }
+    requires good { IsGood (finished (crew_of script.old)) }
+    ensures { Prepares result (finished (crew_of script.old)) out.new.items }
 {
     if script.close().is_err() {
         return Outcome::Memory;
     }
-    let setup = &script.setup;
-    let end = match run_crew(rt, alloc, setup, &script.scripts, gate) {
-        Ok(end) => end,
-        Err(fault) => return outcome_of(fault),
-    };
+    match run_crew(rt, alloc, &script.setup, &script.scripts, gate) {
+        Ok(end) => tell(&script.setup, &end.ended, out),
+        Err(fault) => outcome_of(fault),
+    }
+}
+
+/// Writes the trace of a crew that ended at the end of `out`. It stands apart from `prepare`, which so
+/// lets go of the crew at one place.
+fn tell(setup: &Setup, ended: &Ended, out: &mut Vec<u8>) -> Outcome
+    ensures { IsTold result setup.now ended.now out.old.items out.new.items }
+{
     match put_trace(
         out,
         setup.processors,
         setup.pages,
         setup.first_ticket,
-        end.ended.history.as_slice(),
-        end.ended.board.next_ticket(),
+        ended.history.as_slice(),
+        ended.board.next_ticket(),
     ) {
         Ok(()) => Outcome::Done,
         Err(_) => Outcome::Memory,

@@ -135,10 +135,10 @@ record IsTold (s : State) (event : Event) (outcome : Outcome) : Type 0 where
   pub many : processors outcome.0 ≡ processors s
   pub told : (p v : ℕ) → p < processors s → is_told p v outcome.2 ≡ (not (is_requested s p v) && is_requested outcome.0 p v)
 
-came : (was told is : Bool) → is ≡ (was || told) → (told ≡ true → was ≡ false) → told ≡ (not was && is)
+came : (was says is : Bool) → is ≡ (was || says) → (says ≡ true → was ≡ false) → says ≡ (not was && is)
 came true true is e f = let no : true ≡ false = f refl in absurd (cc)
 came true false is e f = refl
-came false told is e f = sym e
+came false says is e f = sym e
 
 stayed : (was is : Bool) → (is ≡ true → was ≡ true) → false ≡ (not was && is)
 stayed true is f = refl

@@ -1,5 +1,5 @@
 -- A message that finds its slot empty, with nothing queued before it, is placed there at once.
-use Rattle.std.specs.Prelude.{◌+◌, ◌==◌, ◌&&◌, Bool, false, not, nat_lt, List, [], ◌∷◌, ℕ, length, Some}
+use Rattle.std.specs.Prelude.{◌+◌, ◌&&◌, Bool, false, not, nat_lt, List, [], ◌∷◌, ℕ, length, Some}
 use Rattle.board_terms.specs.Quantities.{Processor, Source, Ticket}
 use Rattle.board_terms.specs.declared.messages.Message.{Message}
 use Rattle.board_terms.specs.Messages.{ticket_of}

@@ -1,14 +1,20 @@
-use Rattle.std.proofs.Common.{rules, ◌≡◌, Err, ap, sym, ◌∙◌, subst}
+use Rattle.std.proofs.Common.{rules, ◌≡◌, ℕ, List, [], Err, ap, sym, ◌∙◌, subst}
 use Rattle.std.proofs.lemmas.Bool.{both_ways}
 use Rattle.board_threads.specs.Crew.{lists}
+use Rattle.board_threads.specs.declared.script.Setup.{Setup}
+use Rattle.board_threads.specs.declared.settling.Ended.{Ended}
 use Rattle.board_threads.specs.Judging.{has_bad_step}
 use Rattle.synic_board.specs.State.{State, opened}
 use Rattle.synic_board.specs.History.{leads_to}
 use Rattle.board_trace.specs.declared.format.Format.TheVariants.{Two}
-use Rattle.board_trace.specs.Trace.{trace}
+use Rattle.board_lines.specs.Printing.{text_of}
+use Rattle.board_trace.specs.Trace.{trace_lines}
 use Rattle.crew_script.specs.Crew.{Crew, finished, IsGood}
 use Rattle.crew_script.specs.inside.View.{crew_of}
-use Rattle.crew_script.specs.Running.{IsHistory, Report}
+use Rattle.crew_script.specs.inside.Telling.{IsTold}
+use Rattle.crew_script.specs.Running.{IsHistory, Report, Prepares}
+use Rattle.crew_script.specs.declared.running.Outcome.{Outcome}
+use Rattle.crew_script.specs.declared.running.Outcome.TheVariants as outcomes
 use Rattle.crew_script.specs.declared.running.CrewRun.TheVariants.{Done}
 use Rattle.crew_script.proofs.Judged.{sized, none-bad}
 use Rattle.crew_script.proofs.running.prepare.Goals as goal
@@ -16,29 +22,39 @@ use Rattle.crew_script.proofs.running.prepare.Goals as goal
 pub outcome_of-requires-clause-size : goal.outcome_of-requires-clause-size
 outcome_of-requires-clause-size g c =
     let s = c.close.new.self in
-    let over : crew_of s ≡ finished (crew_of c.args.script) = search rules in
+    let over : crew_of s ≡ finished (crew_of c.args.script.now) = search rules in
     λ bad. c.run_crew.ensures.size.0 (c.in-Err.is ∙ ap Err bad) (sized s (subst IsGood (sym over) c.requires.good))
 
 pub outcome_of-requires-clause-step : goal.outcome_of-requires-clause-step
 outcome_of-requires-clause-step g c =
     let s = c.close.new.self in
-    let over : crew_of s ≡ finished (crew_of c.args.script) = search rules in
+    let over : crew_of s ≡ finished (crew_of c.args.script.now) = search rules in
     λ bad. both_ways (has_bad_step s.setup s.scripts) (none-bad s (subst IsGood (sym over) c.requires.good)) (c.run_crew.ensures.step.0 (c.in-Err.is ∙ ap Err bad)).1
 
-pub returns-in-Ok-put_trace : goal.returns-in-Ok-put_trace
-returns-in-Ok-put_trace g c =
+-- what was told, or nothing
+told : (outcome : Outcome) (setup : Setup) (ended : Ended) (crew : Crew) (text : List ℕ) → IsTold outcome setup ended [] text → (text ≡ text_of (trace_lines Two setup.processors setup.pages setup.first_ticket ended.history.items ended.board.state.next_ticket) → Report crew Done text) → Prepares outcome crew text
+told outcomes.Done setup ended crew text is report = report is
+told outcomes.Memory setup ended crew text is report = tt
+told outcomes.Unsettled setup ended crew text is report = tt
+told outcomes.NoThread setup ended crew text is report = tt
+
+pub returns-in-Ok : goal.returns-in-Ok
+returns-in-Ok g c =
     let s = c.close.new.self in
     let e = c.in-Ok.ensures in
-    let h = c.in-Ok.end.ended.history.items in
-    let over : crew_of s ≡ finished (crew_of c.args.script) = search rules in
+    let ended = c.in-Ok.end.ended in
+    let h = ended.history.items in
+    let out = c.tell.new.out.items in
+    let over : crew_of s ≡ finished (crew_of c.args.script.now) = search rules in
     let is : IsHistory (crew_of s) h = record {
       legal = e.settled.legal;
       crewed = e.crewed;
       answers = lists c.in-Ok.end.raised.items;
-      standing = c.in-Ok.end.ended.standing;
+      standing = ended.standing;
       each = e.each;
       raises = e.raises;
     } in
-    let next : c.next_ticket.result ≡ (leads_to (opened s.setup.processors s.setup.pages s.setup.first_ticket) h).next_ticket = c.next_ticket.ensures.next ∙ ap (λ (x : State). x.next_ticket) e.settled.leads in
-    let text : c.put_trace.new.out.items ≡ trace Two s.setup.processors s.setup.pages s.setup.first_ticket h = search rules in
-    subst (λ (crew : Crew). Report crew Done c.put_trace.new.out.items) over (h, is, text)
+    let lines : ℕ → List ℕ = λ next. text_of (trace_lines Two s.setup.processors s.setup.pages s.setup.first_ticket h next) in
+    let next : ended.board.state.next_ticket ≡ (leads_to (opened s.setup.processors s.setup.pages s.setup.first_ticket) h).next_ticket = ap (λ (x : State). x.next_ticket) e.settled.leads in
+    let was : IsTold c.tell.result s.setup ended [] out = subst (λ (old : List ℕ). IsTold c.tell.result s.setup ended old out) c.requires.empty c.tell.ensures in
+    told c.tell.result s.setup ended (finished (crew_of c.args.script.now)) out was (λ text. subst (λ (crew : Crew). Report crew Done out) over (h, is, text ∙ ap lines next))

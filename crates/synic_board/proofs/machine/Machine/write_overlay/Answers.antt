@@ -1,4 +1,4 @@
-use Rattle.std.proofs.Common.{◌*◌, ◌/◌, ◌<◌, length, slice_set, ap, sym, ◌∙◌, arith, map, length-set, slice_index_or, get_or}
+use Rattle.std.proofs.Common.{◌/◌, ◌<◌, length, slice_set, ap, sym, ◌∙◌, arith, map, length-set, slice_index_or, get_or}
 use Rattle.std.proofs.lemmas.List.{get_or_default}
 use Rattle.lapic_core.specs.Apic.{next}
 use Rattle.synic_regs.specs.Regs.{Regs, reset_regs, stores, after_write, value_of, auto_vectors}
