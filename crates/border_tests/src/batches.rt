@@ -1,8 +1,8 @@
 // A batch that ends early, and the least room that is enough.
 use board_desk::Desk;
-use desk_batch::{BatchEnd, perform_all};
+use desk_batch::{Batch, BatchEnd, perform_all};
 use plain_terms::{PlainEvent, PlainNotice, PlainReply};
-use std::test::Fail;
+use std::alloc::Global;
 
 /// An event of this kind of processor 1 and port 4.
 fn event(kind: u8) -> PlainEvent {
@@ -56,11 +56,11 @@ fn no_notice() -> PlainNotice {
     }
 }
 
-const WRITE: u8 = 4;
-
 const OPEN_MESSAGES: u8 = 1;
 
 const CLOSE: u8 = 3;
+
+const WRITE: u8 = 4;
 
 const POST: u8 = 6;
 
@@ -68,67 +68,146 @@ const TICK: u8 = 12;
 
 const NONE: u8 = 17;
 
-#[test]
-fn a_batch_stops_before_an_event_that_means_none(rt: HostRuntime) -> Result<(), Fail> {
-    let mut desk = Desk::open(rt.alloc(), 2, 1, 7)?;
-    let mut replies = [no_reply(); 6];
-    let mut notices = [no_notice(); 300];
-    // the SynIC of processor 1 is switched on, and its page of messages is not
-    let before = [event(WRITE), event(OPEN_MESSAGES)];
-    let batch = perform_all(&mut desk, &before, &mut replies, &mut notices);
-    assert!(rt; batch.end == BatchEnd::All && batch.done == 2 && batch.told == 0);
-    // two messages are queued and withdrawn, and the clock does not go on
-    let events = [
+/// How a batch ends, and the moment of its board then.
+#[derive(Clone, Copy, PartialEq, Eq, Debug)]
+struct Ended {
+    end: BatchEnd,
+    done: usize,
+    told: usize,
+    moment: u64,
+}
+
+/// A batch of the events from `first` to before `last`, with room for so much.
+#[derive(Clone, Copy)]
+struct Asked {
+    first: usize,
+    last: usize,
+    replies: usize,
+    notices: usize,
+}
+
+/// All events, with more than enough room.
+const ALL: Asked = Asked {
+    first: 0,
+    last: 7,
+    replies: 7,
+    notices: 300,
+};
+
+/// A tick alone, with just enough room.
+const TICK_ALONE: Asked = Asked {
+    first: 6,
+    last: 7,
+    replies: 1,
+    notices: 276,
+};
+
+/// How a batch ends of which nothing is performed.
+const NOTHING: Ended = Ended {
+    end: BatchEnd::NoRoom,
+    done: 0,
+    told: 0,
+    moment: 0,
+};
+
+const BATCHES: [(Asked, Ended); 7] = [
+    // Two messages are queued and withdrawn, and the clock does not go on.
+    (
+        ALL,
+        Ended {
+            end: BatchEnd::NoEvent,
+            done: 5,
+            told: 4,
+            ..NOTHING
+        },
+    ),
+    (
+        Asked { last: 5, ..ALL },
+        Ended {
+            end: BatchEnd::All,
+            done: 5,
+            told: 4,
+            ..NOTHING
+        },
+    ),
+    (
+        Asked { replies: 4, ..ALL },
+        Ended {
+            done: 4,
+            told: 2,
+            ..NOTHING
+        },
+    ),
+    (
+        TICK_ALONE,
+        Ended {
+            end: BatchEnd::All,
+            done: 1,
+            moment: 100,
+            ..NOTHING
+        },
+    ),
+    (
+        Asked {
+            notices: 275,
+            ..TICK_ALONE
+        },
+        NOTHING,
+    ),
+    (
+        Asked {
+            replies: 0,
+            ..TICK_ALONE
+        },
+        NOTHING,
+    ),
+    (
+        Asked {
+            first: 7,
+            replies: 0,
+            notices: 0,
+            ..TICK_ALONE
+        },
+        Ended {
+            end: BatchEnd::All,
+            ..NOTHING
+        },
+    ),
+];
+
+/// The SynIC of processor 1 is switched on, and its page of messages is not. The event before the tick
+/// means none.
+fn events() -> [PlainEvent; 7] {
+    [
+        event(WRITE),
+        event(OPEN_MESSAGES),
         event(POST),
         event(POST),
         event(CLOSE),
         event(NONE),
         event(TICK),
-    ];
-    let mut replies = [no_reply(); 6];
-    let batch = perform_all(&mut desk, &events, &mut replies, &mut notices);
-    assert!(rt; batch.end == BatchEnd::NoEvent && batch.done == 3 && batch.told == 4);
-    assert_eq!(rt; desk.board.moment(), 0);
-    let answered = [
-        (6, 7, 1),
-        (6, 8, 1),
-        (1, 0, 2),
-        (200, 0, 0),
-        (200, 0, 0),
-        (200, 0, 0),
-    ];
-    for (reply, (kind, ticket, count)) in replies.iter().zip(answered) {
-        assert_eq!(rt; reply.kind, kind);
-        assert_eq!(rt; reply.ticket, ticket);
-        assert_eq!(rt; reply.notices, count);
-    }
-    for (notice, (kind, ticket)) in notices.iter().zip([(1, 7), (1, 8), (7, 7), (7, 8)]) {
-        assert_eq!(rt; notice.kind, kind);
-        assert_eq!(rt; notice.ticket, ticket);
-    }
-    for notice in &notices[4..] {
-        assert_eq!(rt; notice.kind, 200);
-    }
-    Ok(())
+    ]
+}
+
+/// How a batch ends on a board of two processors whose first ticket is 7.
+fn end_of(alloc: Global, asked: Asked) -> Option<Ended> {
+    let (events, mut replies, mut notices) = (events(), [no_reply(); 7], [no_notice(); 300]);
+    let events = events.get(asked.first..asked.last)?;
+    let replies = replies.get_mut(..asked.replies)?;
+    let notices = notices.get_mut(..asked.notices)?;
+    let mut desk = Desk::open(alloc, 2, 1, 7).ok()?;
+    let Batch { end, done, told } = perform_all(&mut desk, events, replies, notices);
+    Some(Ended {
+        end,
+        done,
+        told,
+        moment: desk.board.moment(),
+    })
 }
 
 #[test]
-fn no_event_is_performed_without_room_for_276_notices(rt: HostRuntime) -> Result<(), Fail> {
-    let mut notices = [no_notice(); 276];
-    for (room, end, done, moment) in [(275, BatchEnd::NoRoom, 0, 0), (276, BatchEnd::All, 1, 100)] {
-        let mut desk = Desk::open(rt.alloc(), 2, 1, 7)?;
-        let mut replies = [no_reply()];
-        let batch = perform_all(
-            &mut desk,
-            &[event(TICK)],
-            &mut replies,
-            &mut notices[..room],
-        );
-        assert!(rt;
-            batch.end == end && batch.done == done && batch.told == 0,
-            "{room}"
-        );
-        assert_eq!(rt; desk.board.moment(), moment, "{room}");
+fn a_batch_ends_before_what_it_cannot_perform(rt: HostRuntime) {
+    for (at, (asked, expected)) in BATCHES.iter().enumerate() {
+        assert_eq!(rt; end_of(rt.alloc(), *asked), Some(*expected), "at {at}");
     }
-    Ok(())
 }

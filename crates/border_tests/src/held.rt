@@ -1,50 +1,75 @@
 // Handles of what is there, and of nothing. That a handle may go to another thread is asked of the prover,
 // at `crosses`: a closure for a thread would have to be dropped, which a handle cannot be.
-
 use board_desk::Desk;
 use handles::{DeskHandle, LineHandle};
 use held_line::HeldLine;
-use std::test::Fail;
+use std::alloc::Global;
 
 fn crosses<T: Send>(value: T) -> T {
     value
 }
 
-#[test]
-fn a_handle_crosses_with_what_it_holds(rt: HostRuntime) -> Result<(), Fail> {
-    let alloc = rt.alloc();
-    let (Ok(desk), Ok(line)) = (Desk::open(alloc, 3, 1, 0), HeldLine::open(alloc, 3)) else {
-        panic!(rt; "memory")
+/// How many processors the desk behind a handle has, lent and then taken out.
+fn processors_behind(mut handle: DeskHandle, alloc: Global) -> (Option<u8>, Option<u8>) {
+    let lent = match handle.desk_mut() {
+        Some(desk) => Some(desk.board.processors()),
+        None => None,
     };
-    let (desk, line) = (Box::new(alloc, desk)?, Box::new(alloc, line)?);
-    let mut desk = crosses(DeskHandle::holding(desk));
-    let line = crosses(LineHandle::holding(line));
-    let lent = desk.desk_mut().is_some();
-    let (desk, line) = (desk.into_desk(alloc), line.into_line(alloc));
-    assert!(rt; lent);
-    match (desk, line) {
-        (Some(desk), Some(mut line)) => {
-            assert_eq!(rt; desk.board.processors(), 3);
-            assert!(rt; line.raise(2, 0x60).is_some());
-            assert!(rt; line.raise(3, 0x60).is_none());
-        }
-        _ => panic!(rt; "nothing is there"),
+    let taken = match handle.into_desk(alloc) {
+        Some(desk) => Some(desk.board.processors()),
+        None => None,
+    };
+    (lent, taken)
+}
+
+/// The handle of a desk, or a closed one where there is no memory.
+fn desk_handle(alloc: Global, processors: u8) -> DeskHandle {
+    match Desk::open(alloc, processors, 1, 0) {
+        Ok(desk) => match Box::new(alloc, desk) {
+            Ok(desk) => DeskHandle::holding(desk),
+            Err(_) => DeskHandle::closed(),
+        },
+        Err(_) => DeskHandle::closed(),
     }
-    Ok(())
 }
 
 #[test]
-fn a_closed_handle_holds_nothing(rt: HostRuntime) {
+fn a_desk_crosses_with_its_handle(rt: HostRuntime) {
     let alloc = rt.alloc();
-    let (mut desk, mut line) = (DeskHandle::closed(), LineHandle::closed());
-    let lent = desk.desk_mut().is_some();
-    let (desk, line, taken) = (
-        desk.into_desk(alloc),
-        line.take(alloc),
-        line.into_line(alloc),
-    );
-    assert!(rt; !lent);
-    assert!(rt; desk.is_none());
-    assert!(rt; line.is_none());
-    assert!(rt; taken.is_none());
+    let open = crosses(desk_handle(alloc, 3));
+    assert_eq!(rt; processors_behind(open, alloc), (Some(3), Some(3)));
+    let closed = crosses(DeskHandle::closed());
+    assert_eq!(rt; processors_behind(closed, alloc), (None, None));
+}
+
+/// The handle of a line, or a closed one where there is no memory.
+fn line_handle(alloc: Global, processors: u8) -> LineHandle {
+    match HeldLine::open(alloc, processors) {
+        Ok(line) => match Box::new(alloc, line) {
+            Ok(line) => LineHandle::holding(line),
+            Err(_) => LineHandle::closed(),
+        },
+        Err(_) => LineHandle::closed(),
+    }
+}
+
+/// Whether the line behind a handle raises a vector of a processor, taken out first; and whether there is
+/// a line behind the handle then.
+fn raises_behind(mut handle: LineHandle, alloc: Global, vp: u8) -> (Option<bool>, bool) {
+    let raises = match handle.take(alloc) {
+        Some(mut line) => Some(line.raise(vp, 0x60).is_some()),
+        None => None,
+    };
+    (raises, handle.into_line(alloc).is_some())
+}
+
+#[test]
+fn a_line_crosses_with_its_handle(rt: HostRuntime) {
+    let alloc = rt.alloc();
+    for (vp, raises) in [(2, true), (3, false)] {
+        let open = crosses(line_handle(alloc, 3));
+        assert_eq!(rt; raises_behind(open, alloc, vp), (Some(raises), false));
+    }
+    let closed = crosses(LineHandle::closed());
+    assert_eq!(rt; raises_behind(closed, alloc, 0), (None, false));
 }

@@ -1,66 +1,153 @@
 // Lines of the same words, and of others.
-
 use held_line::{HeldLine, SplitFault};
-use posted_words::{PostedFault, Raised};
+use posted_words::Raised;
+use std::alloc::Global;
 use std::test::Fail;
+
+/// Two lines of the same words, and one of others, each for two processors.
+#[derive(Drop)]
+struct Lines {
+    first: HeldLine,
+    second: Box<HeldLine>,
+    apart: HeldLine,
+}
+
+#[derive(Clone, Copy)]
+enum Which {
+    First,
+    Second,
+    Apart,
+}
+
+#[derive(Clone, Copy)]
+enum Call {
+    Raise { vp: u8, vector: u8 },
+    Sweep { vp: u8, part: u8 },
+    Split,
+}
+
+#[derive(Clone, Copy, PartialEq, Eq, Debug)]
+enum Answer {
+    Raised(Option<Raised>),
+    Swept(Option<u64>),
+    Split(Result<(), SplitFault>),
+}
+
+const RAISE: Call = Call::Raise {
+    vp: 1,
+    vector: 0x60,
+};
+
+const SWEEP: Call = Call::Sweep { vp: 1, part: 1 };
+
+const FRESH: Answer = Answer::Raised(Some(Raised::Fresh));
+
+const CALLS: [(Which, Call, Answer); 19] = [
+    (Which::First, RAISE, FRESH),
+    (Which::Second, RAISE, Answer::Raised(Some(Raised::Already))),
+    (Which::Apart, RAISE, FRESH),
+    (
+        Which::Second,
+        Call::Sweep { vp: 0, part: 1 },
+        Answer::Swept(Some(0)),
+    ),
+    (Which::Second, SWEEP, Answer::Swept(Some(1 << 32))),
+    (Which::First, SWEEP, Answer::Swept(Some(0))),
+    (Which::First, RAISE, FRESH),
+    (Which::Second, SWEEP, Answer::Swept(Some(1 << 32))),
+    // The first line has lines left to give away, and the other has none.
+    (Which::First, Call::Split, Answer::Split(Ok(()))),
+    (
+        Which::Second,
+        Call::Split,
+        Answer::Split(Err(SplitFault::NoMore)),
+    ),
+    (Which::Apart, Call::Raise { vp: 1, vector: 255 }, FRESH),
+    (
+        Which::Apart,
+        Call::Sweep { vp: 1, part: 3 },
+        Answer::Swept(Some(1 << 63)),
+    ),
+    // What is not there is neither raised nor swept.
+    (
+        Which::Apart,
+        Call::Raise { vp: 2, vector: 16 },
+        Answer::Raised(None),
+    ),
+    (
+        Which::Apart,
+        Call::Raise {
+            vp: 255,
+            vector: 255,
+        },
+        Answer::Raised(None),
+    ),
+    (
+        Which::Apart,
+        Call::Raise { vp: 0, vector: 15 },
+        Answer::Raised(None),
+    ),
+    (
+        Which::Apart,
+        Call::Raise { vp: 1, vector: 0 },
+        Answer::Raised(None),
+    ),
+    (
+        Which::Apart,
+        Call::Sweep { vp: 2, part: 0 },
+        Answer::Swept(None),
+    ),
+    (
+        Which::Apart,
+        Call::Sweep { vp: 255, part: 3 },
+        Answer::Swept(None),
+    ),
+    (
+        Which::Apart,
+        Call::Sweep { vp: 0, part: 4 },
+        Answer::Swept(None),
+    ),
+];
+
+impl Lines {
+    /// `None` where there is no memory.
+    fn open(alloc: Global) -> Option<Lines> {
+        let mut first = HeldLine::open(alloc, 2).ok()?;
+        let second = first.split(alloc).ok()?;
+        let apart = HeldLine::open(alloc, 2).ok()?;
+        Some(Lines {
+            first,
+            second,
+            apart,
+        })
+    }
+
+    fn answer(&mut self, alloc: Global, which: Which, call: Call) -> Answer {
+        match which {
+            Which::First => answer_of(&mut self.first, alloc, call),
+            Which::Second => answer_of(&mut self.second, alloc, call),
+            Which::Apart => answer_of(&mut self.apart, alloc, call),
+        }
+    }
+}
+
+fn answer_of(line: &mut HeldLine, alloc: Global, call: Call) -> Answer {
+    match call {
+        Call::Raise { vp, vector } => Answer::Raised(line.raise(vp, vector)),
+        Call::Sweep { vp, part } => Answer::Swept(line.sweep(vp, part)),
+        Call::Split => match line.split(alloc) {
+            Ok(_) => Answer::Split(Ok(())),
+            Err(fault) => Answer::Split(Err(fault)),
+        },
+    }
+}
 
 #[test]
 fn lines_step_at_the_same_words(rt: HostRuntime) -> Result<(), Fail> {
-    let alloc = rt.alloc();
-    let (Ok(mut first), Ok(mut apart)) = (HeldLine::open(alloc, 2), HeldLine::open(alloc, 2)) else {
-        panic!(rt; "memory")
-    };
-    let Ok(mut second) = first.split(alloc) else {
-        panic!(rt; "memory")
-    };
-    assert_eq!(rt; first.raise(1, 0x60), Some(Raised::Fresh));
-    assert_eq!(rt; second.raise(1, 0x60), Some(Raised::Already));
-    assert_eq!(rt; apart.raise(1, 0x60), Some(Raised::Fresh));
-    assert_eq!(rt; second.sweep(0, 1), Some(0));
-    assert_eq!(rt; second.sweep(1, 1), Some(1 << 32));
-    drop(first);
-    assert_eq!(rt; second.raise(1, 0x60), Some(Raised::Fresh));
-    assert_eq!(rt; second.sweep(1, 1), Some(1 << 32));
-    Ok(())
-}
-
-#[test]
-fn the_first_line_gives_31_away(rt: HostRuntime) -> Result<(), Fail> {
-    let alloc = rt.alloc();
-    let Ok(mut first) = HeldLine::open(alloc, 1) else {
-        panic!(rt; "memory")
-    };
-    let mut given = Vec::new(alloc);
-    for _ in 0..31u8 {
-        match first.split(alloc) {
-            Ok(line) => given.push(line)?,
-            Err(fault) => panic!(rt; "{fault}"),
-        }
-    }
-    assert_eq!(rt; first.split(alloc).err(), Some(SplitFault::NoMore));
-    for line in given.iter_mut() {
-        assert_eq!(rt; line.split(alloc).err(), Some(SplitFault::NoMore));
+    let mut lines = Lines::open(rt.alloc()).ok_or("memory")?;
+    for (step, (which, call, expected)) in CALLS.iter().enumerate() {
+        let answer = lines.answer(rt.alloc(), *which, *call);
+        assert_eq!(rt; answer, *expected, "at {step}");
     }
     Ok(())
-}
-
-#[test]
-fn what_is_not_there_is_not_raised(rt: HostRuntime) {
-    for processors in [0, 9, 255] {
-        assert_eq!(rt;
-            HeldLine::open(rt.alloc(), processors).err(),
-            Some(PostedFault::BadSize)
-        );
-    }
-    let Ok(mut line) = HeldLine::open(rt.alloc(), 8) else {
-        panic!(rt; "memory")
-    };
-    for (vp, vector) in [(8, 16), (255, 255), (0, 15), (7, 0)] {
-        assert_eq!(rt; line.raise(vp, vector), None);
-    }
-    assert_eq!(rt; line.raise(7, 255), Some(Raised::Fresh));
-    for (vp, part) in [(8, 0), (255, 3), (0, 4), (7, 255)] {
-        assert_eq!(rt; line.sweep(vp, part), None);
-    }
-    assert_eq!(rt; line.sweep(7, 3), Some(1 << 63));
 }

@@ -54,7 +54,7 @@ fn reply(kind: u8, vector: u8) -> PlainReply {
 fn an_entry_has_two_lines(rt: HostRuntime) -> Result<(), Fail> {
     let lines = lines_of(rt.alloc(), 255, &event(POST, 0), &reply(ACCEPTED, 0))?;
     let text = b"255 post 15 7fffffff 00fe00\n= accepted 18446744073709551615\n";
-    assert!(rt; lines.as_slice() == text.as_slice());
+    assert_eq!(rt; lines.as_slice(), text.as_slice());
     Ok(())
 }
 
@@ -64,10 +64,13 @@ fn fault_of(alloc: Global, asserted: u8, taken: u8) -> Option<Untold> {
 }
 
 #[test]
-fn that_there_is_no_event_is_judged_first(rt: HostRuntime) -> Result<(), Fail> {
-    assert!(rt; fault_of(rt.alloc(), 15, 15) == Some(Untold::NoEvent));
-    assert!(rt; fault_of(rt.alloc(), 15, 16) == Some(Untold::NoEvent));
-    assert!(rt; fault_of(rt.alloc(), 16, 15) == Some(Untold::NoReply));
-    assert!(rt; fault_of(rt.alloc(), 16, 16) == None);
-    Ok(())
+fn that_there_is_no_event_is_judged_first(rt: HostRuntime) {
+    for (asserted, taken, expected) in [
+        (15, 15, Some(Untold::NoEvent)),
+        (15, 16, Some(Untold::NoEvent)),
+        (16, 15, Some(Untold::NoReply)),
+        (16, 16, None),
+    ] {
+        assert_eq!(rt; fault_of(rt.alloc(), asserted, taken), expected);
+    }
 }

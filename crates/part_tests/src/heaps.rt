@@ -1,135 +1,154 @@
-// A full heap whose entries move, and long sequences beside a plain scan.
+// Timers that are due, few of them and all 32.
+use crate::steps::{Part, first_other};
 use board_terms::{TimerId, Vp};
-use std::test::Fail;
 use timer_heap::TimerHeap;
 
-fn timer(number: u8) -> Result<TimerId, Fail> {
-    let vp = Vp::new(number / 4).ok_or("processor")?;
-    Ok(TimerId::new(vp, number % 4).ok_or("index")?)
+/// A call of the heap. Timers go by their numbers.
+#[derive(Clone, Copy)]
+pub(crate) enum Call {
+    Set(u8, u128),
+    Clear(u8),
+    ClearProcessor(u8),
+    SetAll,
+    Least,
+    DueOf(u8),
+    DueBy(u128),
 }
 
-/// All timers are due, each at ten times its number, set in the order of a step through the numbers.
-fn full(step: u8) -> Result<TimerHeap, Fail> {
-    let mut heap = TimerHeap::new();
-    for turn in 0..32u8 {
-        let number = (turn as u16 * step as u16 % 32) as u8;
-        let _ = heap.set(timer(number)?, 10 * number as u128);
-    }
-    Ok(heap)
+/// How many comparisons a call made, beside the most that it may make.
+#[derive(Clone, Copy, PartialEq, Debug)]
+pub(crate) enum Made {
+    No,
+    Few,
+    TooMany,
 }
+
+#[derive(Clone, Copy, PartialEq, Debug)]
+pub(crate) enum Answer {
+    Comparisons(Made),
+    Due(u128),
+    First(u128, u8),
+    Never,
+    /// A bit for each timer that is due.
+    Marks(u32),
+}
+
+use Answer::{Comparisons, Due, First, Marks, Never};
+use Call::{Clear, ClearProcessor, DueBy, DueOf, Least, Set, SetAll};
+
+fn judged(comparisons: u8, most: u8) -> Answer {
+    Comparisons(if comparisons == 0 {
+        Made::No
+    } else if comparisons <= most {
+        Made::Few
+    } else {
+        Made::TooMany
+    })
+}
+
+/// Each timer gets ten times its number, the last timer first, so that each goes to the front. The answer is the
+/// most comparisons that one of the calls made.
+fn set_all(heap: &mut TimerHeap) -> u8 {
+    let mut most = 0;
+    for timer in (0..32u8).rev().filter_map(TimerId::from_number) {
+        most = heap.set(timer, 10 * timer.number() as u128).max(most);
+    }
+    most
+}
+
+impl Part for TimerHeap {
+    type Call = Call;
+
+    type Answer = Answer;
+
+    fn ask(&mut self, call: Call) -> Option<Answer> {
+        Some(match call {
+            Set(number, due) => judged(self.set(TimerId::from_number(number)?, due), 10),
+            Clear(number) => judged(self.clear(TimerId::from_number(number)?), 10),
+            ClearProcessor(number) => judged(self.clear_processor(Vp::new(number)?), 40),
+            SetAll => judged(set_all(self), 10),
+            Least => match self.least() {
+                Some((due, timer)) => First(due, timer.number()),
+                None => Never,
+            },
+            DueOf(number) => match self.due_of(TimerId::from_number(number)?) {
+                Some(due) => Due(due),
+                None => Never,
+            },
+            DueBy(moment) => Marks(self.due_by(moment)),
+        })
+    }
+}
+
+const NO: Answer = Comparisons(Made::No);
+
+const FEW: Answer = Comparisons(Made::Few);
+
+/// It is compared with nothing, the last timer of all with a due moment beyond 64 bits too.
+const AN_ENTRY_ALONE: [(Call, Answer); 16] = [
+    (Least, Never),
+    (Clear(31), NO),
+    (ClearProcessor(7), NO),
+    (Set(31, 7), NO),
+    (Set(31, 36893488147419103230), NO),
+    (DueOf(31), Due(36893488147419103230)),
+    (Least, First(36893488147419103230, 31)),
+    (DueBy(36893488147419103229), Marks(0)),
+    (DueBy(36893488147419103230), Marks(0x8000_0000)),
+    (Set(31, 5), NO),
+    (Least, First(5, 31)),
+    (ClearProcessor(6), NO),
+    (Clear(31), NO),
+    (Least, Never),
+    (DueOf(31), Never),
+    (DueBy(u128::MAX), Marks(0)),
+];
+
+/// The one with the least number comes first.
+const EQUALS: [(Call, Answer); 12] = [
+    (Set(9, 5), NO),
+    (Set(7, 5), FEW),
+    (Set(8, 5), FEW),
+    (Least, First(5, 7)),
+    (DueBy(4), Marks(0)),
+    (DueBy(5), Marks(0x380)),
+    (Clear(7), FEW),
+    (Least, First(5, 8)),
+    (Set(8, 6), FEW),
+    (Least, First(5, 9)),
+    (Set(7, 5), FEW),
+    (Least, First(5, 7)),
+];
+
+const A_FULL_HEAP: [(Call, Answer); 17] = [
+    (SetAll, FEW),
+    (Least, First(0, 0)),
+    (DueOf(31), Due(310)),
+    (DueBy(149), Marks(0x7fff)),
+    (DueBy(150), Marks(0xffff)),
+    (Set(31, 0), FEW),
+    (Least, First(0, 0)),
+    (Set(0, u128::MAX), FEW),
+    (Least, First(0, 31)),
+    (Set(16, 160), FEW),
+    (Clear(31), FEW),
+    (Least, First(10, 1)),
+    (DueBy(u128::MAX), Marks(0x7fff_ffff)),
+    (ClearProcessor(1), FEW),
+    (DueBy(u128::MAX), Marks(0x7fff_ff0f)),
+    (ClearProcessor(1), NO),
+    (Set(31, 7), FEW),
+];
+
+const TABLES: [(&str, &[(Call, Answer)]); 3] = [
+    ("an entry alone", &AN_ENTRY_ALONE),
+    ("equals", &EQUALS),
+    ("a full heap", &A_FULL_HEAP),
+];
 
 #[test]
-fn each_entry_of_a_full_heap_moves_within_ten_comparisons(rt: HostRuntime) -> Result<(), Fail> {
-    // rising, falling, and two that go to and fro
-    for step in [1, 31, 13, 23] {
-        for number in 0..32u8 {
-            // to the front, a little, not at all, among equals, and to the end
-            for due in [
-                0,
-                10 * number as u128 + 5,
-                10 * number as u128,
-                150,
-                u128::MAX,
-            ] {
-                let mut heap = full(step)?;
-                let set = heap.set(timer(number)?, due);
-                assert!(rt; 0 < set && set <= 10, "{number} to {due}: {set}");
-                assert_eq!(rt; heap.due_of(timer(number)?), Some(due));
-                let cleared = heap.clear(timer(number)?);
-                assert!(rt; cleared <= 10, "{number} from {due}: {cleared}");
-                assert_eq!(rt; heap.due_of(timer(number)?), None);
-                let back = heap.set(timer(number)?, due);
-                assert!(rt; 0 < back && back <= 10, "{number} back to {due}: {back}");
-            }
-        }
+fn each_table_is_answered(rt: HostRuntime) {
+    for (table, steps) in &TABLES {
+        assert_eq!(rt; first_other(&mut TimerHeap::new(), *steps), None, "{table}");
     }
-    Ok(())
-}
-
-#[test]
-fn an_entry_alone_is_compared_with_nothing(rt: HostRuntime) -> Result<(), Fail> {
-    for number in 0..32u8 {
-        let mut heap = TimerHeap::new();
-        assert_eq!(rt; heap.clear(timer(number)?), 0);
-        assert_eq!(rt; heap.set(timer(number)?, 7), 0);
-        assert_eq!(rt; heap.set(timer(number)?, 5), 0);
-        assert_eq!(rt; heap.least(), Some((5, timer(number)?)));
-        let other = timer((number + 1) % 32)?;
-        assert_eq!(rt; heap.set(other, 5), 1);
-        assert_eq!(rt; heap.set(timer(number)?, 5), 1);
-        let _ = heap.clear(other);
-        assert_eq!(rt; heap.clear(timer(number)?), 0);
-        assert_eq!(rt; heap.least(), None);
-    }
-    Ok(())
-}
-
-#[test]
-fn the_timers_of_a_processor_lose_their_due_moments(rt: HostRuntime) -> Result<(), Fail> {
-    let second = Vp::new(1).ok_or("processor")?;
-    let mut heap = full(13)?;
-    let cleared = heap.clear_processor(second);
-    assert!(rt; 0 < cleared && cleared <= 40, "{cleared}");
-    assert_eq!(rt; heap.due_by(u128::MAX), 0xffff_ff0f);
-    assert_eq!(rt; heap.clear_processor(second), 0);
-    Ok(())
-}
-
-/// The numbers of those that are due by a moment, by looking at all.
-fn scan_due(dues: &[Option<u128>; 32], moment: u128) -> u32 {
-    let mut word = 0;
-    for number in 0..32u8 {
-        if dues[number as usize].is_some_and(|due| due <= moment) {
-            word |= 1 << number;
-        }
-    }
-    word
-}
-
-/// The least by due moment and number, by looking at all.
-fn scan(dues: &[Option<u128>; 32]) -> Result<Option<(u128, TimerId)>, Fail> {
-    let mut best: Option<(u128, TimerId)> = None;
-    for number in 0..32u8 {
-        if let Some(due) = dues[number as usize] {
-            if best.is_none_or(|(least, _)| due < least) {
-                best = Some((due, timer(number)?));
-            }
-        }
-    }
-    Ok(best)
-}
-
-#[test]
-fn the_least_and_those_that_are_due_are_those_of_a_plain_scan(rt: HostRuntime) -> Result<(), Fail> {
-    let mut heap = TimerHeap::new();
-    let mut dues = [None; 32];
-    let mut random: u64 = 1;
-    for step in 0..20_000u32 {
-        random = random
-            .wrapping_mul(6364136223846793005)
-            .wrapping_add(1442695040888963407);
-        let number = (random >> 59) as u8;
-        // few moments, so that many are equal, and some beyond 64 bits
-        let due = ((random >> 32) % 16) as u128
-            * (1 + (u64::MAX as u128) * ((random >> 40) % 2) as u128);
-        // mostly full for a while, then mostly empty
-        let sets = if step % 1000 < 600 { 5 } else { 2 };
-        let made = if (random >> 48) % 8 < sets {
-            dues[number as usize] = Some(due);
-            heap.set(timer(number)?, due)
-        } else {
-            dues[number as usize] = None;
-            heap.clear(timer(number)?)
-        };
-        assert!(rt; made <= 10, "step {step}: {made}");
-        assert_eq!(rt; heap.least(), scan(&dues)?, "step {step}");
-        let moment = ((random >> 20) % 20) as u128;
-        assert_eq!(rt; heap.due_by(moment), scan_due(&dues, moment), "step {step}");
-        assert_eq!(rt;
-            heap.due_of(timer(number)?),
-            dues[number as usize],
-            "step {step}"
-        );
-    }
-    Ok(())
 }

@@ -1,43 +1,53 @@
 // The images of messages, byte for byte, and the type of a slot.
-use board_terms::{Message, PayloadBytes, Sint, TimerId, Vp};
-use message_queues::{image, slot_type};
+ghost use Rattle.std.specs.Prelude.{◌≤◌, length};
 
-#[test]
-fn image_of_a_timer(rt: HostRuntime) {
-    let timer = TimerId::new(Vp::new(0).unwrap(), 1).unwrap();
-    let message = Message::FromTimer {
-        ticket: 0,
-        timer,
-        expiration: 20,
-    };
-    let image = image(&message, true, 30);
-    assert_eq!(rt; &image[..8], [0x10, 0, 0, 0x80, 0x18, 1, 0, 0].as_slice());
-    assert_eq!(rt; &image[8..16], [0; 8].as_slice());
-    assert_eq!(rt; &image[16..24], [1, 0, 0, 0, 0, 0, 0, 0].as_slice());
-    assert_eq!(rt; &image[24..32], [0x14, 0, 0, 0, 0, 0, 0, 0].as_slice());
-    assert_eq!(rt; &image[32..40], [0x1e, 0, 0, 0, 0, 0, 0, 0].as_slice());
-    assert!(rt; image[40..].iter().all(|byte| *byte == 0));
+use board_terms::{Message, PayloadBytes, Sint, TimerId, Vp};
+use message_queues::{header, image, slot_type};
+
+/// Timer 1, expired for the moment 20 and placed at 30, with more messages behind it.
+const IMAGE_OF_A_TIMER: [u8; 40] = [
+    0x10, 0, 0, 0x80, 0x18, 1, 0, 0, 0, 0, 0, 0, 0, 0, 0, 0, 1, 0, 0, 0, 0, 0, 0, 0, 0x14, 0, 0, 0,
+    0, 0, 0, 0, 0x1e, 0, 0, 0, 0, 0, 0, 0,
+];
+
+/// A post of type 1 and one byte from port 3.
+const IMAGE_OF_A_POST: [u8; 17] = [1, 0, 0, 0, 1, 0, 0, 0, 3, 0, 0, 0, 0, 0, 0, 0, 0x0a];
+
+/// Zeros behind the first bytes of an image.
+fn padded(bytes: &[u8]) -> [u8; 256]
+    requires { length bytes.now ≤ 256 }
+{
+    let mut image = [0; 256];
+    image[..bytes.len()].copy_from_slice(bytes);
+    image
 }
 
 #[test]
-fn image_of_a_post(rt: HostRuntime) {
+fn images(rt: HostRuntime) {
+    let of_timer = Message::FromTimer {
+        ticket: 0,
+        timer: TimerId::new(Vp::new(0).unwrap(), 1).unwrap(),
+        expiration: 20,
+    };
     let mut payload = PayloadBytes::new();
     payload.push(0x0a);
-    let message = Message::FromPort {
+    let of_post = Message::FromPort {
         ticket: 0,
         port: 3,
         kind: 1,
         payload,
     };
-    let image = image(&message, false, 30);
-    assert_eq!(rt; &image[..8], [1, 0, 0, 0, 1, 0, 0, 0].as_slice());
-    assert_eq!(rt; &image[8..16], [3, 0, 0, 0, 0, 0, 0, 0].as_slice());
-    assert_eq!(rt; image[16], 0x0a);
-    assert!(rt; image[17..].iter().all(|byte| *byte == 0));
+    assert_eq!(rt; image(&of_timer, true, 30), padded(&IMAGE_OF_A_TIMER));
+    assert_eq!(rt; image(&of_post, false, 30), padded(&IMAGE_OF_A_POST));
 }
 
 #[test]
-fn type_in_a_slot(rt: HostRuntime) {
+fn headers_and_types(rt: HostRuntime) {
+    assert_eq!(rt; header(1, 1, false, 3).as_slice(), &IMAGE_OF_A_POST[..16]);
+    assert_eq!(rt;
+        header(0x8000_0010, 24, true, 0).as_slice(),
+        &IMAGE_OF_A_TIMER[..16]
+    );
     let mut page = [0; 4096];
     page[512] = 0x10;
     page[515] = 0x80;

@@ -1,197 +1,255 @@
-// The four words beside the plain rows: the same calls to both, and the same answers.
-use crate::plain::{PlainLapic, PlainSet};
+// What is requested, taken and ended, and what comes next.
+use crate::steps::{Part, first_other};
 use board_terms::Vector;
 use lapic_core::{Lapic, VectorSet};
 
-/// Both forms of a set.
-#[derive(Drop)]
-struct Sets {
-    words: VectorSet,
-    row: PlainSet,
+/// A call of a set.
+#[derive(Clone, Copy)]
+pub(crate) enum SetCall {
+    Insert(u8),
+    Remove(u8),
+    Contains(u8),
+    Greatest,
+    GreatestOfCopy,
 }
 
-impl Sets {
-    fn new() -> Sets {
-        Sets {
-            words: VectorSet::new(),
-            row: PlainSet::new(),
-        }
-    }
-
-    fn insert(&mut self, vector: Vector) {
-        self.words.insert(vector);
-        self.row.insert(vector);
-    }
-
-    fn remove(&mut self, vector: Vector) {
-        self.words.remove(vector);
-        self.row.remove(vector);
-    }
-
-    /// Whether the greatest members agree, and whether each vector is a member of both or of none.
-    fn agree(&self) -> bool {
-        self.words.greatest() == self.row.greatest()
-            && (16..=255u8).filter_map(Vector::new).all(|vector| self.words.contains(vector)
-                == self.row.contains(vector))
-    }
-}
-
-#[test]
-fn sets_of_two_vectors(rt: HostRuntime) {
-    for first in (16..=255u8).filter_map(Vector::new) {
-        for second in (16..=255u8).filter_map(Vector::new) {
-            let mut sets = Sets::new();
-            sets.insert(first);
-            sets.insert(second);
-            let both = sets.agree();
-            let copy = sets.words.copy().greatest() == sets.row.greatest();
-            sets.remove(first);
-            let one = sets.agree();
-            sets.remove(second);
-            let none = sets.agree();
-            assert!(rt; both && copy && one && none, "{first:?} {second:?}");
-        }
-    }
-}
-
-/// A call.
-#[derive(Clone, Copy, Debug)]
-enum Call {
-    Request(Vector),
+/// A call of the state of a processor.
+#[derive(Clone, Copy)]
+pub(crate) enum Call {
+    Request(u8),
+    IsRequested(u8),
+    Next,
     Take { auto: bool },
     End,
-    Priority(u8),
+    SetTaskPriority(u8),
+    TaskPriority,
     Suspend,
     Resume,
+    IsSuspended,
 }
 
-/// Both forms of the state.
-#[derive(Drop)]
-struct Lapics {
-    kept: Lapic,
-    plain: PlainLapic,
+#[derive(Clone, Copy, PartialEq, Debug)]
+pub(crate) enum Answer {
+    Done,
+    Is(bool),
+    Vector(u8),
+    NoVector,
+    Priority(u8),
 }
 
-impl Lapics {
-    fn new() -> Lapics {
-        Lapics {
-            kept: Lapic::new(),
-            plain: PlainLapic::new(),
-        }
-    }
+use Answer::{Done, Is, NoVector, Priority};
+use Call::{
+    End, IsRequested, IsSuspended, Next, Request, Resume, SetTaskPriority, Suspend, TaskPriority,
+};
+use SetCall::{Contains, Greatest, GreatestOfCopy, Insert, Remove};
 
-    /// Whether both answer a call alike, and have the same next vector then.
-    fn agree(&mut self, call: Call) -> bool {
-        let answers = match call {
-            Call::Request(vector) => {
-                self.kept.request(vector) == self.plain.request(vector)
-                    && self.kept.is_requested(vector)
-                    && self.plain.is_requested(vector)
-            }
-            Call::Take { auto } => self.kept.take(auto) == self.plain.take(auto),
-            Call::End => self.kept.end() == self.plain.end(),
-            Call::Priority(value) => {
-                self.kept.set_task_priority(value);
-                self.plain.set_task_priority(value);
-                self.kept.task_priority() == self.plain.task_priority()
-            }
-            Call::Suspend => {
-                self.kept.suspend();
-                self.plain.suspend();
-                self.kept.is_suspended()
-            }
-            Call::Resume => {
-                self.kept.resume();
-                self.plain.resume();
-                !self.kept.is_suspended()
-            }
-        };
-        answers
-            && self.kept.next() == self.plain.next()
-            && self.kept.is_suspended() == self.plain.is_suspended()
+fn told(vector: Option<Vector>) -> Answer {
+    match vector {
+        Some(vector) => Answer::Vector(vector.number()),
+        None => NoVector,
     }
+}
+
+impl Part for VectorSet {
+    type Call = SetCall;
+
+    type Answer = Answer;
+
+    fn ask(&mut self, call: SetCall) -> Option<Answer> {
+        Some(match call {
+            Insert(number) => {
+                self.insert(Vector::new(number)?);
+                Done
+            }
+            Remove(number) => {
+                self.remove(Vector::new(number)?);
+                Done
+            }
+            Contains(number) => Is(self.contains(Vector::new(number)?)),
+            Greatest => told(self.greatest()),
+            GreatestOfCopy => told(self.copy().greatest()),
+        })
+    }
+}
+
+impl Part for Lapic {
+    type Call = Call;
+
+    type Answer = Answer;
+
+    fn ask(&mut self, call: Call) -> Option<Answer> {
+        Some(match call {
+            Request(number) => Is(self.request(Vector::new(number)?)),
+            IsRequested(number) => Is(self.is_requested(Vector::new(number)?)),
+            Next => told(self.next()),
+            Call::Take { auto } => told(self.take(auto)),
+            End => told(self.end()),
+            SetTaskPriority(value) => {
+                self.set_task_priority(value);
+                Done
+            }
+            TaskPriority => Priority(self.task_priority()),
+            Suspend => {
+                self.suspend();
+                Done
+            }
+            Resume => {
+                self.resume();
+                Done
+            }
+            IsSuspended => Is(self.is_suspended()),
+        })
+    }
+}
+
+/// Vectors at the ends of the words that keep them.
+const MEMBERS: [(SetCall, Answer); 36] = [
+    (Greatest, NoVector),
+    (GreatestOfCopy, NoVector),
+    (Contains(16), Is(false)),
+    (Insert(16), Done),
+    (Greatest, Answer::Vector(16)),
+    (Insert(63), Done),
+    (Greatest, Answer::Vector(63)),
+    (Insert(64), Done),
+    (Greatest, Answer::Vector(64)),
+    (Insert(128), Done),
+    (Insert(127), Done),
+    (Greatest, Answer::Vector(128)),
+    (Insert(192), Done),
+    (Insert(191), Done),
+    (Greatest, Answer::Vector(192)),
+    (Insert(255), Done),
+    (Insert(255), Done),
+    (Greatest, Answer::Vector(255)),
+    (GreatestOfCopy, Answer::Vector(255)),
+    (Contains(16), Is(true)),
+    (Contains(255), Is(true)),
+    (Contains(254), Is(false)),
+    (Remove(255), Done),
+    (Contains(255), Is(false)),
+    (Greatest, Answer::Vector(192)),
+    (Remove(128), Done),
+    (Remove(192), Done),
+    (Greatest, Answer::Vector(191)),
+    (Remove(191), Done),
+    (Greatest, Answer::Vector(127)),
+    (Remove(127), Done),
+    (Remove(64), Done),
+    (Greatest, Answer::Vector(63)),
+    (Remove(63), Done),
+    (Remove(16), Done),
+    (Greatest, NoVector),
+];
+
+#[test]
+fn members_at_the_ends_of_words(rt: HostRuntime) {
+    assert_eq!(rt; first_other(&mut VectorSet::new(), &MEMBERS), None);
 }
 
 const TAKE: Call = Call::Take { auto: false };
 
-const AUTO: Call = Call::Take { auto: true };
+const TAKE_AUTO: Call = Call::Take { auto: true };
 
-const END: Call = Call::End;
+/// A vector is next if its class is above that of the task priority and that of the vector in service.
+const PRIORITIES: [(Call, Answer); 28] = [
+    (TaskPriority, Priority(0)),
+    (End, NoVector),
+    (SetTaskPriority(0x50), Done),
+    (TaskPriority, Priority(0x50)),
+    (Request(0x5f), Is(true)),
+    (Next, NoVector),
+    (Request(0x61), Is(true)),
+    (Request(0x61), Is(false)),
+    (Next, Answer::Vector(0x61)),
+    (TAKE, Answer::Vector(0x61)),
+    (IsRequested(0x61), Is(false)),
+    (IsRequested(0x5f), Is(true)),
+    (Next, NoVector),
+    (End, Answer::Vector(0x61)),
+    (TAKE, NoVector),
+    (SetTaskPriority(0x4f), Done),
+    (Next, Answer::Vector(0x5f)),
+    (TAKE, Answer::Vector(0x5f)),
+    (Request(0x50), Is(true)),
+    (TAKE, NoVector),
+    (Request(0x60), Is(true)),
+    (TAKE, Answer::Vector(0x60)),
+    (End, Answer::Vector(0x60)),
+    (TAKE, NoVector),
+    (End, Answer::Vector(0x5f)),
+    (TAKE, Answer::Vector(0x50)),
+    (End, Answer::Vector(0x50)),
+    (End, NoVector),
+];
 
-/// How two requests are taken and ended.
-const COURSES: [[Call; 4]; 5] = [
-    [TAKE, TAKE, END, END],
-    [TAKE, END, TAKE, END],
-    [TAKE, AUTO, END, AUTO],
-    [AUTO, TAKE, END, TAKE],
-    [AUTO, AUTO, END, END],
+/// The least vector and the greatest, and the task priorities that hold them back.
+const EDGES: [(Call, Answer); 14] = [
+    (Request(0x10), Is(true)),
+    (Next, Answer::Vector(0x10)),
+    (SetTaskPriority(0x0f), Done),
+    (Next, Answer::Vector(0x10)),
+    (SetTaskPriority(0x10), Done),
+    (Next, NoVector),
+    (Request(0xff), Is(true)),
+    (Next, Answer::Vector(0xff)),
+    (SetTaskPriority(0xf0), Done),
+    (Next, NoVector),
+    (SetTaskPriority(0xff), Done),
+    (TaskPriority, Priority(0xff)),
+    (SetTaskPriority(0xef), Done),
+    (TAKE, Answer::Vector(0xff)),
+];
+
+/// A vector that ends by itself is not in service once it is taken.
+const AUTO: [(Call, Answer); 9] = [
+    (Request(0x50), Is(true)),
+    (TAKE_AUTO, Answer::Vector(0x50)),
+    (IsRequested(0x50), Is(false)),
+    (Request(0x50), Is(true)),
+    (Request(0x5f), Is(true)),
+    (TAKE_AUTO, Answer::Vector(0x5f)),
+    (TAKE_AUTO, Answer::Vector(0x50)),
+    (End, NoVector),
+    (TAKE_AUTO, NoVector),
+];
+
+/// Requests join while the processor is suspended, and a vector in service ends, but none is next.
+const SUSPENDED: [(Call, Answer); 22] = [
+    (IsSuspended, Is(false)),
+    (Request(0x30), Is(true)),
+    (TAKE, Answer::Vector(0x30)),
+    (Request(0x50), Is(true)),
+    (Suspend, Done),
+    (IsSuspended, Is(true)),
+    (Next, NoVector),
+    (Request(0x60), Is(true)),
+    (Request(0x50), Is(false)),
+    (TAKE, NoVector),
+    (TAKE_AUTO, NoVector),
+    (SetTaskPriority(0x40), Done),
+    (TaskPriority, Priority(0x40)),
+    (Suspend, Done),
+    (Resume, Done),
+    (IsSuspended, Is(false)),
+    (TAKE, Answer::Vector(0x60)),
+    (Suspend, Done),
+    (End, Answer::Vector(0x60)),
+    (Next, NoVector),
+    (Resume, Done),
+    (Next, Answer::Vector(0x50)),
+];
+
+const TABLES: [(&str, &[(Call, Answer)]); 4] = [
+    ("priorities hold back", &PRIORITIES),
+    ("the least and the greatest", &EDGES),
+    ("some end by themselves", &AUTO),
+    ("a suspended processor", &SUSPENDED),
 ];
 
 #[test]
-fn two_requests(rt: HostRuntime) {
-    for first in (16..=255u8).filter_map(Vector::new) {
-        for second in (16..=255u8).filter_map(Vector::new) {
-            for course in COURSES.iter() {
-                let mut lapics = Lapics::new();
-                for call in [Call::Request(first), Call::Request(second)] {
-                    assert!(rt; lapics.agree(call), "{first:?} {second:?} {call:?}");
-                }
-                for call in course.iter() {
-                    assert!(rt; lapics.agree(*call), "{first:?} {second:?} {course:?}");
-                }
-            }
-        }
-    }
-}
-
-#[test]
-fn each_task_priority(rt: HostRuntime) {
-    for value in 0..=255u8 {
-        for vector in (16..=255u8).filter_map(Vector::new) {
-            let course = [
-                Call::Request(vector),
-                Call::Priority(value),
-                TAKE,
-                Call::Request(vector),
-                Call::Priority(0),
-                TAKE,
-                Call::Priority(value),
-                END,
-                Call::Request(vector),
-                AUTO,
-            ];
-            let mut lapics = Lapics::new();
-            for call in course {
-                assert!(rt; lapics.agree(call), "{value:x} {vector:?} {call:?}");
-            }
-        }
-    }
-}
-
-#[test]
-fn suspended(rt: HostRuntime) {
-    for first in (16..=255u8).filter_map(Vector::new) {
-        for second in (16..=255u8).filter_map(Vector::new) {
-            let course = [
-                Call::Request(first),
-                Call::Suspend,
-                Call::Request(second),
-                TAKE,
-                Call::Priority(64),
-                AUTO,
-                Call::Suspend,
-                Call::Resume,
-                TAKE,
-                Call::Suspend,
-                END,
-                Call::Priority(0),
-                Call::Resume,
-                TAKE,
-            ];
-            let mut lapics = Lapics::new();
-            for call in course {
-                assert!(rt; lapics.agree(call), "{first:?} {second:?} {call:?}");
-            }
-        }
+fn each_table_is_answered(rt: HostRuntime) {
+    for (table, steps) in &TABLES {
+        assert_eq!(rt; first_other(&mut Lapic::new(), *steps), None, "{table}");
     }
 }

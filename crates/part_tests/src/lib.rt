@@ -10,13 +10,13 @@ mod lapics;
 #[cfg(test)]
 mod pages;
 #[cfg(test)]
-mod plain;
-#[cfg(test)]
 mod ports;
 #[cfg(test)]
 mod queues;
 #[cfg(test)]
 mod registers;
+#[cfg(test)]
+mod steps;
 #[cfg(test)]
 mod terms;
 #[cfg(test)]

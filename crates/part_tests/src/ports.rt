@@ -1,78 +1,170 @@
 // Ports that are opened and closed, and flags at the edges of their ranges.
+use crate::steps::{Part, first_other};
 use board_terms::{PortShape, Refusal};
-use event_ports::Ports;
-use std::test::Fail;
+use event_ports::{Port, Ports};
+
+/// A call of the ports.
+#[derive(Clone, Copy)]
+pub(crate) enum Call {
+    Open(u8, u8, u8, PortShape),
+    Target(u8),
+    MessageTarget(u8, u32),
+    FlagPlace(u8, u16),
+    Close(u8),
+}
+
+/// What a call gives: a port by its processor, source and shape, a flag by processor, source and place.
+#[derive(Clone, Copy, PartialEq, Debug)]
+pub(crate) enum Answer {
+    Opened,
+    Port(u8, u8, PortShape),
+    Flag(u8, u8, u16),
+    Refused(Refusal),
+}
+
+use Answer::{Flag, Opened, Refused};
+use Call::{Close, FlagPlace, MessageTarget, Open, Target};
+
+fn told(target: Result<Port, Refusal>) -> Answer {
+    match target {
+        Ok(port) => Answer::Port(port.vp.number(), port.sint.number(), port.shape),
+        Err(refusal) => Refused(refusal),
+    }
+}
+
+impl Part for Ports {
+    type Call = Call;
+
+    type Answer = Answer;
+
+    fn ask(&mut self, call: Call) -> Option<Answer> {
+        Some(match call {
+            Open(port, vp, sint, shape) => match self.open_port(port, vp, sint, shape) {
+                Ok(()) => Opened,
+                Err(refusal) => Refused(refusal),
+            },
+            Target(port) => told(self.target(port)),
+            MessageTarget(port, kind) => told(self.message_target(port, kind)),
+            FlagPlace(port, flag) => match self.flag_place(port, flag) {
+                Ok((vp, sint, place)) => Flag(vp.number(), sint.number(), place),
+                Err(refusal) => Refused(refusal),
+            },
+            Close(port) => told(self.close_port(port)),
+        })
+    }
+}
 
 const TWO_BUFFERS: PortShape = PortShape::Messages { buffers: 2 };
 
-#[test]
-fn each_call_once(rt: HostRuntime) -> Result<(), Fail> {
-    let mut ports = Ports::new(1);
-    assert_eq!(rt;
-        ports.open_port(16, 0, 2, TWO_BUFFERS),
-        Err(Refusal::UnknownPort)
-    );
-    assert_eq!(rt; ports.open_port(3, 0, 2, TWO_BUFFERS), Ok(()));
-    assert_eq!(rt;
-        ports.open_port(3, 0, 2, TWO_BUFFERS),
-        Err(Refusal::PortOpen)
-    );
-    assert_eq!(rt;
-        ports.open_port(5, 1, 2, TWO_BUFFERS),
-        Err(Refusal::BadTarget)
-    );
-    let eight_flags = PortShape::Flags { base: 0, count: 8 };
-    assert_eq!(rt; ports.open_port(4, 0, 2, eight_flags), Ok(()));
-    assert_eq!(rt; ports.target(3).map(|port| port.sint.number()), Ok(2));
-    assert_eq!(rt;
-        ports.message_target(3, 1).map(|port| port.shape),
-        Ok(TWO_BUFFERS)
-    );
-    assert_eq!(rt;
-        ports.message_target(3, 0x8000_0010).map(|port| port.shape),
-        Err(Refusal::BadType)
-    );
-    assert_eq!(rt; ports.flag_place(4, 3).map(|place| place.2), Ok(3));
-    assert_eq!(rt;
-        ports.flag_place(4, 8).map(|place| place.2),
-        Err(Refusal::BadFlag)
-    );
-    assert_eq!(rt; ports.close_port(3).map(|port| port.vp.number()), Ok(0));
-    assert_eq!(rt;
-        ports.close_port(3).map(|port| port.vp.number()),
-        Err(Refusal::UnknownPort)
-    );
-    Ok(())
-}
+const EIGHT_FLAGS: PortShape = PortShape::Flags { base: 0, count: 8 };
+
+/// On a board of one processor.
+const EACH_CALL: [(Call, Answer); 20] = [
+    (Open(16, 0, 2, TWO_BUFFERS), Refused(Refusal::UnknownPort)),
+    (Open(3, 0, 2, TWO_BUFFERS), Opened),
+    (Open(3, 0, 2, TWO_BUFFERS), Refused(Refusal::PortOpen)),
+    (Open(5, 1, 2, TWO_BUFFERS), Refused(Refusal::BadTarget)),
+    (Open(5, 0, 16, TWO_BUFFERS), Refused(Refusal::BadTarget)),
+    (Open(4, 0, 2, EIGHT_FLAGS), Opened),
+    (Target(3), Answer::Port(0, 2, TWO_BUFFERS)),
+    (Target(4), Answer::Port(0, 2, EIGHT_FLAGS)),
+    (Target(16), Refused(Refusal::UnknownPort)),
+    (MessageTarget(3, 1), Answer::Port(0, 2, TWO_BUFFERS)),
+    (MessageTarget(3, 0), Refused(Refusal::BadType)),
+    (MessageTarget(3, 0x8000_0010), Refused(Refusal::BadType)),
+    (MessageTarget(4, 1), Refused(Refusal::WrongKind)),
+    (FlagPlace(4, 3), Flag(0, 2, 3)),
+    (FlagPlace(4, 8), Refused(Refusal::BadFlag)),
+    (FlagPlace(3, 0), Refused(Refusal::WrongKind)),
+    (FlagPlace(5, 0), Refused(Refusal::UnknownPort)),
+    (Close(3), Answer::Port(0, 2, TWO_BUFFERS)),
+    (Close(3), Refused(Refusal::UnknownPort)),
+    (Open(3, 0, 2, EIGHT_FLAGS), Opened),
+];
 
 #[test]
-fn flags_at_the_edges(rt: HostRuntime) -> Result<(), Fail> {
-    let mut ports = Ports::new(8);
-    let last = PortShape::Flags {
-        base: 2047,
-        count: 1,
-    };
-    assert_eq!(rt; ports.open_port(0, 7, 15, last), Ok(()));
-    assert_eq!(rt; ports.flag_place(0, 0).map(|place| place.2), Ok(2047));
-    assert_eq!(rt;
-        ports.flag_place(0, 1).map(|place| place.2),
-        Err(Refusal::BadFlag)
-    );
-    for (base, count) in [(2047, 2), (0, 0), (2048, 1), (65535, 65535)] {
-        let shape = PortShape::Flags { base, count };
-        assert_eq!(rt;
-            ports.open_port(1, 7, 15, shape),
-            Err(Refusal::BadTarget),
-            "{base} {count}"
-        );
-    }
-    for buffers in [0, 17, 255] {
-        let shape = PortShape::Messages { buffers };
-        assert_eq!(rt;
-            ports.open_port(1, 7, 15, shape),
-            Err(Refusal::BadTarget),
-            "{buffers}"
-        );
-    }
-    Ok(())
+fn each_call_once(rt: HostRuntime) {
+    assert_eq!(rt; first_other(&mut Ports::new(1), &EACH_CALL), None);
+}
+
+const LAST_FLAG: PortShape = PortShape::Flags {
+    base: 2047,
+    count: 1,
+};
+
+const ALL_FLAGS: PortShape = PortShape::Flags {
+    base: 0,
+    count: 2048,
+};
+
+/// On a board of eight processors.
+const EDGES: [(Call, Answer); 15] = [
+    (Open(0, 7, 15, LAST_FLAG), Opened),
+    (FlagPlace(0, 0), Flag(7, 15, 2047)),
+    (FlagPlace(0, 1), Refused(Refusal::BadFlag)),
+    (Open(1, 7, 15, ALL_FLAGS), Opened),
+    (FlagPlace(1, 2047), Flag(7, 15, 2047)),
+    (
+        Open(
+            2,
+            7,
+            15,
+            PortShape::Flags {
+                base: 2047,
+                count: 2,
+            },
+        ),
+        Refused(Refusal::BadTarget),
+    ),
+    (
+        Open(2, 7, 15, PortShape::Flags { base: 0, count: 0 }),
+        Refused(Refusal::BadTarget),
+    ),
+    (
+        Open(
+            2,
+            7,
+            15,
+            PortShape::Flags {
+                base: 2048,
+                count: 1,
+            },
+        ),
+        Refused(Refusal::BadTarget),
+    ),
+    (
+        Open(
+            2,
+            7,
+            15,
+            PortShape::Flags {
+                base: 65535,
+                count: 65535,
+            },
+        ),
+        Refused(Refusal::BadTarget),
+    ),
+    (
+        Open(2, 7, 15, PortShape::Messages { buffers: 0 }),
+        Refused(Refusal::BadTarget),
+    ),
+    (
+        Open(2, 7, 15, PortShape::Messages { buffers: 17 }),
+        Refused(Refusal::BadTarget),
+    ),
+    (
+        Open(2, 7, 15, PortShape::Messages { buffers: 255 }),
+        Refused(Refusal::BadTarget),
+    ),
+    (
+        Open(2, 8, 15, PortShape::Messages { buffers: 16 }),
+        Refused(Refusal::BadTarget),
+    ),
+    (Open(2, 7, 15, PortShape::Messages { buffers: 16 }), Opened),
+    (Open(15, 7, 15, PortShape::Messages { buffers: 1 }), Opened),
+];
+
+#[test]
+fn the_edges(rt: HostRuntime) {
+    assert_eq!(rt; first_other(&mut Ports::new(8), &EDGES), None);
 }

@@ -1,12 +1,49 @@
-// Calls of the queues at concrete values.
-ghost use Rattle.std.specs.Prelude.{◌≡◌, ◌<◌, [], length};
+// Messages that are queued, placed and withdrawn.
+ghost use Rattle.std.specs.Prelude.{◌≡◌, ◌<◌, [], length, IfSome};
 ghost use Rattle.board_terms.specs.declared.messages.Message.TheVariants.{FromPort, FromTimer};
 
-use arrayvec::ArrayVec;
+use crate::steps::{Other, Part, first_other};
 use board_terms::{Message, PayloadBytes, Sint, Ticket, TimerId, Vp};
 use message_queues::Queues;
 use std::alloc::{AllocError, Global};
-use std::test::Fail;
+
+/// The processor and the source of a queue.
+type Queue = (u8, u8);
+
+/// A call of the queues. Timers go by their numbers.
+#[derive(Clone, Copy)]
+pub(crate) enum Call {
+    Post(Queue, Ticket, u8),
+    /// Sixteen posts to a port, with tickets from 0 on.
+    PostSixteen(Queue, u8),
+    Expire(Queue, Ticket, u8),
+    /// Each timer expires, with tickets from 100 on.
+    ExpireAll(Queue),
+    Place(Queue),
+    WithdrawPort(Queue, u8),
+    WithdrawAll(Queue),
+    Count(Queue),
+    PortUsed(u8),
+    TimerIsFree(u8),
+}
+
+#[derive(Clone, Copy, PartialEq, Debug)]
+pub(crate) enum Answer {
+    Done,
+    Is(bool),
+    Messages(u16),
+    Used(u8),
+    Message(Ticket),
+    NoMessage,
+    /// How many there are, and the first five of them, with zeros where there are fewer.
+    Tickets(usize, [Ticket; 5]),
+}
+
+use Answer::{Done, Is, Messages, NoMessage, Tickets, Used};
+use Call::{
+    Count, Expire, ExpireAll, Place, PortUsed, Post, PostSixteen, TimerIsFree, WithdrawAll,
+    WithdrawPort,
+};
 
 fn post(ticket: Ticket, port: u8) -> Message
     ensures { result ≡ FromPort ticket port 1 (record { items = [] }) }
@@ -29,12 +66,29 @@ fn expired(ticket: Ticket, timer: TimerId) -> Message
     }
 }
 
-fn timer_of(number: u8) -> Result<TimerId, Fail> {
-    let vp = Vp::new(number / 4).ok_or("processor")?;
-    Ok(TimerId::new(vp, number % 4).ok_or("index")?)
+/// A processor of the two.
+fn on_board(number: u8) -> Option<Vp>
+    ensures { IfSome result (λ vp. vp < 2) }
+{
+    if number < 2 { Vp::new(number) } else { None }
 }
 
-/// The queues of two processors. Its calls promise nothing, so that each is proved alone, whatever came before.
+fn told(message: Option<Message>) -> Answer {
+    match message {
+        Some(message) => Answer::Message(message.ticket()),
+        None => NoMessage,
+    }
+}
+
+fn listed(tickets: &[Ticket]) -> Answer {
+    let mut first = [0; 5];
+    for (place, ticket) in first.iter_mut().zip(tickets) {
+        *place = *ticket;
+    }
+    Tickets(tickets.len(), first)
+}
+
+/// The queues of two processors.
 #[derive(Drop)]
 struct Scene {
     queues: Queues,
@@ -47,254 +101,254 @@ impl Scene {
         Ok(Scene { queues })
     }
 
-    /// Posts to a port that must have a buffer left.
-    fn post(&mut self, vp: Vp, sint: Sint, ticket: Ticket, port: u8) -> Result<(), Fail>
-        requires { vp < 2 }
-    {
+    /// Posts to a port, if it has a buffer left.
+    fn post(&mut self, queue: Queue, ticket: Ticket, port: u8) -> Option<Answer> {
+        let (vp, sint) = (on_board(queue.0)?, Sint::new(queue.1)?);
         if port > 15 || self.queues.port_used(port) > 15 {
-            Err("no buffer")?;
+            return None;
         }
         self.queues.append(vp, sint, post(ticket, port));
-        Ok(())
+        Some(Done)
     }
 
-    /// A timer expires whose buffer must be free.
-    fn expire(&mut self, vp: Vp, sint: Sint, ticket: Ticket, timer: TimerId) -> Result<(), Fail>
-        requires { vp < 2 }
-    {
+    fn post_sixteen(&mut self, queue: Queue, port: u8) -> Option<Answer> {
+        for ticket in 0..16 {
+            self.post(queue, ticket, port)?;
+        }
+        Some(Done)
+    }
+
+    /// A timer expires, if its buffer is free.
+    fn expire(&mut self, queue: Queue, ticket: Ticket, number: u8) -> Option<Answer> {
+        let (vp, sint) = (on_board(queue.0)?, Sint::new(queue.1)?);
+        let timer = TimerId::from_number(number)?;
         if !self.queues.timer_buffer_free(timer) {
-            Err("no buffer")?;
+            return None;
         }
         self.queues.append(vp, sint, expired(ticket, timer));
-        Ok(())
+        Some(Done)
     }
 
-    fn place(&mut self, vp: Vp, sint: Sint) -> Option<Message>
-        requires { vp < 2 }
-    {
-        self.queues.place(vp, sint)
-    }
-
-    fn withdraw_port(&mut self, vp: Vp, sint: Sint, port: u8) -> ArrayVec<Ticket, 16>
-        requires { vp < 2 }
-    {
-        self.queues.withdraw_port(vp, sint, port)
-    }
-
-    fn withdraw_all(&mut self, vp: Vp, sint: Sint) -> ArrayVec<Ticket, 288>
-        requires { vp < 2 }
-    {
-        self.queues.withdraw_all(vp, sint)
-    }
-
-    fn count(&self, vp: Vp, sint: Sint) -> u16
-        requires { vp < 2 }
-    {
-        self.queues.count(vp, sint)
-    }
-
-    /// Places all that is queued, and tells the tickets in their order.
-    fn tickets(&mut self, vp: Vp, sint: Sint, alloc: Global) -> Result<Vec<Ticket>, Fail>
-        requires { vp < 2 }
-    {
-        let mut tickets = Vec::new(alloc);
-        for _ in 0..self.count(vp, sint) {
-            let message = self.place(vp, sint).ok_or("no message")?;
-            tickets.push(message.ticket())?;
+    fn expire_all(&mut self, queue: Queue) -> Option<Answer> {
+        for number in 0..32 {
+            self.expire(queue, 100 + number as Ticket, number)?;
         }
-        if self.place(vp, sint).is_some() {
-            Err("one more message")?;
+        Some(Done)
+    }
+
+    fn place(&mut self, queue: Queue) -> Option<Answer> {
+        let (vp, sint) = (on_board(queue.0)?, Sint::new(queue.1)?);
+        Some(told(self.queues.place(vp, sint)))
+    }
+
+    fn withdraw_port(&mut self, queue: Queue, port: u8) -> Option<Answer> {
+        let (vp, sint) = (on_board(queue.0)?, Sint::new(queue.1)?);
+        let tickets = self.queues.withdraw_port(vp, sint, port);
+        Some(listed(tickets.as_slice()))
+    }
+
+    fn withdraw_all(&mut self, queue: Queue) -> Option<Answer> {
+        let (vp, sint) = (on_board(queue.0)?, Sint::new(queue.1)?);
+        let tickets = self.queues.withdraw_all(vp, sint);
+        Some(listed(tickets.as_slice()))
+    }
+
+    fn count(&self, queue: Queue) -> Option<Answer> {
+        let (vp, sint) = (on_board(queue.0)?, Sint::new(queue.1)?);
+        Some(Messages(self.queues.count(vp, sint)))
+    }
+
+    fn timer_is_free(&self, number: u8) -> Option<Answer> {
+        let timer = TimerId::from_number(number)?;
+        Some(Is(self.queues.timer_buffer_free(timer)))
+    }
+}
+
+impl Part for Scene {
+    type Call = Call;
+
+    type Answer = Answer;
+
+    fn ask(&mut self, call: Call) -> Option<Answer> {
+        match call {
+            Post(queue, ticket, port) => self.post(queue, ticket, port),
+            PostSixteen(queue, port) => self.post_sixteen(queue, port),
+            Expire(queue, ticket, number) => self.expire(queue, ticket, number),
+            ExpireAll(queue) => self.expire_all(queue),
+            Place(queue) => self.place(queue),
+            WithdrawPort(queue, port) => self.withdraw_port(queue, port),
+            WithdrawAll(queue) => self.withdraw_all(queue),
+            Count(queue) => self.count(queue),
+            PortUsed(port) => Some(Used(self.queues.port_used(port))),
+            TimerIsFree(number) => self.timer_is_free(number),
         }
-        Ok(tickets)
-    }
-
-    fn port_used(&self, port: u8) -> u8 {
-        self.queues.port_used(port)
-    }
-
-    fn timer_buffer_free(&self, timer: TimerId) -> bool {
-        self.queues.timer_buffer_free(timer)
     }
 }
 
-#[test]
-fn each_call_once(rt: HostRuntime) -> Result<(), Fail> {
-    let mut queues = Queues::open(rt.alloc(), 2)?;
-    let (vp, sint) = (Vp::new(1).unwrap(), Sint::new(15).unwrap());
-    let timer = TimerId::new(vp, 2).unwrap();
-    assert!(rt; queues.port_used(3) < 16);
-    queues.append(vp, sint, post(7, 3));
-    assert!(rt; queues.timer_buffer_free(timer));
-    queues.append(vp, sint, expired(8, timer));
-    assert_eq!(rt; queues.count(vp, sint), 2);
-    assert_eq!(rt; queues.place(vp, sint), Some(post(7, 3)));
-    let tickets = queues.withdraw_port(vp, sint, 3);
-    assert!(rt; tickets.is_empty());
-    let tickets = queues.withdraw_all(vp, sint);
-    assert_eq!(rt; tickets.as_slice(), [8].as_slice());
-    Ok(())
+/// The first step at which a new scene answers otherwise.
+fn other(alloc: Global, steps: &[(Call, Answer)]) -> Result<Option<Other<Answer>>, AllocError> {
+    Ok(first_other(&mut Scene::open(alloc)?, steps))
 }
 
-/// Two posts to port 3 with a timer's message between them, and behind them a post to port 4.
-fn four(alloc: Global, vp: Vp, sint: Sint, timer: TimerId) -> Result<Scene, Fail>
-    requires { vp < 2 }
-{
-    let mut queues = Scene::open(alloc)?;
-    queues.post(vp, sint, 7, 3)?;
-    queues.expire(vp, sint, 8, timer)?;
-    queues.post(vp, sint, 9, 3)?;
-    queues.post(vp, sint, 10, 4)?;
-    Ok(queues)
-}
+/// The queue that most tables fill, and another.
+const QUEUE: Queue = (1, 15);
 
-#[test]
-fn a_queued_message_has_a_buffer(rt: HostRuntime) -> Result<(), Fail> {
-    let (vp, other) = (Vp::new(1).unwrap(), Vp::new(0).unwrap());
-    let sint = Sint::new(15).unwrap();
-    let timer = TimerId::new(vp, 2).unwrap();
-    let queues = four(rt.alloc(), vp, sint, timer)?;
-    assert_eq!(rt; queues.count(vp, sint), 4);
-    assert_eq!(rt; queues.count(other, sint), 0);
-    assert_eq!(rt; queues.port_used(3), 2);
-    assert_eq!(rt; queues.port_used(16), 0);
-    assert!(rt; !queues.timer_buffer_free(timer));
-    assert!(rt; queues.timer_buffer_free(TimerId::new(other, 2).unwrap()));
-    Ok(())
-}
+const OTHER: Queue = (0, 2);
 
-#[test]
-fn a_message_that_leaves_gives_its_buffer_back(rt: HostRuntime) -> Result<(), Fail> {
-    let (vp, sint) = (Vp::new(1).unwrap(), Sint::new(15).unwrap());
-    let timer = TimerId::new(vp, 2).unwrap();
-    let mut queues = four(rt.alloc(), vp, sint, timer)?;
-    assert_eq!(rt; queues.place(vp, sint), Some(post(7, 3)));
-    assert_eq!(rt; queues.port_used(3), 1);
-    assert_eq!(rt;
-        queues.withdraw_port(vp, sint, 3).as_slice(),
-        [9].as_slice()
-    );
-    assert_eq!(rt; queues.port_used(3), 0);
-    assert_eq!(rt; queues.place(vp, sint), Some(expired(8, timer)));
-    assert!(rt; queues.timer_buffer_free(timer));
-    assert_eq!(rt; queues.place(vp, sint), Some(post(10, 4)));
-    assert_eq!(rt; queues.place(vp, sint), None);
-    Ok(())
-}
+const SIXTEEN: Answer = Tickets(16, [0, 1, 2, 3, 4]);
 
-#[test]
-fn sixteen_of_one_port(rt: HostRuntime) -> Result<(), Fail> {
-    let mut queues = Scene::open(rt.alloc())?;
-    let (vp, sint) = (Vp::new(0).unwrap(), Sint::new(2).unwrap());
-    queues.post(vp, sint, 100, 4)?;
-    for ticket in 0..16 {
-        queues.post(vp, sint, ticket, 15)?;
-    }
-    queues.post(vp, sint, 101, 4)?;
-    assert_eq!(rt; queues.count(vp, sint), 18);
-    assert_eq!(rt; queues.port_used(15), 16);
-    let tickets = queues.withdraw_port(vp, sint, 15);
-    assert_eq!(rt;
-        tickets.as_slice(),
-        [0, 1, 2, 3, 4, 5, 6, 7, 8, 9, 10, 11, 12, 13, 14, 15].as_slice()
-    );
-    assert_eq!(rt; queues.port_used(15), 0);
-    assert_eq!(rt; queues.place(vp, sint), Some(post(100, 4)));
-    assert_eq!(rt; queues.place(vp, sint), Some(post(101, 4)));
-    assert_eq!(rt; queues.place(vp, sint), None);
-    Ok(())
-}
+const NO_TICKETS: Answer = Tickets(0, [0; 5]);
 
-#[test]
-fn all_buffers_in_one_queue(rt: HostRuntime) -> Result<(), Fail> {
-    let mut queues = Scene::open(rt.alloc())?;
-    let (vp, sint) = (Vp::new(0).unwrap(), Sint::new(5).unwrap());
-    for number in 0..32 {
-        for port in 8 * (number % 2)..8 * (number % 2) + 8 {
-            queues.post(vp, sint, number as u64 / 2, port)?;
-        }
-        let timer = timer_of(number)?;
-        queues.expire(vp, sint, number as u64, timer)?;
-    }
-    assert_eq!(rt; queues.count(vp, sint), 288);
-    for port in (0..16u8).rev() {
-        assert_eq!(rt; queues.port_used(port), 16);
-        let tickets = queues.withdraw_port(vp, sint, port);
-        assert_eq!(rt;
-            tickets.as_slice(),
-            [0, 1, 2, 3, 4, 5, 6, 7, 8, 9, 10, 11, 12, 13, 14, 15].as_slice()
-        );
-        assert_eq!(rt; queues.port_used(port), 0);
-        assert_eq!(rt; queues.count(vp, sint), 32 + 16 * port as u16);
-    }
-    for number in 0..32 {
-        let timer = timer_of(number)?;
-        assert_eq!(rt; queues.place(vp, sint), Some(expired(number as u64, timer)));
-        assert!(rt; queues.timer_buffer_free(timer));
-    }
-    assert_eq!(rt; queues.place(vp, sint), None);
-    Ok(())
-}
-
-/// Ports that are posted to, one of them, the tickets of its posts, and those that are left.
-const WITHDRAWALS: [(&[u8], u8, &[Ticket], &[Ticket]); 6] = [
-    (
-        &[3, 3, 4, 3, 5, 4, 3, 3],
-        3,
-        &[0, 1, 3, 6, 7],
-        &[2, 4, 5, 99],
-    ),
-    (&[4, 5, 5], 4, &[0], &[1, 2, 99]),
-    (&[5, 4, 5], 4, &[1], &[0, 2, 99]),
-    (&[5, 5, 4], 4, &[2], &[0, 1, 99]),
-    (&[4], 4, &[0], &[99]),
-    (&[5], 4, &[], &[0, 99]),
+/// A queued message has a buffer, and gives it back when it leaves: two posts to port 3 with the message of timer 6
+/// between them, and behind them a post to port 4.
+const BUFFERS: [(Call, Answer); 20] = [
+    (Post(QUEUE, 7, 3), Done),
+    (TimerIsFree(6), Is(true)),
+    (Expire(QUEUE, 8, 6), Done),
+    (Post(QUEUE, 9, 3), Done),
+    (Post(QUEUE, 10, 4), Done),
+    (Count(QUEUE), Messages(4)),
+    (Count(OTHER), Messages(0)),
+    (PortUsed(3), Used(2)),
+    (PortUsed(16), Used(0)),
+    (TimerIsFree(6), Is(false)),
+    (TimerIsFree(2), Is(true)),
+    (Place(QUEUE), Answer::Message(7)),
+    (PortUsed(3), Used(1)),
+    (WithdrawPort(QUEUE, 3), Tickets(1, [9, 0, 0, 0, 0])),
+    (WithdrawPort(QUEUE, 3), NO_TICKETS),
+    (PortUsed(3), Used(0)),
+    (Place(QUEUE), Answer::Message(8)),
+    (TimerIsFree(6), Is(true)),
+    (Place(QUEUE), Answer::Message(10)),
+    (Place(QUEUE), NoMessage),
 ];
 
-/// From front, middle and end, from a queue of one and from one that has none: the others stay in their order,
-/// one more is queued behind them, and another queue is as it was.
-#[test]
-fn a_withdrawal_mends_the_queue(rt: HostRuntime) -> Result<(), Fail> {
-    for (ports, port, taken, left) in &WITHDRAWALS {
-        let mut queues = Scene::open(rt.alloc())?;
-        let (vp, sint) = (Vp::new(0).unwrap(), Sint::new(2).unwrap());
-        let other = Sint::new(3).unwrap();
-        queues.post(vp, other, 20, 4)?;
-        for (ticket, port) in ports.iter().enumerate() {
-            queues.post(vp, sint, ticket as Ticket, *port)?;
-        }
-        assert_eq!(rt; queues.withdraw_port(vp, sint, *port).as_slice(), *taken);
-        queues.post(vp, sint, 99, 3)?;
-        assert_eq!(rt; queues.tickets(vp, sint, rt.alloc())?.as_slice(), *left);
-        assert_eq!(rt;
-            queues.tickets(vp, other, rt.alloc())?.as_slice(),
-            [20].as_slice()
-        );
-    }
-    Ok(())
-}
+const SIXTEEN_OF_ONE_PORT: [(Call, Answer); 10] = [
+    (Post(QUEUE, 100, 4), Done),
+    (PostSixteen(QUEUE, 15), Done),
+    (Post(QUEUE, 101, 4), Done),
+    (Count(QUEUE), Messages(18)),
+    (PortUsed(15), Used(16)),
+    (WithdrawPort(QUEUE, 15), SIXTEEN),
+    (PortUsed(15), Used(0)),
+    (Place(QUEUE), Answer::Message(100)),
+    (Place(QUEUE), Answer::Message(101)),
+    (Place(QUEUE), NoMessage),
+];
+
+/// All 288 buffers: sixteen of each port, and one of each timer between the first port and the others.
+const ALL_BUFFERS: [(Call, Answer); 38] = [
+    (PostSixteen(QUEUE, 0), Done),
+    (ExpireAll(QUEUE), Done),
+    (PostSixteen(QUEUE, 1), Done),
+    (PostSixteen(QUEUE, 2), Done),
+    (PostSixteen(QUEUE, 3), Done),
+    (PostSixteen(QUEUE, 4), Done),
+    (PostSixteen(QUEUE, 5), Done),
+    (PostSixteen(QUEUE, 6), Done),
+    (PostSixteen(QUEUE, 7), Done),
+    (PostSixteen(QUEUE, 8), Done),
+    (PostSixteen(QUEUE, 9), Done),
+    (PostSixteen(QUEUE, 10), Done),
+    (PostSixteen(QUEUE, 11), Done),
+    (PostSixteen(QUEUE, 12), Done),
+    (PostSixteen(QUEUE, 13), Done),
+    (PostSixteen(QUEUE, 14), Done),
+    (PostSixteen(QUEUE, 15), Done),
+    (Count(QUEUE), Messages(288)),
+    (PortUsed(15), Used(16)),
+    (TimerIsFree(31), Is(false)),
+    (WithdrawPort(QUEUE, 15), SIXTEEN),
+    (WithdrawPort(QUEUE, 0), SIXTEEN),
+    (WithdrawPort(QUEUE, 7), SIXTEEN),
+    (PortUsed(15), Used(0)),
+    (PortUsed(7), Used(0)),
+    (PortUsed(1), Used(16)),
+    (Count(QUEUE), Messages(240)),
+    (Place(QUEUE), Answer::Message(100)),
+    (Place(QUEUE), Answer::Message(101)),
+    (TimerIsFree(1), Is(true)),
+    (TimerIsFree(2), Is(false)),
+    (Expire(QUEUE, 99, 1), Done),
+    (PostSixteen(OTHER, 15), Done),
+    (PortUsed(15), Used(16)),
+    (Count(OTHER), Messages(16)),
+    (Count(QUEUE), Messages(239)),
+    (Place(QUEUE), Answer::Message(102)),
+    (WithdrawAll(OTHER), SIXTEEN),
+];
+
+/// A withdrawal from front, middle and end, from a queue of one and from one that has none: the others stay in their
+/// order, one more is queued behind them, and another queue is as it was.
+const WITHDRAWALS: [(Call, Answer); 38] = [
+    (Post(OTHER, 20, 4), Done),
+    (Post(QUEUE, 0, 3), Done),
+    (Post(QUEUE, 1, 3), Done),
+    (Post(QUEUE, 2, 4), Done),
+    (Post(QUEUE, 3, 3), Done),
+    (Post(QUEUE, 4, 5), Done),
+    (Post(QUEUE, 5, 4), Done),
+    (Post(QUEUE, 6, 3), Done),
+    (Post(QUEUE, 7, 3), Done),
+    (WithdrawPort(QUEUE, 3), Tickets(5, [0, 1, 3, 6, 7])),
+    (Post(QUEUE, 99, 3), Done),
+    (WithdrawAll(QUEUE), Tickets(4, [2, 4, 5, 99, 0])),
+    (Post(QUEUE, 0, 4), Done),
+    (Post(QUEUE, 1, 5), Done),
+    (Post(QUEUE, 2, 5), Done),
+    (WithdrawPort(QUEUE, 4), Tickets(1, [0, 0, 0, 0, 0])),
+    (Post(QUEUE, 99, 3), Done),
+    (WithdrawAll(QUEUE), Tickets(3, [1, 2, 99, 0, 0])),
+    (Post(QUEUE, 0, 5), Done),
+    (Post(QUEUE, 1, 4), Done),
+    (Post(QUEUE, 2, 5), Done),
+    (WithdrawPort(QUEUE, 4), Tickets(1, [1, 0, 0, 0, 0])),
+    (Post(QUEUE, 99, 3), Done),
+    (WithdrawAll(QUEUE), Tickets(3, [0, 2, 99, 0, 0])),
+    (Post(QUEUE, 0, 5), Done),
+    (Post(QUEUE, 1, 5), Done),
+    (Post(QUEUE, 2, 4), Done),
+    (WithdrawPort(QUEUE, 4), Tickets(1, [2, 0, 0, 0, 0])),
+    (Post(QUEUE, 99, 3), Done),
+    (WithdrawAll(QUEUE), Tickets(3, [0, 1, 99, 0, 0])),
+    (Post(QUEUE, 0, 4), Done),
+    (WithdrawPort(QUEUE, 4), Tickets(1, [0, 0, 0, 0, 0])),
+    (Post(QUEUE, 99, 3), Done),
+    (WithdrawPort(QUEUE, 4), NO_TICKETS),
+    (Place(QUEUE), Answer::Message(99)),
+    (Place(QUEUE), NoMessage),
+    (Place(OTHER), Answer::Message(20)),
+    (Place(OTHER), NoMessage),
+];
+
+const AN_EMPTIED_QUEUE: [(Call, Answer); 13] = [
+    (Post(OTHER, 20, 3), Done),
+    (Post(QUEUE, 1, 3), Done),
+    (Expire(QUEUE, 2, 2), Done),
+    (Post(QUEUE, 3, 5), Done),
+    (Post(QUEUE, 4, 3), Done),
+    (WithdrawAll(QUEUE), Tickets(4, [1, 2, 3, 4, 0])),
+    (Count(QUEUE), Messages(0)),
+    (PortUsed(3), Used(1)),
+    (PortUsed(5), Used(0)),
+    (TimerIsFree(2), Is(true)),
+    (WithdrawAll(QUEUE), NO_TICKETS),
+    (Place(QUEUE), NoMessage),
+    (Place(OTHER), Answer::Message(20)),
+];
+
+const TABLES: [(&str, &[(Call, Answer)]); 5] = [
+    ("a queued message has a buffer", &BUFFERS),
+    ("sixteen of one port", &SIXTEEN_OF_ONE_PORT),
+    ("all buffers in one queue", &ALL_BUFFERS),
+    ("a withdrawal mends the queue", &WITHDRAWALS),
+    ("a queue is emptied", &AN_EMPTIED_QUEUE),
+];
 
 #[test]
-fn a_queue_is_emptied(rt: HostRuntime) -> Result<(), Fail> {
-    let mut queues = Scene::open(rt.alloc())?;
-    let (vp, sint, other) = (
-        Vp::new(0).unwrap(),
-        Sint::new(2).unwrap(),
-        Sint::new(3).unwrap(),
-    );
-    let timer = timer_of(2)?;
-    queues.post(vp, other, 20, 3)?;
-    queues.post(vp, sint, 1, 3)?;
-    queues.expire(vp, sint, 2, timer)?;
-    queues.post(vp, sint, 3, 5)?;
-    queues.post(vp, sint, 4, 3)?;
-    let tickets = queues.withdraw_all(vp, sint);
-    assert_eq!(rt; tickets.as_slice(), [1, 2, 3, 4].as_slice());
-    assert_eq!(rt; queues.count(vp, sint), 0);
-    assert_eq!(rt; queues.port_used(3), 1);
-    assert_eq!(rt; queues.port_used(5), 0);
-    assert!(rt; queues.timer_buffer_free(timer));
-    let none = queues.withdraw_all(vp, sint);
-    assert!(rt; none.is_empty());
-    assert_eq!(rt; queues.place(vp, other), Some(post(20, 3)));
-    Ok(())
+fn each_table_is_answered(rt: HostRuntime) {
+    for (table, steps) in &TABLES {
+        assert_eq!(rt; other(rt.alloc(), *steps), Ok(None), "{table}");
+    }
 }

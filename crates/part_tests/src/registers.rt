@@ -1,6 +1,8 @@
-// Each public call once, at values from the register table.
-ghost use Rattle.std.specs.Prelude.{◌<◌, ◌≤◌};
+// The registers by their numbers, at values from the register table.
+ghost use Rattle.std.specs.Prelude.{◌<◌, IfSome, IsTrue};
+ghost use Rattle.synic_regs.specs.Regs.{stores};
 
+use crate::steps::{Part, first_other};
 use board_terms::{Sint, Vector};
 use synic_regs::{Outcome, Register, SynicRegs, decode};
 
@@ -8,12 +10,6 @@ fn sint(number: u8) -> Sint
     requires { number < 16 }
 {
     Sint::new(number).unwrap()
-}
-
-fn vector(number: u8) -> Vector
-    requires { 16 ≤ number }
-{
-    Vector::new(number).unwrap()
 }
 
 #[test]
@@ -43,55 +39,135 @@ fn numbers_of_the_registers(rt: HostRuntime) {
     }
 }
 
+/// A call of the registers, which go by their numbers.
+#[derive(Clone, Copy)]
+pub(crate) enum Call {
+    Write(u32, u64),
+    Read(u32),
+    IsEnabled,
+    SimIsEnabled,
+    SiefIsEnabled,
+    Raises(u8),
+    IsAuto(u8),
+    /// Whether the set of those that end by themselves has a vector.
+    AutoSetHas(u8),
+}
+
+#[derive(Clone, Copy, PartialEq, Debug)]
+pub(crate) enum Answer {
+    Written(Outcome),
+    Word(u64),
+    Is(bool),
+    Vector(u8),
+    NoVector,
+}
+
+use Answer::{Is, NoVector, Word, Written};
+use Call::{AutoSetHas, IsAuto, IsEnabled, Raises, Read, SiefIsEnabled, SimIsEnabled, Write};
+
+/// A register that is stored.
+fn stored(number: u32) -> Option<Register>
+    ensures { IfSome result (λ register. IsTrue (stores register)) }
+{
+    match decode(number)? {
+        Register::Control => Some(Register::Control),
+        Register::Sief => Some(Register::Sief),
+        Register::Sim => Some(Register::Sim),
+        Register::Source(sint) => Some(Register::Source(sint)),
+        _ => None,
+    }
+}
+
+fn told(vector: Option<Vector>) -> Answer {
+    match vector {
+        Some(vector) => Answer::Vector(vector.number()),
+        None => NoVector,
+    }
+}
+
+impl Part for SynicRegs {
+    type Call = Call;
+
+    type Answer = Answer;
+
+    fn ask(&mut self, call: Call) -> Option<Answer> {
+        Some(match call {
+            Write(number, value) => Written(self.write(stored(number)?, value)),
+            Read(number) => Word(self.read(stored(number)?)),
+            IsEnabled => Is(self.is_enabled()),
+            SimIsEnabled => Is(self.sim_is_enabled()),
+            SiefIsEnabled => Is(self.sief_is_enabled()),
+            Raises(number) => told(self.raises(Sint::new(number)?)),
+            IsAuto(number) => Is(self.is_auto(Vector::new(number)?)),
+            AutoSetHas(number) => Is(self.auto_set().contains(Vector::new(number)?)),
+        })
+    }
+}
+
+const STORED: Answer = Written(Outcome::Stored);
+
+const REFUSED: Answer = Written(Outcome::GeneralProtection);
+
+/// SCONTROL, SIEFP, SIMP and SINT2.
+const WHOLE_WORDS: [(Call, Answer); 20] = [
+    (Read(0x4000_0080), Word(0)),
+    (Read(0x4000_0082), Word(0)),
+    (Read(0x4000_0083), Word(0)),
+    (Read(0x4000_0092), Word(0x1_0000)),
+    (IsEnabled, Is(false)),
+    (SiefIsEnabled, Is(false)),
+    (SimIsEnabled, Is(false)),
+    (Write(0x4000_0080, u64::MAX), STORED),
+    (IsEnabled, Is(true)),
+    (SiefIsEnabled, Is(false)),
+    (Write(0x4000_0082, u64::MAX), STORED),
+    (SiefIsEnabled, Is(true)),
+    (SimIsEnabled, Is(false)),
+    (Write(0x4000_0083, u64::MAX), STORED),
+    (SimIsEnabled, Is(true)),
+    (Write(0x4000_0092, u64::MAX), STORED),
+    (Read(0x4000_0080), Word(u64::MAX)),
+    (Read(0x4000_0082), Word(u64::MAX)),
+    (Read(0x4000_0083), Word(u64::MAX)),
+    (Read(0x4000_0092), Word(u64::MAX)),
+];
+
 #[test]
 fn registers_store_whole_words(rt: HostRuntime) {
-    let mut regs = SynicRegs::new();
-    let source = Register::Source(sint(2));
-    assert_eq!(rt; regs.read(source), 0x1_0000);
-    assert!(rt; !regs.is_enabled() && !regs.sim_is_enabled() && !regs.sief_is_enabled());
-    for register in [Register::Control, Register::Sief, Register::Sim, source] {
-        assert_eq!(rt;
-            regs.write(register, 0xffff_ffff_ffff_ffff),
-            Outcome::Stored
-        );
-        assert_eq!(rt; regs.read(register), 0xffff_ffff_ffff_ffff);
-    }
-    assert!(rt; regs.is_enabled() && regs.sim_is_enabled() && regs.sief_is_enabled());
+    assert_eq!(rt; first_other(&mut SynicRegs::new(), &WHOLE_WORDS), None);
 }
+
+/// SINT3: AutoEOI, then masked, then polling too, then neither, then a vector below 16 unmasked and masked.
+const SOURCES: [(Call, Answer); 26] = [
+    (Raises(3), NoVector),
+    (Write(0x4000_0093, 0x2_0055), STORED),
+    (Raises(3), Answer::Vector(0x55)),
+    (Raises(2), NoVector),
+    (IsAuto(0x55), Is(true)),
+    (AutoSetHas(0x55), Is(true)),
+    (IsAuto(0x56), Is(false)),
+    (AutoSetHas(0x56), Is(false)),
+    (Write(0x4000_0093, 0x3_0055), STORED),
+    (Raises(3), NoVector),
+    (IsAuto(0x55), Is(false)),
+    (AutoSetHas(0x55), Is(false)),
+    (Write(0x4000_0093, 0x6_0055), STORED),
+    (Raises(3), NoVector),
+    (IsAuto(0x55), Is(false)),
+    (Write(0x4000_0093, 0x0_0055), STORED),
+    (Raises(3), Answer::Vector(0x55)),
+    (IsAuto(0x55), Is(false)),
+    (AutoSetHas(0x55), Is(false)),
+    (Write(0x4000_0093, 0x2_000f), REFUSED),
+    (Read(0x4000_0093), Word(0x0_0055)),
+    (Raises(3), Answer::Vector(0x55)),
+    (Write(0x4000_0093, 0x4_000f), REFUSED),
+    (Raises(3), Answer::Vector(0x55)),
+    (Write(0x4000_0093, 0x3_000f), STORED),
+    (Raises(3), NoVector),
+];
 
 #[test]
 fn sources_raise_and_end_by_themselves(rt: HostRuntime) {
-    let mut regs = SynicRegs::new();
-    let source = Register::Source(sint(3));
-    // AutoEOI, then masked, then polling too, then a vector below 16 unmasked and masked.
-    let rows = [
-        (0x2_0055, Outcome::Stored, Some(vector(0x55)), true),
-        (0x3_0055, Outcome::Stored, None, false),
-        (0x6_0055, Outcome::Stored, None, false),
-        (0x0_0055, Outcome::Stored, Some(vector(0x55)), false),
-        (
-            0x2_000f,
-            Outcome::GeneralProtection,
-            Some(vector(0x55)),
-            false,
-        ),
-        (
-            0x4_000f,
-            Outcome::GeneralProtection,
-            Some(vector(0x55)),
-            false,
-        ),
-        (0x3_000f, Outcome::Stored, None, false),
-    ];
-    for (value, outcome, raised, auto) in rows {
-        let written = regs.write(source, value);
-        let raises = regs.raises(sint(3));
-        let is_auto = regs.is_auto(vector(0x55));
-        let is_member = regs.auto_set().contains(vector(0x55));
-        assert_eq!(rt; written, outcome, "at {value:x}");
-        assert!(rt;
-            raises == raised && is_auto == auto && is_member == auto,
-            "at {value:x}"
-        );
-    }
+    assert_eq!(rt; first_other(&mut SynicRegs::new(), &SOURCES), None);
 }

@@ -1,147 +1,270 @@
-// Each call once, at values from worked scripts.
-use board_terms::{Moment, Sint, TimerId, Vector, Vp};
-use std::test::Fail;
+// Timers that are written, suspended and reset, and how they expire.
+use crate::steps::{Part, first_other};
+use board_terms::{Moment, TimerId, Vp};
 use stimer_bank::{Mode, TimerBank};
 
-fn timer(vp: u8, index: u8) -> Result<TimerId, Fail> {
-    let vp = Vp::new(vp).ok_or("processor")?;
-    Ok(TimerId::new(vp, index).ok_or("index")?)
+/// A call of the bank. Timers go by their numbers.
+#[derive(Clone, Copy)]
+pub(crate) enum Call {
+    Config(u8, u64, Moment),
+    Count(u8, u64, Moment),
+    ReadConfig(u8),
+    ReadCount(u8),
+    IsDue(u8, Moment),
+    Mode(u8, Moment),
+    Expire(u8, Moment),
+    Earliest,
+    /// The timer at a place of the list of those that are due at a moment.
+    Due(usize, Moment),
+    Suspend(u8),
+    Resume(u8),
+    Reset(u8),
+    IsSuspended(u8),
 }
 
-/// What a timer that is due signals, and how many periods it skips.
-fn expired(bank: &mut TimerBank, timer: TimerId, moment: u64) -> Option<(Option<Moment>, u64)> {
-    if bank.is_due(timer, moment) {
-        let expiry = bank.expire(timer, moment);
-        Some((expiry.signal, expiry.skipped))
-    } else {
-        None
+#[derive(Clone, Copy, PartialEq, Debug)]
+pub(crate) enum Answer {
+    Done,
+    Is(bool),
+    Word(u64),
+    Vector(u8),
+    Source(u8),
+    Timer(u8),
+    First(u128, u8),
+    Expired(Option<Moment>, u64),
+    Nothing,
+}
+
+use Answer::{Done, Expired, First, Is, Nothing, Source, Timer, Vector, Word};
+use Call::{Config, Count, Due, Earliest, Expire, IsDue, ReadConfig, ReadCount};
+
+/// What a timer tells when it expires, and how many periods it skips.
+fn expired(bank: &mut TimerBank, timer: TimerId, moment: Moment) -> Answer {
+    if !bank.is_due(timer, moment) {
+        return Nothing;
     }
+    let expiry = bank.expire(timer, moment);
+    Expired(expiry.signal, expiry.skipped)
 }
 
 /// The vector or the source that a timer tells which is due.
-fn told(bank: &TimerBank, timer: TimerId, moment: u64) -> (Option<Vector>, Option<Sint>) {
+fn told(bank: &TimerBank, timer: TimerId, moment: Moment) -> Answer {
     if !bank.is_due(timer, moment) {
-        return (None, None);
+        return Nothing;
     }
     match bank.mode(timer) {
-        Mode::Direct(vector) => (Some(vector), None),
-        Mode::Posted(sint) => (None, Some(sint)),
+        Mode::Direct(vector) => Vector(vector.number()),
+        Mode::Posted(sint) => Source(sint.number()),
     }
 }
 
-#[test]
-fn a_late_periodic_timer_makes_up_eight_periods(rt: HostRuntime) -> Result<(), Fail> {
-    let first = timer(0, 0)?;
-    // period 10, direct mode with vector 64, started at moment 100: due at 110
-    for (moment, skipped, next) in [(199, 0, 120), (200, 1, 130), (235, 4, 160)] {
-        let mut bank = TimerBank::new();
-        bank.write_count(first, 10, 100);
-        bank.write_config(first, 0x1403, 100);
-        assert!(rt; bank.earliest() == Some((110, first)), "at {moment}");
-        let expiry = expired(&mut bank, first, moment);
-        assert!(rt; expiry == Some((Some(110), skipped)), "at {moment}");
-        assert!(rt; bank.earliest() == Some((next, first)), "at {moment}");
+fn earliest(bank: &TimerBank) -> Answer {
+    match bank.earliest() {
+        Some((due, timer)) => First(due, timer.number()),
+        None => Nothing,
     }
-    Ok(())
 }
 
-#[test]
-fn a_lazy_timer_tells_of_the_latest_period(rt: HostRuntime) -> Result<(), Fail> {
-    let first = timer(0, 0)?;
-    for (moment, signal, skipped) in [(235, Some(230), 12), (238, None, 13)] {
-        let mut bank = TimerBank::new();
-        bank.write_count(first, 10, 100);
-        bank.write_config(first, 0x1407, 100);
-        let expiry = expired(&mut bank, first, moment);
-        assert!(rt; expiry == Some((signal, skipped)), "at {moment}");
-        assert!(rt; bank.earliest() == Some((240, first)), "at {moment}");
+fn due_at(bank: &TimerBank, place: usize, moment: Moment) -> Answer {
+    match bank.due_list(moment).get(place) {
+        Some(timer) => Timer(timer.number()),
+        None => Nothing,
     }
-    Ok(())
 }
+
+/// A call that changes a processor, or asks for it.
+fn ask_processor(bank: &mut TimerBank, call: Call) -> Option<Answer> {
+    match call {
+        Call::Suspend(vp) => bank.suspend(Vp::new(vp)?),
+        Call::Resume(vp) => bank.resume(Vp::new(vp)?),
+        Call::Reset(vp) => bank.reset(Vp::new(vp)?),
+        Call::IsSuspended(vp) => return Some(Is(bank.is_suspended(Vp::new(vp)?))),
+        _ => return None,
+    }
+    Some(Done)
+}
+
+impl Part for TimerBank {
+    type Call = Call;
+
+    type Answer = Answer;
+
+    fn ask(&mut self, call: Call) -> Option<Answer> {
+        Some(match call {
+            Config(number, value, moment) => {
+                self.write_config(TimerId::from_number(number)?, value, moment);
+                Done
+            }
+            Count(number, value, moment) => {
+                self.write_count(TimerId::from_number(number)?, value, moment);
+                Done
+            }
+            ReadConfig(number) => Word(self.read_config(TimerId::from_number(number)?)),
+            ReadCount(number) => Word(self.read_count(TimerId::from_number(number)?)),
+            IsDue(number, moment) => Is(self.is_due(TimerId::from_number(number)?, moment)),
+            Call::Mode(number, moment) => told(self, TimerId::from_number(number)?, moment),
+            Expire(number, moment) => expired(self, TimerId::from_number(number)?, moment),
+            Earliest => earliest(self),
+            Due(place, moment) => due_at(self, place, moment),
+            call => return ask_processor(self, call),
+        })
+    }
+}
+
+/// Of period 10, with vector 64, started at moment 100. Up to eight periods are made up, and no more.
+const A_LATE_PERIODIC_TIMER: [(Call, Answer); 17] = [
+    (Count(0, 10, 100), Done),
+    (Config(0, 0x1403, 100), Done),
+    (Earliest, First(110, 0)),
+    (IsDue(0, 109), Is(false)),
+    (Expire(0, 109), Nothing),
+    (Expire(0, 199), Expired(Some(110), 0)),
+    (Earliest, First(120, 0)),
+    (Count(0, 10, 100), Done),
+    (Earliest, First(110, 0)),
+    (Expire(0, 200), Expired(Some(110), 1)),
+    (Earliest, First(130, 0)),
+    (Config(0, 0x1403, 100), Done),
+    (Earliest, First(110, 0)),
+    (Expire(0, 235), Expired(Some(110), 4)),
+    (Earliest, First(160, 0)),
+    (ReadConfig(0), Word(0x1403)),
+    (ReadCount(0), Word(10)),
+];
+
+/// The same timer, but lazy: it tells of the latest period, or of none where the next is near.
+const A_LAZY_TIMER: [(Call, Answer); 7] = [
+    (Count(0, 10, 100), Done),
+    (Config(0, 0x1407, 100), Done),
+    (Expire(0, 235), Expired(Some(230), 12)),
+    (Earliest, First(240, 0)),
+    (Config(0, 0x1407, 100), Done),
+    (Expire(0, 238), Expired(None, 13)),
+    (Earliest, First(240, 0)),
+];
+
+/// AutoEnable sets Enabled with a count, and a count of 0 clears it. A direct vector below 16 is not enabled, nor
+/// is source 0.
+const REGISTERS: [(Call, Answer); 14] = [
+    (Config(0, 0x1408, 0), Done),
+    (Earliest, Nothing),
+    (Count(0, 10, 0), Done),
+    (ReadConfig(0), Word(0x1409)),
+    (ReadCount(0), Word(10)),
+    (Earliest, First(10, 0)),
+    (Count(0, 0, 0), Done),
+    (ReadConfig(0), Word(0x1408)),
+    (Earliest, Nothing),
+    (Config(0, 0x10f1, 0), Done),
+    (ReadConfig(0), Word(0x10f0)),
+    (Config(0, 1, 0), Done),
+    (ReadConfig(0), Word(0)),
+    (ReadConfig(31), Word(0)),
+];
+
+/// The largest count from the largest moment, and those that are due at a moment, first by when and then by number.
+const ORDER: [(Call, Answer); 18] = [
+    (Count(31, u64::MAX, u64::MAX), Done),
+    (Config(31, 0x1403, u64::MAX), Done),
+    (Earliest, First(36893488147419103230, 31)),
+    (Count(0, 7, u64::MAX), Done),
+    (Config(0, 0x2_0001, u64::MAX), Done),
+    (Due(0, u64::MAX), Timer(0)),
+    (Due(1, u64::MAX), Nothing),
+    (Count(31, 7, 0), Done),
+    (Config(31, 0x1401, 0), Done),
+    (Due(0, 7), Timer(0)),
+    (Due(1, 7), Timer(31)),
+    (Due(2, 7), Nothing),
+    (Due(0, 6), Nothing),
+    (Count(31, 6, 0), Done),
+    (Due(0, 7), Timer(31)),
+    (Due(1, 7), Timer(0)),
+    (Due(2, 7), Nothing),
+    (Earliest, First(6, 31)),
+];
+
+/// A timer in direct mode tells a vector, and any other a source. One that expired once is disabled.
+const WHOM_A_TIMER_TELLS: [(Call, Answer); 10] = [
+    (Count(0, 7, 0), Done),
+    (Config(0, 0x1401, 0), Done),
+    (Call::Mode(0, 6), Nothing),
+    (Call::Mode(0, 7), Vector(64)),
+    (Config(0, 0x2_0001, 0), Done),
+    (Call::Mode(0, 7), Source(2)),
+    (Expire(0, 7), Expired(Some(7), 0)),
+    (ReadConfig(0), Word(0x2_0000)),
+    (ReadCount(0), Word(7)),
+    (Earliest, Nothing),
+];
+
+/// Timers 4 and 7 of processor 1, and timer 8 of processor 2. One that is written meanwhile is kept, and hidden.
+const A_SUSPENDED_PROCESSOR: [(Call, Answer); 25] = [
+    (Count(4, 7, 0), Done),
+    (Config(4, 0x1401, 0), Done),
+    (Count(8, 9, 0), Done),
+    (Config(8, 0x1401, 0), Done),
+    (Call::Suspend(1), Done),
+    (Call::IsSuspended(1), Is(true)),
+    (Call::IsSuspended(2), Is(false)),
+    (Earliest, First(9, 8)),
+    (Due(0, 9), Timer(8)),
+    (Due(1, 9), Nothing),
+    (IsDue(4, 9), Is(false)),
+    (IsDue(8, 9), Is(true)),
+    (Count(7, 5, 0), Done),
+    (Config(7, 0x1401, 0), Done),
+    (ReadConfig(7), Word(0x1401)),
+    (Earliest, First(9, 8)),
+    (Due(1, 9), Nothing),
+    (Call::Resume(1), Done),
+    (Call::IsSuspended(1), Is(false)),
+    (Earliest, First(5, 7)),
+    (Due(0, 9), Timer(7)),
+    (Due(1, 9), Timer(4)),
+    (Due(2, 9), Timer(8)),
+    (Due(3, 9), Nothing),
+    (Expire(4, 9), Expired(Some(7), 0)),
+];
+
+const A_PROCESSOR_THAT_IS_RESET: [(Call, Answer); 13] = [
+    (Count(7, 5, 0), Done),
+    (Config(7, 0x1401, 0), Done),
+    (Count(8, 9, 0), Done),
+    (Config(8, 0x1401, 0), Done),
+    (Call::Suspend(1), Done),
+    (Call::Reset(1), Done),
+    (Call::IsSuspended(1), Is(false)),
+    (ReadConfig(7), Word(0)),
+    (ReadCount(7), Word(0)),
+    (Earliest, First(9, 8)),
+    (Due(0, 9), Timer(8)),
+    (Due(1, 9), Nothing),
+    (IsDue(7, 9), Is(false)),
+];
+
+const TABLES: [(&str, &[(Call, Answer)]); 7] = [
+    (
+        "a late periodic timer makes up eight periods",
+        &A_LATE_PERIODIC_TIMER,
+    ),
+    ("a lazy timer tells of the latest period", &A_LAZY_TIMER),
+    ("what registers keep", &REGISTERS),
+    ("who is due first", &ORDER),
+    ("whom a timer tells", &WHOM_A_TIMER_TELLS),
+    (
+        "a suspended processor hides its timers",
+        &A_SUSPENDED_PROCESSOR,
+    ),
+    (
+        "a processor that is reset has idle timers",
+        &A_PROCESSOR_THAT_IS_RESET,
+    ),
+];
 
 #[test]
-fn registers_and_order(rt: HostRuntime) -> Result<(), Fail> {
-    let (first, last) = (timer(0, 0)?, timer(7, 3)?);
-    let mut bank = TimerBank::new();
-    // AutoEnable sets Enabled with a count, and a count of 0 clears it
-    bank.write_config(first, 0x1408, 0);
-    bank.write_count(first, 10, 0);
-    assert_eq!(rt; bank.read_config(first), 0x1409);
-    assert_eq!(rt; bank.read_count(first), 10);
-    bank.write_count(first, 0, 0);
-    assert_eq!(rt; bank.read_config(first), 0x1408);
-    // a direct vector below 16 is not enabled
-    bank.write_config(first, 0x10f1, 0);
-    assert_eq!(rt; bank.read_config(first), 0x10f0);
-    // the largest count, from the largest moment
-    bank.write_count(last, u64::MAX, u64::MAX);
-    bank.write_config(last, 0x1403, u64::MAX);
-    assert!(rt; bank.earliest() == Some((36893488147419103230, last)));
-    bank.write_count(first, 7, u64::MAX);
-    bank.write_config(first, 0x2_0001, u64::MAX);
-    assert!(rt; bank.due_list(u64::MAX).as_slice() == [first].as_slice());
-    bank.write_count(last, 7, 0);
-    bank.write_config(last, 0x1401, 0);
-    assert!(rt; bank.due_list(7).as_slice() == [first, last].as_slice());
-    assert!(rt; bank.due_list(6).is_empty());
-    Ok(())
-}
-
-#[test]
-fn whom_a_timer_tells(rt: HostRuntime) -> Result<(), Fail> {
-    let first = timer(0, 0)?;
-    let mut bank = TimerBank::new();
-    bank.write_count(first, 7, 0);
-    bank.write_config(first, 0x1401, 0);
-    assert_eq!(rt; told(&bank, first, 6), (None, None));
-    assert_eq!(rt; told(&bank, first, 7), (Vector::new(64), None));
-    bank.write_config(first, 0x2_0001, 0);
-    assert_eq!(rt; told(&bank, first, 7), (None, Sint::new(2)));
-    Ok(())
-}
-
-/// The timers of the bank that are due first, and all of them that are due at 9.
-fn shown(bank: &TimerBank, first: Option<(u128, TimerId)>, due: &[TimerId]) -> bool {
-    bank.earliest() == first && bank.due_list(9).as_slice() == due
-}
-
-#[test]
-fn a_suspended_processor_hides_its_timers(rt: HostRuntime) -> Result<(), Fail> {
-    let (first, last, other) = (timer(1, 0)?, timer(1, 3)?, timer(2, 0)?);
-    let mut bank = TimerBank::new();
-    bank.write_count(first, 7, 0);
-    bank.write_config(first, 0x1401, 0);
-    bank.write_count(other, 9, 0);
-    bank.write_config(other, 0x1401, 0);
-    bank.suspend(first.vp());
-    assert!(rt; bank.is_suspended(first.vp()) && !bank.is_suspended(other.vp()));
-    assert!(rt; shown(&bank, Some((9, other)), [other].as_slice()));
-    assert!(rt; !bank.is_due(first, 9) && bank.is_due(other, 9));
-    // a timer that is written now is kept, and hidden
-    bank.write_count(last, 5, 0);
-    bank.write_config(last, 0x1401, 0);
-    assert_eq!(rt; bank.read_config(last), 0x1401);
-    assert!(rt; shown(&bank, Some((9, other)), [other].as_slice()));
-    bank.resume(first.vp());
-    assert!(rt; !bank.is_suspended(first.vp()));
-    assert!(rt; shown(&bank, Some((5, last)), [last, first, other].as_slice()));
-    assert_eq!(rt; expired(&mut bank, first, 9), Some((Some(7), 0)));
-    Ok(())
-}
-
-#[test]
-fn a_processor_that_is_reset_has_idle_timers(rt: HostRuntime) -> Result<(), Fail> {
-    let (last, other) = (timer(1, 3)?, timer(2, 0)?);
-    let mut bank = TimerBank::new();
-    bank.write_count(last, 5, 0);
-    bank.write_config(last, 0x1401, 0);
-    bank.write_count(other, 9, 0);
-    bank.write_config(other, 0x1401, 0);
-    bank.suspend(last.vp());
-    bank.reset(last.vp());
-    assert!(rt; !bank.is_suspended(last.vp()));
-    assert_eq!(rt; bank.read_config(last), 0);
-    assert_eq!(rt; bank.read_count(last), 0);
-    assert!(rt; shown(&bank, Some((9, other)), [other].as_slice()));
-    Ok(())
+fn each_table_is_answered(rt: HostRuntime) {
+    for (table, steps) in &TABLES {
+        assert_eq!(rt; first_other(&mut TimerBank::new(), *steps), None, "{table}");
+    }
 }

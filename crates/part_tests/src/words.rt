@@ -307,29 +307,39 @@ fn a_missing_token_is_told(rt: HostRuntime) {
     }
 }
 
+/// Sizes, and whether words of these sizes are opened.
+const SIZES: [(u8, u8, u8, bool); 8] = [
+    (0, 1, 1, false),
+    (9, 1, 1, false),
+    (1, 0, 1, false),
+    (1, 17, 1, false),
+    (1, 1, 17, false),
+    (255, 255, 255, false),
+    (1, 1, 0, true),
+    (8, 16, 16, true),
+];
+
+/// The processors that words are for, and how many sweepers and lines they are opened with.
+fn sizes(
+    alloc: Global,
+    processors: u8,
+    sweepers: u8,
+    lines: u8,
+) -> Result<(u8, usize, usize), PostedFault> {
+    match PostedWords::open(alloc, processors, sweepers, lines) {
+        Ok((words, sweepers, lines)) => Ok((words.processors(), sweepers.len(), lines.len())),
+        Err(fault) => Err(fault),
+    }
+}
+
 #[test]
 fn sizes_are_judged(rt: HostRuntime) {
-    for (processors, sweepers, lines) in [
-        (0, 1, 1),
-        (9, 1, 1),
-        (1, 0, 1),
-        (1, 17, 1),
-        (1, 1, 17),
-        (255, 255, 255),
-    ] {
-        match PostedWords::open(rt.alloc(), processors, sweepers, lines) {
-            Ok(_) => assert!(rt; false),
-            Err(fault) => assert_eq!(rt; fault, PostedFault::BadSize),
-        }
-    }
-    for (processors, sweepers, lines) in [(1, 1, 0), (8, 16, 16)] {
-        match PostedWords::open(rt.alloc(), processors, sweepers, lines) {
-            Ok((words, given_sweepers, given_lines)) => {
-                assert_eq!(rt; words.processors(), processors);
-                assert_eq!(rt; given_sweepers.len(), usize::from(sweepers));
-                assert_eq!(rt; given_lines.len(), usize::from(lines));
-            }
-            Err(fault) => panic!(rt; "{fault}"),
-        }
+    for (processors, sweepers, lines, opens) in SIZES {
+        let expected = if opens {
+            Ok((processors, sweepers as usize, lines as usize))
+        } else {
+            Err(PostedFault::BadSize)
+        };
+        assert_eq!(rt; sizes(rt.alloc(), processors, sweepers, lines), expected);
     }
 }

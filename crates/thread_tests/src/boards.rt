@@ -42,21 +42,3 @@ pub(crate) fn take_line(board: &SharedBoard, lines: &mut Vec<Line>) -> Option<Li
 {
     lines.pop()
 }
-
-/// Lets go of all actors but that many.
-pub(crate) fn keep_actors(board: &SharedBoard, actors: &mut Vec<Actor>, count: usize)
-    requires { All (λ a. a.of ≡ board.now.words.name) actors.old.items }
-    ensures { All (λ a. a.of ≡ board.now.words.name) actors.new.items }
-{
-    actors.truncate(count);
-}
-
-/// Lets go of all lines but that many.
-pub(crate) fn keep_lines(board: &SharedBoard, lines: &mut Vec<Line>, count: usize)
-    requires own { All (IsOf board.now.words.name) lines.old.items }
-    requires raises { All (λ l. only_raises l.did ≡ true) lines.old.items }
-    ensures own { All (IsOf board.now.words.name) lines.new.items }
-    ensures raises { All (λ l. only_raises l.did ≡ true) lines.new.items }
-{
-    lines.truncate(count);
-}

@@ -6,14 +6,14 @@ mod boards;
 #[cfg(test)]
 mod crews;
 #[cfg(test)]
-mod gates;
+mod ends;
 #[cfg(test)]
-mod judging;
+mod gates;
 #[cfg(test)]
 mod scenes;
 #[cfg(test)]
 mod scripts;
 #[cfg(test)]
-mod settling;
+mod sizes;
 #[cfg(test)]
-mod sharing;
+mod stories;

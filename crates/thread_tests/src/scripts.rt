@@ -11,17 +11,16 @@ use synic_board::Event;
 pub(crate) fn with_port(alloc: Global) -> Result<Setup, AllocError>
     ensures { IfOk result (λ s. s.processors ≡ 1) }
 {
-    let events = [
-        write(0, SCONTROL, 1),
-        write(0, SIMP, 0x2001),
-        write(0, SINT2, 0x50),
-        open_messages(3, 0, 2),
-    ];
+    let mut events = Vec::new(alloc);
+    for (register, value) in [(SCONTROL, 1), (SIMP, 0x2001), (SINT2, 0x50)] {
+        events.push(write(0, register, value))?;
+    }
+    events.push(open_messages(3, 0, 2))?;
     Ok(Setup {
         processors: 1,
         pages: 4,
         first_ticket: 0,
-        events: Vec::from_array(alloc, events)?,
+        events,
     })
 }
 
@@ -30,32 +29,24 @@ pub(crate) fn say(byte: u8) -> Step {
     Step::Act(post(3, &[byte]))
 }
 
-/// A raise of vector 0x60 or 0x61 at processor 0.
-pub(crate) fn raise_60() -> (Vp, Vector) {
-    (Vp::new(0).unwrap(), Vector::new(0x60).unwrap())
+/// A raise of vector 0x60 or 0x61.
+pub(crate) fn raise_60(vp: Vp) -> (Vp, Vector) {
+    (vp, Vector::new(0x60).unwrap())
 }
 
-pub(crate) fn raise_61() -> (Vp, Vector) {
-    (Vp::new(0).unwrap(), Vector::new(0x61).unwrap())
-}
-
-/// Two actors that post a message each, and no line.
-pub(crate) fn two_posts(alloc: Global) -> Result<Scripts, AllocError> {
-    let one = Vec::from_array(alloc, [say(0x0a)])?;
-    let other = Vec::from_array(alloc, [say(0x0b)])?;
-    Ok(Scripts {
-        actors: Vec::from_array(alloc, [one, other])?,
-        lines: Vec::new(alloc),
-    })
+fn raise_61(vp: Vp) -> (Vp, Vector) {
+    (vp, Vector::new(0x61).unwrap())
 }
 
 /// Two actors that post a message each, and two lines, one of which raises its vector twice.
 pub(crate) fn posts_and_raises(alloc: Global) -> Result<Scripts, AllocError> {
-    let Scripts { actors, .. } = two_posts(alloc)?;
-    let twice = Vec::from_array(alloc, [raise_60(), raise_60()])?;
-    let once = Vec::from_array(alloc, [raise_61()])?;
+    let one = Vec::from_array(alloc, [say(0x0a)])?;
+    let other = Vec::from_array(alloc, [say(0x0b)])?;
+    let vp = Vp::new(0).unwrap();
+    let twice = Vec::from_array(alloc, [raise_60(vp), raise_60(vp)])?;
+    let once = Vec::from_array(alloc, [raise_61(vp)])?;
     Ok(Scripts {
-        actors,
+        actors: Vec::from_array(alloc, [one, other])?,
         lines: Vec::from_array(alloc, [twice, once])?,
     })
 }
