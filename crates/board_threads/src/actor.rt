@@ -1,8 +1,7 @@
 // An actor, and its calls.
-ghost use Rattle.std.specs.Prelude.{◌≡◌, ℕ, ◌<◌, true, false, Err, [], ◌∷◌, ◌++◌, IfOk, OnErr, IsErrOf, if◌then◌else◌, nat_lt, nat_le, ◌&&◌};
-ghost use Rattle.posted_words.specs.Words.{token, sweep_of};
+ghost use Rattle.std.specs.Prelude.{◌≡◌, ℕ, ◌<◌, true, false, [], ◌∷◌, ◌++◌, IfOk, OnErr, IsErrOf};
+ghost use Rattle.posted_words.specs.Words.{token};
 ghost use Rattle.synic_board.specs.declared.event.Event.TheVariants.{Absorb};
-ghost use Rattle.entry_log.specs.Log.{entry};
 ghost use Rattle.board_threads.specs.Sweeps.{is_absorb, is_refusal, sweep_in, sweeps_of};
 ghost use Rattle.board_threads.specs.Sharing.{acting};
 

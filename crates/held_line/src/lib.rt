@@ -4,7 +4,7 @@
 ghost use Rattle.std.specs.Prelude.{◌≡◌, ◌<◌, ◌≤◌, ◌↔◌, [], IfOk, OnErr, IfSome, IfNone, IsErrOf, IsSome, replicate, vec_len};
 ghost use Rattle.std.specs.Arc.{arc_value};
 ghost use Rattle.posted_words.specs.Answers.{is_fresh};
-ghost use Rattle.posted_words.specs.Words.{AreWordSizes, shared_words, raise_of, sweep_of, token, IsOf};
+ghost use Rattle.posted_words.specs.Words.{AreWordSizes, shared_words, raise_of, sweep_of, token};
 ghost use Rattle.held_line.specs.Lines.{held, new_line, stepped, with_one_less};
 
 use board_terms::{Vector, Vp};

@@ -1,5 +1,5 @@
 -- The message queues: one for each source of each processor (TLFS, "Messages").
-use Rattle.std.specs.Prelude.{◌≡◌, ℕ, ◌+◌, ◌*◌, ◌<◌, ◌==◌, ◌&&◌, Bool, true, false, not, List, [], ◌∷◌, ◌++◌, map, filter, drop, replicate, slice_index_or, slice_set, sum_by, count_by}
+use Rattle.std.specs.Prelude.{◌≡◌, ℕ, ◌*◌, ◌<◌, ◌==◌, ◌&&◌, Bool, true, false, not, List, [], ◌∷◌, ◌++◌, map, filter, drop, replicate, slice_index_or, slice_set, sum_by, count_by}
 use Rattle.board_terms.specs.Quantities.{Processor, Source, PortNumber, Ticket}
 use Rattle.board_terms.specs.declared.messages.Message.{Message}
 use Rattle.board_terms.specs.declared.messages.Message.TheVariants.{FromPort, FromTimer}

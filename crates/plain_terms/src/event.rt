@@ -1,5 +1,5 @@
 // An event in plain numbers.
-ghost use Rattle.std.specs.Prelude.{◌≡◌, ◌≤◌, [], length, take, None, Some, IfSome, IfNone};
+ghost use Rattle.std.specs.Prelude.{◌≡◌, ◌≤◌, [], length, None, Some, IfSome, IfNone};
 ghost use Rattle.plain_terms.specs.Events.{event_meant, bytes_meant, ComesTo};
 
 use arrayvec::ArrayVec;

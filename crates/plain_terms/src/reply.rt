@@ -1,5 +1,5 @@
 // A reply in plain numbers.
-ghost use Rattle.std.specs.Prelude.{◌≡◌, ◌≤◌, length};
+ghost use Rattle.std.specs.Prelude.{◌≡◌, length};
 ghost use Rattle.plain_terms.specs.Replies.{reply_told, fault_told, silent, padded, refusal_meant, reply_meant};
 
 use crate::event::bytes_of;

@@ -1,6 +1,6 @@
 -- A run goes on by one event.
 use Rattle.std.proofs.Common.{◌≡◌, ℕ, ◌+◌, ◌<◌, ◌≤◌, List, [], ◌∷◌, ◌++◌, refl, ap, sym, subst, ◌∙◌, arith, append_assoc, append-nil, length, take, get_or}
-use Rattle.std.proofs.lemmas.List.{take_more, take_all}
+use Rattle.std.proofs.lemmas.List.{take_more}
 use Rattle.board_terms.specs.declared.notices.Notice.{Notice}
 use Rattle.synic_board.specs.declared.event.Event.{Event}
 use Rattle.synic_board.specs.declared.event.Reply.{Reply}
@@ -9,6 +9,7 @@ use Rattle.synic_board.specs.Effects.{Outcome}
 use Rattle.synic_board.specs.Step.{step}
 use Rattle.synic_board.specs.Places.{Conserves}
 use Rattle.synic_board.specs.Run.{Run, run_of, followed_by, told_behind}
+use Rattle.synic_board.specs.inside.Progress.{AreBehind}
 use Rattle.synic_board.proofs.keeping.Wholes.{still, conserves-after}
 
 abbrev pub goes_on : Run → Event → Run
@@ -20,12 +21,6 @@ run_of-push s [] e = ap (λ ns. ((step s e).0, (step s e).1 ∷ [], ns)) (append
 run_of-push s (x ∷ es) e =
     ap (followed_by (step s x)) (run_of-push (step s x).0 es e)
     ∙ ap (λ ns. (((step (run_of (step s x).0 es).0 e).0, (step s x).1 ∷ (run_of (step s x).0 es).1 ++ (step (run_of (step s x).0 es).0 e).1 ∷ [], ns))) (sym (append_assoc (step s x).2 (run_of (step s x).0 es).2 (step (run_of (step s x).0 es).0 e).2))
-
--- the first i events are behind: the board, the replies and the notices are those of their run, which conserves the messages
-pub record AreBehind (s : State) (es : List Event) (i : ℕ) (before : List Notice) (now : State) (replies : List Reply) (told : List Notice) : Type 0 where
-  pub is : (now, replies, told) ≡ told_behind before (run_of s (take i es))
-  pub conserves : Conserves s now (run_of s (take i es)).2
-  pub later : s.next_ticket ≤ now.next_ticket
 
 pub behind_none : (s : State) (es : List Event) (before : List Notice) (replies : List Reply) → replies ≡ [] → AreBehind s es 0 before s replies before
 unfolding run_of
@@ -54,7 +49,3 @@ behind_more s es i e before now next replies more reply told louder ns lt at h s
       conserves = subst (Conserves s next) (sym all) (conserves-after s (now, r.2) (next, ns) h.later later h.conserves conserves);
       later = omega (arith, h.later, later);
     }
-
-pub behind_all : (s : State) (es : List Event) (i : ℕ) (before : List Notice) (now : State) (replies : List Reply) (told : List Notice) → length es ≤ i → AreBehind s es i before now replies told →
-    (now, replies, told) ≡ told_behind before (run_of s es)
-behind_all s es i before now replies told h behind = behind.is ∙ ap (λ xs. told_behind before (run_of s xs)) (take_all i es h)

@@ -1,5 +1,5 @@
 -- Events that a derived comparison finds equal are equal.
-use Rattle.std.proofs.Common.{◌≡◌, ◌&&◌, ℕ, List, Bool, true, false, sym, ap, arith}
+use Rattle.std.proofs.Common.{◌≡◌, ◌&&◌, ℕ, List, Bool, true, false, sym, ap, subst, ◌∙◌, [], arith}
 use Rattle.std.proofs.lemmas.Bool.Decides.{nat_tests}
 use Rattle.std.specs.Cmp.Lexicographic.{pointwise, same_text}
 use Rattle.std.specs.contracts.prelude.U8PartialEq.TheImpl.{ghosts as byte}
@@ -15,46 +15,23 @@ last-holds : (a b : Bool) → (a && b) ≡ true → b ≡ true
 last-holds true b e = e
 last-holds false b e = absurd (cc)
 
+-- the bytes of an event that has some
+abbrev bytes_in : Event → ArrayVec ℕ
+bytes_in (Post _ _ payload) = payload
+bytes_in (Store _ bytes) = bytes
+bytes_in _ = record { items = [] }
+
 same-post : (port kind : ℕ) (payload : ArrayVec ℕ) (event : Event) → ghosts.eq (Post port kind payload) event ≡ true → Post port kind payload ≡ event
-same-post port kind payload (Post q k other) e =
-    let same_port : port ≡ q = grind (arith, nat_tests) in
-    let same_kind : kind ≡ k = grind (arith, nat_tests) in
-    let same_payload : payload ≡ other = same-bytes payload other (last-holds _ _ (last-holds _ _ e)) in
-    (λ j. Post (same_port j) (same_kind j) (same_payload j))
-same-post port kind payload (OpenPort _ _ _ _) e = absurd (cc)
-same-post port kind payload (ClosePort _) e = absurd (cc)
-same-post port kind payload (Write _ _ _) e = absurd (cc)
-same-post port kind payload (Read _ _) e = absurd (cc)
-same-post port kind payload (Signal _ _) e = absurd (cc)
-same-post port kind payload (Assert _ _) e = absurd (cc)
-same-post port kind payload (Absorb _ _ _) e = absurd (cc)
-same-post port kind payload (Store _ _) e = absurd (cc)
-same-post port kind payload (Load _ _) e = absurd (cc)
-same-post port kind payload (Tick _) e = absurd (cc)
-same-post port kind payload (Take _) e = absurd (cc)
-same-post port kind payload (Suspend _) e = absurd (cc)
-same-post port kind payload (Resume _) e = absurd (cc)
-same-post port kind payload (Reset _) e = absurd (cc)
+same-post port kind payload event e =
+    let is : event ≡ Post port kind (bytes_in event) = grind (arith, nat_tests) in
+    let holds = subst (λ o. ghosts.eq (Post port kind payload) o ≡ true) is e in
+    ap (Post port kind) (same-bytes payload (bytes_in event) (last-holds _ _ (last-holds _ _ holds))) ∙ sym is
 
 same-store : (address : ℕ) (bytes : ArrayVec ℕ) (event : Event) → ghosts.eq (Store address bytes) event ≡ true → Store address bytes ≡ event
-same-store address bytes (Store a other) e =
-    let same_address : address ≡ a = grind (arith, nat_tests) in
-    let same_ones : bytes ≡ other = same-bytes bytes other (last-holds _ _ e) in
-    (λ j. Store (same_address j) (same_ones j))
-same-store address bytes (OpenPort _ _ _ _) e = absurd (cc)
-same-store address bytes (ClosePort _) e = absurd (cc)
-same-store address bytes (Write _ _ _) e = absurd (cc)
-same-store address bytes (Read _ _) e = absurd (cc)
-same-store address bytes (Post _ _ _) e = absurd (cc)
-same-store address bytes (Signal _ _) e = absurd (cc)
-same-store address bytes (Assert _ _) e = absurd (cc)
-same-store address bytes (Absorb _ _ _) e = absurd (cc)
-same-store address bytes (Load _ _) e = absurd (cc)
-same-store address bytes (Tick _) e = absurd (cc)
-same-store address bytes (Take _) e = absurd (cc)
-same-store address bytes (Suspend _) e = absurd (cc)
-same-store address bytes (Resume _) e = absurd (cc)
-same-store address bytes (Reset _) e = absurd (cc)
+same-store address bytes event e =
+    let is : event ≡ Store address (bytes_in event) = grind (arith, nat_tests) in
+    let holds = subst (λ o. ghosts.eq (Store address bytes) o ≡ true) is e in
+    ap (Store address) (same-bytes bytes (bytes_in event) (last-holds _ _ holds)) ∙ sym is
 
 pub same-event : (event other : Event) → ghosts.eq event other ≡ true → event ≡ other
 same-event (OpenPort port p i shape) other e = grind (arith, nat_tests)

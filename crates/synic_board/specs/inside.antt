@@ -4,6 +4,7 @@ pub mod Entries
 pub mod Waiting
 pub mod Moves
 pub mod Effected
+pub mod Progress
 pub mod Replies
 pub mod Touches
 pub mod View

@@ -1,5 +1,7 @@
 // The parts of a board, which together are the written machine.
 ghost use Rattle.std.specs.Prelude.{◌≡◌, ◌<◌, ◌≤◌, ◌+◌, ◌↔◌, length, replicate, None, IfOk, IsSome, IfSome};
+ghost use Rattle.lapic_core.specs.Apic.{empty_apic};
+ghost use Rattle.synic_regs.specs.Regs.{reset_regs};
 ghost use Rattle.synic_board.specs.declared.event.Event.TheVariants.{Post, Store};
 ghost use Rattle.synic_board.specs.State.{AreSizes, opened, processors};
 ghost use Rattle.synic_board.specs.Scratch.{scratch, kept, TellsOf};
@@ -81,12 +83,8 @@ impl Machine {
         let timers = TimerBank::new();
         let queues = Queues::open(alloc, processors)?;
         let slots = no_tickets(alloc, 16 * processors as usize)?;
-        let mut lapics = Vec::with_capacity(alloc, processors as usize)?;
-        let mut regs = Vec::with_capacity(alloc, processors as usize)?;
-        for _ in 0..processors {
-            lapics.push_reserved(Lapic::new());
-            regs.push_reserved(SynicRegs::new());
-        }
+        let lapics = empty_lapics(alloc, processors)?;
+        let regs = reset_registers(alloc, processors)?;
         Ok(Machine {
             page_count: pages,
             moment: 0,
@@ -256,6 +254,28 @@ impl Machine {
             None
         }
     }
+}
+
+/// A local APIC for each processor, as a board has it that is opened.
+fn empty_lapics(alloc: Global, processors: u8) -> Result<Vec<Lapic>, AllocError>
+    ensures { IfOk result (λ lapics. lapics.items ≡ replicate processors empty_apic) }
+{
+    let mut lapics = Vec::with_capacity(alloc, processors as usize)?;
+    for _ in 0..processors {
+        lapics.push_reserved(Lapic::new());
+    }
+    Ok(lapics)
+}
+
+/// The registers of each processor, as a board has them that is opened.
+fn reset_registers(alloc: Global, processors: u8) -> Result<Vec<SynicRegs>, AllocError>
+    ensures { IfOk result (λ regs. regs.items ≡ replicate processors reset_regs) }
+{
+    let mut regs = Vec::with_capacity(alloc, processors as usize)?;
+    for _ in 0..processors {
+        regs.push_reserved(SynicRegs::new());
+    }
+    Ok(regs)
 }
 
 /// Slots that hold no ticket.

@@ -1,7 +1,8 @@
 // A list of events, one after another.
-ghost use Rattle.std.specs.Prelude.{◌≡◌, ◌<◌, ◌≤◌, ◌+◌, ◌*◌, ◌++◌, length, take, drop, vec_len, vec_capacity, IfOk, IfErr};
+ghost use Rattle.std.specs.Prelude.{◌≡◌, ◌<◌, ◌≤◌, ◌+◌, ◌*◌, ◌++◌, [], length, take, drop, vec_len, vec_capacity, IfOk, IfErr};
 ghost use Rattle.synic_board.specs.Run.{run_of, told_behind};
 ghost use Rattle.synic_board.specs.Places.{Conserves};
+ghost use Rattle.synic_board.specs.inside.Progress.{AreBehind};
 
 use crate::board::Board;
 use crate::event::{Event, Reply};
@@ -35,21 +36,41 @@ pub fn run(
     ensures few { board.new.writes + length notices.old.items ≤ board.old.writes + 8 * length events.now + length notices.new.items }
 {
     let mut replies = Vec::new(alloc);
-    if events.is_empty() {
-        return Ok(replies);
+    let done = perform_all(alloc, board, events, &mut replies, notices);
+    if done == events.len() {
+        Ok(replies)
+    } else {
+        Err(Stopped { done, replies })
     }
+}
+
+/// Performs events in order, each once there is room for its reply and its notices, and says how many it
+/// performed.
+fn perform_all(
+    alloc: Global,
+    board: &mut Board,
+    events: &[Event],
+    replies: &mut Vec<Reply>,
+    notices: &mut Vec<Notice>,
+) -> usize
+    requires none { replies.old.items ≡ [] }
+    ensures within { result ≤ length events.now }
+    ensures behind { AreBehind board.old.state events.now result notices.old.items board.new.state replies.new.items notices.new.items }
+    ensures rises { board.old.writes ≤ board.new.writes }
+    ensures few { board.new.writes + length notices.old.items ≤ board.old.writes + 8 * result + length notices.new.items }
+{
     let Ok(mut told) = Notices::open(alloc) else {
-        return Err(Stopped { done: 0, replies });
+        return 0;
     };
     for (done, event) in events.iter().enumerate() {
         if replies.reserve(1).is_err() || notices.reserve(320).is_err() {
-            return Err(Stopped { done, replies });
+            return done;
         }
         let reply = board.perform(event, &mut told);
         replies.push_reserved(reply);
         keep(notices, told.as_slice());
     }
-    Ok(replies)
+    events.len()
 }
 
 /// Appends notices that there is room for.

@@ -75,10 +75,7 @@ impl Summary {
         let nexts = vec![in alloc; None; processors as usize]?;
         let owners = vec![in alloc; Owner::Guest; pages as usize]?;
         let queued = vec![in alloc; 0; 16 * processors as usize]?;
-        let mut autos = Vec::with_capacity(alloc, processors as usize)?;
-        for _ in 0..processors {
-            autos.push_reserved(VectorSet::new());
-        }
+        let autos = empty_sets(alloc, processors)?;
         Ok(Summary {
             nexts,
             autos,
@@ -173,6 +170,17 @@ impl Summary {
             None => 0,
         }
     }
+}
+
+/// For each processor a set with no vector.
+fn empty_sets(alloc: Global, processors: u8) -> Result<Vec<VectorSet>, AllocError>
+    ensures { IfOk result (λ sets. sets.items ≡ replicate processors set.empty) }
+{
+    let mut sets = Vec::with_capacity(alloc, processors as usize)?;
+    for _ in 0..processors {
+        sets.push_reserved(VectorSet::new());
+    }
+    Ok(sets)
 }
 
 /// A word whose bit of a source tells whether something is queued for it; its other bits stay.

@@ -1,5 +1,5 @@
 // A call for each event.
-ghost use Rattle.std.specs.Prelude.{◌≡◌, Some};
+ghost use Rattle.std.specs.Prelude.{Some};
 ghost use Rattle.plain_terms.specs.Events.{event_meant};
 ghost use Rattle.synic_c.specs.Asked.{IsAsked, message_meant, stored_meant, asserted_meant};
 ghost use Rattle.synic_board.specs.declared.event.Event.TheVariants as event;

@@ -1,8 +1,8 @@
 // What is read off the board, and changes nothing.
-ghost use Rattle.std.specs.Prelude.{◌≡◌, slice_index_or, None};
+ghost use Rattle.std.specs.Prelude.{◌≡◌, None};
 ghost use Rattle.std.specs.FinSet as set;
 ghost use Rattle.board_terms.specs.declared.pages.Owner.TheVariants as owner;
-ghost use Rattle.synic_c.specs.Told.{summary_or, next_told, is_auto_told, owner_told, queued_told, due_told, moment_told, ticket_told};
+ghost use Rattle.synic_c.specs.Told.{next_told, is_auto_told, owner_told, queued_told, due_told, moment_told, ticket_told};
 
 use board_terms::{Owner, Sint, Vector, Vp};
 use handles::DeskHandle;

@@ -1,5 +1,5 @@
 // The timers that are due some time, the earliest at hand.
-ghost use Rattle.std.specs.Prelude.{◌≡◌, ◌+◌, ◌*◌, ◌<◌, ◌≤◌, Option, None, Some, slice_set};
+ghost use Rattle.std.specs.Prelude.{◌≡◌, ◌+◌, ◌<◌, ◌≤◌, Option, None, Some, slice_set};
 ghost use Rattle.board_terms.specs.Dues.{number_of, due_of, least};
 ghost use Rattle.timer_heap.specs.Heap.{no_dues, without_processor, NoOther, Other, FirstOfThree, NoneOf, MarksDue};
 

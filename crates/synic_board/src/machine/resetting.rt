@@ -1,6 +1,5 @@
 // A processor that is reset.
-ghost use Rattle.std.specs.Prelude.{◌≡◌, ◌<◌, ◌≤◌, ◌+◌, ◌++◌, [], length, map, sum_by};
-ghost use Rattle.board_terms.specs.Messages.{ticket_of};
+ghost use Rattle.std.specs.Prelude.{◌≡◌, ◌<◌, ◌≤◌, ◌+◌, [], length, sum_by};
 ghost use Rattle.lapic_core.specs.Apic.{empty_apic};
 ghost use Rattle.synic_regs.specs.Regs.{reset_regs};
 ghost use Rattle.gpa_space.specs.Space.{after_clearing};
@@ -8,7 +7,7 @@ ghost use Rattle.stimer_bank.specs.Bank.{reset as bank_reset};
 ghost use Rattle.synic_board.specs.State.{processors, regs_of, space_of, bank_of, with_apic, with_regs, with_space, with_bank};
 ghost use Rattle.synic_board.specs.Effects.{preceded};
 ghost use Rattle.synic_board.specs.inside.Effected.{Effected};
-ghost use Rattle.synic_board.specs.Resetting.{slot_emptied, queue_emptied, source_emptied, emptied, cleared, reset};
+ghost use Rattle.synic_board.specs.Resetting.{slot_emptied, queue_emptied, emptied, cleared, reset};
 
 use crate::event::Reply;
 use crate::machine::Machine;

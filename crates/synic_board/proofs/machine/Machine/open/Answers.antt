@@ -1,4 +1,4 @@
-use Rattle.std.proofs.Common.{◌≡◌, ◌*◌, ap, sym, ◌∙◌, replicate, length, arith, slice_index_or}
+use Rattle.std.proofs.Common.{◌*◌, ap, sym, ◌∙◌, length, arith, slice_index_or}
 use Rattle.std.proofs.lemmas.List.{length-replicate}
 use Rattle.lapic_core.specs.Apic.{empty_apic}
 use Rattle.synic_regs.specs.Regs.{reset_regs}
@@ -18,14 +18,13 @@ pub invariant_of-result : goal.invariant_of-result
 invariant_of-result c =
     let n = c.args.processors in
     let pages = c.args.pages in
-    let all : c.loop.counter ≡ n = omega arith in
-    let lapics = c.loop.invariant.lapics ∙ ap (λ k. replicate k empty_apic) all in
-    let regs = c.loop.invariant.regs ∙ ap (λ k. replicate k reset_regs) all in
+    let lapics = c.in_ok-lapics.ensures {u = tt} in
+    let regs = c.in_ok-regs.ensures {u = tt} in
     let space = c.in_ok-space.ensures {u = tt} in
     let summary = c.in_ok-summary.ensures {u = tt} in
     let queues = c.in_ok-queues.ensures {u = tt} in
     let slots = c.in_ok-slots.ensures {u = tt} in
-    let state = state-opened n pages c.args.first_ticket c.loop.lapics.items c.loop.regs.items c.in_ok-space.space c.new-ports.result c.in_ok-queues.queues c.in_ok-slots.slots.items c.new-timers.result lapics regs space c.new-ports.ensures queues slots c.new-timers.ensures in
+    let state = state-opened n pages c.args.first_ticket c.in_ok-lapics.lapics.items c.in_ok-regs.regs.items c.in_ok-space.space c.new-ports.result c.in_ok-queues.queues c.in_ok-slots.slots.items c.new-timers.result lapics regs space c.new-ports.ensures queues slots c.new-timers.ensures in
     record {
       few_processors = omega (arith, c.requires.few_processors, ap length lapics, length-replicate n empty_apic);
       registers = ap length regs ∙ length-replicate n reset_regs ∙ sym (ap length lapics ∙ length-replicate n empty_apic);
@@ -42,8 +41,5 @@ invariant_of-result c =
 
 pub returns-clause-opened : goal.returns-clause-opened
 returns-clause-opened c =
-    let all : c.loop.counter ≡ c.args.processors = omega arith in
-    let lapics = c.loop.invariant.lapics ∙ ap (λ k. replicate k empty_apic) all in
-    let regs = c.loop.invariant.regs ∙ ap (λ k. replicate k reset_regs) all in
-    state-opened c.args.processors c.args.pages c.args.first_ticket c.loop.lapics.items c.loop.regs.items c.in_ok-space.space c.new-ports.result c.in_ok-queues.queues c.in_ok-slots.slots.items c.new-timers.result
-    lapics regs (c.in_ok-space.ensures {u = tt}) c.new-ports.ensures (c.in_ok-queues.ensures {u = tt}) (c.in_ok-slots.ensures {u = tt}) c.new-timers.ensures
+    state-opened c.args.processors c.args.pages c.args.first_ticket c.in_ok-lapics.lapics.items c.in_ok-regs.regs.items c.in_ok-space.space c.new-ports.result c.in_ok-queues.queues c.in_ok-slots.slots.items c.new-timers.result
+    (c.in_ok-lapics.ensures {u = tt}) (c.in_ok-regs.ensures {u = tt}) (c.in_ok-space.ensures {u = tt}) c.new-ports.ensures (c.in_ok-queues.ensures {u = tt}) (c.in_ok-slots.ensures {u = tt}) c.new-timers.ensures

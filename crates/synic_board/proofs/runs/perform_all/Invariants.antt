@@ -1,6 +1,6 @@
 use Rattle.std.proofs.Common.{◌+◌, ◌*◌, ◌≤◌, length}
-use Rattle.synic_board.proofs.Progress.{AreBehind}
-use Rattle.synic_board.proofs.runs.run.Given as goal
+use Rattle.synic_board.specs.inside.Progress.{AreBehind}
+use Rattle.synic_board.proofs.runs.perform_all.Given as goal
 
 abbrev pub invariant-loop-done : goal.invariant-loop-done
 invariant-loop-done l =
