@@ -1,36 +1,19 @@
 // A board, its notices, and runs.
-use crate::stopped::Stopped;
+use crate::stopped::{Stopped, ended};
 use board_terms::{Notice, Notices, Vector, Vp};
 use std::alloc::Global;
-use std::test::Fail;
-use synic_board::{Board, Event, OpenFault, Reply, run};
+use synic_board::{Board, Event, Reply, run};
 
-#[test]
-fn a_board_is_opened(rt: HostRuntime) -> Result<(), Fail> {
-    let board = match Board::open(rt.alloc(), 8, 64, 7) {
-        Ok(board) => board,
-        Err(fault) => {
-            assert_eq!(rt; fault, OpenFault::Memory);
-            println!(rt; "memory was wanting")?;
-            Board::open(rt.alloc(), 8, 64, 7)?
-        }
-    };
-    assert_eq!(rt; (board.processors(), board.pages()), (8, 64));
-    assert_eq!(rt; (board.moment(), board.next_ticket()), (0, 7));
-    Ok(())
+pub(crate) fn opened(alloc: Global) -> Result<bool, Stopped> {
+    let board = Board::open(alloc, 8, 64, 7)?;
+    ended(
+        (board.processors(), board.pages()) == (8, 64)
+            && (board.moment(), board.next_ticket()) == (0, 7),
+    )
 }
 
-#[test]
-fn notices_are_opened(rt: HostRuntime) -> Result<(), Fail> {
-    let notices = match Notices::open(rt.alloc()) {
-        Ok(notices) => notices,
-        Err(_) => {
-            println!(rt; "memory was wanting")?;
-            Notices::open(rt.alloc())?
-        }
-    };
-    assert!(rt; notices.as_slice().is_empty());
-    Ok(())
+pub(crate) fn notices(alloc: Global) -> Result<bool, Stopped> {
+    ended(Notices::open(alloc)?.as_slice().is_empty())
 }
 
 /// Vector 0x60 is asserted, taken and asserted twice again, which is one request; then time goes by.
@@ -93,30 +76,25 @@ fn all_replies(
     }
 }
 
-/// What a run of the events answers and tells, and whether it stopped in between.
-fn ran(alloc: Global, events: &[Event]) -> Result<(Vec<Reply>, Vec<Notice>, bool), Stopped> {
-    let mut board = Board::open(alloc, 1, 1, 0)?;
-    let mut notices = Vec::new(alloc);
-    let (replies, has_stopped) = all_replies(alloc, &mut board, events, &mut notices)?;
-    Ok((replies, notices, has_stopped))
+/// Whether these are the replies to the events and the notices of them.
+fn are_theirs(replies: &[Reply], notices: &[Notice], vector: Vector) -> bool {
+    replies == replies_to_them(vector).as_slice() && notices == notices_of_them(vector).as_slice()
 }
 
-#[test]
-fn a_run_goes_on_where_it_stopped(rt: HostRuntime) -> Result<(), Fail> {
+/// A run goes on where it stopped.
+pub(crate) fn ran(alloc: Global) -> Result<bool, Stopped> {
     let vector = Vector::new(0x60).unwrap();
-    let events = nine_events(vector);
-    let (replies, notices, has_stopped) = match ran(rt.alloc(), &events) {
-        Ok(ran) => ran,
-        Err(stopped) => {
-            assert_eq!(rt; stopped, Stopped::Memory);
-            println!(rt; "memory was wanting")?;
-            ran(rt.alloc(), &events)?
-        }
-    };
-    if has_stopped {
-        println!(rt; "memory was wanting")?;
+    let mut board = Board::open(alloc, 1, 1, 0)?;
+    let mut notices = Vec::new(alloc);
+    let (replies, has_stopped) = all_replies(
+        alloc,
+        &mut board,
+        &nine_events(vector),
+        &mut notices,
+    )?;
+    if are_theirs(replies.as_slice(), notices.as_slice(), vector) {
+        Ok(has_stopped)
+    } else {
+        Err(Stopped::Otherwise)
     }
-    assert_eq!(rt; replies.as_slice(), replies_to_them(vector).as_slice());
-    assert_eq!(rt; notices.as_slice(), notices_of_them(vector).as_slice());
-    Ok(())
 }

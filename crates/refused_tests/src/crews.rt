@@ -1,10 +1,9 @@
 // A crew.
-use crate::stopped::Stopped;
+use crate::stopped::{Stopped, ended};
 use board_terms::{Vector, Vp};
-use board_threads::{CrewEnd, OpenGate, Scripts, Setup, Step, run_crew};
+use board_threads::{OpenGate, Scripts, Setup, Step, run_crew};
 use std::alloc::{AllocError, Global};
 use std::sync::Wait;
-use std::test::Fail;
 use std::thread::Threads;
 use synic_board::Event;
 
@@ -35,26 +34,9 @@ fn two_of_each(alloc: Global) -> Result<Scripts, AllocError> {
     Ok(scripts)
 }
 
-fn crewed<R: Threads + Wait + Sync>(rt: &R, alloc: Global) -> Result<CrewEnd, Stopped> {
+pub(crate) fn crewed<R: Threads + Wait + Sync>(rt: &R, alloc: Global) -> Result<bool, Stopped> {
     let (setup, scripts) = (one_tick(alloc)?, two_of_each(alloc)?);
-    Ok(run_crew(rt, alloc, &setup, &scripts, &OpenGate)?)
-}
-
-#[test]
-fn a_crew_comes_to_its_end(rt: HostRuntime) -> Result<(), Fail> {
-    let end = match crewed(&rt, rt.alloc()) {
-        Ok(end) => end,
-        Err(stopped) => {
-            assert!(rt; stopped != Stopped::Otherwise);
-            println!(rt; "memory was wanting")?;
-            crewed(&rt, rt.alloc())?
-        }
-    };
-    assert_eq!(rt; end.ended.history.len(), 9);
-    assert_eq!(rt; end.ended.board.moment(), 3);
-    assert_eq!(rt; end.raised.len(), 2);
-    for answers in &end.raised {
-        assert_eq!(rt; answers.len(), 2);
-    }
-    Ok(())
+    let end = run_crew(rt, alloc, &setup, &scripts, &OpenGate)?;
+    let are_raised = end.raised.len() == 2 && end.raised.iter().all(|answers| answers.len() == 2);
+    ended(end.ended.history.len() == 9 && end.ended.board.moment() == 3 && are_raised)
 }

@@ -1,11 +1,12 @@
 // Events of all kinds: none of them takes memory.
+use crate::stopped::{Stopped, ended};
 use board_steps::{
     EOM, SCONTROL, SIEFP, SIMP, SINT2, are_done, bytes, load, open, open_messages, post,
     start_timer, store, write,
 };
 use board_terms::{Notices, PortShape, Vector};
-use std::test::Fail;
-use synic_board::{Board, Event, OpenFault, Reply};
+use std::alloc::Global;
+use synic_board::{Board, Event, Reply};
 
 /// The SynIC and its pages are enabled, and a port of each kind is opened.
 fn prepared() -> [Event; 6] {
@@ -77,29 +78,26 @@ fn replies_to_them() -> [Reply; 19] {
     ]
 }
 
-#[test]
-fn events_take_no_memory(rt: HostRuntime) -> Result<(), Fail> {
-    // If opening wanted memory, the one request that is refused is behind us. If not, each request of
-    // an event would be refused in some run, and no run may then say that memory was wanting.
-    let mut board = match Board::open(rt.alloc(), 1, 4, 0) {
-        Ok(board) => board,
-        Err(fault) => {
-            assert_eq!(rt; fault, OpenFault::Memory);
-            println!(rt; "memory was wanting")?;
-            Board::open(rt.alloc(), 1, 4, 0)?
+/// Whether each event is answered by the reply at its place.
+fn are_answered(
+    board: &mut Board,
+    notices: &mut Notices,
+    events: &[Event],
+    replies: &[Reply],
+) -> bool {
+    for (event, reply) in events.iter().zip(replies) {
+        if board.perform(event, notices) != *reply {
+            return false;
         }
-    };
-    let mut notices = match Notices::open(rt.alloc()) {
-        Ok(notices) => notices,
-        Err(_) => {
-            println!(rt; "memory was wanting")?;
-            Notices::open(rt.alloc())?
-        }
-    };
-    assert!(rt; are_done(&mut board, &mut notices, &prepared()));
-    assert!(rt; are_done(&mut board, &mut notices, &start_timer(0, 0, 0x1403, 10)));
-    for (event, reply) in events().iter().zip(replies_to_them().iter()) {
-        assert_eq!(rt; board.perform(event, &mut notices), *reply);
     }
-    Ok(())
+    true
+}
+
+/// What performs events takes no memory: in no run may such a request be refused.
+pub(crate) fn performed(alloc: Global) -> Result<bool, Stopped> {
+    let mut board = Board::open(alloc, 1, 4, 0)?;
+    let mut notices = Notices::open(alloc)?;
+    let is_ready = are_done(&mut board, &mut notices, &prepared())
+        && are_done(&mut board, &mut notices, &start_timer(0, 0, 0x1403, 10));
+    ended(is_ready && are_answered(&mut board, &mut notices, &events(), &replies_to_them()))
 }

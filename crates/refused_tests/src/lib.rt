@@ -1,6 +1,6 @@
-//! Calls that take memory, each where a request for it is refused. `rt try --test --fail-alloc 1..`
-//! refuses one request in each run, and each in turn. So a call that wanted memory is made again, and
-//! then it must answer as it does where memory is there. There is nothing else here.
+//! Calls that take memory, each where a request for it is refused. `cases/refused` refuses one request
+//! in each run, and each in turn. So a call that wanted memory is made again, and then it must answer
+//! as it does where memory is there. There is nothing else here.
 #![tactic(auto)]
 
 #[cfg(test)]
@@ -11,6 +11,8 @@ mod crews;
 mod events;
 #[cfg(test)]
 mod parts;
+#[cfg(test)]
+mod scenes;
 #[cfg(test)]
 mod shared;
 #[cfg(test)]

@@ -1,39 +1,19 @@
 // The parts of a board that take memory themselves.
+use crate::stopped::{Stopped, ended};
 use board_terms::{Owner, Sint, Vp};
 use gpa_space::Space;
 use message_queues::Queues;
-use std::test::Fail;
+use std::alloc::Global;
 
-#[test]
-fn a_space_is_opened(rt: HostRuntime) -> Result<(), Fail> {
-    let space = match Space::open(rt.alloc(), 8, 64) {
-        Ok(space) => space,
-        Err(_) => {
-            println!(rt; "memory was wanting")?;
-            Space::open(rt.alloc(), 8, 64)?
-        }
-    };
-    assert_eq!(rt;
-        (space.owner(63), space.owner(64)),
-        (Owner::Guest, Owner::Nothing)
-    );
-    assert!(rt; space.sim(Vp::new(7).unwrap()).iter().all(|byte| *byte == 0));
-    Ok(())
+pub(crate) fn space(alloc: Global) -> Result<bool, Stopped> {
+    let space = Space::open(alloc, 8, 64)?;
+    let owners = (space.owner(63), space.owner(64));
+    let is_empty = space.sim(Vp::new(7).unwrap()).iter().all(|byte| *byte == 0);
+    ended(owners == (Owner::Guest, Owner::Nothing) && is_empty)
 }
 
-#[test]
-fn queues_are_opened(rt: HostRuntime) -> Result<(), Fail> {
-    let queues = match Queues::open(rt.alloc(), 8) {
-        Ok(queues) => queues,
-        Err(_) => {
-            println!(rt; "memory was wanting")?;
-            Queues::open(rt.alloc(), 8)?
-        }
-    };
-    assert_eq!(rt;
-        queues.count(Vp::new(7).unwrap(), Sint::new(15).unwrap()),
-        0
-    );
-    assert_eq!(rt; queues.port_used(15), 0);
-    Ok(())
+pub(crate) fn queues(alloc: Global) -> Result<bool, Stopped> {
+    let queues = Queues::open(alloc, 8)?;
+    let count = queues.count(Vp::new(7).unwrap(), Sint::new(15).unwrap());
+    ended(count == 0 && queues.port_used(15) == 0)
 }

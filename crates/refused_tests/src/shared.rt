@@ -3,49 +3,27 @@ ghost use Rattle.std.specs.Prelude.{◌≡◌, ◌<◌, true, IfOk, length};
 ghost use Rattle.posted_words.specs.Words.{IsOf};
 ghost use Rattle.board_threads.specs.Settling.{only_raises};
 
-use crate::stopped::Stopped;
+use crate::stopped::{Stopped, ended};
 use board_terms::{Vector, Vp};
-use board_threads::{Actor, CallFault, Ended, Line, OpenFault, SharedBoard};
+use board_threads::{Actor, CallFault, Ended, Line, SharedBoard};
 use std::alloc::Global;
 use std::sync::Wait;
-use std::test::Fail;
 use synic_board::{Entry, Event, Reply};
 
-#[test]
-fn a_shared_board_is_opened(rt: HostRuntime) -> Result<(), Fail> {
-    let (board, actors, lines) = match SharedBoard::open(rt.alloc(), 8, 64, 7, 16, 16) {
-        Ok(opened) => opened,
-        Err(fault) => {
-            assert_eq!(rt; fault, OpenFault::Memory);
-            println!(rt; "memory was wanting")?;
-            SharedBoard::open(rt.alloc(), 8, 64, 7, 16, 16)?
-        }
-    };
-    assert_eq!(rt; board.processors(), 8);
-    assert_eq!(rt; (actors.len(), lines.len()), (16, 16));
-    Ok(())
+pub(crate) fn opened(alloc: Global) -> Result<bool, Stopped> {
+    let (board, actors, lines) = SharedBoard::open(alloc, 8, 64, 7, 16, 16)?;
+    ended(board.processors() == 8 && (actors.len(), lines.len()) == (16, 16))
 }
 
 /// A board of many actors and lines that did nothing is settled.
-fn settled(alloc: Global) -> Result<Ended, Stopped> {
+pub(crate) fn settled(alloc: Global) -> Result<bool, Stopped> {
     let (board, actors, lines) = SharedBoard::open(alloc, 8, 1, 7, 16, 16)?;
-    Ok(board.settle(actors, lines)?)
-}
-
-#[test]
-fn a_shared_board_is_settled(rt: HostRuntime) -> Result<(), Fail> {
-    let ended = match settled(rt.alloc()) {
-        Ok(ended) => ended,
-        Err(stopped) => {
-            assert_eq!(rt; stopped, Stopped::Memory);
-            println!(rt; "memory was wanting")?;
-            settled(rt.alloc())?
-        }
-    };
-    assert!(rt; ended.history.is_empty());
-    assert_eq!(rt; ended.actors.len(), 16);
-    assert_eq!(rt; ended.board.next_ticket(), 7);
-    Ok(())
+    let settled = board.settle(actors, lines)?;
+    ended(
+        settled.history.is_empty()
+            && settled.actors.len() == 16
+            && settled.board.next_ticket() == 7,
+    )
 }
 
 /// Performs a tick, and once more where memory was wanting and `again` says so. How often it was.
@@ -173,27 +151,24 @@ fn are_turns(history: &[Entry]) -> bool {
     true
 }
 
-#[test]
-fn calls_go_on_where_memory_was_wanting(rt: HostRuntime) -> Result<(), Fail> {
-    for again in [true, false] {
-        let (ended, wanted) = match settled_turns(&rt, rt.alloc(), again) {
-            Ok(settled) => settled,
-            Err(stopped) => {
-                assert_eq!(rt; stopped, Stopped::Memory);
-                println!(rt; "memory was wanting")?;
-                settled_turns(&rt, rt.alloc(), again)?
-            }
-        };
-        if wanted > 0 {
-            println!(rt; "memory was wanting")?;
-        }
-        let left_out = if again { 0 } else { wanted };
-        let history = ended.history.as_slice();
-        assert!(rt; wanted <= 1);
-        assert_eq!(rt; history.len().saturating_add(left_out), 20);
-        assert!(rt; left_out > 0 || are_turns(history));
-        let standing = ended.standing.word(Vp::new(0).unwrap(), 1);
-        assert_eq!(rt; absorbed_bits(history).wrapping_add(standing), 0x3ff);
+/// Whether twenty calls but so many stand in the history, and each bit that was raised was absorbed or stands.
+fn is_whole(settled: &Ended, left_out: usize) -> bool
+    requires { length settled.now.standing ≡ 4 }
+{
+    let history = settled.history.as_slice();
+    let standing = settled.standing.word(Vp::new(0).unwrap(), 1);
+    history.len().saturating_add(left_out) == 20
+        && (left_out > 0 || are_turns(history))
+        && absorbed_bits(history).wrapping_add(standing) == 0x3ff
+}
+
+/// Calls go on where memory was wanting: such a one is made again, or left out.
+pub(crate) fn called<R: Wait>(rt: &R, alloc: Global, again: bool) -> Result<bool, Stopped> {
+    let (settled, wanted) = settled_turns(rt, alloc, again)?;
+    let left_out = if again { 0 } else { wanted };
+    if wanted <= 1 && is_whole(&settled, left_out) {
+        Ok(wanted == 1)
+    } else {
+        Err(Stopped::Otherwise)
     }
-    Ok(())
 }

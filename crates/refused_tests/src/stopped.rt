@@ -8,11 +8,19 @@ use thiserror::Error;
 pub(crate) enum Stopped {
     #[error("out of memory")]
     Memory,
-    /// A thread that got no memory is not started.
     #[error("no thread")]
     NoThread,
-    #[error("another fault than want of memory")]
+    #[error("another answer or fault than want of memory")]
     Otherwise,
+}
+
+/// A scene came to its end, and its calls answered as they are to. Memory was wanting in none of them.
+pub(crate) fn ended(as_they_are_to: bool) -> Result<bool, Stopped> {
+    if as_they_are_to {
+        Ok(false)
+    } else {
+        Err(Stopped::Otherwise)
+    }
 }
 
 impl From<AllocError> for Stopped {

@@ -1,10 +1,10 @@
 // A script, a crew script and a trace from a reader to a writer that takes no memory.
+use crate::stopped::{Stopped, ended};
 use board_script::{CheckEnd, CrewRun, ReplayEnd, check_trace, crew, replay};
 use board_threads::OpenGate;
 use std::alloc::Global;
 use std::io::Cursor;
 use std::sync::Wait;
-use std::test::Fail;
 use std::thread::Threads;
 
 /// What was written, and its length.
@@ -27,70 +27,50 @@ fn begins(written: &Written, text: &[u8]) -> bool {
     }
 }
 
-fn replayed(alloc: Global) -> (ReplayEnd, Written) {
+/// What a call that ended answers: memory was wanting, with a beginning of the text written.
+fn wanted(written: &Written, text: &[u8]) -> Result<bool, Stopped> {
+    if begins(written, text) {
+        Err(Stopped::Memory)
+    } else {
+        Err(Stopped::Otherwise)
+    }
+}
+
+pub(crate) fn replayed(alloc: Global) -> Result<bool, Stopped> {
+    let answers = b"= done\n. requested 0 60\n= taken 60\n";
     let mut script = b"board 1 1 0\nassert 0 60\ntake 0\n".as_slice();
     let mut written = nothing();
-    (replay(alloc, &mut script, &mut written), written)
-}
-
-#[test]
-fn a_script_is_replayed(rt: HostRuntime) -> Result<(), Fail> {
-    let answers = b"= done\n. requested 0 60\n= taken 60\n";
-    let (mut end, mut written) = replayed(rt.alloc());
-    assert!(rt; begins(&written, answers));
-    if end == ReplayEnd::Memory {
-        println!(rt; "memory was wanting")?;
-        (end, written) = replayed(rt.alloc());
+    match replay(alloc, &mut script, &mut written) {
+        ReplayEnd::Done => ended(has(&written, answers)),
+        ReplayEnd::Memory => wanted(&written, answers),
+        _ => Err(Stopped::Otherwise),
     }
-    assert_eq!(rt; end, ReplayEnd::Done);
-    assert!(rt; has(&written, answers));
-    Ok(())
 }
 
-fn checked(alloc: Global) -> (CheckEnd, Written) {
+pub(crate) fn checked(alloc: Global) -> Result<bool, Stopped> {
     let mut trace =
         b"trace 2\nboard 1 1 7\n0 assert 0 60\n= done\n0 reset 0\n= done\nend 2 7\n".as_slice();
     let mut written = nothing();
-    (check_trace(alloc, &mut trace, &mut written), written)
-}
-
-#[test]
-fn a_trace_is_checked(rt: HostRuntime) -> Result<(), Fail> {
-    let (mut end, mut written) = checked(rt.alloc());
-    assert!(rt; begins(&written, b"legal 2\n"));
-    if end == CheckEnd::Memory {
-        println!(rt; "memory was wanting")?;
-        (end, written) = checked(rt.alloc());
+    match check_trace(alloc, &mut trace, &mut written) {
+        CheckEnd::Legal(count) => ended(count == 2 && has(&written, b"legal 2\n")),
+        CheckEnd::Memory => wanted(&written, b""),
+        _ => Err(Stopped::Otherwise),
     }
-    assert_eq!(rt; end, CheckEnd::Legal(2));
-    assert!(rt; has(&written, b"legal 2\n"));
-    Ok(())
 }
 
-fn crewed<R: Threads + Wait + Sync>(rt: &R, alloc: Global) -> (CrewRun, Written) {
+/// The only trace of the crew script.
+const TRACE: &str = concat!(
+    "trace 2\nboard 1 1 0\n0 assert 0 60\n= done\n1 take 0\n= taken 60\n",
+    "0 absorb 0 0 0\n= done\n0 absorb 0 1 0\n= done\n",
+    "0 absorb 0 2 0\n= done\n0 absorb 0 3 0\n= done\nend 6 0\n"
+);
+
+pub(crate) fn crewed<R: Threads + Wait + Sync>(rt: &R, alloc: Global) -> Result<bool, Stopped> {
     let mut script = b"board 1 1 0\nassert 0 60\nactor\ntake 0\nline\n".as_slice();
     let mut written = nothing();
-    (
-        crew(rt, alloc, &mut script, &mut written, &OpenGate),
-        written,
-    )
-}
-
-#[test]
-fn a_crew_script_is_run(rt: HostRuntime) -> Result<(), Fail> {
-    let trace = concat!(
-        "trace 2\nboard 1 1 0\n0 assert 0 60\n= done\n1 take 0\n= taken 60\n",
-        "0 absorb 0 0 0\n= done\n0 absorb 0 1 0\n= done\n",
-        "0 absorb 0 2 0\n= done\n0 absorb 0 3 0\n= done\nend 6 0\n"
-    );
-    let (mut end, mut written) = crewed(&rt, rt.alloc());
-    assert!(rt; begins(&written, trace.as_bytes()));
-    // A thread that got no memory is not started.
-    if end == CrewRun::Memory || end == CrewRun::NoThread {
-        println!(rt; "memory was wanting")?;
-        (end, written) = crewed(&rt, rt.alloc());
+    match crew(rt, alloc, &mut script, &mut written, &OpenGate) {
+        CrewRun::Done => ended(has(&written, TRACE.as_bytes())),
+        CrewRun::Memory | CrewRun::NoThread => wanted(&written, TRACE.as_bytes()),
+        _ => Err(Stopped::Otherwise),
     }
-    assert_eq!(rt; end, CrewRun::Done);
-    assert!(rt; has(&written, trace.as_bytes()));
-    Ok(())
 }

@@ -5,11 +5,13 @@
 #[cfg(test)]
 mod crews;
 #[cfg(test)]
+mod failing;
+#[cfg(test)]
 mod gates;
 #[cfg(test)]
-mod peers;
+mod jobs;
 #[cfg(test)]
-mod scripts;
+mod peers;
 #[cfg(test)]
 mod sources;
 #[cfg(test)]

@@ -72,7 +72,7 @@ impl Read for Endless<'_> {
 }
 
 /// How a writer refuses.
-#[derive(Clone, Copy, PartialEq)]
+#[derive(Clone, Copy, PartialEq, Debug)]
 pub(crate) enum Refuses {
     Writes,
     Bytes,

@@ -1,95 +1,124 @@
 // The lines of a reader, and sending.
-use crate::peers::{Narrow, Refuses, gives, takes};
+use crate::peers::{Refuses, gives, takes};
 use board_text::{NextLine, Source, send};
-use std::alloc::AllocError;
+use std::alloc::{AllocError, Global};
 use std::cell::Cell;
 use std::io;
 
-#[test]
-fn finds_lines_byte_by_byte(rt: HostRuntime) -> Result<(), AllocError> {
+/// How each line of a reader that gives one byte a read ends, the line, and how many flushes there were. Each
+/// read has its flush before it, the one that finds the end too.
+const LINES: [(NextLine, &[u8], usize); 3] = [
+    (NextLine::Whole, b"ab", 3),
+    (NextLine::Whole, b"", 4),
+    (NextLine::Last, b"c", 6),
+];
+
+/// The first of the lines that is another.
+fn first_other(alloc: Global) -> Result<Option<usize>, AllocError> {
     let held_back = Cell::new(0);
     let mut reader = gives(b"ab\n\nc", &held_back);
     let mut writer = takes(&held_back);
-    let mut source = Source::open(rt.alloc())?;
-    // Each byte takes a read, and each read has its flush before it.
-    for (line, flushes) in [(b"ab".as_slice(), 3), (b"", 4)] {
-        assert_eq!(rt; source.next_line(&mut reader, &mut writer), NextLine::Whole);
-        assert_eq!(rt; source.line(), line);
-        assert_eq!(rt; writer.flushes, flushes);
+    let mut source = Source::open(alloc)?;
+    for (place, (ends, line, flushes)) in LINES.iter().enumerate() {
+        let ended = source.next_line(&mut reader, &mut writer);
+        if ended != *ends || source.line() != *line || writer.flushes != *flushes {
+            return Ok(Some(place));
+        }
     }
-    assert_eq!(rt; source.next_line(&mut reader, &mut writer), NextLine::Last);
-    assert_eq!(rt; source.line(), b"c".as_slice());
+    Ok(None)
+}
+
+#[test]
+fn finds_lines_byte_by_byte(rt: HostRuntime) -> Result<(), AllocError> {
+    assert_eq!(rt; first_other(rt.alloc())?, None);
     Ok(())
+}
+
+/// How the first line of two bytes ends, and the second, where the writer refuses that flush.
+fn flushed(alloc: Global, room: usize) -> Result<(NextLine, NextLine), AllocError> {
+    let held_back = Cell::new(0);
+    let mut reader = gives(b"ab\ncd\n", &held_back);
+    let mut writer = takes(&held_back);
+    writer.refuses = Refuses::Flushes;
+    writer.room = room;
+    let mut source = Source::open(alloc)?;
+    let first = source.next_line(&mut reader, &mut writer);
+    Ok((first, source.next_line(&mut reader, &mut writer)))
+}
+
+/// And where the reader fails at that read.
+fn read(alloc: Global, fails_at: usize) -> Result<(NextLine, NextLine), AllocError> {
+    let held_back = Cell::new(0);
+    let mut reader = gives(b"ab\ncd\n", &held_back);
+    let mut writer = takes(&held_back);
+    reader.fails_at = fails_at;
+    let mut source = Source::open(alloc)?;
+    let first = source.next_line(&mut reader, &mut writer);
+    Ok((first, source.next_line(&mut reader, &mut writer)))
+}
+
+/// Whether the call that reads or flushes at this place, and no earlier one, answers that it failed.
+fn fails_at(alloc: Global, place: usize) -> Result<bool, AllocError> {
+    let (first, second) = read(alloc, place)?;
+    let reads = if place < 3 { first } else { second };
+    let (other, next) = flushed(alloc, place)?;
+    let flushes = if place < 3 { other } else { next };
+    let is_later = place >= 3;
+    Ok(
+        reads == NextLine::ReadFailed
+            && flushes == NextLine::FlushFailed
+            && (first == NextLine::Whole) == is_later
+            && (other == NextLine::Whole) == is_later,
+    )
 }
 
 #[test]
 fn a_failed_read_or_flush_is_no_line(rt: HostRuntime) -> Result<(), AllocError> {
-    let text = b"ab\ncd\n";
-    for (refuses, failed) in [
-        (Refuses::Writes, NextLine::ReadFailed),
-        (Refuses::Flushes, NextLine::FlushFailed),
-    ] {
-        for fails_at in 0..6usize {
-            let held_back = Cell::new(0);
-            let mut reader = gives(text, &held_back);
-            let mut writer = takes(&held_back);
-            if refuses == Refuses::Flushes {
-                writer.refuses = refuses;
-                writer.room = fails_at;
-            } else {
-                reader.fails_at = fails_at;
-            }
-            let mut source = Source::open(rt.alloc())?;
-            let first = source.next_line(&mut reader, &mut writer);
-            let end = if fails_at < 3 {
-                first
-            } else {
-                source.next_line(&mut reader, &mut writer)
-            };
-            assert_eq!(rt; first == NextLine::Whole, fails_at >= 3);
-            assert_eq!(rt; end, failed);
-        }
+    for place in 0..6usize {
+        assert!(rt; fails_at(rt.alloc(), place)?, "{place}");
     }
     Ok(())
 }
 
+/// How a line of so many bytes ends, with its line feed or without.
+fn line_of(alloc: Global, length: usize, feed: bool) -> Result<NextLine, AllocError> {
+    let mut text = vec![in alloc; b'#'; length]?;
+    if feed {
+        text.push(b'\n')?;
+    }
+    let mut reader = text.as_slice();
+    Ok(Source::open(alloc)?.next_line(&mut reader, &mut io::sink()))
+}
+
 #[test]
 fn a_line_is_long_at_its_641st_byte(rt: HostRuntime) -> Result<(), AllocError> {
-    let mut writer = io::sink();
     for (length, feed, ends) in [
         (640, true, NextLine::Whole),
         (640, false, NextLine::Last),
         (641, true, NextLine::Long),
         (641, false, NextLine::Long),
     ] {
-        let mut text = vec![in rt.alloc(); b'#'; length]?;
-        if feed {
-            text.push(b'\n')?;
-        }
-        let mut reader = text.as_slice();
-        let mut source = Source::open(rt.alloc())?;
-        assert_eq!(rt; source.next_line(&mut reader, &mut writer), ends);
+        assert_eq!(rt; line_of(rt.alloc(), length, feed)?, ends);
     }
     Ok(())
 }
 
-#[test]
-fn sends_until_a_write_fails_or_takes_nothing(rt: HostRuntime) -> Result<(), AllocError> {
+/// Whether sending three bytes to a writer that refuses at this place answers so, with those before it written.
+fn sends(refuses: Refuses, room: usize) -> bool {
     let text = b"abc";
+    let held_back = Cell::new(0);
+    let mut writer = takes(&held_back);
+    writer.refuses = refuses;
+    writer.room = room;
+    let is_sent = send(&mut writer, text);
+    is_sent == (room == 3) && text.get(..room) == Some(writer.text.as_slice())
+}
+
+#[test]
+fn sends_until_a_write_fails_or_takes_nothing(rt: HostRuntime) {
     for refuses in [Refuses::Bytes, Refuses::Writes] {
         for room in 0..4usize {
-            let held_back = Cell::new(0);
-            let mut writer = Narrow {
-                room,
-                refuses,
-                ..takes(&held_back)
-            };
-            assert_eq!(rt; send(&mut writer, text), room == 3);
-            assert_eq!(rt; writer.text.as_slice(), &text[..room]);
+            assert!(rt; sends(refuses, room), "{room}");
         }
     }
-    let mut writer = Vec::new(rt.alloc());
-    assert!(rt; send(&mut writer, b"= done\n"));
-    assert_eq!(rt; writer.as_slice(), b"= done\n".as_slice());
-    Ok(())
 }

@@ -5,74 +5,108 @@ use board_text::{
 };
 use std::alloc::AllocError;
 
+/// What is read, and the most that it may be.
+#[derive(Clone, Copy)]
+enum Number {
+    Decimal(u64),
+    Hexadecimal(u64),
+    Byte,
+}
+
+use Number::{Byte, Decimal, Hexadecimal};
+
+const DECIMAL: Number = Decimal(u64::MAX);
+
+const HEXADECIMAL: Number = Hexadecimal(u64::MAX);
+
+const NUMBERS: [(Number, &[u8], Option<u64>); 27] = [
+    (DECIMAL, b"0", Some(0)),
+    (DECIMAL, b"7", Some(7)),
+    (DECIMAL, b"255", Some(255)),
+    (DECIMAL, b"18446744073709551615", Some(u64::MAX)),
+    (DECIMAL, b"18446744073709551616", None),
+    (DECIMAL, b"99999999999999999999999999999999999999", None),
+    (DECIMAL, b"00", None),
+    (DECIMAL, b"01", None),
+    (DECIMAL, b"+1", None),
+    (DECIMAL, b"-0", None),
+    (DECIMAL, b"", None),
+    (Decimal(255), b"256", None),
+    (HEXADECIMAL, b"0", Some(0)),
+    (HEXADECIMAL, b"40000072", Some(0x4000_0072)),
+    (HEXADECIMAL, b"ffffffffffffffff", Some(u64::MAX)),
+    (HEXADECIMAL, b"10000000000000000", None),
+    (HEXADECIMAL, b"0f", None),
+    (HEXADECIMAL, b"5F", None),
+    (HEXADECIMAL, b"0x1", None),
+    (HEXADECIMAL, b"g", None),
+    (Hexadecimal(0xffff_ffff), b"100000000", None),
+    (Byte, b"5f", Some(0x5f)),
+    (Byte, b"0f", Some(0x0f)),
+    (Byte, b"5F", None),
+    (Byte, b"5", None),
+    (Byte, b"100", None),
+    (Byte, b"", None),
+];
+
+fn read(number: Number, text: &[u8]) -> Option<u64> {
+    match number {
+        Decimal(most) => decimal_of(text, most),
+        Hexadecimal(most) => hex_of(text, most),
+        Byte => byte_of(text).map(u64::from),
+    }
+}
+
 #[test]
 fn reads_numbers(rt: HostRuntime) {
-    let decimals: [(&[u8], Option<u64>); 11] = [
-        (b"0", Some(0)),
-        (b"7", Some(7)),
-        (b"255", Some(255)),
-        (b"18446744073709551615", Some(u64::MAX)),
-        (b"18446744073709551616", None),
-        (b"99999999999999999999999999999999999999", None),
-        (b"00", None),
-        (b"01", None),
-        (b"+1", None),
-        (b"-0", None),
-        (b"", None),
-    ];
-    for (text, number) in decimals {
-        assert_eq!(rt; decimal_of(text, u64::MAX), number);
+    for (number, text, value) in NUMBERS {
+        assert_eq!(rt; read(number, text), value);
     }
-    assert_eq!(rt; decimal_of(b"256", 255), None);
-    let hexadecimals: [(&[u8], Option<u64>); 8] = [
-        (b"0", Some(0)),
-        (b"40000072", Some(0x4000_0072)),
-        (b"ffffffffffffffff", Some(u64::MAX)),
-        (b"10000000000000000", None),
-        (b"0f", None),
-        (b"5F", None),
-        (b"0x1", None),
-        (b"g", None),
-    ];
-    for (text, number) in hexadecimals {
-        assert_eq!(rt; hex_of(text, u64::MAX), number);
+}
+
+/// Texts, and the bytes that they are read as where they are bytes.
+const BYTES: [(&[u8], Option<&[u8]>); 6] = [
+    (b"0aff", Some(&[0x0a, 0xff])),
+    (b"", Some(&[])),
+    (b"0a0b0c", None),
+    (b"0a0", None),
+    (b"0A", None),
+    (b"-", None),
+];
+
+/// Whether a text is read as these bytes, or not at all, whatever there was before.
+fn is_read_as(text: &[u8], expected: Option<&[u8]>) -> bool {
+    let mut bytes = ArrayVec::<u8, 2>::new();
+    let _ = bytes.try_push(7);
+    let is_read = bytes_of(text, &mut bytes);
+    match expected {
+        Some(expected) => is_read && bytes.as_slice() == expected,
+        None => !is_read,
     }
-    assert_eq!(rt; hex_of(b"100000000", 0xffff_ffff), None);
 }
 
 #[test]
 fn reads_bytes(rt: HostRuntime) {
-    let one: [(&[u8], Option<u8>); 6] = [
-        (b"5f", Some(0x5f)),
-        (b"0f", Some(0x0f)),
-        (b"5F", None),
-        (b"5", None),
-        (b"100", None),
-        (b"", None),
-    ];
-    for (text, byte) in one {
-        assert_eq!(rt; byte_of(text), byte);
+    for (text, bytes) in BYTES {
+        assert!(rt; is_read_as(text, bytes));
     }
-    let mut bytes = ArrayVec::<u8, 2>::new();
-    assert!(rt; bytes_of(b"0aff", &mut bytes));
-    assert_eq!(rt; bytes.as_slice(), [0x0a, 0xff].as_slice());
-    assert!(rt; bytes_of(b"", &mut bytes));
-    assert!(rt; bytes.is_empty());
-    for text in [b"0a0b0c".as_slice(), b"0a0", b"0A", b"-"] {
-        assert!(rt; !bytes_of(text, &mut bytes));
-    }
+}
+
+/// Puts numbers and bytes.
+fn put(out: &mut Vec<u8>) -> Result<(), AllocError> {
+    put_decimal(out, 0u64)?;
+    put_decimal(out, 36_893_488_147_419_103_230u128)?;
+    put_hex(out, 0)?;
+    put_hex(out, 0x1401)?;
+    put_hex(out, u64::MAX)?;
+    put_byte(out, 0x0f)?;
+    put_bytes(out, &[0x00, 0xff])
 }
 
 #[test]
 fn writes_numbers_and_bytes(rt: HostRuntime) -> Result<(), AllocError> {
     let mut out = Vec::new(rt.alloc());
-    put_decimal(&mut out, 0u64)?;
-    put_decimal(&mut out, 36_893_488_147_419_103_230u128)?;
-    put_hex(&mut out, 0)?;
-    put_hex(&mut out, 0x1401)?;
-    put_hex(&mut out, u64::MAX)?;
-    put_byte(&mut out, 0x0f)?;
-    put_bytes(&mut out, &[0x00, 0xff])?;
+    put(&mut out)?;
     assert_eq!(rt;
         out.as_slice(),
         b"03689348814741910323001401ffffffffffffffff0f00ff".as_slice()
@@ -80,14 +114,15 @@ fn writes_numbers_and_bytes(rt: HostRuntime) -> Result<(), AllocError> {
     Ok(())
 }
 
+/// The fields of a line, each with whether none is behind it.
+const FIELDS: [(&[u8], bool); 4] = [(b"take", false), (b"", false), (b"0", false), (b"", true)];
+
 #[test]
 fn takes_fields(rt: HostRuntime) {
     let mut fields = Fields::new(b"take  0 ");
-    for field in [b"take".as_slice(), b"", b"0", b""] {
-        assert!(rt; !fields.is_empty());
-        assert_eq!(rt; fields.next(), Some(field));
+    for (field, is_last) in FIELDS {
+        assert_eq!(rt; (fields.next(), fields.is_empty()), (Some(field), is_last));
     }
-    assert!(rt; fields.is_empty());
     assert_eq!(rt; fields.next(), None);
     assert_eq!(rt; Fields::new(b"").next(), Some(b"".as_slice()));
 }

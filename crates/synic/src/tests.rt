@@ -19,46 +19,46 @@ fn a_vector_is_asserted_and_taken(rt: HostRuntime) -> Result<(), Fail> {
     Ok(())
 }
 
+/// Whether processor 0 has its SynIC and its page of messages enabled, and a port to source 2.
+fn is_prepared(board: &mut Board, notices: &mut Notices) -> bool {
+    let (vp, sint) = (0, 2);
+    let shape = PortShape::Messages { buffers: 2 };
+    for (register, value) in [(msr::SCONTROL, 1), (msr::SIMP, 0x2001)] {
+        let write = Event::Write {
+            vp,
+            register,
+            value,
+        };
+        if board.perform(&write, notices) != Reply::Done {
+            return false;
+        }
+    }
+    let open = Event::OpenPort {
+        port: 3,
+        vp,
+        sint,
+        shape,
+    };
+    board.perform(&open, notices) == Reply::Done
+}
+
 #[test]
 fn a_message_reaches_its_slot(rt: HostRuntime) -> Result<(), Fail> {
     let mut board = Board::open(rt.alloc(), 1, 4, 0)?;
     let mut notices = Notices::open(rt.alloc())?;
-    let vp = Vp::new(0).ok_or("processor")?;
-    let sint = Sint::new(2).ok_or("source")?;
-    let shape = PortShape::Messages { buffers: 2 };
-    let payload = PayloadBytes::new();
-    for event in [
-        Event::Write {
-            vp: 0,
-            register: msr::SCONTROL,
-            value: 1,
-        },
-        Event::Write {
-            vp: 0,
-            register: msr::SIMP,
-            value: 0x2001,
-        },
-        Event::OpenPort {
-            port: 3,
-            vp: 0,
-            sint: 2,
-            shape,
-        },
-    ] {
-        assert_eq!(rt; board.perform(&event, &mut notices), Reply::Done);
-    }
+    assert!(rt; is_prepared(&mut board, &mut notices));
     let post = Event::Post {
         port: 3,
         kind: 1,
-        payload,
+        payload: PayloadBytes::new(),
     };
     assert_eq!(rt; board.perform(&post, &mut notices), Reply::Accepted(0));
     let placed = Notice::Placed {
         ticket: 0,
-        vp,
-        sint,
+        vp: Vp::new(0).ok_or("processor")?,
+        sint: Sint::new(2).ok_or("source")?,
     };
-    assert!(rt; notices.as_slice().iter().any(|notice| *notice == placed));
+    assert!(rt; notices.as_slice().contains(&placed));
     Ok(())
 }
 

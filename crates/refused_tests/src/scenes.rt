@@ -1,0 +1,93 @@
+// The scenes in turn.
+use crate::stopped::Stopped;
+use crate::{boards, crews, events, parts, shared, texts, words};
+use std::alloc::Global;
+use std::sync::Wait;
+use std::test::Fail;
+use std::thread::Threads;
+
+#[derive(Clone, Copy, PartialEq, Debug)]
+enum Scene {
+    Space,
+    Queues,
+    Board,
+    Notices,
+    Run,
+    Events,
+    WordsOpened,
+    WordsGathered,
+    SharedOpened,
+    SharedSettled,
+    CallsMadeAgain,
+    CallsLeftOut,
+    Crew,
+    Script,
+    Trace,
+    CrewScript,
+}
+
+const SCENES: [Scene; 16] = [
+    Scene::Space,
+    Scene::Queues,
+    Scene::Board,
+    Scene::Notices,
+    Scene::Run,
+    Scene::Events,
+    Scene::WordsOpened,
+    Scene::WordsGathered,
+    Scene::SharedOpened,
+    Scene::SharedSettled,
+    Scene::CallsMadeAgain,
+    Scene::CallsLeftOut,
+    Scene::Crew,
+    Scene::Script,
+    Scene::Trace,
+    Scene::CrewScript,
+];
+
+/// Plays a scene, in which all calls are to answer as they do where memory is there. Whether memory was
+/// wanting in one that the scene itself made again or left out.
+fn play<R: Threads + Wait + Sync>(rt: &R, alloc: Global, scene: Scene) -> Result<bool, Stopped> {
+    match scene {
+        Scene::Space => parts::space(alloc),
+        Scene::Queues => parts::queues(alloc),
+        Scene::Board => boards::opened(alloc),
+        Scene::Notices => boards::notices(alloc),
+        Scene::Run => boards::ran(alloc),
+        Scene::Events => events::performed(alloc),
+        Scene::WordsOpened => words::opened(alloc),
+        Scene::WordsGathered => words::gathered(alloc),
+        Scene::SharedOpened => shared::opened(alloc),
+        Scene::SharedSettled => shared::settled(alloc),
+        Scene::CallsMadeAgain => shared::called(rt, alloc, true),
+        Scene::CallsLeftOut => shared::called(rt, alloc, false),
+        Scene::Crew => crews::crewed(rt, alloc),
+        Scene::Script => texts::replayed(alloc),
+        Scene::Trace => texts::checked(alloc),
+        Scene::CrewScript => texts::crewed(rt, alloc),
+    }
+}
+
+/// Plays a scene, and once more where it wanted memory. Whether it did.
+fn played<R: Threads + Wait + Sync>(rt: &R, alloc: Global, scene: Scene) -> Result<bool, Stopped> {
+    match play(rt, alloc, scene) {
+        // A thread that got no memory is not started.
+        Err(Stopped::Memory | Stopped::NoThread) => match play(rt, alloc, scene)? {
+            false => Ok(true),
+            true => Err(Stopped::Otherwise),
+        },
+        other => other,
+    }
+}
+
+#[test]
+fn each_scene_is_played_to_its_end(rt: HostRuntime) -> Result<(), Fail> {
+    for scene in SCENES {
+        let played = played(&rt, rt.alloc(), scene);
+        if played == Ok(true) {
+            println!(rt; "memory was wanting")?;
+        }
+        assert!(rt; played.is_ok(), "{scene:?}: {played:?}");
+    }
+    Ok(())
+}
