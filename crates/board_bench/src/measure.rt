@@ -37,18 +37,41 @@ pub(crate) fn measure(
 ) -> Result<Measured, Fault> {
     let mut notices = Notices::open(rt.alloc())?;
     let digest = digest_of(rt, workload, events.min(DIGESTED), &mut notices)?;
-    let mut scene = Scene::of(rt.alloc(), workload)?;
-    let mut board = scene.open(rt.alloc(), &mut notices)?;
-    let start = Instant::now(rt)?;
-    let totals = total(&mut board, &mut notices, &mut scene, events);
-    let elapsed = start.elapsed(rt)?;
-    let seconds = elapsed.as_secs().saturating_mul(1_000_000_000);
+    let (totals, nanoseconds) = totals_of(rt, workload, events, &mut notices)?;
     Ok(Measured {
         totals,
         digest,
         events,
-        nanoseconds: seconds.saturating_add(elapsed.subsec_nanos() as u64),
+        nanoseconds,
     })
+}
+
+/// The totals of the events of a workload, and how many nanoseconds these took.
+fn totals_of(
+    rt: &HostRuntime,
+    workload: Workload,
+    events: u32,
+    notices: &mut Notices,
+) -> Result<(Totals, u64), Fault> {
+    let mut scene = Scene::of(rt.alloc(), workload)?;
+    let mut board = scene.open(rt.alloc(), notices)?;
+    timed(rt, &mut board, notices, &mut scene, events)
+}
+
+/// The same, on a board and in a scene that are lent, so that they are let go of at one place.
+fn timed(
+    rt: &HostRuntime,
+    board: &mut Board,
+    notices: &mut Notices,
+    scene: &mut Scene,
+    events: u32,
+) -> Result<(Totals, u64), Fault> {
+    let start = Instant::now(rt)?;
+    let totals = total(board, notices, scene, events);
+    let elapsed = start.elapsed(rt)?;
+    let seconds = elapsed.as_secs().saturating_mul(1_000_000_000);
+    let nanoseconds = seconds.saturating_add(elapsed.subsec_nanos() as u64);
+    Ok((totals, nanoseconds))
 }
 
 /// What is timed.
