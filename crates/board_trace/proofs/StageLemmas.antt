@@ -23,8 +23,8 @@ use Rattle.board_trace.specs.declared.format.Format.{Format}
 use Rattle.board_trace.specs.declared.format.Format.TheVariants.{One, Two}
 use Rattle.board_trace.specs.Trace.{IsEntry, title_fields, entry_fields, end_fields, history_lines, IsTrace}
 use Rattle.board_trace.specs.inside.Stages.{Stage, Title, Opening, Running, Over, entry_at, board_at, performed, follow, count}
-use Rattle.synic_board.specs.inside.Replies.{IsReply}
-use Rattle.synic_board.proofs.keeping.Replies.{step-fits}
+use Rattle.board_laws.specs.Replies.{IsReply}
+use Rattle.board_laws.proofs.Replies.{step-fits}
 use Rattle.board_trace.proofs.Written.{title-written, entry-written, reply-written, end-written, EntryLine, entry-reads, entry-only, end-no_entry, BoardLine, board-reads, board-only}
 
 -- the lines of entries, and the end

@@ -25,7 +25,7 @@ use Rattle.board_trace.specs.declared.format.Format.{Format}
 use Rattle.board_trace.specs.declared.format.Format.TheVariants.{One, Two}
 use Rattle.board_trace.specs.Trace.{IsEntry, has_line, title_fields, entry_fields, end_fields}
 use Rattle.board_trace.specs.inside.Stages.{with_line, entry_say, entry_at, within_limits, board_say, board_at}
-use Rattle.synic_board.specs.inside.Replies.{IsReply}
+use Rattle.board_laws.specs.Replies.{IsReply}
 
 vector-plain : (vector : Option ℕ) → IsPlain (vector_or_none vector)
 vector-plain None = plain_by (codes "none") refl

@@ -4,7 +4,6 @@ pub mod Effects
 pub mod Interrupts
 pub mod Absorbing
 pub mod Delivery
-pub mod Seen
 pub mod Stores
 pub mod Posts
 pub mod Timers
@@ -13,17 +12,9 @@ pub mod Suspending
 pub mod Resetting
 pub mod Step
 pub mod Bounds
-pub mod Refusals
-pub mod Timely
-pub mod Requests
 pub mod Slots
-pub mod Flags
-pub mod OneShots
-pub mod Periods
-pub mod Order
 pub mod Places
 pub mod Run
 pub mod History
 pub mod Sound
-pub mod Leaving
 pub mod inside

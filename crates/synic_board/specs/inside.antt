@@ -5,7 +5,6 @@ pub mod Waiting
 pub mod Moves
 pub mod Effected
 pub mod Progress
-pub mod Replies
 pub mod Touches
 pub mod View
 pub mod AtOnce

@@ -4,8 +4,8 @@
 mod board;
 mod event;
 mod history;
-pub mod laws;
 mod machine;
+mod processors;
 mod runs;
 mod summary;
 

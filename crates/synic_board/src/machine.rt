@@ -20,6 +20,7 @@ mod suspending;
 mod timers;
 
 use crate::event::{Event, Reply};
+use crate::processors::for_each;
 use crate::summary::Summary;
 use board_terms::{Moment, Notices, Refusal, Ticket, Vp};
 use event_ports::Ports;
@@ -83,8 +84,8 @@ impl Machine {
         let timers = TimerBank::new();
         let queues = Queues::open(alloc, processors)?;
         let slots = no_tickets(alloc, 16 * processors as usize)?;
-        let lapics = empty_lapics(alloc, processors)?;
-        let regs = reset_registers(alloc, processors)?;
+        let lapics = for_each(alloc, processors, Lapic::new)?;
+        let regs = for_each(alloc, processors, SynicRegs::new)?;
         Ok(Machine {
             page_count: pages,
             moment: 0,
@@ -254,28 +255,6 @@ impl Machine {
             None
         }
     }
-}
-
-/// A local APIC for each processor, as a board has it that is opened.
-fn empty_lapics(alloc: Global, processors: u8) -> Result<Vec<Lapic>, AllocError>
-    ensures { IfOk result (λ lapics. lapics.items ≡ replicate processors empty_apic) }
-{
-    let mut lapics = Vec::with_capacity(alloc, processors as usize)?;
-    for _ in 0..processors {
-        lapics.push_reserved(Lapic::new());
-    }
-    Ok(lapics)
-}
-
-/// The registers of each processor, as a board has them that is opened.
-fn reset_registers(alloc: Global, processors: u8) -> Result<Vec<SynicRegs>, AllocError>
-    ensures { IfOk result (λ regs. regs.items ≡ replicate processors reset_regs) }
-{
-    let mut regs = Vec::with_capacity(alloc, processors as usize)?;
-    for _ in 0..processors {
-        regs.push_reserved(SynicRegs::new());
-    }
-    Ok(regs)
 }
 
 /// Slots that hold no ticket.

@@ -7,6 +7,7 @@ ghost use Rattle.board_terms.specs.Sources.{source_number};
 ghost use Rattle.synic_board.specs.Scratch.{kept};
 ghost use Rattle.synic_board.specs.inside.Waiting.{IsFirstWaiting};
 
+use crate::processors::for_each;
 use board_terms::{Owner, Sint, TimerId, Vector, Vp, source_number};
 use counter::Count;
 use lapic_core::VectorSet;
@@ -75,7 +76,7 @@ impl Summary {
         let nexts = vec![in alloc; None; processors as usize]?;
         let owners = vec![in alloc; Owner::Guest; pages as usize]?;
         let queued = vec![in alloc; 0; 16 * processors as usize]?;
-        let autos = empty_sets(alloc, processors)?;
+        let autos = for_each(alloc, processors, VectorSet::new)?;
         Ok(Summary {
             nexts,
             autos,
@@ -170,17 +171,6 @@ impl Summary {
             None => 0,
         }
     }
-}
-
-/// For each processor a set with no vector.
-fn empty_sets(alloc: Global, processors: u8) -> Result<Vec<VectorSet>, AllocError>
-    ensures { IfOk result (λ sets. sets.items ≡ replicate processors set.empty) }
-{
-    let mut sets = Vec::with_capacity(alloc, processors as usize)?;
-    for _ in 0..processors {
-        sets.push_reserved(VectorSet::new());
-    }
-    Ok(sets)
 }
 
 /// A word whose bit of a source tells whether something is queued for it; its other bits stay.

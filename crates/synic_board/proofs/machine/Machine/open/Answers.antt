@@ -1,4 +1,4 @@
-use Rattle.std.proofs.Common.{◌*◌, ap, sym, ◌∙◌, length, arith, slice_index_or}
+use Rattle.std.proofs.Common.{◌≡◌, ◌*◌, ap, sym, ◌∙◌, length, replicate, arith, slice_index_or}
 use Rattle.std.proofs.lemmas.List.{length-replicate}
 use Rattle.lapic_core.specs.Apic.{empty_apic}
 use Rattle.synic_regs.specs.Regs.{reset_regs}
@@ -12,14 +12,21 @@ use Rattle.stimer_bank.proofs.Shown.{dues-opened}
 use Rattle.synic_board.specs.Scratch.{scratch}
 use Rattle.synic_board.specs.State.{overlay_registers}
 use Rattle.synic_board.proofs.Openings.{overlays-opened, scratch-opened, state-opened}
+use Rattle.synic_board.proofs.Repeated.{repeated}
 use Rattle.synic_board.proofs.machine.Machine.open.Goals as goal
+
+lapics-opened : (c : goal.In_ok-regs) → c.in_ok-lapics.lapics.items ≡ replicate c.args.processors empty_apic
+lapics-opened c = let made = c.in_ok-lapics.ensures {u = tt} in repeated _ empty_apic (λ p x q s. search) _ _ c.args.processors made.made made.each
+
+regs-opened : (c : goal.In_ok-regs) → c.in_ok-regs.regs.items ≡ replicate c.args.processors reset_regs
+regs-opened c = let made = c.in_ok-regs.ensures {u = tt} in repeated _ reset_regs (λ p x q s. search) _ _ c.args.processors made.made made.each
 
 pub invariant_of-result : goal.invariant_of-result
 invariant_of-result c =
     let n = c.args.processors in
     let pages = c.args.pages in
-    let lapics = c.in_ok-lapics.ensures {u = tt} in
-    let regs = c.in_ok-regs.ensures {u = tt} in
+    let lapics = lapics-opened c in
+    let regs = regs-opened c in
     let space = c.in_ok-space.ensures {u = tt} in
     let summary = c.in_ok-summary.ensures {u = tt} in
     let queues = c.in_ok-queues.ensures {u = tt} in
@@ -42,4 +49,4 @@ invariant_of-result c =
 pub returns-clause-opened : goal.returns-clause-opened
 returns-clause-opened c =
     state-opened c.args.processors c.args.pages c.args.first_ticket c.in_ok-lapics.lapics.items c.in_ok-regs.regs.items c.in_ok-space.space c.new-ports.result c.in_ok-queues.queues c.in_ok-slots.slots.items c.new-timers.result
-    (c.in_ok-lapics.ensures {u = tt}) (c.in_ok-regs.ensures {u = tt}) (c.in_ok-space.ensures {u = tt}) c.new-ports.ensures (c.in_ok-queues.ensures {u = tt}) (c.in_ok-slots.ensures {u = tt}) c.new-timers.ensures
+    (lapics-opened c) (regs-opened c) (c.in_ok-space.ensures {u = tt}) c.new-ports.ensures (c.in_ok-queues.ensures {u = tt}) (c.in_ok-slots.ensures {u = tt}) c.new-timers.ensures

@@ -1,0 +1,144 @@
+//! What a driver may rely on: laws of the written machine, over any state that it may be in and any event of
+//! any guest. Each is a function with no code, whose clause is the law.
+#![tactic(auto)]
+
+ghost use Rattle.std.specs.Prelude.{◌≡◌, ℕ, ◌<◌, ◌≤◌, ◌+◌, ◌/◌, ◌&&◌, not, true, false, Some, List, length};
+ghost use Rattle.std.specs.List.{All};
+ghost use Rattle.arrayvec.specs.ArrayVec.{ArrayVec};
+ghost use Rattle.gpa_space.specs.Space.{is_flag_set};
+ghost use Rattle.synic_board.specs.declared.event.Event.{Event};
+ghost use Rattle.synic_regs.specs.Registers.{number_of_register};
+ghost use Rattle.synic_regs.specs.declared.register.Register.TheVariants.{Eom};
+ghost use Rattle.synic_board.specs.declared.event.Event.TheVariants.{Write, Store, Take};
+ghost use Rattle.stimer_bank.specs.Bank.{timer_in};
+ghost use Rattle.synic_board.specs.State.{State, opened, processors, space_of, slot_of, bank_of};
+ghost use Rattle.synic_board.specs.Step.{step};
+ghost use Rattle.synic_board.specs.Bounds.{most_notices};
+ghost use Rattle.synic_board.specs.Sound.{IsSound, PayloadFits};
+ghost use Rattle.synic_board.specs.Run.{run_of};
+ghost use Rattle.board_laws.specs.Accounts.{Accounts};
+ghost use Rattle.board_laws.specs.Replies.{IsReply};
+ghost use Rattle.board_laws.specs.Leaving.{LeavesSummary, LeavesHidden};
+ghost use Rattle.board_laws.specs.Requests.{is_requested, is_told, Takes};
+ghost use Rattle.board_laws.specs.Timely.{AreTimely};
+ghost use Rattle.synic_board.specs.Slots.{IsApart, LeavesSlot};
+ghost use Rattle.board_laws.specs.Flags.{is_flag_told, found_clear};
+ghost use Rattle.board_laws.specs.OneShots.{expiries, armed, writes, makes_periodic, IsOneShot};
+ghost use Rattle.board_laws.specs.Periods.{sets_timer, skips, IsPeriodic, after_periods};
+ghost use Rattle.board_laws.specs.Order.{KeepsOrder};
+ghost use Rattle.synic_board.specs.Delivery.{delivers, is_slot_empty};
+ghost use Rattle.board_laws.specs.Seen.{IsSeen};
+ghost use Rattle.board_laws.specs.Refusals.{IsRefusal, LeavesNoTrace, AnswersAlike};
+
+/// Whatever the events, from an opened board: each accepted message stands in one queue or slot, or
+/// was consumed or withdrawn once, and was given the next ticket; no other message appears. With
+/// `run`, whose board, replies and notices are those of `run_of`, and `Board::summary`, which is
+/// always the one computed from scratch, this says what a board is after any events.
+pub fn each_ticket_is_accounted_for()
+    ensures { (processors pages first : ℕ) (events : List Event) → All PayloadFits events → Accounts (opened processors pages first) (run_of (opened processors pages first) events) }
+{}
+
+/// Whatever the events, from an opened board: the state is sound. The laws below that are of a sound
+/// state hold of each state that a board comes to.
+pub fn each_state_is_sound()
+    ensures { (processors pages first : ℕ) (events : List Event) → All PayloadFits events → IsSound (run_of (opened processors pages first) events).0 }
+{}
+
+/// Whatever the events before it, from an opened board: a reset gives at most 276 notices, and no other
+/// event more than 192.
+pub fn each_event_gives_few_notices()
+    ensures { (processors pages first : ℕ) (events : List Event) (event : Event) → length (step (run_of (opened processors pages first) events).0 event).2 ≤ most_notices event }
+{}
+
+/// No reply has more than the 8 bytes that a guest may load at once.
+pub fn no_reply_has_more_than_eight_bytes()
+    ensures { (s : State) (event : Event) → IsReply (step s event).1 }
+{}
+
+/// A guest store leaves all that a summary tells as it was, and the next ticket.
+pub fn a_store_leaves_the_summary()
+    ensures { (s : State) (address : ℕ) (bytes : ArrayVec ℕ) → LeavesSummary s (step s (Store address bytes)).0 }
+{}
+
+/// A guest store leaves each page as it was that is not the one which a guest sees at its address.
+pub fn a_store_leaves_what_is_hidden()
+    ensures { (s : State) (address : ℕ) (bytes : ArrayVec ℕ) → LeavesHidden s (step s (Store address bytes)).0 (address / 4096) }
+{}
+
+/// An event that is refused, or raises #GP, leaves the state as it was, and tells nothing.
+pub fn a_refusal_leaves_no_trace()
+    ensures { (s : State) (event : Event) → IsRefusal (step s event).1 → LeavesNoTrace s event }
+{}
+
+/// A run without an event that is refused, or raises #GP, answers all others alike, tells the same, and
+/// leads to the same state.
+pub fn without_a_refusal_all_is_alike()
+    ensures { (s : State) (before : List Event) (event : Event) (behind : List Event)
+        → IsRefusal (step (run_of s before).0 event).1 → AnswersAlike s before event behind }
+{}
+
+/// No event tells of a timer before the moment for which it was due.
+pub fn no_timer_is_told_of_early()
+    ensures { (s : State) (event : Event) → AreTimely (step s event).0.moment (step s event).2 }
+{}
+
+/// The request of a vector is told of exactly when it comes to stand: where it stood, or where it does
+/// not come to stand, nothing is told.
+pub fn a_request_is_told_of_when_it_comes()
+    ensures { (s : State) (event : Event) (p v : ℕ) → p < processors s
+        → is_told p v (step s event).2 ≡ (not (is_requested s p v) && is_requested (step s event).0 p v) }
+{}
+
+/// Between two takes of a vector by a processor, whatever the events between them, its request there
+/// is told of.
+pub fn a_vector_is_told_of_between_its_takes()
+    ensures { (s : State) (events : List Event) (p v : ℕ)
+        → Takes s p v → Takes (run_of (step s (Take p)).0 events).0 p v → is_told p v (run_of (step s (Take p)).0 events).2 ≡ true }
+{}
+
+/// Whatever the events: the messages of a queue reach their slot in the order in which they were
+/// accepted. Those that were placed, and then those that are queued at the end, stand in order among
+/// those that were queued at first, and then those that were accepted.
+pub fn a_queue_keeps_its_order()
+    ensures { (s : State) (events : List Event) (p i : ℕ) → KeepsOrder p i s (run_of s events).0 (run_of s events).2 }
+{}
+
+/// An event tells of a flag exactly if it is a signal of that flag, was not refused, and found it clear;
+/// and then the flag is set.
+pub fn a_flag_is_told_of_when_a_signal_sets_it()
+    ensures told { (s : State) (event : Event) (p i flag : ℕ) → is_flag_told p i flag (step s event).2 ≡ found_clear s p i flag event (step s event).1 }
+    ensures stands { (s : State) (event : Event) (p i flag : ℕ) → IsSound s → p < processors s → i < 16 → flag < 2048
+        → is_flag_told p i flag (step s event).2 ≡ true → is_flag_set (space_of (step s event).0) p i flag ≡ true }
+{}
+
+/// A one-shot timer that no event makes periodic is told of at most once for each event that writes it,
+/// and once more if it was armed before; one of these is left while it is armed.
+pub fn a_one_shot_is_told_of_once_a_write()
+    ensures { (s : State) (t : ℕ × ℕ) (events : List Event) → IsOneShot s t → All (λ event. makes_periodic t event ≡ false) events
+        → expiries t (run_of s events).2 + armed (run_of s events).0 t ≤ armed s t + writes t events }
+{}
+
+/// A periodic timer that no event sets (by a write of its registers, or a reset of its processor) keeps
+/// its registers and its grid: from the moment for which it was due to the moment for which it is due at
+/// the end, each period was told of by one expiry, or is counted once in a notice of skipped ones.
+pub fn periods_are_accounted_for()
+    ensures { (s : State) (t : ℕ × ℕ) (due : ℕ) (events : List Event) → IsPeriodic (timer_in (bank_of s) t) due → All (λ event. sets_timer t event ≡ false) events
+        → timer_in (bank_of (run_of s events).0) t ≡ after_periods (timer_in (bank_of s) t) due (expiries t (run_of s events).2 + skips t (run_of s events).2) }
+{}
+
+/// An event that is no guest store, and no reset of that processor, leaves a slot that is occupied, as
+/// one that holds a ticket is: its ticket, and its bytes but for MessagePending.
+pub fn an_occupied_slot_is_left_to_the_guest()
+    ensures occupied { (s : State) (event : Event) (p i : ℕ) → IsSound s → PayloadFits event → IsApart p event → p < processors s → i < 16
+        → is_slot_empty s p i ≡ false → LeavesSlot s (step s event).0 p i }
+    ensures held { (s : State) (event : Event) (p i ticket : ℕ) → IsSound s → PayloadFits event → IsApart p event → p < processors s → i < 16
+        → slot_of s p i ≡ Some ticket → LeavesSlot s (step s event).0 p i }
+{}
+
+/// After a write of EOM no message of that processor waits unseen, while its SynIC and its message page
+/// are enabled: each of its sources has nothing queued, or an occupied slot with MessagePending set, so
+/// that the guest knows to write EOM again (TLFS, "Message Delivery").
+pub fn no_message_waits_unseen_behind_its_end()
+    ensures { (s : State) (p i value : ℕ) → IsSound s → p < processors s → i < 16 → delivers s p ≡ true
+        → IsSeen (step s (Write p (number_of_register Eom) value)).0 p i }
+{}
