@@ -20,7 +20,7 @@ mod suspending;
 mod timers;
 
 use crate::event::{Event, Reply};
-use crate::processors::for_each;
+use crate::processors::one_for_each;
 use crate::summary::Summary;
 use board_terms::{Moment, Notices, Refusal, Ticket, Vp};
 use event_ports::Ports;
@@ -84,8 +84,8 @@ impl Machine {
         let timers = TimerBank::new();
         let queues = Queues::open(alloc, processors)?;
         let slots = no_tickets(alloc, 16 * processors as usize)?;
-        let lapics = for_each(alloc, processors, Lapic::new)?;
-        let regs = for_each(alloc, processors, SynicRegs::new)?;
+        let lapics = one_for_each(alloc, processors, Lapic::new)?;
+        let regs = one_for_each(alloc, processors, SynicRegs::new)?;
         Ok(Machine {
             page_count: pages,
             moment: 0,

@@ -5,7 +5,7 @@ ghost use Rattle.std.specs.List.{AppendsResults};
 use std::alloc::{AllocError, Global};
 
 /// For each processor what `new` makes.
-pub(crate) fn for_each<T: Drop, F: FnMut() -> T>(
+pub(crate) fn one_for_each<T: Drop, F: FnMut() -> T>(
     alloc: Global,
     processors: u8,
     new: F,

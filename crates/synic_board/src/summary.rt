@@ -7,7 +7,7 @@ ghost use Rattle.board_terms.specs.Sources.{source_number};
 ghost use Rattle.synic_board.specs.Scratch.{kept};
 ghost use Rattle.synic_board.specs.inside.Waiting.{IsFirstWaiting};
 
-use crate::processors::for_each;
+use crate::processors::one_for_each;
 use board_terms::{Owner, Sint, TimerId, Vector, Vp, source_number};
 use counter::Count;
 use lapic_core::VectorSet;
@@ -76,7 +76,7 @@ impl Summary {
         let nexts = vec![in alloc; None; processors as usize]?;
         let owners = vec![in alloc; Owner::Guest; pages as usize]?;
         let queued = vec![in alloc; 0; 16 * processors as usize]?;
-        let autos = for_each(alloc, processors, VectorSet::new)?;
+        let autos = one_for_each(alloc, processors, VectorSet::new)?;
         Ok(Summary {
             nexts,
             autos,

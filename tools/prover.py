@@ -1,0 +1,59 @@
+"""What the crates stand on, and the words that have the toolchain check a crate over the libraries that
+`rt ci` proved in this checkout."""
+
+import os
+import subprocess
+
+ROOT = os.path.dirname(os.path.dirname(os.path.abspath(__file__)))
+
+
+def libraries():
+    """What each crate stands on, in the order of crates.txt, which has the lowest first."""
+    crates = {}
+    with open(os.path.join(ROOT, "crates.txt"), encoding="utf-8") as file:
+        for line in file:
+            if line.strip() and not line.startswith("#"):
+                name, below = line.split(":")
+                crates[name.split()[0]] = below.split()
+    return crates
+
+
+def below(crates, name):
+    """The crates that this one stands on, lowest first."""
+    found = set()
+    left = [name]
+    while left:
+        for library in crates[left.pop()]:
+            if library in crates and library not in found:
+                found.add(library)
+                left.append(library)
+    return [library for library in crates if library in found]
+
+
+def kit():
+    """The folder of the toolchain."""
+    page = subprocess.run(["rt", "doc"], stdout=subprocess.PIPE, check=True, universal_newlines=True).stdout
+    return os.path.dirname(page.strip())
+
+
+def proved(library):
+    """Where `rt ci` leaves a library of this repository."""
+    path = os.path.join(ROOT, "crates", library, "out", "rlib", library + ".rlib")
+    if not os.path.isdir(path):
+        raise SystemExit("rt ci has not proved %s in this checkout" % library)
+    return path
+
+
+def words(verb, name):
+    """The command that does `verb` with the crate in whose folder it is run."""
+    crates, home = libraries(), kit()
+    found = [os.path.join(home, "bin", "rattle"), verb, "--crate-name", name, os.path.join("src", "lib.rt")]
+    found += ["-L", "dependency=" + os.path.join(home, "rlibs")]
+    for library in ["std"] + crates[name]:
+        path = proved(library) if library in crates else os.path.join(home, "rlibs", library + ".rlib")
+        found += ["--extern", "%s=%s" % (library, path)]
+    for library in below(crates, name):
+        found += ["-L", "dependency=" + os.path.dirname(proved(library))]
+    found += ["--antt-project", os.path.join(home, "rattle", "logic", "antt-project.json")]
+    found += ["--logic-built", os.path.join(home, "logic_built")]
+    return found
