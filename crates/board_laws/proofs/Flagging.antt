@@ -192,14 +192,14 @@ flags = throughout IsMute IsFlagged mute (record {
   reads = λ s p number. other s (Read p number) _ (nothing s) tt (λ _ _ _. refl);
   loads = λ s address count. other s (Load address count) _ (nothing s) tt (λ _ _ _. refl);
   acts = λ s event reply moment ports regs e is h. other s event reply e is.2 h.none;
-  eases = λ s event reply p a is _. other s event reply (nothing (with_apic s p a)) is.2 (λ _ _ _. refl);
+  eases = λ s event reply p a is _ _. other s event reply (nothing (with_apic s p a)) is.2 (λ _ _ _. refl);
   stores = λ s address bytes e h. other s (Store address bytes) _ e tt h.none;
   configures = λ s p n number value e _ h. other s (Write p number value) _ e tt h.none;
   counts = λ s p n number value e _ h. other s (Write p number value) _ e tt h.none;
   repeats = repeats;
   signals = signals;
-  pauses = λ s event p mark is. other s event _ (nothing (with_suspension s p mark)) is.2 (λ _ _ _. refl);
-  resets = λ s p h. let e : Effect = emptied s p in other s (Reset p) _ (after e (cleared e.0 p, [])) tt (none-joined e.1 [] h.none (λ _ _ _. refl));
+  pauses = λ s event p mark is _. other s event _ (nothing (with_suspension s p mark)) is.2 (λ _ _ _. refl);
+  resets = λ s p _ h. let e : Effect = emptied s p in other s (Reset p) _ (after e (cleared e.0 p, [])) tt (none-joined e.1 [] h.none (λ _ _ _. refl));
 })
 
 pub told-flag : (s : State) (event : Event) (p i flag : ℕ) → is_flag_told p i flag (step s event).2 ≡ found_clear s p i flag event (step s event).1

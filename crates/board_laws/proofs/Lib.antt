@@ -10,4 +10,5 @@ mod Flagging
 mod Timers
 mod OneShots
 mod Periods
+mod Marks
 pub mod Replies

@@ -207,14 +207,14 @@ in-order p i s event = (throughout (Ordered p i) (IsOrdered p i) (ordered p i) (
   reads = λ s q number. silent p i s s _ _ refl;
   loads = λ s address count. silent p i s s _ _ refl;
   acts = λ s event reply moment ports regs e _ h. record { keeps = h };
-  eases = λ s event reply q a _ _. silent p i s _ event reply refl;
+  eases = λ s event reply q a _ _ _. silent p i s _ event reply refl;
   stores = λ s address bytes e h. record { keeps = h };
   configures = λ s q n number value e _ h. record { keeps = h };
   counts = λ s q n number value e _ h. record { keeps = h };
   repeats = λ s port flag q j f _ _. silent p i s (with_flag s q j f) _ _ refl;
   signals = λ s port flag q j f _ _ h. let lit : State = with_flag s q j f in record { keeps = joined p i s (flagged s q j f) (raised lit q j) (mute p i s (flagged s q j f) refl refl refl) h };
-  pauses = λ s event q mark _. silent p i s (with_suspension s q mark) event _ refl;
-  resets = λ s q h. let e : Effect = emptied s q in record { keeps = joined p i s e (cleared e.0 q, []) h (mute p i e.0 (cleared e.0 q, []) refl refl refl) };
+  pauses = λ s event q mark _ _. silent p i s (with_suspension s q mark) event _ refl;
+  resets = λ s q _ h. let e : Effect = emptied s q in record { keeps = joined p i s e (cleared e.0 q, []) h (mute p i e.0 (cleared e.0 q, []) refl refl refl) };
 }) s event).keeps
 
 pub all-in-order : (s : State) (events : List Event) (p i : ℕ) → KeepsOrder p i s (run_of s events).0 (run_of s events).2

@@ -29,14 +29,14 @@ quiet = throughout Any IsQuiet any (record {
   reads = λ s p number. answers s _ _;
   loads = λ s address count. answers s _ _;
   acts = λ s event reply _ _ _ e is _. acts s event _ is.0;
-  eases = λ s event reply p a is _. acts s event _ is.0;
+  eases = λ s event reply p a is _ _. acts s event _ is.0;
   stores = λ s address bytes e _. acts s _ _ (λ never. never);
   configures = λ s p n number value e _ _. acts s _ _ (λ never. never);
   counts = λ s p n number value e _ _. acts s _ _ (λ never. never);
   repeats = λ s port flag p i f _ _. acts s _ _ (λ never. never);
   signals = λ s port flag p i f _ _ _. acts s _ _ (λ never. never);
-  pauses = λ s event p mark is. acts s event _ is.0;
-  resets = λ s p _. acts s _ _ (λ never. never);
+  pauses = λ s event p mark is _. acts s event _ is.0;
+  resets = λ s p _ _. acts s _ _ (λ never. never);
 })
 
 pub no-trace : (s : State) (event : Event) → IsRefusal (step s event).1 → LeavesNoTrace s event

@@ -73,12 +73,12 @@ step-fits s event = (throughout Any Fits any (record {
   reads = λ s p number. record { reply = fits-read s p number };
   loads = λ s address count. record { reply = fits-load s address count };
   acts = λ s event reply _ _ _ e is _. record { reply = is.1 };
-  eases = λ s event reply p a is _. record { reply = is.1 };
+  eases = λ s event reply p a is _ _. record { reply = is.1 };
   stores = λ s address bytes e _. record { reply = tt };
   configures = λ s p n number value e _ _. record { reply = tt };
   counts = λ s p n number value e _ _. record { reply = tt };
   repeats = λ s port flag p i f _ _. record { reply = tt };
   signals = λ s port flag p i f _ _ _. record { reply = tt };
-  pauses = λ s event p mark is. record { reply = is.1 };
-  resets = λ s p _. record { reply = tt };
+  pauses = λ s event p mark is _. record { reply = is.1 };
+  resets = λ s p _ _. record { reply = tt };
 }) s event).reply

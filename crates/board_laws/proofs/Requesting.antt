@@ -209,14 +209,14 @@ steps s event = throughout Tells IsTold told (record {
   reads = λ s p number. silent s _ _;
   loads = λ s address count. silent s _ _;
   acts = λ s event reply moment ports regs e _ h. tells s _ event reply e refl h;
-  eases = λ s event reply p a _ less. quiet s (with_apic s p a) event reply (length-set s.apics p a) (fewer s p a less);
+  eases = λ s event reply p a _ less _. quiet s (with_apic s p a) event reply (length-set s.apics p a) (fewer s p a less);
   stores = λ s address bytes e h. tells s _ _ _ e refl h;
   configures = λ s p n number value e _ h. tells s _ _ _ e refl h;
   counts = λ s p n number value e _ h. tells s _ _ _ e refl h;
   repeats = λ s port flag p i f _ _. quiet s (with_flag s p i f) _ _ refl (λ _ _ _ e. e);
   signals = λ s port flag p i f _ _ h. let lit : State = with_flag s p i f in tells s s _ _ (after (flagged s p i f) (raised lit p i)) refl (tells-after s (flagged s p i f) (raised lit p i) (mute s _ refl (λ _ _. refl)) h);
-  pauses = λ s event p mark _. quiet s (with_suspension s p mark) event _ (length-set s.apics p (apic_with_suspension (apic_of s p) mark)) (fewer s p (apic_with_suspension (apic_of s p) mark) (λ v is. is));
-  resets = resets;
+  pauses = λ s event p mark _ _. quiet s (with_suspension s p mark) event _ (length-set s.apics p (apic_with_suspension (apic_of s p) mark)) (fewer s p (apic_with_suspension (apic_of s p) mark) (λ v is. is));
+  resets = λ s p _ h. resets s p h;
 }) s event
 
 pub told-of : (s : State) (event : Event) (p v : ℕ) → p < processors s → is_told p v (step s event).2 ≡ (not (is_requested s p v) && is_requested (step s event).0 p v)

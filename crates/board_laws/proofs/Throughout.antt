@@ -1,9 +1,10 @@
 -- One walk through all that the machine does: a property that holds of each part of its effects holds of every effect, and one that holds of each way to answer, of every event.
-use Rattle.std.proofs.Common.{◌≡◌, ℕ, zero, suc, ◌+◌, ◌*◌, ◌/◌, ◌%◌, ◌&&◌, List, [], ◌∷◌, length, refl, sym, ap, ◌∙◌, nat_lt, nat_le, not, Bool, true, false, cond, Result, Ok, Err}
+use Rattle.std.proofs.Common.{◌≡◌, ℕ, zero, suc, ◌+◌, ◌*◌, ◌/◌, ◌%◌, ◌<◌, ◌&&◌, List, [], ◌∷◌, length, refl, sym, ap, ◌∙◌, nat_lt, nat_le, not, Bool, true, false, cond, Result, Ok, Err}
 use Rattle.std.specs.Prelude.{Option, None, Some, ◌==◌}
 use Rattle.std.specs.Option.{option_map_or}
 use Rattle.std.specs.FinSet as set
 use Rattle.std.specs.FinSet.{contains-remove}
+use Rattle.std.proofs.lemmas.Bool.Decides.{Decides-ltb}
 use Rattle.std.proofs.lemmas.Cmp.{nat_cmp_total}
 use Rattle.arrayvec.specs.ArrayVec.{ArrayVec}
 use Rattle.lapic_core.specs.Vectors.{Vectors, greatest}
@@ -19,7 +20,7 @@ use Rattle.board_terms.specs.declared.refusal.Refusal.TheVariants.{BadTarget, Sy
 use Rattle.event_ports.specs.declared.ports.Port.{Port}
 use Rattle.event_ports.specs.Ports.{open_refusal, target_of, message_target_of, flag_place_of}
 use Rattle.synic_regs.specs.Registers.{register_of}
-use Rattle.synic_regs.specs.Regs.{Regs, raised_by, has, enable, is_refused, with_value}
+use Rattle.synic_regs.specs.Regs.{Regs, raised_by, has, enable, is_refused, with_value, auto_vectors}
 use Rattle.synic_regs.specs.declared.register.Register.{Register}
 use Rattle.synic_regs.specs.declared.register.Register.TheVariants.{ReferenceCounter, Eoi, Tpr, Control, Version, Sief as SiefRegister, Sim as SimRegister, Eom, Source, TimerConfig, TimerCount}
 use Rattle.message_queues.specs.Queues.{queue_of}
@@ -208,8 +209,8 @@ pub record OfAnswers (P : State → Effect → Type 0) (Q : State → Event → 
   pub reads : (s : State) (p number : ℕ) → Q s (Read p number) (unchanged s (read s p number))
   pub loads : (s : State) (address count : ℕ) → Q s (Load address count) (unchanged s (read_bytes s address count))
   pub acts : (s : State) (event : Event) (reply : Reply) (moment : ℕ) (ports : List (Option Port)) (regs : List Regs) (e : Effect) → IsAnswer event reply → P (with_settings s moment ports regs) e → Q s event (answered reply e)
-  -- an APIC in which no more vectors are requested
-  pub eases : (s : State) (event : Event) (reply : Reply) (p : ℕ) (a : Apic) → IsAnswer event reply → ((v : ℕ) → set.contains a.requested v ≡ true → is_requested s p v ≡ true) → Q s event (unchanged (with_apic s p a) reply)
+  -- an APIC in which no more vectors are requested, and which is suspended as it was
+  pub eases : (s : State) (event : Event) (reply : Reply) (p : ℕ) (a : Apic) → IsAnswer event reply → ((v : ℕ) → set.contains a.requested v ≡ true → is_requested s p v ≡ true) → a.suspended ≡ is_suspended s p → Q s event (unchanged (with_apic s p a) reply)
   pub stores : (s : State) (address : ℕ) (bytes : ArrayVec ℕ) (e : Effect) → P (with_bytes s address bytes.items) e → Q s (Store address bytes) (answered replies.Done e)
   pub configures : (s : State) (p n number value : ℕ) (e : Effect) → register_of number ≡ Some (TimerConfig n) → P (with_bank s (with_config (bank_of s) (p, n) value s.moment)) e → Q s (Write p number value) (answered replies.Done e)
   pub counts : (s : State) (p n number value : ℕ) (e : Effect) → register_of number ≡ Some (TimerCount n) → P (with_bank s (with_count (bank_of s) (p, n) value s.moment)) e → Q s (Write p number value) (answered replies.Done e)
@@ -218,12 +219,16 @@ pub record OfAnswers (P : State → Effect → Type 0) (Q : State → Event → 
   pub signals : (s : State) (port flag p i f : ℕ) → flag_place_of (ports_of s) port flag ≡ Ok (p, i, f) → is_flag_set (space_of s) p i f ≡ false → P (with_flag s p i f) (raised (with_flag s p i f) p i)
       → Q s (Signal port flag) (answered replies.FlagWasClear (after (flagged s p i f) (raised (with_flag s p i f) p i)))
   -- a processor is suspended or goes on, and one is reset
-  pub pauses : (s : State) (event : Event) (p : ℕ) (mark : Bool) → IsAnswer event replies.Done → Q s event (unchanged (with_suspension s p mark) replies.Done)
-  pub resets : (s : State) (p : ℕ) → P s (emptied s p) → Q s (Reset p) (reset s p)
+  pub pauses : (s : State) (event : Event) (p : ℕ) (mark : Bool) → IsAnswer event replies.Done → p < processors s → Q s event (unchanged (with_suspension s p mark) replies.Done)
+  pub resets : (s : State) (p : ℕ) → p < processors s → P s (emptied s p) → Q s (Reset p) (reset s p)
 
 -- of an event at a state
 on_board : (R : Outcome → Type 0) (s : State) (p : ℕ) (outcome : Outcome) → ((r : Refusal) → R (refused s r)) → R outcome → R (at_processor s p outcome)
 on_board R s p outcome refuses h = either R (nat_lt p (processors s)) outcome (refused s NoSuchProcessor) (λ _. h) (λ _. refuses NoSuchProcessor)
+
+-- and where its place on the board is asked for
+at_place : (R : Outcome → Type 0) (s : State) (p : ℕ) (outcome : Outcome) → ((r : Refusal) → R (refused s r)) → (p < processors s → R outcome) → R (at_processor s p outcome)
+at_place R s p outcome refuses h = either R (nat_lt p (processors s)) outcome (refused s NoSuchProcessor) (λ is. h ((Decides-ltb p (processors s)).0 is)) (λ _. refuses NoSuchProcessor)
 
 judged : (R : Outcome → Type 0) (s : State) (refusal : Option Refusal) (outcome : Outcome) → ((r : Refusal) → R (refused s r)) → R outcome → R (option_map_or (refused s) refusal outcome)
 judged R s None outcome refuses h = h
@@ -242,10 +247,13 @@ of-effect P Q k s event reply e is h = k.acts s event reply s.moment s.ports s.r
 same-ended : (a : Apic) → (after_end a).requested ≡ a.requested
 same-ended a = elim (greatest a.in_service) as (λ o. (option_map_or (λ v. end_vector v a) o a).requested ≡ a.requested) [ None ↦ refl | Some v ↦ refl ]
 
+same-mark : (a : Apic) → (after_end a).suspended ≡ a.suspended
+same-mark a = elim (greatest a.in_service) as (λ o. (option_map_or (λ v. end_vector v a) o a).suspended ≡ a.suspended) [ None ↦ refl | Some v ↦ refl ]
+
 of-written_register : (P : State → Effect → Type 0) (Q : State → Event → Outcome → Type 0) → OfEffects P → OfAnswers P Q → (s : State) (p number : ℕ) (r : Register) (value : ℕ) → register_of number ≡ Some r → Q s (Write p number value) (written_register s p r value)
 of-written_register P Q h k s p number ReferenceCounter value is = k.faults s _
-of-written_register P Q h k s p number Eoi value is = k.eases s (Write p number value) replies.Done p (after_end (apic_of s p)) (λ never. never, tt, tt) (λ v is. sym (ap (λ (r : Vectors). set.contains r v) (same-ended (apic_of s p))) ∙ is)
-of-written_register P Q h k s p number Tpr value is = k.eases s (Write p number value) replies.Done p (with_task_priority (apic_of s p) (value % 256)) (λ never. never, tt, tt) (λ v is. is)
+of-written_register P Q h k s p number Eoi value is = k.eases s (Write p number value) replies.Done p (after_end (apic_of s p)) (λ never. never, tt, tt) (λ v is. sym (ap (λ (r : Vectors). set.contains r v) (same-ended (apic_of s p))) ∙ is) (same-mark (apic_of s p))
+of-written_register P Q h k s p number Tpr value is = k.eases s (Write p number value) replies.Done p (with_task_priority (apic_of s p) (value % 256)) (λ never. never, tt, tt) (λ v is. is) refl
 of-written_register P Q h k s p number Control value is = of-stored P Q h k s p number Control value
 of-written_register P Q h k s p number Version value is = k.faults s _
 of-written_register P Q h k s p number SiefRegister value is = of-stored P Q h k s p number SiefRegister value
@@ -270,10 +278,13 @@ of-place P Q h k s port flag (p, i, f) is =
     either (Q s (Signal port flag)) (not (has (regs_of s p).control enable && has (regs_of s p).sief enable)) (refused s SynicOff) (cond (is_flag_set (space_of s) p i f) found sets) (λ _. k.refuses s _ SynicOff)
     (λ _. either (Q s (Signal port flag)) (is_flag_set (space_of s) p i f) found sets (λ lit_already. k.repeats s port flag p i f is lit_already) (λ clear. k.signals s port flag p i f is clear (of-raised P h lit p i)))
 
+same-taken : (s : State) (p v : ℕ) → (taken_at s p v).suspended ≡ is_suspended s p
+same-taken s p v = either (λ (a : Apic). a.suspended ≡ is_suspended s p) (set.contains (auto_vectors (regs_of s p)) v) _ _ (λ _. refl) (λ _. refl)
+
 of-taken : (P : State → Effect → Type 0) (Q : State → Event → Outcome → Type 0) → OfEffects P → OfAnswers P Q → (s : State) (p : ℕ) → Q s (Take p) (taken s p)
 of-taken P Q h k s p = elim (next (apic_of s p)) as (λ o. Q s (Take p) (option_map_or (λ v. with_apic s p (taken_at s p v)) o s, replies.Taken o, [])) [
   | None ↦ of-effect P Q k s (Take p) (replies.Taken None) (nothing s) (λ never. never, tt, tt) (h.stays s)
-  | Some v ↦ k.eases s (Take p) (replies.Taken (Some v)) p (taken_at s p v) (λ never. never, tt, tt) (λ w is. second-holds _ (is_requested s p w) (sym (contains-remove nat_cmp_total (apic_of s p).requested v w) ∙ is))
+  | Some v ↦ k.eases s (Take p) (replies.Taken (Some v)) p (taken_at s p v) (λ never. never, tt, tt) (λ w is. second-holds _ (is_requested s p w) (sym (contains-remove nat_cmp_total (apic_of s p).requested v w) ∙ is)) (same-taken s p v)
 ]
 
 of-ticked : (P : State → Effect → Type 0) (Q : State → Event → Outcome → Type 0) → OfEffects P → OfAnswers P Q → (s : State) (moment : ℕ) → Q s (Tick moment) (ticked s moment)
@@ -322,8 +333,8 @@ throughout P Q h k s (Store address bytes) =
 throughout P Q h k s (Load address count) = k.loads s address count
 throughout P Q h k s (Tick moment) = of-ticked P Q h k s moment
 throughout P Q h k s (Take p) = on_board (Q s (Take p)) s p (taken s p) (k.refuses s _) (of-taken P Q h k s p)
-throughout P Q h k s (Suspend p) = on_board (Q s (Suspend p)) s p (suspended s p) (k.refuses s _)
-    (either (Q s (Suspend p)) (is_suspended s p) (refused s AlreadySuspended) (unchanged (with_suspension s p true) replies.Done) (λ _. k.refuses s _ AlreadySuspended) (λ _. k.pauses s (Suspend p) p true (λ never. never, tt, tt)))
-throughout P Q h k s (Resume p) = on_board (Q s (Resume p)) s p (resumed s p) (k.refuses s _)
-    (either (Q s (Resume p)) (is_suspended s p) (unchanged (with_suspension s p false) replies.Done) (refused s NotSuspended) (λ _. k.pauses s (Resume p) p false (λ never. never, tt, tt)) (λ _. k.refuses s _ NotSuspended))
-throughout P Q h k s (Reset p) = on_board (Q s (Reset p)) s p (reset s p) (k.refuses s _) (k.resets s p (of-emptied_below P h s p 16))
+throughout P Q h k s (Suspend p) = at_place (Q s (Suspend p)) s p (suspended s p) (k.refuses s _)
+    (λ on. either (Q s (Suspend p)) (is_suspended s p) (refused s AlreadySuspended) (unchanged (with_suspension s p true) replies.Done) (λ _. k.refuses s _ AlreadySuspended) (λ _. k.pauses s (Suspend p) p true (λ never. never, tt, tt) on))
+throughout P Q h k s (Resume p) = at_place (Q s (Resume p)) s p (resumed s p) (k.refuses s _)
+    (λ on. either (Q s (Resume p)) (is_suspended s p) (unchanged (with_suspension s p false) replies.Done) (refused s NotSuspended) (λ _. k.pauses s (Resume p) p false (λ never. never, tt, tt) on) (λ _. k.refuses s _ NotSuspended))
+throughout P Q h k s (Reset p) = at_place (Q s (Reset p)) s p (reset s p) (k.refuses s _) (λ on. k.resets s p on (of-emptied_below P h s p 16))

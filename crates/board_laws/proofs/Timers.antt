@@ -173,14 +173,14 @@ of-timer-answers t P Q h k = record {
   reads = λ s p number. silent s s _ _ refl;
   loads = λ s address count. silent s s _ _ refl;
   acts = λ s event reply moment ports regs e _ g. from s _ event reply e refl g;
-  eases = λ s event reply p a _ _. silent s _ event reply refl;
+  eases = λ s event reply p a _ _ _. silent s _ event reply refl;
   stores = λ s address bytes e g. from s _ _ _ e refl g;
   configures = λ s p n number value e is g. writes s (Write p number value) (p, n) (after_config (timer_in (bank_of s) (p, n)) value s.moment) e g (λ same. k.configures s p n number value e is same g);
   counts = λ s p n number value e is g. writes s (Write p number value) (p, n) (after_count (timer_in (bank_of s) (p, n)) value s.moment) e g (λ same. k.counts s p n number value e is same g);
   repeats = λ s port flag p i f _ _. silent s (with_flag s p i f) _ _ refl;
   signals = λ s port flag p i f _ _ g. let lit : State = with_flag s p i f in k.acts s (Signal port flag) FlagWasClear (after (flagged s p i f) (raised lit p i)) (h.joins s (flagged s p i f) (raised lit p i) (h.still s (flagged s p i f) refl refl refl) g);
-  pauses = λ s event p mark _. silent s (with_suspension s p mark) event _ refl;
-  resets = λ s p g. resets s p g (cases_eq (number_of t / 4) p);
+  pauses = λ s event p mark _ _. silent s (with_suspension s p mark) event _ refl;
+  resets = λ s p _ g. resets s p g (cases_eq (number_of t / 4) p);
 }
   where
     -- an effect from a state with the same timer

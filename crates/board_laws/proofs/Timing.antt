@@ -112,12 +112,12 @@ on-time s event = (throughout Timely IsOnTime timely (record {
   reads = λ s p number. silent s s _ _;
   loads = λ s address count. silent s s _ _;
   acts = λ s event reply moment ports regs e _ h. tells s _ event reply e h;
-  eases = λ s event reply p a _ _. silent s _ event reply;
+  eases = λ s event reply p a _ _ _. silent s _ event reply;
   stores = λ s address bytes e h. tells s _ _ _ e h;
   configures = λ s p n number value e _ h. tells s _ _ _ e h;
   counts = λ s p n number value e _ h. tells s _ _ _ e h;
   repeats = λ s port flag p i f _ _. silent s _ _ _;
   signals = λ s port flag p i f _ _ h. let lit : State = with_flag s p i f in tells s s _ _ (after (flagged s p i f) (raised lit p i)) (timely-after s (flagged s p i f) (raised lit p i) (record { same = refl; told = (tt, tt) }) h);
-  pauses = λ s event p mark _. silent s _ event _;
-  resets = λ s p h. let e : Effect = emptied s p in tells s s _ _ (after e (cleared e.0 p, [])) (timely-after s e (cleared e.0 p, []) h (record { same = refl; told = tt }));
+  pauses = λ s event p mark _ _. silent s _ event _;
+  resets = λ s p _ h. let e : Effect = emptied s p in tells s s _ _ (after e (cleared e.0 p, [])) (timely-after s e (cleared e.0 p, []) h (record { same = refl; told = tt }));
 }) s event).told

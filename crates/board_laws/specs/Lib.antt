@@ -9,3 +9,4 @@ pub mod Periods
 pub mod Order
 pub mod Seen
 pub mod Leaving
+pub mod Suspension

@@ -28,6 +28,7 @@ ghost use Rattle.board_laws.specs.Periods.{sets_timer, skips, IsPeriodic, after_
 ghost use Rattle.board_laws.specs.Order.{KeepsOrder};
 ghost use Rattle.synic_board.specs.Delivery.{delivers, is_slot_empty};
 ghost use Rattle.board_laws.specs.Seen.{IsSeen};
+ghost use Rattle.board_laws.specs.Suspension.{HasOneSuspension};
 ghost use Rattle.board_laws.specs.Refusals.{IsRefusal, LeavesNoTrace, AnswersAlike};
 
 /// Whatever the events, from an opened board: each accepted message stands in one queue or slot, or
@@ -48,6 +49,12 @@ pub fn each_state_is_sound()
 /// event more than 192.
 pub fn each_event_gives_few_notices()
     ensures { (processors pages first : ℕ) (events : List Event) (event : Event) → length (step (run_of (opened processors pages first) events).0 event).2 ≤ most_notices event }
+{}
+
+/// Whatever the events, from an opened board: the timers of a processor are suspended exactly if its local
+/// APIC is. So the state has one mark for each processor, which it holds twice.
+pub fn a_processor_has_one_suspension()
+    ensures { (processors pages first : ℕ) (events : List Event) → processors ≤ 8 → HasOneSuspension (run_of (opened processors pages first) events).0 }
 {}
 
 /// No reply has more than the 8 bytes that a guest may load at once.

@@ -8,7 +8,8 @@ use Rattle.lapic_core.specs.Vectors.{Vectors}
 use Rattle.synic_board.specs.Scratch.{Values}
 use Rattle.board_text.specs.Numbers.{two_digits}
 use Rattle.board_text.specs.Fields.{spaced, line_of}
-use Rattle.board_lines.specs.Printing.{text_of, numbered, next_lines, auto_lines, auto_line, auto_part, auto_fields, auto_text, is_some_vector, below, timer_line, page_lines, queue_lines, summary_lines}
+use Rattle.board_lines.specs.Printing.{text_of, numbered, next_lines, auto_lines, auto_line, auto_fields, below, timer_line, page_lines, queue_lines, summary_lines}
+use Rattle.board_lines.specs.inside.Autos.{auto_part, auto_text, is_some_vector}
 use Rattle.board_lines.proofs.PrintLemmas.{text_of-append}
 
 words-more : (x : List ℕ) (xs : List (List ℕ)) (y : List ℕ) → spaced (x ∷ (xs ++ y ∷ [])) ≡ spaced (x ∷ xs) ++ 32 ∷ y

@@ -4,3 +4,4 @@ pub mod Sizes
 pub mod Reading
 pub mod Printing
 pub mod Faults
+pub mod inside

@@ -1,9 +1,9 @@
 -- What is written: the fields of each line.
-use Rattle.std.specs.Prelude.{ℕ, ◌+◌, ◌==◌, ◌/◌, ◌%◌, List, [], ◌∷◌, ◌++◌, map, Bool, true, false, if◌then◌else◌, Option, None, Some, codes, decimal}
+use Rattle.std.specs.Prelude.{ℕ, ◌+◌, ◌==◌, ◌/◌, ◌%◌, List, [], ◌∷◌, ◌++◌, map, if◌then◌else◌, Option, None, Some, codes, decimal}
 use Rattle.std.specs.List.{filter, range_with_len}
 use Rattle.std.specs.FinSet as set
 use Rattle.board_text.specs.Numbers.{hex, two_digits}
-use Rattle.board_text.specs.Fields.{spaced, line_of}
+use Rattle.board_text.specs.Fields.{line_of}
 use Rattle.board_terms.specs.Numbers.{refusal_number}
 use Rattle.board_terms.specs.declared.notices.Notice.{Notice}
 use Rattle.board_terms.specs.declared.notices.Notice.TheVariants as notices
@@ -61,21 +61,8 @@ below n vectors = filter (λ (v : ℕ). set.contains vectors v) (map (λ (i : �
 abbrev pub rising : Vectors → List ℕ
 rising vectors = below 240 vectors
 
--- one of them as it is written, the first behind the head of the line
-abbrev pub auto_part : ℕ → ℕ → Bool → List ℕ
-auto_part p v any = (if any then [] else spaced (codes ":" ∷ codes "auto" ∷ decimal p ∷ [])) ++ 32 ∷ two_digits v
-
 abbrev pub auto_fields : ℕ → List ℕ → List (List ℕ)
 auto_fields p vectors = codes ":" ∷ codes "auto" ∷ decimal p ∷ map two_digits vectors
-
-abbrev pub is_some_vector : List ℕ → Bool
-is_some_vector [] = false
-is_some_vector (v ∷ vectors) = true
-
--- the line so far
-abbrev pub auto_text : ℕ → List ℕ → List ℕ
-auto_text p [] = []
-auto_text p (v ∷ vectors) = spaced (auto_fields p (v ∷ vectors))
 
 abbrev pub auto_line : ℕ → List ℕ → List (List (List ℕ))
 auto_line p [] = []

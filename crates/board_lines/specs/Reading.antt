@@ -7,7 +7,6 @@ use Rattle.board_text.specs.Fields.{fields_of}
 use Rattle.synic_board.specs.declared.event.Event.{Event}
 use Rattle.synic_board.specs.declared.event.Event.TheVariants.{OpenPort, ClosePort, Write, Read, Post, Signal, Assert, Absorb, Store, Load, Tick, Take, Suspend, Resume, Reset}
 use Rattle.board_terms.specs.declared.messages.PortShape.TheVariants.{Messages, Flags}
-use Rattle.arrayvec.specs.ArrayVec.{ArrayVec}
 use Rattle.board_lines.specs.Items.{Item, Opening, Performs, Summary}
 
 -- the fields that are left to be read
@@ -42,11 +41,6 @@ bytes_at most text = if bytes_eq text (codes "-") then Some [] else option_and_t
 abbrev pub TakesNumber : (List ℕ → Option ℕ) → Option ℕ → Fields → Fields → Type 0
 TakesNumber read None old new = first_read read old ≡ None
 TakesNumber read (Some n) old new = first_read read old ≡ Some (n, new)
-
--- likewise for bytes
-abbrev pub TakesBytes : ℕ → Option (ArrayVec ℕ) → Fields → Fields → Type 0
-TakesBytes most None old new = first_read (bytes_at most) old ≡ None
-TakesBytes most (Some bytes) old new = first_read (bytes_at most) old ≡ Some (bytes.items, new)
 
 -- no field is left
 abbrev pub none_left : {A : Type 0} → A → Fields → Option A

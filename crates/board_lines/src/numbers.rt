@@ -1,6 +1,7 @@
 // The numbers of a line, read field by field.
 ghost use Rattle.std.specs.Prelude.{◌≡◌, [], if◌then◌else◌, Some, None};
-ghost use Rattle.board_lines.specs.Reading.{TakesNumber, TakesBytes, u8_at, u16_at, u64_at, hex_u32_at, hex_u64_at, vector_at};
+ghost use Rattle.board_lines.specs.Reading.{TakesNumber, u8_at, u16_at, u64_at, hex_u32_at, hex_u64_at, vector_at};
+ghost use Rattle.board_lines.specs.inside.Taking.{TakesBytes};
 
 use arrayvec::ArrayVec;
 use board_terms::{Ticket, Vector};

@@ -11,7 +11,8 @@ use Rattle.line_driver.specs.declared.driving.End.{End}
 use Rattle.line_driver.specs.declared.driving.End.TheVariants as ends
 use Rattle.board_script.specs.Script.{line_fault, rest_fault, first_fault}
 use Rattle.board_script.specs.Output.{Machine, output_from, output_of, fault_of, fault_text, text}
-use Rattle.board_script.specs.Streams.{BegunText, Replays, conclusion, Concludes, Finishes, IsAnswered, IsFaulty}
+use Rattle.board_script.specs.Streams.{BegunText, Replays}
+use Rattle.board_script.specs.inside.Judging.{conclusion, Concludes, Finishes, IsAnswered, IsFaulty}
 use Rattle.board_lines.specs.declared.fault.ScriptFault.{ScriptFault}
 use Rattle.board_lines.specs.declared.fault.ScriptFault.TheVariants as faults
 use Rattle.board_script.specs.declared.stream.ReplayEnd.{ReplayEnd}

@@ -7,7 +7,8 @@ use Rattle.line_driver.specs.declared.driving.End.{End}
 use Rattle.line_driver.specs.declared.driving.End.TheVariants as ends
 use Rattle.board_lines.specs.declared.fault.ScriptFault.{ScriptFault}
 use Rattle.board_lines.specs.declared.fault.ScriptFault.TheVariants as faults
-use Rattle.board_script.specs.Streams.{conclusion, Concludes, Finishes, most_read, StopsNear}
+use Rattle.board_script.specs.Streams.{most_read, StopsNear}
+use Rattle.board_script.specs.inside.Judging.{conclusion, Concludes, Finishes}
 use Rattle.board_script.specs.declared.stream.ReplayEnd.{ReplayEnd}
 use Rattle.board_script.specs.declared.stream.ReplayEnd.TheVariants.{Done, Script, Memory, Reading, Writing}
 

@@ -15,7 +15,7 @@ use Rattle.board_text.specs.Fields.{fields_of}
 use Rattle.line_driver.specs.Judging.{Judges}
 use Rattle.line_driver.specs.declared.judge.Taken.{Taken}
 use Rattle.line_driver.specs.declared.judge.Taken.TheVariants as taken
-use Rattle.board_script.specs.Streams.{after_maybe, answer_maybe, AnswersItem, IsAnswered, IsFaulty}
+use Rattle.board_script.specs.inside.Judging.{after_maybe, answer_maybe, AnswersItem, IsAnswered, IsFaulty}
 use Rattle.board_lines.specs.declared.fault.ScriptFault.{ScriptFault}
 use Rattle.board_lines.specs.declared.fault.ScriptFault.TheVariants as faults
 

@@ -1,3 +1,4 @@
 pub mod Script
 pub mod Output
 pub mod Streams
+pub mod inside

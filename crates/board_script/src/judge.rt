@@ -1,5 +1,5 @@
 // The judge of a script's lines.
-ghost use Rattle.board_script.specs.Streams.{IsAnswered, IsFaulty, machine_of};
+ghost use Rattle.board_script.specs.inside.Judging.{IsAnswered, IsFaulty, machine_of};
 
 use crate::respond::respond;
 use board_lines::ScriptFault;

@@ -3,7 +3,7 @@ ghost use Rattle.std.specs.Prelude.{◌≡◌, ◌≤◌, [], ◌∷◌, ◌++�
 ghost use Rattle.synic_board.specs.Step.{step};
 ghost use Rattle.board_lines.specs.Reading.{opening_item, item_say};
 ghost use Rattle.board_script.specs.Output.{told};
-ghost use Rattle.board_script.specs.Streams.{IsAnswered, IsFaulty, AnswersItem, machine_of};
+ghost use Rattle.board_script.specs.inside.Judging.{IsAnswered, IsFaulty, AnswersItem, machine_of};
 ghost use Rattle.line_driver.specs.Judging.{Judges};
 
 use board_lines::{

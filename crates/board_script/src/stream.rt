@@ -1,6 +1,7 @@
 // A script from a reader, its text to a writer.
 ghost use Rattle.board_text.specs.Streams.{ReadsUpTo};
-ghost use Rattle.board_script.specs.Streams.{Replays, most_read, StopsNear, conclusion, Concludes, Finishes};
+ghost use Rattle.board_script.specs.Streams.{Replays, most_read, StopsNear};
+ghost use Rattle.board_script.specs.inside.Judging.{conclusion, Concludes, Finishes};
 
 use crate::judge::ScriptJudge;
 use board_lines::{ScriptFault, put_fault};

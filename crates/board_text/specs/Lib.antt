@@ -3,3 +3,4 @@ pub mod Fields
 pub mod Lines
 pub mod Buffered
 pub mod Streams
+pub mod inside

@@ -1,5 +1,5 @@
 -- Numbers and bytes as a text writes them: lower case, no leading zero, each in one way.
-use Rattle.std.specs.Prelude.{◌≡◌, ◌≤◌, length, take, get_or, ◌∷◌, [], ◌/◌, ◌%◌, ◌&&◌, ℕ, List, Option, None, Some, false, if◌then◌else◌, ◌<◌, nat_le, decimal}
+use Rattle.std.specs.Prelude.{◌∷◌, [], ◌/◌, ◌%◌, ◌&&◌, ℕ, List, Option, None, Some, false, if◌then◌else◌, ◌<◌, nat_le, decimal}
 use Rattle.std.specs.Fmt.{digits, digit_glyph}
 use Rattle.std.specs.List.{All}
 use Rattle.std.specs.Str.{bytes_eq}
@@ -33,7 +33,3 @@ IsByte b = b < 256
 
 abbrev pub AreBytes : List ℕ → Type 0
 AreBytes bytes = All IsByte bytes
-
--- the first bytes, so many, are the number, and behind them stands a space or nothing
-abbrev pub IsFront : ℕ → List ℕ → ℕ → ℕ → Type 0
-IsFront base text n count = (count ≤ length text) × (take count text ≡ digits base false n) × (count < length text → get_or text count 0 ≡ 32)

@@ -1,7 +1,8 @@
 // The fields of a line, one by one.
 ghost use Rattle.std.specs.Prelude.{◌≡◌, ◌↔◌, ◌≤◌, ◌^◌, [], Option, IsTrue, IfSome};
 ghost use Rattle.std.specs.Str.{bytes_eq};
-ghost use Rattle.board_text.specs.Fields.{fields_of, fields_left, TakesField, ReadsField, ReadsShort};
+ghost use Rattle.board_text.specs.Fields.{fields_of, TakesField, ReadsField};
+ghost use Rattle.board_text.specs.inside.Parsing.{fields_left, ReadsShort};
 ghost use Rattle.board_text.specs.Numbers.{decimal_at, hex_at};
 
 use crate::numbers::{decimal_of, hex_of, short_number};
@@ -33,7 +34,7 @@ pub struct Fields<'a> {
 
 impl<'a> Model for Fields<'a> {
     ghost use Rattle.std.specs.Prelude.{ℕ, List};
-    ghost use Rattle.board_text.specs.Fields.{fields_left};
+    ghost use Rattle.board_text.specs.inside.Parsing.{fields_left};
 
     ghost Value = { List (List ℕ) };
 

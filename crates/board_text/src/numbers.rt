@@ -1,7 +1,8 @@
 // Decimal and hexadecimal numbers.
 ghost use Rattle.std.specs.Prelude.{◌≡◌, ◌≢◌, ℕ, ◌+◌, ◌*◌, ◌<◌, ◌≤◌, ◌^◌, ◌++◌, MatchOption, length, get_or, drop, decimal, false, IfSome, IfNone, OnOk};
 ghost use Rattle.std.specs.Fmt.{digits, digit_glyph};
-ghost use Rattle.board_text.specs.Numbers.{hex, decimal_at, hex_at, IsFront};
+ghost use Rattle.board_text.specs.Numbers.{hex, decimal_at, hex_at};
+ghost use Rattle.board_text.specs.inside.Parsing.{IsFront};
 
 use itoa::{Buffer, Integer};
 use std::alloc::AllocError;

@@ -3,7 +3,8 @@ ghost use Rattle.std.specs.Prelude.{◌≡◌, ℕ, ◌+◌, ◌≤◌, ◌<◌,
 ghost use Rattle.std.specs.Io.KnownBytes.{Consumes, Keeps, IsAtEnd};
 ghost use Rattle.board_text.specs.Lines.{IsOneLine};
 ghost use Rattle.board_text.specs.Buffered.{at_start};
-ghost use Rattle.board_text.specs.Streams.{Refills, Fills, Scans, Finds};
+ghost use Rattle.board_text.specs.Streams.{Finds};
+ghost use Rattle.board_text.specs.inside.Filling.{Refills, Fills, Scans};
 
 use memchr::memchr;
 use std::alloc::{AllocError, Global};

@@ -1,12 +1,13 @@
 -- The places of the setup and of the last absorbs.
 use Rattle.std.proofs.Common.{◌≡◌, ℕ, zero, suc, ◌+◌, ◌<◌, true, false, List, [], ◌∷◌, ◌++◌, All, map, length, length-append, Vec, Global, refl, sym, ap, ◌∙◌, subst, arith, append-nil}
 use Rattle.std.specs.Prelude.{◌==◌, ◌*◌, if◌then◌else◌, filter}
-use Rattle.std.specs.List.{AllZip, range_with_len}
+use Rattle.std.specs.List.{AllZip, range_with_len, sum_by}
 use Rattle.std.proofs.lemmas.Bool.{eq-eqb}
 use Rattle.std.proofs.lemmas.Bool.Decides.{nat_tests}
 use Rattle.std.proofs.lemmas.List.{length-map}
 use Rattle.std.proofs.lemmas.List.Elements.{All-head, All-tail}
 use Rattle.std.proofs.lemmas.List.FromFn.{length-map-range_with_len}
+use Rattle.std.proofs.lemmas.List.Sums.{sum_by-cons}
 use Rattle.atomic_table.specs.Seated.{TableId}
 use Rattle.synic_board.specs.declared.event.Event.{Event}
 use Rattle.synic_board.specs.declared.history.Entry.{Entry}
@@ -71,16 +72,18 @@ others-between n (s ∷ scripts) h first between last some is f l each =
 
 -- what actor 0 did stands at the ends, and the others' scripts between
 pub crewed : (name : TableId) (n : ℕ) (setup : List Event) (scripts : List (List Step)) (h : List Entry) (main : Acting) → InPlace (length setup) (4 * n) h → HasServed name n setup main
-    → calls_by 0 h ≡ main.calls → EachFollows 1 scripts h → IsCrewed n setup scripts h
-crewed name n setup scripts h main place served own each =
+    → calls_by 0 h ≡ main.calls → EachFollows 1 scripts h → length h ≡ length main.calls + sum_by (λ (s : List Step). length s) scripts → IsCrewed n setup scripts h
+crewed name n setup scripts h main place served own each many =
     let first = place.first in
     let between = place.between in
     let last = place.last in
     let joined : map call_of first ++ (calls_by 0 between ++ map call_of last) ≡ served.before ++ served.after =
     (λ i. map call_of (sym (all-main first place.main_first) i) ++ (calls_by 0 between ++ map call_of (sym (all-main last place.main_last) i)))
     ∙ (λ i. calls_by 0 first ++ sym (calls_by-append 0 between last) i) ∙ sym (calls_by-append 0 first (between ++ last)) ∙ ap (calls_by 0) (sym place.is) ∙ own ∙ served.calls in
-    let cut = same-cut (map call_of first) (calls_by 0 between ++ map call_of last) served.before served.after joined (omega (arith, length-map first call_of, place.begins, same-length (acts setup) served.before served.begins, length-map setup (λ e. Act e))) in
-    let rest = no-more (calls_by 0 between) (map call_of last) served.after cut.1 (omega (arith, length-map last call_of, place.ends_so, same-length (last_steps n) served.after served.ends, length-map-range_with_len last_step 0 (4 * n))) in
+    let before : length served.before ≡ length setup = omega (arith, same-length (acts setup) served.before served.begins, length-map setup (λ e. Act e)) in
+    let after : length served.after ≡ 4 * n = omega (arith, same-length (last_steps n) served.after served.ends, length-map-range_with_len last_step 0 (4 * n)) in
+    let cut = same-cut (map call_of first) (calls_by 0 between ++ map call_of last) served.before served.after joined (omega (arith, length-map first call_of, place.begins, before)) in
+    let rest = no-more (calls_by 0 between) (map call_of last) served.after cut.1 (omega (arith, length-map last call_of, place.ends_so, after)) in
     record {
       first = first;
       between = between;
@@ -90,7 +93,28 @@ crewed name n setup scripts h main place served own each =
       ends = record { number = place.main_last; follow = subst (AreSteps (last_steps n)) (sym rest.1) served.ends };
       main = rest.0;
       others = others-between 1 scripts h first between last (omega arith) place.is place.main_first place.main_last each;
+      all = omega (arith, many, ap (λ (l : List Call). length l) served.calls, length-append served.before served.after, before, after);
     }
+
+-- the actors' calls are as many as were handed out
+pub calls-add-up : (ended : List ActorCalls) (actors : List Acting) → map calls_given ended ≡ map calls_held actors → sum_by (λ (a : ActorCalls). length a.calls.items) ended ≡ sum_by (λ (a : Acting). length a.calls) actors
+calls-add-up [] [] is = refl
+calls-add-up [] (a ∷ actors) is = absurd (cc)
+calls-add-up (e ∷ ended) [] is = absurd (cc)
+calls-add-up (e ∷ ended) (a ∷ actors) is =
+    let head : calls_given e ≡ calls_held a = cc in
+    let tail : map calls_given ended ≡ map calls_held actors = cc in
+    let same : length e.calls.items ≡ length a.calls = ap (λ (x : ℕ × List Call). length x.1) head in
+    omega (arith, same, calls-add-up ended actors tail, sum_by-cons (λ (b : ActorCalls). length b.calls.items) e ended, sum_by-cons (λ (b : Acting). length b.calls) a actors)
+
+-- and as the steps of their scripts
+pub steps-add-up : (name : TableId) (scripts : List (Vec Step Global)) (others : List Acting) → AllZip (λ (s : Vec Step Global) (a : Acting). HasActed name a.number s.items a) scripts others
+    → sum_by (λ (a : Acting). length a.calls) others ≡ sum_by (λ (s : List Step). length s) (lists scripts)
+steps-add-up name [] [] acted = refl
+steps-add-up name [] (a ∷ others) acted = absurd acted
+steps-add-up name (s ∷ scripts) [] acted = absurd acted
+steps-add-up name (s ∷ scripts) (a ∷ others) acted =
+    omega (arith, same-length s.items a.calls acted.0.follows, steps-add-up name scripts others acted.1, sum_by-cons (λ (b : Acting). length b.calls) a others, sum_by-cons (λ (t : List Step). length t) s.items (lists scripts))
 
 abbrev pub StandsIn : List Entry → Acting → Type 0
 StandsIn h a = calls_by a.number h ≡ a.calls

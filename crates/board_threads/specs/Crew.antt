@@ -1,7 +1,7 @@
 -- What a crew does.
 use Rattle.std.specs.Prelude.{◌≡◌, ℕ, ◌+◌, ◌*◌, ◌/◌, ◌%◌, List, [], ◌∷◌, ◌++◌, All, length, map, reverse, Vec}
 use Rattle.std.specs.Global.{Global}
-use Rattle.std.specs.List.{AllZip, range_with_len}
+use Rattle.std.specs.List.{AllZip, range_with_len, sum_by}
 use Rattle.synic_board.specs.declared.event.Event.{Event}
 use Rattle.synic_board.specs.declared.event.Event.TheVariants.{Absorb}
 use Rattle.synic_board.specs.declared.history.Entry.{Entry}
@@ -76,3 +76,5 @@ pub record IsCrewed (processors : ℕ) (setup : List Event) (scripts : List (Lis
   pub ends : AreMain (last_steps processors) last
   pub main : calls_by 0 between ≡ []
   pub others : EachFollows 1 scripts between
+  -- and no one else has an entry
+  pub all : length history ≡ length setup + sum_by (λ (s : List Step). length s) scripts + 4 * processors

@@ -15,22 +15,38 @@ pub(crate) enum WorkFault {
 }
 
 impl From<AllocError> for WorkFault {
+    ghost use Rattle.std.specs.Prelude.{◌≡◌};
+
+    ghost from_gives = { λ _ fault. fault ≡ WorkFault.Memory };
+
     fn from(_: AllocError) -> WorkFault {
         WorkFault::Memory
     }
 }
 
 impl From<CallFault> for WorkFault {
+    ghost use Rattle.std.specs.Prelude.{◌≡◌};
+    ghost use Rattle.board_threads.specs.inside.Ending.{fault_of_call};
+
+    ghost from_gives = { λ cause fault. fault ≡ fault_of_call cause };
+
     fn from(fault: CallFault) -> WorkFault {
         match fault {
             CallFault::Memory => WorkFault::Memory,
             // The steps were judged before, and there is room for all of them.
-            CallFault::AbsorbEvent | CallFault::Full => WorkFault::Unsettled,
+            CallFault::AbsorbEvent | CallFault::Full | CallFault::WrongBoard => {
+                WorkFault::Unsettled
+            }
         }
     }
 }
 
 impl From<SettleFault> for WorkFault {
+    ghost use Rattle.std.specs.Prelude.{◌≡◌};
+    ghost use Rattle.board_threads.specs.inside.Ending.{fault_of_settling};
+
+    ghost from_gives = { λ cause fault. fault ≡ fault_of_settling cause };
+
     fn from(fault: SettleFault) -> WorkFault {
         match fault {
             SettleFault::Memory => WorkFault::Memory,

@@ -1,5 +1,5 @@
 // Where the setup and the last absorbs stand in a history.
-ghost use Rattle.std.specs.Prelude.{◌≡◌, IsTrue, All};
+ghost use Rattle.std.specs.Prelude.{◌≡◌, ◌↔◌, IsTrue, All};
 ghost use Rattle.board_threads.specs.inside.Work.{InPlace};
 
 use synic_board::Entry;
@@ -7,7 +7,8 @@ use synic_board::Entry;
 /// Whether the first entries and the last ones are those of actor 0. The lock tells nothing of the
 /// order in which it was taken, so this looks.
 pub(crate) fn are_in_place(history: &[Entry], setup: usize, ends: usize) -> bool
-    ensures { IsTrue result → InPlace setup ends history.now }
+    ensures placed { IsTrue result → InPlace setup ends history.now }
+    ensures all { InPlace setup ends history.now → IsTrue result }
 {
     if history.len() < setup || history.len() - setup < ends {
         return false;
@@ -18,7 +19,7 @@ pub(crate) fn are_in_place(history: &[Entry], setup: usize, ends: usize) -> bool
 }
 
 fn are_main(entries: &[Entry]) -> bool
-    ensures { IsTrue result → All (λ e. e.actor ≡ 0) entries.now }
+    ensures { IsTrue result ↔ All (λ e. e.actor ≡ 0) entries.now }
 {
     for entry in entries {
         if entry.actor != 0 {

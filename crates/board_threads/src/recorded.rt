@@ -1,6 +1,6 @@
 // What lies under the lock.
 ghost use base.Stored.{Coded-set};
-ghost use Rattle.std.specs.Prelude.{◌≡◌, true, false, [], ◌∷◌, ◌++◌, IfOk, OnOk, OnErr, IsErrOf, if◌then◌else◌, nat_lt, nat_le, ◌&&◌};
+ghost use Rattle.std.specs.Prelude.{◌≡◌, ◌↔◌, ◌≤◌, length, true, false, [], ◌∷◌, ◌++◌, IfOk, OnOk, OnErr, IsErrOf, if◌then◌else◌, nat_lt, nat_le, ◌&&◌};
 ghost use Rattle.posted_words.specs.Words.{token, sweep_of};
 ghost use Rattle.synic_board.specs.declared.event.Event.TheVariants.{Absorb};
 ghost use Rattle.board_threads.specs.Sweeps.{is_refusal, sweep_in};
@@ -78,6 +78,7 @@ impl Recorded {
         ensures history { IfOk result (λ r. self.new.history.entries ≡ self.old.history.entries ++ entry actor event.now r ∷ []) }
         ensures unchanged { OnErr result (self.new.history.entries ≡ self.old.history.entries) }
         ensures room { OnOk result (has_room ≡ true) }
+        ensures full { IsErrOf result CallFault.Full ↔ 65536 ≤ length self.old.history.entries }
         ensures event { ¬ (IsErrOf result CallFault.AbsorbEvent) }
     {
         self.make_room(has_room)?;
@@ -85,7 +86,7 @@ impl Recorded {
     }
 
     /// Sweeps a word, and performs the absorb of its bits for an actor that has room for one more call.
-    /// Faults are those of `enter`; then nothing is swept.
+    /// Faults are those of `enter`, then `WrongBoard`; nothing is swept then.
     pub(crate) fn absorb(
         &mut self,
         has_room: bool,
@@ -102,14 +103,14 @@ impl Recorded {
         ensures unchanged { OnErr result (self.new.history.entries ≡ self.old.history.entries) }
         ensures kept { OnErr result (sweeper.new ≡ sweeper.old) }
         ensures room { OnOk result (has_room ≡ true) }
+        ensures full { IsErrOf result CallFault.Full ↔ 65536 ≤ length self.old.history.entries }
         ensures event { ¬ (IsErrOf result CallFault.AbsorbEvent) }
     {
-        // The lock tells nothing of what it holds but a legal history, so this looks that the board is
-        // the one that the words were opened for.
-        if self.board.processors() != words.processors() {
-            return Err(CallFault::Full);
-        }
         self.make_room(has_room)?;
+        // A lock guarantees only the invariant of what it guards, and that does not name the posted words.
+        if self.board.processors() != words.processors() {
+            return Err(CallFault::WrongBoard);
+        }
         let bits = sweep_if_there(words, sweeper, vp, part);
         let reply = self.perform(actor, &Event::Absorb { vp, part, bits });
         Ok((bits, reply))
@@ -165,6 +166,7 @@ impl Recorded {
         ensures history { self.new.history.entries ≡ self.old.history.entries }
         ensures board { self.new.board.state ≡ self.old.board.state }
         ensures opening { self.new.opening ≡ self.old.opening }
+        ensures full { IsErrOf result CallFault.Full ↔ 65536 ≤ length self.old.history.entries }
         ensures event { ¬ (IsErrOf result CallFault.AbsorbEvent) }
     {
         if self.history.len() >= MOST {

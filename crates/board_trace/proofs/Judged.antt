@@ -12,7 +12,8 @@ use Rattle.line_driver.specs.declared.driving.End.{End}
 use Rattle.line_driver.specs.declared.driving.End.TheVariants as ends
 use Rattle.board_trace.specs.Trace.{IsTrace, Begins}
 use Rattle.board_trace.specs.inside.Stages.{Stage, Title, Over, IsOver, IsGood, IsWrong}
-use Rattle.board_trace.specs.Verdicts.{FirstWrong, Judges, verdict_text, Checks, conclusion, Concludes, Says}
+use Rattle.board_trace.specs.Verdicts.{FirstWrong, Judges, verdict_text, Checks}
+use Rattle.board_trace.specs.inside.Concluding.{conclusion, Concludes, Says}
 use Rattle.board_trace.specs.declared.check.Verdict.{Verdict}
 use Rattle.board_trace.specs.declared.check.Verdict.TheVariants as verdicts
 use Rattle.board_trace.specs.declared.check.CheckEnd.{CheckEnd}

@@ -4,7 +4,8 @@ use Rattle.board_text.specs.Streams.{ReadsUpTo}
 use Rattle.line_driver.specs.Driving.{most_of, ReadsNear, StopsNear as DriveStopsNear}
 use Rattle.line_driver.specs.declared.driving.End.{End}
 use Rattle.line_driver.specs.declared.driving.End.TheVariants as ends
-use Rattle.board_trace.specs.Verdicts.{conclusion, Concludes, Says, most_read, StopsNear}
+use Rattle.board_trace.specs.Verdicts.{most_read, StopsNear}
+use Rattle.board_trace.specs.inside.Concluding.{conclusion, Concludes, Says}
 use Rattle.board_trace.specs.declared.check.Verdict.{Verdict}
 use Rattle.board_trace.specs.declared.check.Verdict.TheVariants as verdicts
 use Rattle.board_trace.specs.declared.check.CheckEnd.{CheckEnd}

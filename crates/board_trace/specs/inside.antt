@@ -1,2 +1,3 @@
 -- How the fields stand for what the contracts speak of, and what they keep: nothing that a caller reads.
 pub mod Stages
+pub mod Concluding

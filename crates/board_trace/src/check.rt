@@ -1,7 +1,8 @@
 // The check of a trace.
 ghost use Rattle.std.specs.Prelude.{◌≡◌, ◌++◌, OnOk};
 ghost use Rattle.board_text.specs.Streams.{ReadsUpTo};
-ghost use Rattle.board_trace.specs.Verdicts.{Checks, conclusion, Concludes, Says, most_read, StopsNear, verdict_text};
+ghost use Rattle.board_trace.specs.Verdicts.{Checks, most_read, StopsNear, verdict_text};
+ghost use Rattle.board_trace.specs.inside.Concluding.{conclusion, Concludes, Says};
 
 use crate::judge::TraceJudge;
 use crate::stage::{Stage, entries_of};

@@ -21,7 +21,8 @@ use Rattle.board_threads.specs.Sweeps.{is_absorb}
 use Rattle.board_threads.specs.declared.script.Step.{Step}
 use Rattle.board_threads.specs.declared.script.Step.TheVariants.{Sweep}
 use Rattle.line_driver.specs.Judging.{Follows}
-use Rattle.crew_script.specs.Crew.{Section, InSetup, InActor, InLine, Crew, new_crew, over, finished, entries, IsGood}
+use Rattle.crew_script.specs.Crew.{Section, InSetup, InActor, InLine, Crew, new_crew, over, finished, entries}
+use Rattle.crew_script.specs.inside.Good.{IsGood}
 use Rattle.crew_script.specs.Reading.{Read, no_absorb, act_say, sweep_say, on_board, raise_say, step_of, step_say, line_say, with_entry, with_event, with_step, with_raise, section_line, with_actor, with_line, with_board, fields_say, line_adds}
 use Rattle.crew_script.proofs.Reading.{Good}
 

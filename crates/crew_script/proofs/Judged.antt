@@ -5,7 +5,7 @@ use Rattle.std.proofs.lemmas.Bool.{or_from}
 use Rattle.board_threads.specs.Crew.{lists}
 use Rattle.board_threads.specs.Judging.{IsSized, is_bad_step, is_bad_script, is_bad_raise, is_bad_line, has_bad_step}
 use Rattle.board_threads.specs.Sweeps.{is_absorb}
-use Rattle.crew_script.specs.Crew.{IsGood}
+use Rattle.crew_script.specs.inside.Good.{IsGood}
 use Rattle.crew_script.specs.inside.View.{crew_of}
 use Rattle.crew_script.specs.declared.held.CrewScript.{CrewScript}
 use Rattle.crew_script.proofs.Counting.{lengths}

@@ -5,7 +5,8 @@ use Rattle.std.proofs.KnownBytes.{Appends-trans}
 use Rattle.board_lines.specs.declared.fault.ScriptFault.{ScriptFault}
 use Rattle.crew_script.specs.Crew.{Crew, finished}
 use Rattle.crew_script.specs.Reading.{script_asks}
-use Rattle.crew_script.specs.Running.{Tells, Crews, IsSaid, Refusal, Report}
+use Rattle.crew_script.specs.Running.{IsOutput, Writes, Crews}
+use Rattle.crew_script.specs.inside.Reporting.{Refusal, Report}
 use Rattle.crew_script.specs.declared.running.CrewRun.{CrewRun}
 use Rattle.crew_script.specs.declared.running.CrewRun.TheVariants.{Done, Script, Unsettled, Memory, NoThread, Reading, Writing}
 
@@ -14,20 +15,20 @@ known None P Q step h = tt
 known (Some input) P Q step h = step input h
 
 -- What is said behind nothing is all that is written.
-module _ (tells : CrewRun → List ℕ → Type 0) (r0 w0 w w1 : Option (List ℕ)) (P : List ℕ → Type 0) (step : (input : List ℕ) → P input → (end : CrewRun) (text : List ℕ) → tells end text → Tells end input text) (read : IfSome r0 P) (first : Appends w0 w []) where
-  plain : (end : CrewRun) → (text : List ℕ) × tells end text × Appends w w1 text → (text : List ℕ) × IfSome r0 (λ input. Tells end input text) × Appends w0 w1 text
-  plain end h = (h.0, known r0 P (λ input. Tells end input h.0) (λ input p. step input p end h.0 h.1) read, Appends-trans w0 w w1 [] h.0 first h.2)
+module _ (tells : CrewRun → List ℕ → Type 0) (r0 w0 w w1 : Option (List ℕ)) (P : List ℕ → Type 0) (step : (input : List ℕ) → P input → (end : CrewRun) (text : List ℕ) → tells end text → IsOutput input end text) (read : IfSome r0 P) (first : Appends w0 w []) where
+  plain : (end : CrewRun) → (text : List ℕ) × tells end text × Appends w w1 text → (text : List ℕ) × IfSome r0 (λ input. IsOutput input end text) × Appends w0 w1 text
+  plain end h = (h.0, known r0 P (λ input. IsOutput input end h.0) (λ input p. step input p end h.0 h.1) read, Appends-trans w0 w w1 [] h.0 first h.2)
 
-  pub spoken : (end : CrewRun) → IsSaid end tells w w1 → Crews end r0 w0 w1
+  pub spoken : (end : CrewRun) → Writes tells end w w1 → Crews end r0 w0 w1
   spoken Done h = plain Done h
   spoken (Script line fault) h = plain (Script line fault) h
   spoken Unsettled h = plain Unsettled h
   spoken Memory h = plain Memory h
   spoken NoThread h = plain NoThread h
   spoken Reading h = plain Reading h
-  spoken Writing h = (h.0, h.1, h.2, known r0 P (λ input. Tells h.0 input (h.1 ++ h.2)) (λ input p. step input p h.0 (h.1 ++ h.2) h.3) read, Appends-trans w0 w w1 [] h.1 first h.4)
+  spoken Writing h = (h.0, h.1, h.2, known r0 P (λ input. IsOutput input h.0 (h.1 ++ h.2)) (λ input p. step input p h.0 (h.1 ++ h.2) h.3) read, Appends-trans w0 w w1 [] h.1 first h.4)
 
-pub tells-refusal : (line : ℕ) (fault : ScriptFault) (input : List ℕ) → script_asks input ≡ Err (line, fault) → (end : CrewRun) (text : List ℕ) → Refusal line fault end text → Tells end input text
+pub tells-refusal : (line : ℕ) (fault : ScriptFault) (input : List ℕ) → script_asks input ≡ Err (line, fault) → (end : CrewRun) (text : List ℕ) → Refusal line fault end text → IsOutput input end text
 tells-refusal line fault input is Done text h = absurd h
 tells-refusal line fault input is (Script l f) text h = rw (h.0, h.1) (is, h.2)
 tells-refusal line fault input is Unsettled text h = absurd h
@@ -36,8 +37,8 @@ tells-refusal line fault input is NoThread text h = absurd h
 tells-refusal line fault input is Reading text h = absurd h
 tells-refusal line fault input is Writing text h = absurd h
 
-pub tells-report : (last : Crew) (input : List ℕ) → script_asks input ≡ Ok (Some last) → (end : CrewRun) (text : List ℕ) → Report (finished last) end text → Tells end input text
-tells-report last input is Done text h = (finished last, h.0, (last, is, refl), h.1, h.2)
+pub tells-report : (last : Crew) (input : List ℕ) → script_asks input ≡ Ok (Some last) → (end : CrewRun) (text : List ℕ) → Report (finished last) end text → IsOutput input end text
+tells-report last input is Done text h = (finished last, (last, is, refl), h)
 tells-report last input is (Script l f) text h = absurd h
 tells-report last input is Unsettled text h = (finished last, (last, is, refl), h)
 tells-report last input is Memory text h = h

@@ -1,10 +1,7 @@
 -- What a crew script has asked for, up to some line.
-use Rattle.std.specs.Prelude.{◌≡◌, ℕ, ◌+◌, ◌*◌, ◌≤◌, List, [], ◌∷◌, ◌++◌, length, false}
-use Rattle.std.specs.List.{list_any, sum_by}
-use Rattle.synic_board.specs.State.{AreSizes}
+use Rattle.std.specs.Prelude.{ℕ, ◌+◌, ◌*◌, List, [], ◌∷◌, ◌++◌, length}
+use Rattle.std.specs.List.{sum_by}
 use Rattle.synic_board.specs.declared.event.Event.{Event}
-use Rattle.board_threads.specs.Judging.{is_bad_step, is_bad_raise}
-use Rattle.board_threads.specs.Sweeps.{is_absorb}
 use Rattle.board_threads.specs.declared.script.Step.{Step}
 
 -- where the next line stands: in the setup, in the script of an actor, or in that of a line, with its steps so far
@@ -37,16 +34,10 @@ over (InLine raises) crew = record crew { lines = crew.lines ++ raises ∷ []; s
 abbrev pub finished : Crew → Crew
 finished crew = over crew.section crew
 
--- how many entries its history has: the setup, the steps, and the last absorbs
+-- how many entries its history has, all sections being over: the setup, the steps, and the last absorbs
+abbrev pub entries_of : Crew → ℕ
+entries_of crew = length crew.setup + sum_by (λ (s : List Step). length s) crew.actors + 4 * crew.processors
+
+-- the same with the present section over
 abbrev pub entries : Crew → ℕ
 entries crew = length crew.setup + sum_by (λ (s : List Step). length s) (finished crew).actors + 4 * crew.processors
-
--- All sections being over, the sizes are within the limits, and each step is one of a crew.
-pub record IsGood (crew : Crew) : Type 0 where
-  pub board : AreSizes crew.processors crew.pages
-  pub few_actors : length crew.actors ≤ 15
-  pub few_lines : length crew.lines ≤ 16
-  pub few_entries : length crew.setup + sum_by (λ (s : List Step). length s) crew.actors + 4 * crew.processors ≤ 65536
-  pub no_bad_event : list_any is_absorb crew.setup ≡ false
-  pub no_bad_step : list_any (list_any is_bad_step) crew.actors ≡ false
-  pub no_bad_raise : list_any (list_any (is_bad_raise crew.processors)) crew.lines ≡ false

@@ -1,3 +1,5 @@
 -- How the fields stand for what the contracts speak of, and what they keep: nothing that a caller reads.
 pub mod View
 pub mod Telling
+pub mod Reporting
+pub mod Good

@@ -1,8 +1,10 @@
 // A crew script from a reader, the trace of its crew to a writer.
 ghost use Rattle.board_text.specs.Streams.{ReadsUpTo};
 ghost use Rattle.crew_script.specs.inside.View.{crew_of};
-ghost use Rattle.crew_script.specs.Crew.{finished, IsGood};
-ghost use Rattle.crew_script.specs.Running.{Crews, most_read, StopsNear, Refuses, Runs, Prepares};
+ghost use Rattle.crew_script.specs.Crew.{finished};
+ghost use Rattle.crew_script.specs.inside.Good.{IsGood};
+ghost use Rattle.crew_script.specs.Running.{Crews, most_read, StopsNear};
+ghost use Rattle.crew_script.specs.inside.Reporting.{Refuses, Runs, Prepares};
 ghost use Rattle.crew_script.specs.inside.Telling.{IsTold};
 ghost use Rattle.std.specs.Prelude.{◌≡◌, ◌≢◌, []};
 

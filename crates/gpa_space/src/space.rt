@@ -132,9 +132,19 @@ impl Space {
         }
     }
 
-    /// Stores bytes at an address in the page that a guest sees there, and tells whose it is. It is
+    /// Stores bytes at an address in the page that a guest sees there, and returns its owner. It is
     /// refused as a load is, and then changes nothing.
-    pub fn store(&mut self, address: u64, bytes: &[u8]) -> Result<Owner, Refusal>
+    #[inline]
+    pub fn store(&mut self, address: u64, bytes: &Bytes8) -> Result<Owner, Refusal>
+        ensures answer { result ≡ store_answer self.old address bytes.now.items }
+        ensures after { self.new ≡ after_store self.old address bytes.now.items }
+    {
+        self.store_slice(address, bytes.as_slice())
+    }
+
+    /// `store` of bytes that the caller has as a slice. No bytes, or more than 8, are refused with
+    /// `BadLength`.
+    pub fn store_slice(&mut self, address: u64, bytes: &[u8]) -> Result<Owner, Refusal>
         ensures answer { result ≡ store_answer self.old address bytes.now }
         ensures after { self.new ≡ after_store self.old address bytes.now }
     {

@@ -3,7 +3,7 @@ ghost use Rattle.std.specs.Prelude.{◌≡◌, ◌<◌, IfSome};
 ghost use Rattle.gpa_space.specs.Space.{processors_of};
 
 use crate::steps::{Other, Part, first_other};
-use board_terms::{Kind, Owner, Refusal, Sint, Vp};
+use board_terms::{Bytes8, Kind, Owner, Refusal, Sint, Vp};
 use gpa_space::Space;
 use std::alloc::{AllocError, Global};
 
@@ -100,7 +100,12 @@ impl Scene {
     }
 
     fn store(&mut self, address: u64, bytes: &[u8]) -> Answer {
-        match self.space.store(address, bytes) {
+        let mut few = Bytes8::new();
+        let stored = match few.try_extend_from_slice(bytes) {
+            Ok(()) => self.space.store(address, &few),
+            Err(_) => self.space.store_slice(address, bytes),
+        };
+        match stored {
             Ok(touched) => owner(touched),
             Err(refusal) => Refused(refusal),
         }

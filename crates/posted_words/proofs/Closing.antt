@@ -1,7 +1,8 @@
 -- The rule at the end, where one seat stands for all tokens.
-use Rattle.std.proofs.Common.{◌≡◌, ℕ, ◌+◌, ◌<◌, ◌≤◌, List, [], ◌∷◌, ◌++◌, length, All, sym, ap, ◌∙◌, subst, map, arith, length-append}
+use Rattle.std.proofs.Common.{◌≡◌, ℕ, ◌+◌, ◌<◌, ◌≤◌, Bool, false, List, [], ◌∷◌, ◌++◌, length, All, sym, ap, ◌∙◌, subst, map, arith, length-append}
 use Rattle.std.specs.Prelude.{slice_index, sum_by}
 use Rattle.std.specs.Int.{bit_at}
+use Rattle.std.proofs.lemmas.Bool.Decides.{nat_tests}
 use Rattle.std.proofs.lemmas.List.Elements.{All-append, All-head, All-tail, All-take, All-drop, All-weaker}
 use Rattle.std.proofs.lemmas.List.Sums.{sum_by-cons, sum_by-append}
 use Rattle.std.proofs.Math.Seq.{take-append_seam, drop-append_seam}
@@ -11,7 +12,8 @@ use native.Mathlib.Decide.{ℕ_discrete}
 use Rattle.atomic_table.specs.Table.{Final, Seen}
 use Rattle.posted_words.specs.declared.rule.Did.{Did}
 use Rattle.posted_words.specs.declared.rule.View.{View}
-use Rattle.posted_words.specs.Did.{times_raised, fresh, times_taken}
+use Rattle.posted_words.specs.declared.rule.Did.TheVariants.{Raise, Sweep}
+use Rattle.posted_words.specs.Did.{raises_at, times_raised, fresh, times_taken, one_if}
 use Rattle.posted_words.specs.Settled.{all_fresh, all_taken, Bounded, Settled}
 use Rattle.posted_words.specs.inside.Posted.{view_of, views_fresh, views_taken, IsIdle, IsBounded, Posted}
 use Rattle.posted_words.specs.Words.{Token, did_of}
@@ -70,12 +72,34 @@ gathered key n tokens id seat v words slots sweepers lines m is final first last
     let all : Settled n (map did_of lines ++ map did_of sweepers) words = subst (λ (z : ℕ × List (List Did)). Settled z.0 z.1 words) (λ i. ((is i).0, logs i)) (closes key id v words slots final parts) in
     subst (λ ls. Settled n ls words) (sym (map-append did_of sweepers lines)) (Settled-append_comm n (map did_of lines) (map did_of sweepers) words all)
 
+-- a log has a raise of the bit
+HasRaise : ℕ → ℕ → List Did → Type 0
+HasRaise w b ds = (later before : List Did) × (g : Bool) × (ds ≡ later ++ Raise w b g ∷ before)
+
+before-it : (d : Did) (w b : ℕ) (ds : List Did) → HasRaise w b ds → HasRaise w b (d ∷ ds)
+before-it d w b ds r = (d ∷ r.0, r.1, r.2, ap (λ (l : List Did). d ∷ l) r.3)
+
+-- a bit that a token raised, it raised at some step
+raise-found : (w b : ℕ) (ds : List Did) → 0 < times_raised w b ds → HasRaise w b ds
+raise-found w b [] some = absurd (omega arith)
+raise-found w b (Sweep word bits ∷ ds) some = before-it (Sweep word bits) w b ds (raise-found w b ds (omega (arith, some)))
+raise-found w b (Raise word bit g ∷ ds) some =
+    let later = λ (none : raises_at w b (Raise word bit g) ≡ false).
+        let zero : one_if (raises_at w b (Raise word bit g)) ≡ 0 = ap one_if none in
+        let r = raise-found w b ds (omega (arith, some, zero)) in
+        before-it (Raise word bit g) w b ds r in
+    dite (ℕ_discrete w word)
+    (λ p. dite (ℕ_discrete b bit) (λ q. ([], ds, g, (λ i. Raise (sym p i) (sym q i) g ∷ ds))) (λ q. later (grind (arith, nat_tests))))
+    (λ p. later (grind (arith, nat_tests)))
+
 -- where a token raised a bit at all, some raise of that bit was fresh
+pub fresh-once : (F T : ℕ → ℕ → ℕ) (w b : ℕ) (ds : List Did) → Bounded F T ds → 0 < times_raised w b ds → 0 < F w b
+fresh-once F T w b ds here some = let r = raise-found w b ds some in let p = here.raises w b r.0 r.1 r.2 r.3 in omega (arith, p)
+
 pub some_fresh : (F T : ℕ → ℕ → ℕ) (w b : ℕ) (logs : List (List Did)) → All (Bounded F T) logs → 0 < sum_by (times_raised w b) logs → 0 < F w b
 some_fresh F T w b [] all some = absurd (omega arith)
 some_fresh F T w b (ds ∷ logs) all some =
     let sum = sum_by-cons (times_raised w b) ds logs in
-    let here = All-head (Bounded F T) ds logs all in
     dite (ℕ_discrete (times_raised w b ds) 0)
     (λ none. some_fresh F T w b logs (All-tail (Bounded F T) ds logs all) (omega (arith, sum, none, some)))
-    (λ did. let p = here.raises w b (omega (arith, did)) in omega (arith, p))
+    (λ did. fresh-once F T w b ds (All-head (Bounded F T) ds logs all) (omega (arith, did)))

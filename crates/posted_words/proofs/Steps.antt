@@ -1,5 +1,5 @@
 -- A raise and a sweep keep the rule.
-use Rattle.std.proofs.Common.{◌≡◌, ℕ, ◌+◌, ◌<◌, ◌≤◌, Bool, List, [], ◌∷◌, length, set, refl, sym, ap, ◌∙◌, subst, ⊎_elim, arith, length-set}
+use Rattle.std.proofs.Common.{◌≡◌, ℕ, ◌+◌, ◌<◌, ◌≤◌, Bool, List, [], ◌∷◌, ◌++◌, length, set, refl, sym, ap, ◌∙◌, subst, ⊎_elim, arith, length-set}
 use Rattle.std.specs.Prelude.{◌==◌, if◌then◌else◌, bit_or, slice_index}
 use Rattle.std.specs.Int.{bit_at}
 use Rattle.std.proofs.lemmas.Bool.Decides.{nat_tests}
@@ -12,7 +12,7 @@ use Rattle.atomic_table.specs.Table.{State, Me, step, keeps, Allows}
 use Rattle.posted_words.specs.declared.rule.Did.{Did}
 use Rattle.posted_words.specs.declared.rule.Did.TheVariants.{Raise, Sweep}
 use Rattle.posted_words.specs.declared.rule.View.{View}
-use Rattle.posted_words.specs.Did.{raises_at, is_fresh_at, takes_at, swept, times_taken, taken_then, fresh, fresh_then, one_if}
+use Rattle.posted_words.specs.Did.{is_fresh_at, takes_at, times_taken, fresh, one_if}
 use Rattle.posted_words.specs.Settled.{all_fresh, all_taken, Bounded}
 use Rattle.posted_words.specs.inside.Posted.{view_of, views_fresh, views_taken, IsIdle, IsBounded, Posted, mask_of, raised_as, swept_as}
 use Rattle.posted_words.proofs.Lists.{All-found, sum_by-set_found, found-le-sum_by}
@@ -20,11 +20,27 @@ use Rattle.posted_words.proofs.Bits.{same_bit, raised_stands, raised-bit, mask_o
 
 -- a token did nothing yet
 pub Bounded-nil : (F T : ℕ → ℕ → ℕ) → Bounded F T []
-Bounded-nil F T = record { raises = λ w b r. absurd (omega arith); sweeps = λ w b r. absurd (omega arith) }
+Bounded-nil F T = record { raises = λ w b later before f is. absurd (none later (Raise w b f) before is); sweeps = λ w b bits later before is. absurd (none later (Sweep w bits) before is) }
+  where
+    none : (later : List Did) (d : Did) (before : List Did) → [] ≡ later ++ d ∷ before → ⊥
+    none [] d before is = cc
+    none (x ∷ later) d before is = cc
 
 -- lower bounds last while what all tokens did grows
 pub Bounded-more : (F T F' T' : ℕ → ℕ → ℕ) (ds : List Did) → ((w b : ℕ) → F w b ≤ F' w b) → ((w b : ℕ) → T w b ≤ T' w b) → Bounded F T ds → Bounded F' T' ds
-Bounded-more F T F' T' ds f t h = record { raises = λ w b r. (let p = h.raises w b r in let q = f w b in omega arith); sweeps = λ w b r. (let p = h.sweeps w b r in let q = t w b in omega arith) }
+Bounded-more F T F' T' ds f t h = record { raises = λ w b later before g is. (let p = h.raises w b later before g is in let q = f w b in omega arith); sweeps = λ w b bits later before is. (let p = h.sweeps w b bits later before is in let q = t w b in omega arith) }
+
+-- One step more: it is bounded by itself, and those before it as they were.
+Bounded-cons : (F T : ℕ → ℕ → ℕ) (d : Did) (ds : List Did) → ((w b : ℕ) (g : Bool) → d ≡ Raise w b g → times_taken w b ds + 1 ≤ F w b) → ((w b bits : ℕ) → d ≡ Sweep w bits → fresh w b ds ≤ T w b) → Bounded F T ds → Bounded F T (d ∷ ds)
+Bounded-cons F T d ds raise sweep h = record { raises = raised; sweeps = swept }
+  where
+    raised : (w b : ℕ) (later before : List Did) (g : Bool) → d ∷ ds ≡ later ++ Raise w b g ∷ before → times_taken w b before + 1 ≤ F w b
+    raised w b [] before g is = let here : d ≡ Raise w b g = cc in let rest : ds ≡ before = cc in subst (λ (l : List Did). times_taken w b l + 1 ≤ F w b) rest (raise w b g here)
+    raised w b (x ∷ later) before g is = let rest : ds ≡ later ++ Raise w b g ∷ before = cc in h.raises w b later before g rest
+
+    swept : (w b bits : ℕ) (later before : List Did) → d ∷ ds ≡ later ++ Sweep w bits ∷ before → fresh w b before ≤ T w b
+    swept w b bits [] before is = let here : d ≡ Sweep w bits = cc in let rest : ds ≡ before = cc in subst (λ (l : List Did). fresh w b l ≤ T w b) rest (sweep w b bits here)
+    swept w b bits (x ∷ later) before is = let rest : ds ≡ later ++ Sweep w bits ∷ before = cc in h.sweeps w b bits later before rest
 
 pub IsBounded-more : (F T F' T' : ℕ → ℕ → ℕ) (v : View) → ((w b : ℕ) → F w b ≤ F' w b) → ((w b : ℕ) → T w b ≤ T' w b) → IsBounded F T v → IsBounded F' T' v
 IsBounded-more F T F' T' v f t = All-weaker (Bounded F T) (Bounded F' T') (λ ds. Bounded-more F T F' T' ds f t) v.logs
@@ -84,24 +100,18 @@ raises key slots id w k ds in_words small s h _ at _ =
     let T : (x b : ℕ) → views_taken views x b ≡ views_taken s.views x b = λ x b. (let e = sum_by-set_found (taken_of x b) s.views id (own ds) u at in omega arith) in
     let even : (x b : ℕ) → x < key.0 → views_fresh views x b ≡ views_taken views x b + bit_at (slice_index words x) b = λ x b lt. (let p = F x b in let q = T x b in let r = raised-bit s.words w k x b n wide refl small in let e = h.even x b lt in omega (arith, p, q, r, e)) in
     let before : Bounded (views_fresh s.views) (views_taken s.views) ds = own_bounded (views_fresh s.views) (views_taken s.views) ds (All-found (IsBounded (views_fresh s.views) (views_taken s.views)) s.views id (own ds) at h.bounded) in
-    let mine : Bounded (views_fresh views) (views_taken views) (d ∷ ds) = record {
-      raises = λ x b r. ⊎_elim
-          (λ t.
-          let e = even x b (omega (arith, t.0)) in
-          let q = T x b in
-          let o = found-le-sum_by (taken_of x b) s.views id (own ds) at in
-          let stands : bit_at (slice_index words x) b ≡ 1 = raised_stands s.words w k x b n wide small t.0 t.1 in
-          let marked : taken_then x b (d ∷ ds) ≡ times_taken x b ds = ap (λ (c : Bool). if c then times_taken x b ds else taken_then x b ds) t.2 in
-          omega (arith, e, q, o, stands, marked))
-          (λ t.
-          let marked : taken_then x b (d ∷ ds) ≡ taken_then x b ds = ap (λ (c : Bool). if c then times_taken x b ds else taken_then x b ds) t.1 in
-          let none_here : one_if (raises_at x b d) ≡ 0 = ap one_if t.1 in
-          let p = before.raises x b (omega (arith, none_here, r)) in
-          let q = F x b in
-          omega (arith, marked, p, q))
-          (same_bit x w b k);
-      sweeps = λ x b r. (let p = before.sweeps x b (omega arith) in let q = T x b in omega arith);
-    } in (
+    let mine : Bounded (views_fresh views) (views_taken views) (d ∷ ds) =
+    Bounded-cons (views_fresh views) (views_taken views) d ds
+    (λ x b g is.
+        let word : x ≡ w = cc in
+        let bit : b ≡ k = cc in
+        let e = even x b (omega (arith, word)) in
+        let q = T x b in
+        let o = found-le-sum_by (taken_of x b) s.views id (own ds) at in
+        let stands : bit_at (slice_index words x) b ≡ 1 = raised_stands s.words w k x b n wide small word bit in
+        omega (arith, e, q, o, stands))
+    (λ x b bits is. absurd (cc))
+    (Bounded-more (views_fresh s.views) (views_taken s.views) (views_fresh views) (views_taken views) ds (λ x b. (let q = F x b in omega arith)) (λ x b. (let q = T x b in omega arith)) before) in (
       u,
       keeps,
       tt,
@@ -123,23 +133,17 @@ sweeps key slots id w ds in_words s h _ at _ =
     let T : (x b : ℕ) → views_taken views x b ≡ views_taken s.views x b + takes_at x b d = λ x b. (let e = sum_by-set_found (taken_of x b) s.views id (own ds) u at in omega arith) in
     let even : (x b : ℕ) → x < key.0 → views_fresh views x b ≡ views_taken views x b + bit_at (slice_index words x) b = λ x b lt. (let p = F x b in let q = T x b in let r = swept-bit s.words w x b n wide refl in let e = h.even x b lt in omega (arith, p, q, r, e)) in
     let before : Bounded (views_fresh s.views) (views_taken s.views) ds = own_bounded (views_fresh s.views) (views_taken s.views) ds (All-found (IsBounded (views_fresh s.views) (views_taken s.views)) s.views id (own ds) at h.bounded) in
-    let mine : Bounded (views_fresh views) (views_taken views) (d ∷ ds) = record {
-      raises = λ x b r. (let p = before.raises x b (omega arith) in let q = F x b in omega arith);
-      sweeps = λ x b r. dite (ℕ_discrete x w)
-          (λ t.
-          let e = even x b (omega (arith, t)) in
-          let q = F x b in
-          let o = found-le-sum_by (fresh_of x b) s.views id (own ds) at in
-          let gone : bit_at (slice_index words x) b ≡ 0 = swept_is_clear s.words w x b wide t in
-          let marked : fresh_then x b (d ∷ ds) ≡ fresh x b ds = grind (arith, nat_tests) in
-          omega (arith, e, q, o, gone, marked))
-          (λ t.
-          let marked : fresh_then x b (d ∷ ds) ≡ fresh_then x b ds = grind (arith, nat_tests) in
-          let was : swept x (d ∷ ds) ≡ swept x ds = grind (arith, nat_tests) in
-          let p = before.sweeps x b (omega (arith, was, r)) in
-          let q = T x b in
-          omega (arith, marked, p, q));
-    } in (
+    let mine : Bounded (views_fresh views) (views_taken views) (d ∷ ds) =
+    Bounded-cons (views_fresh views) (views_taken views) d ds
+    (λ x b g is. absurd (cc))
+    (λ x b bits is.
+        let word : x ≡ w = cc in
+        let e = even x b (omega (arith, word)) in
+        let q = F x b in
+        let o = found-le-sum_by (fresh_of x b) s.views id (own ds) at in
+        let gone : bit_at (slice_index words x) b ≡ 0 = swept_is_clear s.words w x b wide word in
+        omega (arith, e, q, o, gone))
+    (Bounded-more (views_fresh s.views) (views_taken s.views) (views_fresh views) (views_taken views) ds (λ x b. (let q = F x b in omega arith)) (λ x b. (let q = T x b in omega arith)) before) in (
       u,
       keeps,
       tt,

@@ -17,11 +17,6 @@ abbrev pub is_fresh_at : ℕ → ℕ → Did → Bool
 is_fresh_at w b (Raise word bit fresh) = ((w == word) && (b == bit)) && fresh
 is_fresh_at w b (Sweep word bits) = false
 
--- whether it swept the word w
-abbrev pub sweeps_at : ℕ → Did → Bool
-sweeps_at w (Raise word bit fresh) = false
-sweeps_at w (Sweep word bits) = w == word
-
 -- 1 if it took the bit b of the word w, and 0 if not
 abbrev pub takes_at : ℕ → ℕ → Did → ℕ
 takes_at w b (Raise word bit fresh) = 0
@@ -37,22 +32,7 @@ abbrev pub fresh : ℕ → ℕ → List Did → ℕ
 fresh w b [] = 0
 fresh w b (d ∷ ds) = one_if (is_fresh_at w b d) + fresh w b ds
 
--- how often it swept the word w
-abbrev pub swept : ℕ → List Did → ℕ
-swept w [] = 0
-swept w (d ∷ ds) = one_if (sweeps_at w d) + swept w ds
-
 -- how often it took the bit b of the word w
 abbrev pub times_taken : ℕ → ℕ → List Did → ℕ
 times_taken w b [] = 0
 times_taken w b (d ∷ ds) = takes_at w b d + times_taken w b ds
-
--- how often it had taken the bit at its last raise of it
-abbrev pub taken_then : ℕ → ℕ → List Did → ℕ
-taken_then w b [] = 0
-taken_then w b (d ∷ ds) = if raises_at w b d then times_taken w b ds else taken_then w b ds
-
--- how often it had been answered Fresh there at its last sweep of the word
-abbrev pub fresh_then : ℕ → ℕ → List Did → ℕ
-fresh_then w b [] = 0
-fresh_then w b (d ∷ ds) = if sweeps_at w d then fresh w b ds else fresh_then w b ds

@@ -41,11 +41,6 @@ with_last_step t d = token t.of (d ∷ t.did)
 abbrev pub did_of : Token → List Did
 did_of t = t.did
 
--- the log of a token that stands for itself alone
-abbrev pub first_log : List (List Did) → List Did
-first_log [] = []
-first_log (log ∷ logs) = log
-
 -- a processor has four words, its parts 0 to 3
 abbrev pub word_of : ℕ → ℕ → ℕ
 word_of vp part = 4 * vp + part

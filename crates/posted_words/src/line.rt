@@ -28,7 +28,8 @@ pub type Sweeper = Line;
 
 impl Model for Line {
     ghost use Rattle.std.specs.Prelude.{◌≡◌, [], ◌∷◌};
-    ghost use Rattle.posted_words.specs.Words.{Token, token, first_log};
+    ghost use Rattle.posted_words.specs.Words.{Token, token};
+    ghost use Rattle.posted_words.specs.inside.Posted.{first_log};
     ghost use Rattle.posted_words.specs.inside.Posted.{view_of};
 
     ghost Value = { Token };

@@ -1,6 +1,7 @@
 // One timer: its registers, when it is due, and how it expires.
 ghost use Rattle.std.specs.Prelude.{◌≡◌, true, ◌+◌, ◌*◌, ◌^◌, ◌-◌, ◌<◌, ◌≤◌, Option, Some, None, IsSome, IsTrue};
-ghost use Rattle.stimer_bank.specs.Timer.{is_periodic, started, after_config, after_count, is_due, IsSoundTimer, IsRuled, mode_of, expired, once, catching_up, lazily, late, expiry_of, after_expiry};
+ghost use Rattle.stimer_bank.specs.Timer.{is_periodic, started, after_config, after_count, is_due, mode_of, expired, once, catching_up, lazily, late, expiry_of, after_expiry};
+ghost use Rattle.stimer_bank.specs.inside.Sound.{IsSoundTimer, IsRuled};
 ghost use Rattle.stimer_bank.specs.Bank.{idle_timer};
 
 use crate::config::ConfigWord;

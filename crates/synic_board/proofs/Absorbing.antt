@@ -5,7 +5,8 @@ use Rattle.std.specs.Int.{bit_at}
 use Rattle.std.proofs.lemmas.Nat.Bits.{bit_at-zero}
 use Rattle.board_terms.specs.declared.notices.Notice.{Notice}
 use Rattle.synic_board.specs.State.{State}
-use Rattle.synic_board.specs.Effects.{nothing, preceded}
+use Rattle.synic_board.specs.Effects.{nothing}
+use Rattle.synic_board.specs.inside.Effected.{preceded}
 use Rattle.synic_board.specs.Interrupts.{requested}
 use Rattle.synic_board.specs.Absorbing.{absorbed_bit, absorbed_below}
 use Rattle.synic_board.proofs.Words.{IsNext, bit_at-left}

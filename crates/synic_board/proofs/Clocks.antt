@@ -17,7 +17,8 @@ use Rattle.synic_board.specs.declared.event.Reply.TheVariants.{Done}
 use Rattle.synic_board.specs.State.{State, bank_of}
 use Rattle.synic_board.specs.Effects.{answered, unchanged, refused}
 use Rattle.synic_board.specs.Scratch.{Values}
-use Rattle.synic_board.specs.Timers.{is_any_due, at_moment, attempted_all, ticked}
+use Rattle.synic_board.specs.Timers.{at_moment, attempted_all, ticked}
+use Rattle.synic_board.specs.inside.Steps.{is_any_due}
 
 -- the timers of processors that are not on the board stay idle
 pub idle-written : (b now : Bank) (t : ℕ × ℕ) (x : Timer) (m : ℕ) → now ≡ with_timer b t x → number_of t < 4 * m → ((k : ℕ) → 4 * m ≤ k → get_or (dues b) k None ≡ None) → (k : ℕ) → 4 * m ≤ k → get_or (dues now) k None ≡ None

@@ -14,7 +14,8 @@ use Rattle.board_terms.specs.declared.notices.Notice.TheVariants.{Withdrawn}
 use Rattle.board_terms.specs.Sources.{source_number}
 use Rattle.message_queues.specs.Queues.{queue_of}
 use Rattle.synic_board.specs.State.{State, processors, slot_of}
-use Rattle.synic_board.specs.Effects.{Effect, nothing, preceded}
+use Rattle.synic_board.specs.Effects.{Effect, nothing}
+use Rattle.synic_board.specs.inside.Effected.{preceded}
 use Rattle.synic_board.specs.Resetting.{withdrawn_ticket, slot_emptied, queue_emptied, source_emptied, emptied_below}
 use Rattle.synic_board.proofs.Folds.{IsFold, fold_none, fold_more, chained}
 

@@ -3,7 +3,8 @@ use Rattle.std.proofs.Common.{◌≡◌, ℕ, ◌+◌, ◌-◌, ◌<◌, ◌≤�
 use Rattle.std.proofs.lemmas.List.{take_more, take_all}
 use Rattle.board_terms.specs.declared.notices.Notice.{Notice}
 use Rattle.synic_board.specs.State.{State}
-use Rattle.synic_board.specs.Effects.{Effect, nothing, after, preceded}
+use Rattle.synic_board.specs.Effects.{Effect, nothing, after}
+use Rattle.synic_board.specs.inside.Effected.{preceded}
 use Rattle.message_queues.specs.Queues.{queue_of}
 use Rattle.synic_board.specs.Delivery.{delivers, tried, tried_below}
 use Rattle.synic_board.specs.Stores.{consumed, consumed_below}

@@ -11,7 +11,7 @@ use Rattle.board_terms.specs.Sources.{source_number}
 use Rattle.message_queues.specs.Queues.{Queues, queue_of, after_place}
 use Rattle.message_queues.specs.Image.{image}
 use Rattle.synic_board.specs.State.{State, space_of}
-use Rattle.synic_board.specs.Effects.{preceded}
+use Rattle.synic_board.specs.inside.Effected.{preceded}
 use Rattle.synic_board.specs.Delivery.{placed_head, placed_notices, placed}
 
 headed : (q : List Message) (m : Message) → slice_get q 0 ≡ Some m → q ≡ m ∷ drop 1 q

@@ -10,8 +10,10 @@ use Rattle.gpa_space.specs.Space.{Space, refusal_of, owner_of, visible, lies_at,
 use Rattle.synic_board.specs.State.{State, processors, space_of, with_space}
 use Rattle.board_terms.specs.declared.notices.Notice.{Notice}
 use Rattle.synic_board.specs.declared.event.Reply.TheVariants.{Done}
-use Rattle.synic_board.specs.Effects.{preceded, answered, refused}
-use Rattle.synic_board.specs.Stores.{IsOn, consumed_in, with_bytes, stored_bytes}
+use Rattle.synic_board.specs.Effects.{answered, refused}
+use Rattle.synic_board.specs.inside.Effected.{preceded}
+use Rattle.synic_board.specs.Stores.{consumed_in, with_bytes, stored_bytes}
+use Rattle.synic_board.specs.inside.Steps.{IsOn}
 
 -- a store that is answered by an owner was not refused, and touches the visible page
 pub store_is_good : (s : Space) (address : ℕ) (bytes : List ℕ) (owner : Owner) → Ok owner ≡ store_answer s address bytes → (refusal_of s address (length bytes) ≡ None) × (owner ≡ owner_of s (address / 4096))

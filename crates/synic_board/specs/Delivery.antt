@@ -1,8 +1,7 @@
 -- Delivery attempts: a queued message goes into the slot of its source (TLFS, "Message Delivery").
 use Rattle.std.specs.Prelude.{ℕ, zero, suc, ◌==◌, ◌&&◌, ◌+◌, Bool, nat_lt, List, [], ◌∷◌, length, Some, if◌then◌else◌}
-use Rattle.board_terms.specs.Quantities.{Processor, Source, PortNumber, Ticket}
+use Rattle.board_terms.specs.Quantities.{Processor, Source, Ticket}
 use Rattle.board_terms.specs.declared.messages.Message.{Message}
-use Rattle.board_terms.specs.declared.messages.Message.TheVariants.{FromPort}
 use Rattle.board_terms.specs.Messages.{ticket_of}
 use Rattle.board_terms.specs.declared.notices.Notice.{Notice}
 use Rattle.board_terms.specs.declared.notices.Notice.TheVariants.{Accepted, Placed, Pending}
@@ -23,10 +22,20 @@ delivers s p = has (regs_of s p).control enable && has (regs_of s p).sim enable
 abbrev pub is_slot_empty : State → Processor → Source → Bool
 is_slot_empty s p i = slot_type (own_page (space_of s) p Sim) i == 0
 
--- the head of the queue is placed in the slot, with the rest left behind
+-- the slot of a source with the image of a message, which has MessagePending set if more are queued
+abbrev pub with_image : State → Processor → Source → Message → Bool → State
+with_image s p i m more = with_space s (after_slot (space_of s) p i (image m more s.moment))
+
+-- the queue of a source replaced
+abbrev pub with_messages : State → Processor → Source → List Message → State
+with_messages s p i messages = record s { queues = with_queue s.queues p i messages }
+
+-- the head of the queue is placed: its image is in the slot, the rest stays queued, and the slot holds its ticket
 abbrev pub placed_state : State → Processor → Source → Message → List Message → State
 placed_state s p i m rest =
-    with_slot_ticket (record (with_space s (after_slot (space_of s) p i (image m (nat_lt 0 (length rest)) s.moment))) { queues = with_queue s.queues p i rest }) p i (Some (ticket_of m))
+    let imaged = with_image s p i m (nat_lt 0 (length rest)) in
+    let queued = with_messages imaged p i rest in
+    with_slot_ticket queued p i (Some (ticket_of m))
 
 abbrev pub placed_notices : Ticket → Processor → Source → Bool → List Notice
 placed_notices ticket p i pending = Placed ticket p i ∷ (if pending then Pending p i ∷ [] else [])
@@ -61,7 +70,3 @@ accepted s p i m = (record s { queues = joined s.queues p i m; next_ticket = s.n
 -- accepted, then tried
 abbrev pub delivered : State → Processor → Source → Message → Effect
 delivered s p i m = after (accepted s p i m) (tried (accepted s p i m).0 p i)
-
--- the message of a post, with the next ticket
-abbrev pub posted_message : State → PortNumber → ℕ → List ℕ → Message
-posted_message s port kind payload = FromPort s.next_ticket port kind (record { items = payload })

@@ -20,10 +20,6 @@ nothing s = (s, [])
 abbrev pub after : Effect → Effect → Effect
 after e f = (f.0, e.1 ++ f.1)
 
--- an effect whose notices stand behind others
-abbrev pub preceded : List Notice → Effect → Effect
-preceded before e = (e.0, before ++ e.1)
-
 -- the state after an event, the reply and the notices
 abbrev pub Outcome : Type 0
 Outcome = State × Reply × List Notice

@@ -35,7 +35,11 @@ emptied_below s p (suc i) = after (emptied_below s p i) (source_emptied (emptied
 
 -- the local APIC, the registers, both own pages and the timers are those of a processor that was just opened; ports, guest pages and the clock stay
 abbrev pub cleared : State → Processor → State
-cleared s p = with_bank (with_space (with_regs (with_apic s p empty_apic) p reset_regs) (after_clearing (space_of s) p)) (bank_reset (bank_of s) p)
+cleared s p =
+    let apic = with_apic s p empty_apic in
+    let regs = with_regs apic p reset_regs in
+    let pages = with_space regs (after_clearing (space_of s) p) in
+    with_bank pages (bank_reset (bank_of s) p)
 
 abbrev pub emptied : State → Processor → Effect
 emptied s p = emptied_below s p 16

@@ -1,5 +1,5 @@
 -- Guest loads and stores, and the messages that a store consumes.
-use Rattle.std.specs.Prelude.{ℕ, zero, suc, ◌/◌, ◌<◌, List, [], ◌∷◌, length, Option, None, Some, Result, Ok, Err, if◌then◌else◌}
+use Rattle.std.specs.Prelude.{ℕ, zero, suc, ◌/◌, List, [], ◌∷◌, length, Option, None, Some, Result, Ok, Err, if◌then◌else◌}
 use Rattle.std.specs.Option.{option_map_or}
 use Rattle.board_terms.specs.Quantities.{Processor, Source, Ticket, Address}
 use Rattle.arrayvec.specs.ArrayVec.{ArrayVec}
@@ -10,7 +10,7 @@ use Rattle.board_terms.specs.declared.pages.Owner.TheVariants.{Guest, Sim, Sief,
 use Rattle.gpa_space.specs.Space.{refusal_of, loaded, owner_of, after_store}
 use Rattle.synic_board.specs.declared.event.Reply.{Reply}
 use Rattle.synic_board.specs.declared.event.Reply.TheVariants.{Done, Bytes, Refused}
-use Rattle.synic_board.specs.State.{State, processors, space_of, with_space, slot_of, with_slot_ticket}
+use Rattle.synic_board.specs.State.{State, space_of, with_space, slot_of, with_slot_ticket}
 use Rattle.synic_board.specs.Effects.{Effect, Outcome, nothing, after, answered, refused}
 use Rattle.synic_board.specs.Delivery.{is_slot_empty}
 
@@ -33,13 +33,6 @@ consumed_in s Guest = nothing s
 consumed_in s (Sim p) = consumed_below s p 16
 consumed_in s (Sief p) = nothing s
 consumed_in s Nothing = nothing s
-
--- an owner whose processor is on the board
-abbrev pub IsOn : State → Owner → Type 0
-IsOn s Guest = Unit {0}
-IsOn s (Sim p) = p < processors s
-IsOn s (Sief p) = p < processors s
-IsOn s Nothing = Unit {0}
 
 -- the bytes are stored in what is visible
 abbrev pub with_bytes : State → Address → List ℕ → State

@@ -1,5 +1,5 @@
 -- Timers that are written, that are tried, and the clock (TLFS, "Synthetic Timers"; the rules on late and lazy timers are this profile's).
-use Rattle.std.specs.Prelude.{ℕ, Bool, true, false, ◌==◌, ◌&&◌, ◌<◌, nat_lt, nat_le, List, [], ◌∷◌, ◌++◌, length, slice_index_or, Option, if◌then◌else◌}
+use Rattle.std.specs.Prelude.{ℕ, Bool, true, ◌==◌, ◌&&◌, nat_lt, List, [], ◌∷◌, ◌++◌, Option, if◌then◌else◌}
 use Rattle.std.specs.Option.{option_map_or}
 use Rattle.board_terms.specs.Quantities.{TimerId, Moment}
 use Rattle.board_terms.specs.declared.messages.Message.TheVariants.{FromTimer}
@@ -14,7 +14,7 @@ use Rattle.stimer_bank.specs.declared.timer.Mode.TheVariants.{Direct, Posted}
 use Rattle.stimer_bank.specs.Timer.{mode_of}
 use Rattle.stimer_bank.specs.Bank.{Bank, timer_in, is_due_in, dues, after_expiry_of, due_list}
 use Rattle.synic_board.specs.declared.event.Reply.TheVariants.{Done}
-use Rattle.synic_board.specs.State.{State, processors, regs_of, bank_of, with_bank}
+use Rattle.synic_board.specs.State.{State, regs_of, bank_of, with_bank}
 use Rattle.synic_board.specs.Effects.{Effect, Outcome, nothing, after, answered, unchanged, refused}
 use Rattle.synic_board.specs.Interrupts.{requested}
 use Rattle.synic_board.specs.Delivery.{delivered}
@@ -58,8 +58,12 @@ expired_state s t = with_bank s (after_expiry_of (bank_of s) t s.moment).0
 abbrev pub expiry_at : State → TimerId → Expiry
 expiry_at s t = (after_expiry_of (bank_of s) t s.moment).1
 
+-- it is written, with the notices of its expiry and of what it skipped; then it signals
 abbrev pub fired : State → TimerId → Mode → Effect
-fired s t mode = after (expired_state s t, expiry_notices t (expiry_at s t).signal (expiry_at s t).skipped) (signalled_by (expired_state s t) t mode (expiry_at s t).signal)
+fired s t mode =
+    let expiry = expiry_at s t in
+    let expired = expired_state s t in
+    after (expired, expiry_notices t expiry.signal expiry.skipped) (signalled_by expired t mode expiry.signal)
 
 -- a timer is tried: one that is not ready stays as it is
 unfoldable pub attempted : State → TimerId → Effect
@@ -70,17 +74,9 @@ unfoldable pub attempted_all : State → List TimerId → Effect
 attempted_all s [] = nothing s
 attempted_all s (t ∷ ts) = after (attempted s t) (attempted_all (attempted s t).0 ts)
 
--- timers of processors on the board
-abbrev pub AllOn : State → List TimerId → Type 0
-AllOn s ts = (k : ℕ) → k < length ts → (slice_index_or ts k (0, 0)).0 < processors s
-
 -- a timer that is written is tried once, if it is due then
 abbrev pub written_timer : State → Bank → TimerId → Outcome
 written_timer s b t = answered Done (attempted (with_bank s b) t)
-
--- the earliest timer is due at the moment, so that some timer is
-abbrev pub is_any_due : Option (Moment × TimerId) → Moment → Bool
-is_any_due first moment = option_map_or (λ e. nat_le e.0 moment) first false
 
 -- the clock goes on, and the timers that are due then are tried in the order of (due, processor, index)
 abbrev pub at_moment : State → Moment → State

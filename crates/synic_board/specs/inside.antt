@@ -8,3 +8,5 @@ pub mod Progress
 pub mod Touches
 pub mod View
 pub mod AtOnce
+pub mod Buffers
+pub mod Steps

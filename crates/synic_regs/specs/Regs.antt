@@ -1,6 +1,6 @@
 -- What the registers of the synthetic interrupt controller store (TLFS, "SCONTROL Register", "SIEFP
 -- Register", "SIMP Register" and "SINTx Registers").
-use Rattle.std.specs.Prelude.{ℕ, Bool, true, false, ◌<◌, ◌==◌, ◌%◌, ◌&&◌, ◌||◌, not, nat_lt, bit_and, List, IsTrue, Option, None, Some, if◌then◌else◌, replicate, slice_index_or, slice_set}
+use Rattle.std.specs.Prelude.{ℕ, Bool, true, false, ◌==◌, ◌%◌, ◌&&◌, ◌||◌, not, nat_lt, bit_and, List, Option, None, Some, if◌then◌else◌, replicate, slice_index_or, slice_set}
 use Rattle.std.specs.List.{list_any}
 use Rattle.lapic_core.specs.Vectors.{Vectors, numbers_where}
 use Rattle.synic_regs.specs.declared.register.Register.{Register}
@@ -55,10 +55,6 @@ stores _ = false
 -- a source with a vector below 16 has to be masked (profile)
 abbrev pub is_legal : ℕ → Bool
 is_legal word = not (nat_lt (vector_of word) 16) || has word masked
-
--- no source has a vector below 16 unless it is masked
-abbrev pub AreLegal : List ℕ → Type 0
-AreLegal sints = (n : ℕ) → n < 16 → IsTrue (is_legal (slice_index_or sints n 0))
 
 -- a write of a source that may not be so is refused, and no other
 abbrev pub is_refused : Register → ℕ → Bool

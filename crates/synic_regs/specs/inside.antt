@@ -1,3 +1,4 @@
 -- How the fields stand for what the contracts speak of, and what they keep: nothing that a caller reads.
 pub mod Codes
 pub mod View
+pub mod Legal

@@ -1,7 +1,8 @@
 // The registers of one processor's synthetic interrupt controller.
 ghost use Rattle.std.specs.Prelude.{◌≡◌, IsTrue};
 ghost use Rattle.std.specs.FinSet as set;
-ghost use Rattle.synic_regs.specs.Regs.{reset_regs, stores, outcome_of, after_write, value_of, has, enable, auto_vectors, auto_eoi_of, raised_by, AreLegal};
+ghost use Rattle.synic_regs.specs.Regs.{reset_regs, stores, outcome_of, after_write, value_of, has, enable, auto_vectors, auto_eoi_of, raised_by};
+ghost use Rattle.synic_regs.specs.inside.Legal.{AreLegal};
 
 use crate::register::Register;
 use crate::words::{EnableWord, SintWord};

@@ -4,6 +4,11 @@ use Rattle.std.specs.Option.{option_map_or}
 use Rattle.std.specs.Int.{bit_at}
 use Rattle.board_terms.specs.Dues.{Dues, number_of, due_of, least}
 
+-- when the timers are due, and how many comparisons of entries were made since the heap was new
+pub record HeapModel : Type 0 where
+  pub dues : Dues
+  pub compared : ℕ
+
 -- no timer is due
 abbrev pub no_dues : Dues
 no_dues = replicate 32 None

@@ -2,3 +2,5 @@
 pub mod Table
 pub mod Moves
 pub mod View
+pub mod Counting
+pub mod Codes

@@ -2,7 +2,6 @@
 //! timer stands.
 #![tactic(auto)]
 
-mod comparer;
 mod entry;
 mod heap;
 mod laws;

@@ -3,9 +3,10 @@ ghost use Rattle.std.specs.Prelude.{◌≡◌, ◌+◌, ◌-◌, ◌*◌, ◌<�
 ghost use Rattle.timer_heap.specs.inside.Table.{size, dues, number_at, moment_of, entry_of, place_of, key, with_number, with_moment, first_of, IsInverse, IsOrdered};
 ghost use Rattle.timer_heap.specs.Heap.{MarksDue};
 ghost use Rattle.timer_heap.specs.inside.Moves.{IsMoving, IsAbove, IsBelow};
+ghost use Rattle.timer_heap.specs.inside.Counting.{HasCounted};
 
-use crate::comparer::{Comparer, high, low};
 use crate::entry::Entry;
+use crate::heap::comparer::{Comparer, high, low};
 use arrayvec::ArrayVec;
 
 /// The timers that are due some time, by number.
@@ -128,9 +129,10 @@ impl Table {
     fn first_child(&self, right: usize, comparer: &mut Comparer) -> usize
         requires right_in { 0 < right × right < size self.now }
         requires numbers { number_at self.now (right - 1) < 32 × number_at self.now right < 32 }
-        requires few { comparer.old < 100 }
+        requires few { comparer.old.made < 100 }
         ensures child { result ≡ first_of self.now right }
-        ensures counted { comparer.new ≡ comparer.old + 1 }
+        ensures made { comparer.new.made ≡ comparer.old.made + 1 }
+        ensures total { comparer.new.total.number ≡ comparer.old.total.number + 1 }
     {
         let second = self.entry(self.number(right));
         let first = self.entry(self.number(right - 1));
@@ -141,13 +143,14 @@ impl Table {
     /// first always moves up. It is not yet put there.
     fn descend(&mut self, start: usize, number: u8, comparer: &mut Comparer) -> usize
         requires moving { IsMoving self.old start number }
-        requires fresh { comparer.old ≡ 0 }
+        requires fresh { comparer.old.made ≡ 0 }
         ensures moving { IsMoving self.new result number }
         ensures same { dues (with_number self.new result number) ≡ dues (with_number self.old start number) }
         ensures size { size self.new ≡ size self.old }
         ensures last { size self.new ≤ 2 * result + 1 }
-        ensures few { comparer.new ≤ 5 }
-        ensures none { result ≡ 0 → comparer.new ≡ 0 }
+        ensures few { comparer.new.made ≤ 5 }
+        ensures none { result ≡ 0 → comparer.new.made ≡ 0 }
+        ensures counted { HasCounted comparer.old comparer.new }
     {
         let size = self.len();
         let mut at = start;
@@ -171,15 +174,16 @@ impl Table {
     fn rise(&mut self, start: usize, number: u8, comparer: &mut Comparer) -> usize
         requires moving { IsMoving self.old start number }
         requires last { size self.old ≤ 2 * start + 1 }
-        requires few { comparer.old ≤ 5 }
+        requires few { comparer.old.made ≤ 5 }
         ensures moving { IsMoving self.new result number }
         ensures same { dues (with_number self.new result number) ≡ dues (with_number self.old start number) }
         ensures size { size self.new ≡ size self.old }
         ensures above { IsAbove (key (with_number self.new result number)) result }
         ensures below { IsBelow (key (with_number self.new result number)) (size self.new) result }
-        ensures few { comparer.new ≤ comparer.old + 5 }
-        ensures counted { 0 < start → comparer.old < comparer.new }
-        ensures none { start ≡ 0 → comparer.new ≡ comparer.old }
+        ensures few { comparer.new.made ≤ comparer.old.made + 5 }
+        ensures some { 0 < start → comparer.old.made < comparer.new.made }
+        ensures none { start ≡ 0 → comparer.new.made ≡ comparer.old.made }
+        ensures counted { HasCounted comparer.old comparer.new }
     {
         let entry = self.entry(number);
         let mut at = start;
@@ -197,7 +201,7 @@ impl Table {
 
     /// A timer goes to where it belongs, from `start`; the answer is how many comparisons were made.
     /// Most often it belongs far down, so that it goes there first, and is compared with its parents only.
-    fn settle(&mut self, start: usize, number: u8) -> u8
+    fn settle(&mut self, start: usize, number: u8, comparer: &mut Comparer) -> u8
         requires { IsMoving self.old start number }
         ensures inverse { IsInverse self.new }
         ensures same { dues self.new ≡ dues (with_number self.old start number) }
@@ -206,16 +210,17 @@ impl Table {
         ensures few { result ≤ 10 }
         ensures alone { size self.old ≡ 1 → result ≡ 0 }
         ensures beside { 1 < size self.old → 0 < result }
+        ensures counted { comparer.new.total.number ≡ comparer.old.total.number + result }
     {
-        let mut comparer = Comparer::new();
-        let leaf = self.descend(start, number, &mut comparer);
-        let place = self.rise(leaf, number, &mut comparer);
+        comparer.begin();
+        let leaf = self.descend(start, number, comparer);
+        let place = self.rise(leaf, number, comparer);
         self.put(place, number);
         comparer.made()
     }
 
     /// A timer joins; the answer is how many comparisons were made.
-    pub(crate) fn add(&mut self, number: u8, due: u128) -> u8
+    pub(crate) fn add(&mut self, number: u8, due: u128, comparer: &mut Comparer) -> u8
         requires inverse { IsInverse self.old }
         requires ordered { IsOrdered (key self.old) (size self.old) }
         requires number { number < 32 }
@@ -228,15 +233,22 @@ impl Table {
         ensures few { result ≤ 10 }
         ensures alone { size self.old ≡ 0 → result ≡ 0 }
         ensures beside { 0 < size self.old → 0 < result }
+        ensures counted { comparer.new.total.number ≡ comparer.old.total.number + result }
     {
         let last = self.len();
         self.set_moment(number, due);
         self.order.push(number);
-        self.settle(last, number)
+        self.settle(last, number, comparer)
     }
 
     /// The timer at a place gets another due moment; the answer is how many comparisons were made.
-    pub(crate) fn change(&mut self, at: usize, number: u8, due: u128) -> u8
+    pub(crate) fn change(
+        &mut self,
+        at: usize,
+        number: u8,
+        due: u128,
+        comparer: &mut Comparer,
+    ) -> u8
         requires inverse { IsInverse self.old }
         requires ordered { IsOrdered (key self.old) (size self.old) }
         requires number { number < 32 }
@@ -248,13 +260,14 @@ impl Table {
         ensures few { result ≤ 10 }
         ensures alone { size self.old ≡ 1 → result ≡ 0 }
         ensures beside { 1 < size self.old → 0 < result }
+        ensures counted { comparer.new.total.number ≡ comparer.old.total.number + result }
     {
         self.set_moment(number, due);
-        self.settle(at, number)
+        self.settle(at, number, comparer)
     }
 
     /// The timer at a place goes; the answer is how many comparisons were made.
-    pub(crate) fn remove(&mut self, at: usize) -> u8
+    pub(crate) fn remove(&mut self, at: usize, comparer: &mut Comparer) -> u8
         requires inverse { IsInverse self.old }
         requires ordered { IsOrdered (key self.old) (size self.old) }
         requires at_in { at < size self.old }
@@ -265,6 +278,7 @@ impl Table {
         ensures few { result ≤ 10 }
         ensures alone { size self.old ≡ 1 → result ≡ 0 }
         ensures beside { at + 1 < size self.old → 2 < size self.old → 0 < result }
+        ensures counted { comparer.new.total.number ≡ comparer.old.total.number + result }
     {
         let number = self.number(at);
         let last = self.len() - 1;
@@ -274,6 +288,6 @@ impl Table {
         if at == last {
             return 0;
         }
-        self.settle(at, moving)
+        self.settle(at, moving, comparer)
     }
 }

@@ -3,7 +3,8 @@ ghost use Rattle.std.specs.Prelude.{◌≡◌, ◌<◌, ◌≤◌, ◌++◌, [],
 ghost use Rattle.std.specs.FinSet as set;
 ghost use Rattle.board_text.specs.Fields.{line_of};
 ghost use Rattle.synic_board.specs.Scratch.{TellsOf};
-ghost use Rattle.board_lines.specs.Printing.{text_of, numbered, next_lines, auto_lines, auto_part, page_lines, queue_lines, queue_line, timer_line, summary_lines};
+ghost use Rattle.board_lines.specs.Printing.{text_of, numbered, next_lines, auto_lines, page_lines, queue_lines, queue_line, timer_line, summary_lines};
+ghost use Rattle.board_lines.specs.inside.Autos.{auto_part};
 
 use crate::print::{put, put_vector};
 use board_terms::{Owner, Sint, TimerId, Vector, Vp};

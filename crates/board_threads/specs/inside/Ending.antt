@@ -5,6 +5,12 @@ use Rattle.synic_board.specs.declared.history.Entry.{Entry}
 use Rattle.board_threads.specs.Settling.{AreAllOf}
 use Rattle.board_threads.specs.declared.settling.ActorCalls.{ActorCalls}
 use Rattle.board_threads.specs.declared.settling.Ended.{Ended}
+use Rattle.board_threads.specs.declared.actor.CallFault.{CallFault}
+use Rattle.board_threads.specs.declared.actor.CallFault.TheVariants as calls
+use Rattle.board_threads.specs.declared.settling.SettleFault.{SettleFault}
+use Rattle.board_threads.specs.declared.settling.SettleFault.TheVariants as settling
+use Rattle.board_threads.specs.declared.fault.WorkFault.{WorkFault}
+use Rattle.board_threads.specs.declared.fault.WorkFault.TheVariants as works
 
 -- The board and its history are handed out, with what the actors called, which is all of that history, and what is left of the words.
 pub record IsEnd (board : Held) (history : List Entry) (called : List ActorCalls) (left : List ℕ) (e : Ended) : Type 0 where
@@ -13,3 +19,12 @@ pub record IsEnd (board : Held) (history : List Entry) (called : List ActorCalls
   pub actors : e.actors.items ≡ called
   pub standing : e.standing ≡ left
   pub all : AreAllOf e.history.items e.actors.items
+
+-- why the work of a crew stops where a call fails, or where its board is not settled
+abbrev pub fault_of_call : CallFault → WorkFault
+fault_of_call calls.Memory = works.Memory
+fault_of_call fault = works.Unsettled
+
+abbrev pub fault_of_settling : SettleFault → WorkFault
+fault_of_settling settling.Memory = works.Memory
+fault_of_settling settling.Mismatch = works.Unsettled

@@ -55,3 +55,8 @@ raised_as s before found after =
 -- a swap took the bits of the word found
 abbrev pub swept_as : Step (Unit {0}) → Me (Unit {0}) View → ℕ → Me (Unit {0}) View → Type 0
 swept_as s before found after = (after.0 ≡ with_step (Sweep s.word found) before.0) × (after.1 ≡ before.1)
+
+-- the log of a token that stands for itself alone
+abbrev pub first_log : List (List Did) → List Did
+first_log [] = []
+first_log (log ∷ logs) = log

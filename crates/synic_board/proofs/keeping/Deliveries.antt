@@ -18,7 +18,7 @@ use Rattle.synic_board.specs.Absorbing.{is_posted, absorbed_below}
 use Rattle.synic_board.specs.Delivery.{delivers, is_slot_empty, placed_head, placed, tried, tried_below, accepted, delivered}
 use Rattle.synic_board.specs.Posts.{are_tickets_left}
 use Rattle.synic_board.specs.Timers.{mode_at, is_ready_for, is_ready, told_by, signalled_by, expired_state, expiry_at, attempted, attempted_all}
-use Rattle.synic_board.specs.Sound.{HasBuffers}
+use Rattle.synic_board.specs.inside.Buffers.{HasBuffers}
 use Rattle.synic_board.proofs.keeping.Requests.{either}
 use Rattle.synic_board.proofs.keeping.Clocks.{Names, mode-names}
 use Rattle.synic_board.proofs.keeping.Uses.{alike, fewer-queued, IsPart, part-rest, Fits, timer-fits, buffers-accepted}

@@ -18,7 +18,7 @@ use Rattle.message_queues.specs.Queues.{Queues, is_from_port, is_from_timer, que
 use Rattle.synic_board.specs.State.{State, slot_of}
 use Rattle.synic_board.specs.Effects.{Effect, nothing}
 use Rattle.synic_board.specs.Resetting.{withdrawn_ticket, slot_emptied, queue_emptied, emptied_below, emptied, reset}
-use Rattle.synic_board.specs.Sound.{IsHome, HasBuffers}
+use Rattle.synic_board.specs.inside.Buffers.{IsHome, HasBuffers}
 use Rattle.synic_board.proofs.keeping.Uses.{found_in, buffers-slot, buffers-emptied_below}
 
 -- sums over a list

@@ -17,7 +17,7 @@ use Rattle.synic_board.specs.State.{State, slot_of}
 use Rattle.synic_board.specs.Effects.{Effect, nothing}
 use Rattle.synic_board.specs.Delivery.{accepted}
 use Rattle.synic_board.specs.Resetting.{withdrawn_ticket, slot_emptied, queue_emptied, emptied_below}
-use Rattle.synic_board.specs.Sound.{IsHome, HasBuffers}
+use Rattle.synic_board.specs.inside.Buffers.{IsHome, HasBuffers}
 use Rattle.synic_board.proofs.keeping.Requests.{either}
 
 pub alike : (s now : State) → now.queues ≡ s.queues → now.ports ≡ s.ports → HasBuffers s → HasBuffers now

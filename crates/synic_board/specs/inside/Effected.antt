@@ -1,8 +1,12 @@
 -- What a call on a machine leaves when it has an effect.
-use Rattle.std.specs.Prelude.{◌≡◌, ◌≤◌, ◌+◌, List, length}
+use Rattle.std.specs.Prelude.{◌≡◌, ◌≤◌, ◌+◌, ◌++◌, List, length}
 use Rattle.board_terms.specs.declared.notices.Notice.{Notice}
 use Rattle.synic_board.specs.State.{Held}
-use Rattle.synic_board.specs.Effects.{Effect, preceded}
+use Rattle.synic_board.specs.Effects.{Effect}
+
+-- an effect whose notices follow others
+abbrev pub preceded : List Notice → Effect → Effect
+preceded before e = (e.0, before ++ e.1)
 
 -- from `before` with the notices `told` the call leads to `now` with the notices `telling`: the effect e, whose notices stand behind, and no more writes of the summary than notices
 pub record Effected (before : Held) (told : List Notice) (now : Held) (telling : List Notice) (e : Effect) : Type 0 where

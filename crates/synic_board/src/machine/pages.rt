@@ -3,8 +3,9 @@ ghost use Rattle.std.specs.Prelude.{◌≡◌, ◌<◌, ◌≤◌, ◌+◌, [], 
 ghost use Rattle.std.specs.Option.{option_copied};
 ghost use Rattle.gpa_space.specs.Space.{overlay_of};
 ghost use Rattle.synic_board.specs.State.{processors};
-ghost use Rattle.synic_board.specs.Effects.{preceded};
-ghost use Rattle.synic_board.specs.Stores.{stored_bytes, read_bytes, consumed, consumed_in, IsOn};
+ghost use Rattle.synic_board.specs.inside.Effected.{preceded};
+ghost use Rattle.synic_board.specs.Stores.{stored_bytes, read_bytes, consumed, consumed_in};
+ghost use Rattle.synic_board.specs.inside.Steps.{IsOn};
 ghost use Rattle.synic_board.specs.Sound.{IsSound};
 ghost use Rattle.synic_board.specs.inside.Touches.{touched, OthersFree};
 
@@ -55,7 +56,7 @@ impl Machine {
         ensures step { (self.new.state, result, notices.new) ≡ stored_bytes self.old.state address bytes.now }
         ensures writes { self.new.writes ≡ self.old.writes }
     {
-        let owner = match self.space.store(address, bytes) {
+        let owner = match self.space.store_slice(address, bytes) {
             Ok(owner) => owner,
             Err(refusal) => return Reply::Refused(refusal),
         };

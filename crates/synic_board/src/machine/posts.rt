@@ -3,7 +3,7 @@ ghost use Rattle.std.specs.Prelude.{◌≡◌, ◌<◌, ◌≤◌, ◌+◌, [], 
 ghost use Rattle.event_ports.specs.Shapes.{fits, takes_messages};
 ghost use Rattle.message_queues.specs.Queues.{port_used};
 ghost use Rattle.synic_board.specs.State.{processors};
-ghost use Rattle.synic_board.specs.Effects.{preceded};
+ghost use Rattle.synic_board.specs.inside.Effected.{preceded};
 ghost use Rattle.synic_board.specs.Posts.{opened_port, closed, withdrawn, post_refusal, posted, signalled};
 
 use crate::event::Reply;

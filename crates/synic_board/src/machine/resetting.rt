@@ -5,7 +5,7 @@ ghost use Rattle.synic_regs.specs.Regs.{reset_regs};
 ghost use Rattle.gpa_space.specs.Space.{after_clearing};
 ghost use Rattle.stimer_bank.specs.Bank.{reset as bank_reset};
 ghost use Rattle.synic_board.specs.State.{processors, regs_of, space_of, bank_of, with_apic, with_regs, with_space, with_bank};
-ghost use Rattle.synic_board.specs.Effects.{preceded};
+ghost use Rattle.synic_board.specs.inside.Effected.{preceded};
 ghost use Rattle.synic_board.specs.inside.Effected.{Effected};
 ghost use Rattle.synic_board.specs.Resetting.{slot_emptied, queue_emptied, emptied, cleared, reset};
 

@@ -1,6 +1,7 @@
 -- What the fields stand for, and what they keep.
 use Rattle.std.specs.Prelude.{◌≡◌}
-use Rattle.synic_regs.specs.Regs.{Regs, AreLegal, auto_vectors}
+use Rattle.synic_regs.specs.Regs.{Regs, auto_vectors}
+use Rattle.synic_regs.specs.inside.Legal.{AreLegal}
 use Rattle.synic_regs.specs.declared.regs.SynicRegs.TheInside.{Inside}
 
 abbrev pub regs_of : Inside → Regs

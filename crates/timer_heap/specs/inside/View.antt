@@ -1,11 +1,12 @@
 -- What the heap's field stands for, and what it keeps.
 use Rattle.std.specs.Prelude.{◌≡◌, ◌+◌, ℕ, is_none, count_by}
 use Rattle.board_terms.specs.Dues.{Dues}
+use Rattle.timer_heap.specs.Heap.{HeapModel}
 use Rattle.timer_heap.specs.inside.Table.{size, dues, key, IsInverse, IsOrdered}
 use Rattle.timer_heap.specs.declared.heap.TimerHeap.TheInside.{Inside}
 
-abbrev pub dues_of : Inside → Dues
-dues_of a = dues a.table
+abbrev pub heap_of : Inside → HeapModel
+heap_of a = record { dues = dues a.table; compared = a.comparer.total.number }
 
 -- how many timers are not due
 abbrev pub idle : Dues → ℕ

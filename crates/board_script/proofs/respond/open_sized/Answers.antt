@@ -1,5 +1,5 @@
 use Rattle.std.proofs.Common.{Some, None, ap, sym, ◌∙◌}
-use Rattle.board_script.specs.Streams.{after_maybe, answer_maybe}
+use Rattle.board_script.specs.inside.Judging.{after_maybe, answer_maybe}
 use Rattle.board_script.proofs.ScriptLemmas.{opened-good}
 use Rattle.board_script.proofs.respond.open_sized.Goals as goal
 

@@ -3,7 +3,7 @@ use Rattle.std.proofs.Common.{subst}
 use Rattle.synic_board.specs.Step.{step}
 use Rattle.board_lines.specs.Items.{Item}
 use Rattle.board_script.specs.Output.{told}
-use Rattle.board_script.specs.Streams.{AnswersItem}
+use Rattle.board_script.specs.inside.Judging.{AnswersItem}
 use Rattle.line_driver.specs.declared.judge.Taken.TheVariants.{Good}
 use Rattle.board_lines.proofs.ReadLemmas.{event-item}
 use Rattle.board_script.proofs.respond.take_line.Goals as goal

@@ -1,7 +1,7 @@
 use Rattle.std.proofs.Common.{◌≡◌, Bool, Option, None, Some, is_some, refl, subst, ◌∙◌}
 use Rattle.synic_board.specs.State.{Held}
 use Rattle.board_script.specs.Output.{Machine}
-use Rattle.board_script.specs.Streams.{machine_of, conclusion, Concludes}
+use Rattle.board_script.specs.inside.Judging.{machine_of, conclusion, Concludes}
 use Rattle.board_script.specs.declared.judge.ScriptJudge.{ScriptJudge}
 use Rattle.board_script.proofs.Limits.{concluded-within, concluded-near}
 use Rattle.board_script.proofs.Judged.{replays-concluded, replays-nothing}

@@ -1,6 +1,7 @@
-use Rattle.std.proofs.Common.{rules, suc, ◌≡◌, ◌+◌, ◌*◌, ◌∷◌, All, length, map, vec_len, ap, sym, subst, ◌∙◌, arith}
-use Rattle.std.specs.List.{range_with_len}
+use Rattle.std.proofs.Common.{rules, suc, List, ◌≡◌, ◌+◌, ◌*◌, ◌∷◌, All, length, map, vec_len, ap, sym, subst, ◌∙◌, arith}
+use Rattle.std.specs.List.{range_with_len, sum_by}
 use Rattle.std.proofs.lemmas.List.Elements.{All-head, All-tail}
+use Rattle.std.proofs.lemmas.List.Sums.{sum_by-cons}
 use Rattle.synic_board.specs.State.{opened}
 use Rattle.posted_words.specs.Words.{did_of}
 use Rattle.board_threads.specs.History.{calls_by}
@@ -8,7 +9,8 @@ use Rattle.board_threads.specs.Sharing.{Acting, start}
 use Rattle.board_threads.specs.Settling.{IsSettled, AreAbsorbed}
 use Rattle.board_threads.specs.Crew.{EachFollows, lists}
 use Rattle.board_threads.specs.inside.Work.{InPlace}
-use Rattle.board_threads.proofs.Placing.{crewed, stand, each-stands, numbers-are, StandsIn}
+use Rattle.board_threads.specs.declared.script.Step.{Step}
+use Rattle.board_threads.proofs.Placing.{crewed, stand, each-stands, numbers-are, calls-add-up, steps-add-up, StandsIn}
 use Rattle.board_threads.proofs.Crewing.{all-of, all-lines-of, all-only-raise, logs-are, each-answered}
 use Rattle.board_threads.proofs.crew.finish.Goals as goal
 
@@ -45,7 +47,9 @@ returns-clause-crewed c =
     let main = ap (λ n. calls_by n h) (sym w.served.number) ∙ All-head (StandsIn h) w.main w.others own in
     let others : EachFollows 1 (lists scripts) h = each-stands name 1 scripts w.others h w.numbers w.acted (All-tail (StandsIn h) w.main w.others own) in
     let place : InPlace (length setup) (4 * c.args.setup.now.processors) h = search rules in
-    crewed name c.args.setup.now.processors setup (lists scripts) h w.main place w.served main others
+    let together = calls-add-up c.in_ok-ended.ended.actors.items c.args.worked.actors.items c.in_ok-ended.ensures.actors ∙ ap (sum_by (λ (a : Acting). length a.calls)) w.actors_are ∙ sum_by-cons (λ (a : Acting). length a.calls) w.main w.others in
+    let many : length h ≡ length w.main.calls + sum_by (λ (s : List Step). length s) (lists scripts) = omega (arith, c.in_ok-ended.ensures.settled.actors.all, together, steps-add-up name scripts w.others w.acted) in
+    crewed name c.args.setup.now.processors setup (lists scripts) h w.main place w.served main others many
 
 pub returns-clause-each : goal.returns-clause-each
 returns-clause-each c = each-answered _ _ _ _ _ _ c.requires.worked

@@ -2,9 +2,10 @@ use Rattle.std.proofs.Common.{rules, ◌≡◌, [], Option, None, Some, refl, sy
 use Rattle.std.specs.Io.KnownBytes.{Appends}
 use Rattle.line_driver.specs.declared.driving.End.TheVariants as ends
 use Rattle.board_lines.specs.declared.fault.ScriptFault.TheVariants as faults
-use Rattle.crew_script.specs.Crew.{Crew, finished, IsGood}
+use Rattle.crew_script.specs.Crew.{Crew, finished}
+use Rattle.crew_script.specs.inside.Good.{IsGood}
 use Rattle.crew_script.specs.inside.View.{crew_of, asked}
-use Rattle.crew_script.specs.Running.{Refusal, Report, Runs}
+use Rattle.crew_script.specs.inside.Reporting.{Refusal, Report, Runs}
 use Rattle.crew_script.specs.declared.judge.CrewJudge.{CrewJudge}
 use Rattle.crew_script.specs.declared.running.CrewRun.TheVariants.{Memory}
 use Rattle.crew_script.proofs.Limits.{within, run-near, fault-near}

@@ -1,18 +1,22 @@
-use Rattle.std.proofs.Common.{rules, ◌≡◌, ℕ, List, [], Err, ap, sym, ◌∙◌, subst}
+use Rattle.std.proofs.Common.{rules, ◌≡◌, ℕ, ◌<◌, ◌^◌, List, [], Err, refl, ap, sym, ◌∙◌, subst, arith}
+use Rattle.std.specs.List.{All}
 use Rattle.std.proofs.lemmas.Bool.{both_ways}
 use Rattle.board_threads.specs.Crew.{lists}
 use Rattle.board_threads.specs.declared.script.Setup.{Setup}
 use Rattle.board_threads.specs.declared.settling.Ended.{Ended}
 use Rattle.board_threads.specs.Judging.{has_bad_step}
-use Rattle.synic_board.specs.State.{State, opened}
+use Rattle.synic_board.specs.State.{State, AreSizes, opened}
+use Rattle.synic_board.specs.declared.history.Entry.{Entry}
 use Rattle.synic_board.specs.History.{leads_to}
 use Rattle.board_trace.specs.declared.format.Format.TheVariants.{Two}
 use Rattle.board_lines.specs.Printing.{text_of}
-use Rattle.board_trace.specs.Trace.{trace_lines}
-use Rattle.crew_script.specs.Crew.{Crew, finished, IsGood}
+use Rattle.board_trace.specs.Trace.{IsEntry, trace, trace_lines}
+use Rattle.crew_script.specs.Crew.{Crew, finished}
+use Rattle.crew_script.specs.inside.Good.{IsGood}
 use Rattle.crew_script.specs.inside.View.{crew_of}
 use Rattle.crew_script.specs.inside.Telling.{IsTold}
-use Rattle.crew_script.specs.Running.{IsHistory, Report, Prepares}
+use Rattle.crew_script.specs.Running.{IsHistory, IsCrewTrace}
+use Rattle.crew_script.specs.inside.Reporting.{Report, Prepares}
 use Rattle.crew_script.specs.declared.running.Outcome.{Outcome}
 use Rattle.crew_script.specs.declared.running.Outcome.TheVariants as outcomes
 use Rattle.crew_script.specs.declared.running.CrewRun.TheVariants.{Done}
@@ -32,11 +36,32 @@ outcome_of-requires-clause-step g c =
     λ bad. both_ways (has_bad_step s.setup s.scripts) (none-bad s (subst IsGood (sym over) c.requires.good)) (c.run_crew.ensures.step.0 (c.in-Err.is ∙ ap Err bad)).1
 
 -- what was told, or nothing
-told : (outcome : Outcome) (setup : Setup) (ended : Ended) (crew : Crew) (text : List ℕ) → IsTold outcome setup ended [] text → (text ≡ text_of (trace_lines Two setup.processors setup.pages setup.first_ticket ended.history.items ended.board.state.next_ticket) → Report crew Done text) → Prepares outcome crew text
-told outcomes.Done setup ended crew text is report = report is
+told : (outcome : Outcome) (setup : Setup) (ended : Ended) (crew : Crew) (text : List ℕ) → IsTold outcome setup ended [] text → (All (IsEntry Two) ended.history.items → text ≡ text_of (trace_lines Two setup.processors setup.pages setup.first_ticket ended.history.items ended.board.state.next_ticket) → Report crew Done text) → Prepares outcome crew text
+told outcomes.Done setup ended crew text is report = report is.0 is.1
 told outcomes.Memory setup ended crew text is report = tt
 told outcomes.Unsettled setup ended crew text is report = tt
 told outcomes.NoThread setup ended crew text is report = tt
+
+-- what was written of its history is a trace that is legal
+traced : (crew : Crew) (history : List Entry) (text : List ℕ) → IsHistory crew history → AreSizes crew.processors crew.pages → crew.first_ticket < 2 ^ 64 → All (IsEntry Two) history → text ≡ trace Two crew.processors crew.pages crew.first_ticket history → IsCrewTrace crew text
+traced crew history text is sizes given fits written = record {
+  history = history;
+  is = is;
+  written = written;
+  legal = record {
+    format = Two;
+    processors = crew.processors;
+    pages = crew.pages;
+    ticket = crew.first_ticket;
+    history = history;
+    sizes = sizes;
+    given = given;
+    fits = fits;
+    legal = is.legal;
+    counted = is.crewed.all;
+    written = written;
+  };
+}
 
 pub returns-in-Ok : goal.returns-in-Ok
 returns-in-Ok g c =
@@ -57,4 +82,6 @@ returns-in-Ok g c =
     let lines : ℕ → List ℕ = λ next. text_of (trace_lines Two s.setup.processors s.setup.pages s.setup.first_ticket h next) in
     let next : ended.board.state.next_ticket ≡ (leads_to (opened s.setup.processors s.setup.pages s.setup.first_ticket) h).next_ticket = ap (λ (x : State). x.next_ticket) e.settled.leads in
     let was : IsTold c.tell.result s.setup ended [] out = subst (λ (old : List ℕ). IsTold c.tell.result s.setup ended old out) c.requires.empty c.tell.ensures in
-    told c.tell.result s.setup ended (finished (crew_of c.args.script.now)) out was (λ text. subst (λ (crew : Crew). Report crew Done out) over (h, is, text ∙ ap lines next))
+    let good : IsGood (crew_of s) = subst IsGood (sym over) c.requires.good in
+    let given : s.setup.first_ticket < 2 ^ 64 = omega arith in
+    told c.tell.result s.setup ended (finished (crew_of c.args.script.now)) out was (λ fits text. subst (λ (crew : Crew). Report crew Done out) over (traced (crew_of s) h out is good.board given fits (text ∙ ap lines next)))

@@ -1,7 +1,7 @@
 use Rattle.std.proofs.Common.{rules, ◌≡◌, ◌++◌, sym, subst}
 use Rattle.crew_script.specs.Crew.{finished}
 use Rattle.crew_script.specs.inside.View.{crew_of}
-use Rattle.crew_script.specs.Running.{Report}
+use Rattle.crew_script.specs.inside.Reporting.{Report}
 use Rattle.crew_script.specs.declared.running.CrewRun.TheVariants.{Done, Unsettled}
 use Rattle.crew_script.proofs.running.run.Goals as goal
 

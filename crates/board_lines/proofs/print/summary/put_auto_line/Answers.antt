@@ -1,6 +1,7 @@
 use Rattle.std.proofs.Common.{slice_index_or, sym, ◌∙◌, ap, arith, ℕ, ◌≡◌, ◌++◌}
 use Rattle.std.specs.FinSet as set
-use Rattle.board_lines.specs.Printing.{below, is_some_vector, auto_text}
+use Rattle.board_lines.specs.Printing.{below}
+use Rattle.board_lines.specs.inside.Autos.{is_some_vector, auto_text}
 use Rattle.board_lines.proofs.SummaryLemmas.{auto-step, auto-ended, auto-absent}
 use Rattle.board_lines.proofs.print.summary.put_auto_line.Goals as goal
 

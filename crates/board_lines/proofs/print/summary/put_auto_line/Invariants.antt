@@ -1,6 +1,7 @@
 use Rattle.std.proofs.Common.{◌≡◌, ◌++◌, slice_index_or}
 use Rattle.std.specs.FinSet as set
-use Rattle.board_lines.specs.Printing.{below, auto_text, is_some_vector}
+use Rattle.board_lines.specs.Printing.{below}
+use Rattle.board_lines.specs.inside.Autos.{auto_text, is_some_vector}
 use Rattle.board_lines.proofs.print.summary.put_auto_line.Given as goal
 
 abbrev pub invariant-loop-above : goal.invariant-loop-above

@@ -1,7 +1,7 @@
 use Rattle.std.proofs.Common.{◌≡◌, List, ℕ, [], Option, Some, None, Bool, true, false, not, is_some, refl, sym, ◌∙◌}
 use Rattle.std.specs.Bool.{IsTrue}
 use Rattle.std.specs.Borrow.{Bor}
-use Rattle.board_text.specs.Fields.{fields_left}
+use Rattle.board_text.specs.inside.Parsing.{fields_left}
 use Rattle.board_text.proofs.FieldLemmas.{some_field}
 use Rattle.board_text.proofs.fields.Fields.is_empty.Goals as goal
 

@@ -1,6 +1,6 @@
 use Rattle.std.proofs.Common.{◌<◌, IfSome, None, Some, ap, sym, subst, ◌∙◌, append-nil}
 use Rattle.board_terms.specs.declared.pages.Owner.TheVariants.{Sim}
-use Rattle.synic_board.specs.Effects.{preceded}
+use Rattle.synic_board.specs.inside.Effected.{preceded}
 use Rattle.synic_board.specs.Stores.{consumed_in}
 use Rattle.synic_board.specs.inside.Touches.{OthersFree}
 use Rattle.synic_board.proofs.Touching.{none-consumed, one-consumed}

@@ -1,5 +1,5 @@
 use Rattle.std.proofs.Common.{ap, sym, ◌∙◌, arith}
-use Rattle.synic_board.specs.Effects.{preceded}
+use Rattle.synic_board.specs.inside.Effected.{preceded}
 use Rattle.synic_board.specs.Interrupts.{raised}
 use Rattle.synic_board.specs.inside.AtOnce.{placed_at_once}
 use Rattle.synic_board.proofs.AtOnce.{at-once}

@@ -1,9 +1,10 @@
 use Rattle.std.proofs.Common.{false, ℕ, List, length, ap, sym, ◌∙◌, arith}
 use Rattle.message_queues.specs.Image.{header}
 use Rattle.gpa_space.specs.Page.{message_bytes}
-use Rattle.synic_board.specs.Effects.{Effect, preceded, after}
+use Rattle.synic_board.specs.Effects.{Effect, after}
+use Rattle.synic_board.specs.inside.Effected.{preceded}
 use Rattle.synic_board.specs.Interrupts.{raised}
-use Rattle.synic_board.specs.Delivery.{posted_message}
+use Rattle.synic_board.specs.inside.Steps.{posted_message}
 use Rattle.synic_board.specs.inside.AtOnce.{filled_at_once}
 use Rattle.synic_board.proofs.AtOnce.{at-once, post-image}
 use Rattle.synic_board.proofs.Folds.{chained}

@@ -2,7 +2,8 @@ use Rattle.std.proofs.Common.{◌≡◌, [], false, ap, length, ◌∙◌, subst
 use Rattle.stimer_bank.specs.Bank.{dues, due_list}
 use Rattle.board_terms.specs.Dues.{least}
 use Rattle.synic_board.specs.declared.event.Reply.TheVariants.{Done}
-use Rattle.synic_board.specs.Timers.{AllOn, is_any_due, at_moment, ticked}
+use Rattle.synic_board.specs.Timers.{at_moment, ticked}
+use Rattle.synic_board.specs.inside.Steps.{AllOn, is_any_due}
 use Rattle.synic_board.specs.State.{State, Held, bank_of}
 use Rattle.synic_board.specs.inside.View.{state_of}
 use Rattle.synic_board.proofs.Clocks.{listed_on, ticked_before}

@@ -41,4 +41,5 @@ returns-then-at-last c =
       few = omega arith;
       alone = λ _. refl;
       beside = λ h _. absurd (omega arith);
+      counted = omega arith;
     }

@@ -3,20 +3,16 @@ ghost use Rattle.std.specs.Prelude.{◌≡◌, ◌+◌, ◌/◌, ◌%◌, ◌^�
 ghost use Rattle.timer_heap.specs.inside.Table.{is_before};
 
 use crate::entry::Entry;
-use std::marker::Model;
+use counter::Count;
 
-/// Compares entries, and counts how often.
+/// Compares entries, and counts how often. Only the heap can make one, so that what moves a timer has no
+/// second one whose comparisons are lost.
 #[derive(Drop)]
 pub(crate) struct Comparer {
+    /// The comparisons of the present call.
     made: u8,
-}
-
-impl Model for Comparer {
-    ghost use Rattle.std.specs.Prelude.{ℕ};
-
-    ghost Value = { ℕ };
-
-    ghost view = { λ a. a.made };
+    /// All comparisons, for contracts alone.
+    total: Count,
 }
 
 /// The upper word of a due moment, which is 0 in most.
@@ -35,20 +31,35 @@ pub(crate) fn low(due: u128) -> u64
 
 impl Comparer {
     /// No comparison was made.
-    pub(crate) fn new() -> Comparer
-        ensures { result ≡ 0 }
+    pub(super) fn new() -> Comparer
+        ensures made { result.made ≡ 0 }
+        ensures total { result.total.number ≡ 0 }
     {
-        Comparer { made: 0 }
+        Comparer {
+            made: 0,
+            total: Count::zero(),
+        }
+    }
+
+    /// Begins the count of a call.
+    #[inline]
+    pub(crate) fn begin(&mut self)
+        ensures made { self.new.made ≡ 0 }
+        ensures total { self.new.total ≡ self.old.total }
+    {
+        self.made = 0;
     }
 
     /// Whether `a` comes before `b`: by due moment, then by processor, then by index.
     #[inline]
     pub(crate) fn is_before(&mut self, a: Entry, b: Entry) -> bool
-        requires { self.old < 255 }
+        requires { self.old.made < 255 }
         ensures value { result ≡ is_before a b }
-        ensures counted { self.new ≡ self.old + 1 }
+        ensures made { self.new.made ≡ self.old.made + 1 }
+        ensures total { self.new.total.number ≡ self.old.total.number + 1 }
     {
         self.made += 1;
+        self.total = Count::after(&self.total);
         let (a_high, b_high) = (high(a.due), high(b.due));
         if a_high != b_high {
             return a_high < b_high;
@@ -60,9 +71,9 @@ impl Comparer {
         a.number < b.number
     }
 
-    /// How many comparisons were made.
+    /// How many comparisons the present call made.
     pub(crate) fn made(&self) -> u8
-        ensures { result ≡ self.now }
+        ensures { result ≡ self.now.made }
     {
         self.made
     }

@@ -1,0 +1,65 @@
+-- How a replay goes from line to line, and what it writes at its end.
+use Rattle.std.specs.Prelude.{◌≡◌, ℕ, List, [], ◌++◌, Bool, if◌then◌else◌, Option, None, Some, is_some, Result, Ok, Err}
+use Rattle.std.specs.Option.{option_map}
+use Rattle.std.specs.Io.KnownBytes.{Appends}
+use Rattle.synic_board.specs.State.{Held}
+use Rattle.board_lines.specs.Items.{Item}
+use Rattle.line_driver.specs.declared.driving.End.{End}
+use Rattle.line_driver.specs.declared.driving.End.TheVariants as ends
+use Rattle.line_driver.specs.declared.judge.Taken.{Taken}
+use Rattle.line_driver.specs.declared.judge.Taken.TheVariants as taken
+use Rattle.board_script.specs.Script.{item_in, item_fault, line_fault}
+use Rattle.board_script.specs.Output.{Machine, machine_after, answer, fault_text}
+use Rattle.board_lines.specs.declared.fault.ScriptFault.{ScriptFault}
+use Rattle.board_lines.specs.declared.fault.ScriptFault.TheVariants as faults
+use Rattle.board_script.specs.declared.stream.ReplayEnd.{ReplayEnd}
+use Rattle.board_script.specs.declared.stream.ReplayEnd.TheVariants.{Done, Script, Memory, Reading, Writing}
+
+-- the fault that is written where the reading ends so, the board being open or not, or the end with nothing written
+abbrev pub conclusion : End ScriptFault → Bool → Result (Option (ℕ × ScriptFault)) ReplayEnd
+conclusion (ends.Last line) opened = Ok (if opened then None else Some (line, faults.First))
+conclusion (ends.Wrong line fault) opened = Ok (Some (line, fault))
+conclusion (ends.Long line) opened = Ok (Some (line, faults.Long))
+conclusion (ends.Cut line) opened = Ok (Some (line, faults.Cut))
+conclusion ends.Memory opened = Err Memory
+conclusion ends.Reading opened = Err Reading
+conclusion ends.Writing opened = Err Writing
+
+-- the fault's line was written, if there is one, or a part of it
+abbrev pub Finishes : ReplayEnd → Option (ℕ × ScriptFault) → Option (List ℕ) → Option (List ℕ) → Type 0
+Finishes Done fault w0 w1 = (fault ≡ None) × Appends w0 w1 []
+Finishes (Script l f) fault w0 w1 = (fault ≡ Some (l, f)) × Appends w0 w1 (fault_text fault)
+Finishes Memory fault w0 w1 = w1 ≡ w0
+Finishes Reading fault w0 w1 = ⊥
+Finishes Writing fault w0 w1 = (sent rest : List ℕ) × Appends w0 w1 sent × (fault_text fault ≡ sent ++ rest)
+
+-- the fault was said, or nothing more was written
+abbrev pub Concludes : Result (Option (ℕ × ScriptFault)) ReplayEnd → ReplayEnd → Option (List ℕ) → Option (List ℕ) → Type 0
+Concludes (Ok fault) result w0 w1 = Finishes result fault w0 w1
+Concludes (Err end) result w0 w1 = (result ≡ end) × (w1 ≡ w0)
+
+-- the machine that a board is
+abbrev pub machine_of : Option Held → Machine
+machine_of board = option_map (λ h. h.state) board
+
+abbrev pub after_maybe : Machine → Option Item → Machine
+after_maybe machine None = machine
+after_maybe machine (Some item) = machine_after machine item
+
+abbrev pub answer_maybe : Machine → Option Item → List ℕ
+answer_maybe machine None = []
+answer_maybe machine (Some item) = answer machine item
+
+-- an item was in its place and its answer is ready, or it has a fault
+abbrev pub AnswersItem : Taken ScriptFault → Option Item → Machine → Machine → List ℕ → Type 0
+AnswersItem taken.Good item old new out = (item_fault (is_some old) item ≡ None) × (new ≡ after_maybe old item) × (out ≡ answer_maybe old item)
+AnswersItem (taken.Wrong fault) item old new out = item_fault (is_some old) item ≡ Some fault
+AnswersItem taken.Memory item old new out = Unit {0}
+
+-- a line without a fault leads on, and this is answered to it
+abbrev pub IsAnswered : Machine → List ℕ → List ℕ → Machine → Type 0
+IsAnswered old line out new = (line_fault (is_some old) line ≡ None) × (new ≡ after_maybe old (item_in line)) × (out ≡ answer_maybe old (item_in line))
+
+-- a line with this fault
+abbrev pub IsFaulty : Machine → List ℕ → ScriptFault → Type 0
+IsFaulty machine line fault = line_fault (is_some machine) line ≡ Some fault

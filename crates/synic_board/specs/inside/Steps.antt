@@ -1,0 +1,29 @@
+-- What the clauses of private functions say of one event.
+use Rattle.std.specs.Prelude.{ℕ, Bool, false, ◌<◌, nat_le, List, length, slice_index_or, Option}
+use Rattle.std.specs.Option.{option_map_or}
+use Rattle.board_terms.specs.Quantities.{TimerId, Moment}
+use Rattle.synic_board.specs.State.{State, processors}
+use Rattle.board_terms.specs.declared.pages.Owner.{Owner}
+use Rattle.board_terms.specs.declared.pages.Owner.TheVariants.{Guest, Sim, Sief, Nothing}
+use Rattle.board_terms.specs.Quantities.{PortNumber}
+use Rattle.board_terms.specs.declared.messages.Message.{Message}
+use Rattle.board_terms.specs.declared.messages.Message.TheVariants.{FromPort}
+
+-- timers of processors on the board
+abbrev pub AllOn : State → List TimerId → Type 0
+AllOn s ts = (k : ℕ) → k < length ts → (slice_index_or ts k (0, 0)).0 < processors s
+
+-- the earliest timer is due at the moment, so that some timer is
+abbrev pub is_any_due : Option (Moment × TimerId) → Moment → Bool
+is_any_due first moment = option_map_or (λ e. nat_le e.0 moment) first false
+
+-- an owner whose processor is on the board
+abbrev pub IsOn : State → Owner → Type 0
+IsOn s Guest = Unit {0}
+IsOn s (Sim p) = p < processors s
+IsOn s (Sief p) = p < processors s
+IsOn s Nothing = Unit {0}
+
+-- the message of a post, with the next ticket
+abbrev pub posted_message : State → PortNumber → ℕ → List ℕ → Message
+posted_message s port kind payload = FromPort s.next_ticket port kind (record { items = payload })

@@ -1,0 +1,7 @@
+-- How what the contracts see of a heap is coded where it is compared whole.
+use Rattle.std.specs.Prelude.{ℕ, List, Option, refl}
+use Rattle.std.specs.Coded.{Coded, code_by, coded×, coded_ℕ, coded_list, coded_option}
+use Rattle.timer_heap.specs.Heap.{HeapModel}
+
+abbrev pub heap_code : Coded HeapModel
+heap_code = code_by (List (Option ℕ) × ℕ) (coded× (coded_list (coded_option coded_ℕ)) coded_ℕ) (λ h. (h.dues, h.compared)) (λ p. record { dues = p.0; compared = p.1 }) (λ _. refl)
