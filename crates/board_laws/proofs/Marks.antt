@@ -62,7 +62,7 @@ record Agrees (s : State) : Type 0 where
   pub eight : length s.suspended ≡ 8
   pub same : HasOneSuspension s
 
-Keeps : State → Event → Outcome → Type 0
+abbrev Keeps : State → Event → Outcome → Type 0
 Keeps s event outcome = Agrees s → Agrees outcome.0
 
 -- an effect from a state with the same processors and marks

@@ -8,7 +8,7 @@ use Rattle.std.proofs.lemmas.Bool.Decides.{Decides-ltb}
 use Rattle.std.proofs.lemmas.Cmp.{nat_cmp_total}
 use Rattle.arrayvec.specs.ArrayVec.{ArrayVec}
 use Rattle.lapic_core.specs.Vectors.{Vectors, greatest}
-use Rattle.lapic_core.specs.Apic.{Apic, request, next, with_task_priority, after_end, end_vector}
+use Rattle.lapic_core.specs.Apic.{Apic, request, next, with_task_priority, after_end, end_vector, take_vector}
 use Rattle.board_terms.specs.declared.messages.Message.{Message}
 use Rattle.board_terms.specs.declared.messages.Message.TheVariants.{FromPort, FromTimer}
 use Rattle.board_terms.specs.Messages.{ticket_of}
@@ -279,7 +279,11 @@ of-place P Q h k s port flag (p, i, f) is =
     (λ _. either (Q s (Signal port flag)) (is_flag_set (space_of s) p i f) found sets (λ lit_already. k.repeats s port flag p i f is lit_already) (λ clear. k.signals s port flag p i f is clear (of-raised P h lit p i)))
 
 same-taken : (s : State) (p v : ℕ) → (taken_at s p v).suspended ≡ is_suspended s p
-same-taken s p v = either (λ (a : Apic). a.suspended ≡ is_suspended s p) (set.contains (auto_vectors (regs_of s p)) v) _ _ (λ _. refl) (λ _. refl)
+same-taken s p v = by (set.contains (auto_vectors (regs_of s p)) v)
+  where
+    by : (auto : Bool) → (take_vector auto v (apic_of s p)).suspended ≡ is_suspended s p
+    by true = refl
+    by false = refl
 
 of-taken : (P : State → Effect → Type 0) (Q : State → Event → Outcome → Type 0) → OfEffects P → OfAnswers P Q → (s : State) (p : ℕ) → Q s (Take p) (taken s p)
 of-taken P Q h k s p = elim (next (apic_of s p)) as (λ o. Q s (Take p) (option_map_or (λ v. with_apic s p (taken_at s p v)) o s, replies.Taken o, [])) [

@@ -13,7 +13,8 @@ use Rattle.synic_board.specs.declared.history.Entry.{Entry}
 use Rattle.posted_words.specs.declared.rule.Did.{Did}
 use Rattle.posted_words.specs.declared.rule.Did.TheVariants.{Raise, Sweep}
 use Rattle.posted_words.specs.Did.{times_raised, fresh, times_taken}
-use Rattle.posted_words.specs.Settled.{Bounded, Settled}
+use Rattle.posted_words.specs.Settled.{Settled}
+use Rattle.posted_words.proofs.Closing.{some_fresh}
 use Rattle.posted_words.specs.Words.{Token, token, did_of, sweep_of}
 use Rattle.board_threads.specs.History.{Call}
 use Rattle.board_threads.specs.Sharing.{Acting}
@@ -107,14 +108,6 @@ dids : (actors : List Acting) → map did_of (map (λ (a : Acting). token a.of a
 dids [] = refl
 dids (a ∷ actors) = ap (λ l. a.did ∷ l) (dids actors)
 
-some-fresh : (F T : ℕ → ℕ → ℕ) (w b : ℕ) (logs : List (List Did)) → All (Bounded F T) logs → 0 < sum_by (times_raised w b) logs → 0 < F w b
-some-fresh F T w b [] all some = absurd (omega arith)
-some-fresh F T w b (log ∷ logs) all some = one (times_raised w b log) refl (λ more. some-fresh F T w b logs (All-tail (Bounded F T) log logs all) more)
-  where
-    one : (n : ℕ) → n ≡ times_raised w b log → (0 < sum_by (times_raised w b) logs → 0 < F w b) → 0 < F w b
-    one zero is rest = rest (omega (arith, is, some, sum_by-cons (times_raised w b) log logs))
-    one (suc n) is rest = let p = (All-head (Bounded F T) log logs all).raises w b (omega (arith, is)) in omega (arith, p)
-
 pub are-absorbed : (n : ℕ) (sweepers : List Token) (actors : List Acting) (ended : List ActorCalls) (lines : List Token) (h : List Entry) (standing : List ℕ)
     → sweepers ≡ map (λ (a : Acting). token a.of a.did) actors → map calls_given ended ≡ map calls_held actors → All IsOwn actors → All (λ (t : Token). only_raises t.did ≡ true) lines
     → AreAllOf h ended → length standing ≡ n → Settled n (map did_of (sweepers ++ lines)) standing → AreAbsorbed n (map did_of lines) h standing
@@ -141,7 +134,7 @@ are-absorbed n sweepers actors ended lines h standing are out own only all width
       some = λ w b raise.
           omega (
             arith,
-            some-fresh _ _ w b (logs ++ map did_of lines) settled.bounded (omega (arith, raise, sum_by-append (times_raised w b) logs (map did_of lines))),
+            some_fresh _ _ w b (logs ++ map did_of lines) settled.bounded (omega (arith, raise, sum_by-append (times_raised w b) logs (map did_of lines))),
             sum_by-append (fresh w b) logs (map did_of lines),
             sum-map (fresh w b) log_of ended,
             none (λ a. fresh w b (log_of a)) ended (λ a. fresh-none w b (reverse a.calls.items)),

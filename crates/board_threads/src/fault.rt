@@ -16,8 +16,9 @@ pub(crate) enum WorkFault {
 
 impl From<AllocError> for WorkFault {
     ghost use Rattle.std.specs.Prelude.{◌≡◌};
+    ghost use Rattle.board_threads.specs.inside.Ending.{no_memory};
 
-    ghost from_gives = { λ _ fault. fault ≡ WorkFault.Memory };
+    ghost from_gives = { λ _ fault. fault ≡ no_memory };
 
     fn from(_: AllocError) -> WorkFault {
         WorkFault::Memory

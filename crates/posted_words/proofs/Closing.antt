@@ -73,7 +73,7 @@ gathered key n tokens id seat v words slots sweepers lines m is final first last
     subst (λ ls. Settled n ls words) (sym (map-append did_of sweepers lines)) (Settled-append_comm n (map did_of lines) (map did_of sweepers) words all)
 
 -- a log has a raise of the bit
-HasRaise : ℕ → ℕ → List Did → Type 0
+abbrev HasRaise : ℕ → ℕ → List Did → Type 0
 HasRaise w b ds = (later before : List Did) × (g : Bool) × (ds ≡ later ++ Raise w b g ∷ before)
 
 before-it : (d : Did) (w b : ℕ) (ds : List Did) → HasRaise w b ds → HasRaise w b (d ∷ ds)

@@ -20,7 +20,10 @@ pub record IsEnd (board : Held) (history : List Entry) (called : List ActorCalls
   pub standing : e.standing ≡ left
   pub all : AreAllOf e.history.items e.actors.items
 
--- why the work of a crew stops where a call fails, or where its board is not settled
+-- why the work of a crew stops where an allocation fails, where a call fails, or where its board is not settled
+abbrev pub no_memory : WorkFault
+no_memory = works.Memory
+
 abbrev pub fault_of_call : CallFault → WorkFault
 fault_of_call calls.Memory = works.Memory
 fault_of_call fault = works.Unsettled
