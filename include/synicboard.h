@@ -1,21 +1,33 @@
-/* synicboard: the interrupt side of a Hyper-V-like partition, as a library for C.
+/* synicboard.h: the interrupt side of a Hyper-V-like partition, as a library for C.
  *
- * A board has 1 to 8 processors and 1 to 64 guest pages. It is handed events, and answers each with a
- * reply and its notices; the answers are those of the machine that docs/MACHINE.md says in words.
- * docs/EMBEDDING.md has the run loop round it.
+ * A board has 1 to 8 virtual processors, each with a local APIC, a SynIC and four synthetic timers,
+ * and 1 to 64 guest pages of 4096 bytes. It starts no thread, reads no clock and calls nothing back:
+ * the host performs events on it. Each event returns a reply and emits notices. docs/MACHINE.md
+ * specifies both; docs/EMBEDDING.md shows the run loop of a host.
  *
- * There are handles of boards, of lines, which raise vectors beside a board, and of boards that threads share,
- * with a history. A handle is closed when it is all zeros, and is opened and closed by the calls below. It may
- * be moved, and not copied; its fields are the library's. One call at a time may use a handle, but for that of a
- * shared board: threads that share another hold a lock of their own. Memory is taken by opening, by the history
- * of a shared board, and by the calls on texts, which use no handle; by nothing else. No call ends the program,
- * and none calls back.
+ * Handles. A `synicboard` is a board. A `synicboard_line` raises vectors of posted words without the
+ * board's lock. A `synicboard_shared` is a board with a lock and a history, for several threads. A
+ * handle with all bytes zero is closed. The caller owns the struct and may move it, but must not copy
+ * it or access its fields. The open and split calls below open a handle; its close call frees it.
  *
- * Each call judges its null pointers. A null handle is taken for a closed one, a null event or reply for one of
- * no kind, a null room for one of no length; of a null `page`, nothing is told. Bytes, events and a text may be
- * null where there are 0 of them; else null bytes are too many, null events are one of no kind, and a null text
- * is answered as such. So is a null handle that is to be opened, and to close one does nothing. Any other pointer
- * points at what the call asks for, or anywhere where a count of 0 goes with it.
+ * Threads. At most one call at a time may use a `synicboard` or a `synicboard_line`, so threads that
+ * share one need a lock of their own. Any number of threads may use one `synicboard_shared` at the
+ * same time, except while it is opened or closed. Different handles are independent.
+ *
+ * Memory. Only these calls allocate: the open and split calls, the calls on texts, and the calls that
+ * append to the history of a shared board or write it. No event on a `synicboard` allocates. No call
+ * ends the program.
+ *
+ * Null pointers. Each call checks its pointers for null:
+ *   - A null handle counts as closed. To open a null handle returns SYNICBOARD_NO_HANDLE, and to close
+ *     one does nothing.
+ *   - A null event or reply counts as one with no valid kind, also in place of an array of events with
+ *     a count above 0.
+ *   - Null bytes with a length above 0 count as too many bytes. A null text with a length above 0
+ *     yields SYNICBOARD_NO_TEXT.
+ *   - A null output buffer counts as one of length 0. If `page` is null, no address is stored.
+ * Every other pointer must point to as many valid objects as the call states; with a count of 0 it may
+ * point anywhere.
  */
 #ifndef SYNICBOARD_H
 #define SYNICBOARD_H
@@ -28,59 +40,66 @@
 extern "C" {
 #endif
 
-/* The version of these declarations; the bindings for Rust have the same. */
+/* The version of these declarations. The Rust bindings have the same version. */
 #define SYNICBOARD_VERSION_MAJOR 1
 #define SYNICBOARD_VERSION_MINOR 4
 
+/* A handle of a board. */
 typedef struct synicboard {
     void *at;
     bool is_open;
 } synicboard;
 
-/* A closed handle. */
+/* The initial value of a handle: closed. */
 #define SYNICBOARD_CLOSED { 0, false }
 
-/* What opening a board or a line answers. Where it is not the first, nothing was changed. */
+/* Results of the open and split calls. On any result except SYNICBOARD_OPENED, no handle has changed. */
 enum {
     SYNICBOARD_OPENED = 0,
     SYNICBOARD_BAD_SIZE = 1,            /* not 1 to 8 processors, or not 1 to 64 pages */
     SYNICBOARD_NO_MEMORY = 2,
-    SYNICBOARD_IS_OPEN = 3,             /* the handle to be opened is open already */
-    SYNICBOARD_IS_CLOSED = 4,           /* the handle to be split from is closed */
-    SYNICBOARD_NO_MORE_LINES = 5,       /* it has no line left to split off */
-    SYNICBOARD_NO_HANDLE = 6            /* the pointer to the handle to be opened is null */
+    SYNICBOARD_IS_OPEN = 3,             /* the handle to open is already open */
+    SYNICBOARD_IS_CLOSED = 4,           /* the line to split from is closed */
+    SYNICBOARD_NO_MORE_LINES = 5,       /* the line has no lines left to split off */
+    SYNICBOARD_NO_HANDLE = 6            /* the pointer to the handle to open is null */
 };
 
-/* Opens a board at moment 0, whose first accepted message takes `first_ticket`. */
+/* Opens a board at time 0. The first message that it accepts gets the ticket `first_ticket`. Allocates
+ * all memory that the events of this board need.
+ *
+ * Returns SYNICBOARD_OPENED; SYNICBOARD_NO_HANDLE if `board` is null; SYNICBOARD_IS_OPEN if it is
+ * open; SYNICBOARD_BAD_SIZE unless `processors` is 1 to 8 and `pages` is 1 to 64; or
+ * SYNICBOARD_NO_MEMORY if an allocation fails. */
 uint8_t synicboard_open(synicboard *board, uint8_t processors, uint8_t pages, uint64_t first_ticket);
 
-/* Closes the board, if one is open, and gives its memory back. */
+/* Frees the board and closes its handle. Does nothing if the handle is closed. Pointers to pages of the
+ * board become invalid. */
 void synicboard_close(synicboard *board);
 
-/* The kinds of replies. */
+/* Kinds of replies. The comment names the fields of synicboard_reply that the kind uses. */
 enum {
-    SYNICBOARD_NOT_PERFORMED = 0,       /* `fault` says why; nothing was changed */
+    SYNICBOARD_NOT_PERFORMED = 0,       /* `fault` is the reason; nothing has changed */
     SYNICBOARD_DONE = 1,
     SYNICBOARD_VALUE = 2,               /* `value` */
     SYNICBOARD_BYTES = 3,               /* the first `length` of `bytes` */
     SYNICBOARD_TAKEN = 4,               /* `vector` */
-    SYNICBOARD_NONE_TAKEN = 5,
+    SYNICBOARD_NONE_TAKEN = 5,          /* `take` without a next vector */
     SYNICBOARD_ACCEPTED = 6,            /* `ticket` */
-    SYNICBOARD_FLAG_WAS_CLEAR = 7,
-    SYNICBOARD_FLAG_WAS_SET = 8,
-    SYNICBOARD_GENERAL_PROTECTION = 9,  /* nothing was changed */
-    SYNICBOARD_REFUSED = 10             /* `refusal`; nothing was changed */
+    SYNICBOARD_FLAG_WAS_CLEAR = 7,      /* `signal` set the flag */
+    SYNICBOARD_FLAG_WAS_SET = 8,        /* `signal` changed nothing */
+    SYNICBOARD_GENERAL_PROTECTION = 9,  /* inject #GP; nothing has changed */
+    SYNICBOARD_REFUSED = 10             /* `refusal`; nothing has changed */
 };
 
-/* Why nothing was performed. */
+/* Why a call performed no event. */
 enum {
-    SYNICBOARD_NO_BOARD = 1,            /* the handle is closed */
-    SYNICBOARD_NO_EVENT = 2,            /* a vector below 16, too many bytes, or no such kind */
+    SYNICBOARD_NO_BOARD = 1,            /* the handle of the board is closed */
+    SYNICBOARD_NO_EVENT = 2,            /* a vector below 16, too many bytes, or an unknown kind */
     SYNICBOARD_NO_LINE = 3,             /* the handle of the line is closed */
-    SYNICBOARD_NO_ENTRY = 4             /* there is no memory for one more entry of a shared board's history */
+    SYNICBOARD_NO_ENTRY = 4             /* the history of the shared board cannot grow: out of memory */
 };
 
-/* Why an event was refused. */
+/* Why the board refused an event (docs/MACHINE.md, "Refusals"). */
 enum {
     SYNICBOARD_UNKNOWN_PORT = 1,
     SYNICBOARD_PORT_OPEN = 2,
@@ -100,61 +119,84 @@ enum {
     SYNICBOARD_NOT_SUSPENDED = 16
 };
 
-/* A reply; what its kind does not use is 0, but for what synicboard_absorb_line says of `value`. */
+/* A reply. Fields that its kind does not use are 0, except `value` in a reply of
+ * synicboard_absorb_line. */
 typedef struct synicboard_reply {
     uint8_t kind;
     uint8_t fault;
     uint8_t refusal;
     uint8_t vector;
     uint8_t length;
-    uint16_t notices;                   /* how many notices the event gave */
+    uint16_t notices;                   /* number of notices that the event emitted */
     uint64_t value;
     uint64_t ticket;
     uint8_t bytes[8];
 } synicboard_reply;
 
-/* The registers, by their names in the standard (HV_X64_MSR_..). */
+/* Register numbers, by their names in the TLFS (HV_X64_MSR_..). */
 enum {
-    SYNICBOARD_MSR_TIME_REF_COUNT = 0x40000020, /* the reference counter, in units of 100 ns */
+    SYNICBOARD_MSR_TIME_REF_COUNT = 0x40000020, /* the partition reference counter, in units of 100 ns */
     SYNICBOARD_MSR_EOI = 0x40000070,            /* end of interrupt */
-    SYNICBOARD_MSR_TPR = 0x40000072,            /* the task priority */
-    SYNICBOARD_MSR_SCONTROL = 0x40000080,       /* the control of the SynIC */
-    SYNICBOARD_MSR_SVERSION = 0x40000081,       /* its version */
-    SYNICBOARD_MSR_SIEFP = 0x40000082,          /* the page of event flags */
-    SYNICBOARD_MSR_SIMP = 0x40000083,           /* the page of messages */
+    SYNICBOARD_MSR_TPR = 0x40000072,            /* task priority */
+    SYNICBOARD_MSR_SCONTROL = 0x40000080,       /* SynIC control */
+    SYNICBOARD_MSR_SVERSION = 0x40000081,       /* SynIC version */
+    SYNICBOARD_MSR_SIEFP = 0x40000082,          /* event flags page */
+    SYNICBOARD_MSR_SIMP = 0x40000083,           /* message page */
     SYNICBOARD_MSR_EOM = 0x40000084,            /* end of message */
-    SYNICBOARD_MSR_SINT0 = 0x40000090,          /* the first source; SINT1 to SINT15 follow */
-    SYNICBOARD_MSR_STIMER0_CONFIG = 0x400000b0, /* the first timer; the next is two further on */
+    SYNICBOARD_MSR_SINT0 = 0x40000090,          /* SINT1 to SINT15 follow */
+    SYNICBOARD_MSR_STIMER0_CONFIG = 0x400000b0, /* each next timer is two numbers higher */
     SYNICBOARD_MSR_STIMER0_COUNT = 0x400000b1
 };
 
-/* A call for each event. */
+/* ---- Events ----
+ *
+ * One call for each kind of event. Each performs the event on the board and returns the reply. It
+ * allocates nothing. With SYNICBOARD_NOT_PERFORMED, SYNICBOARD_REFUSED or
+ * SYNICBOARD_GENERAL_PROTECTION, the board is unchanged. If the handle is closed, the fault is
+ * SYNICBOARD_NO_BOARD; each call names the arguments that yield SYNICBOARD_NO_EVENT. Every other
+ * argument out of range is refused by the board. `vp` is the number of a processor, from 0. */
+
+/* Opens port `port`, 0 to 15, for messages to source `sint` of processor `vp`, with 1 to 16 buffers. */
 synicboard_reply synicboard_open_message_port(synicboard *board, uint8_t port, uint8_t vp, uint8_t sint, uint8_t buffers);
+/* Opens port `port`, 0 to 15, for the `count` event flags from `base` on, at source `sint` of processor
+ * `vp`. `count` is at least 1, and `base + count` at most 2048. */
 synicboard_reply synicboard_open_event_port(synicboard *board, uint8_t port, uint8_t vp, uint8_t sint, uint16_t base, uint16_t count);
+/* Closes a port and withdraws its queued messages. Messages in slots stay. */
 synicboard_reply synicboard_close_port(synicboard *board, uint8_t port);
+/* A guest writes a register (SYNICBOARD_MSR_..). */
 synicboard_reply synicboard_write(synicboard *board, uint8_t vp, uint32_t msr, uint64_t value);
+/* A guest reads a register. */
 synicboard_reply synicboard_read(synicboard *board, uint8_t vp, uint32_t msr);
-/* Up to 240 bytes. */
+/* Posts a message with a payload of `length` bytes to a message port. SYNICBOARD_NO_EVENT if `length` is
+ * above 240. */
 synicboard_reply synicboard_post(synicboard *board, uint8_t port, uint32_t message_type, const uint8_t *payload, size_t length);
+/* Sets an event flag of a flag port. `flag` counts from the base of the port. */
 synicboard_reply synicboard_signal(synicboard *board, uint8_t port, uint16_t flag);
-/* A vector from 16 on. */
+/* A device requests a vector of a processor. SYNICBOARD_NO_EVENT if `vector` is below 16. */
 synicboard_reply synicboard_assert(synicboard *board, uint8_t vp, uint8_t vector);
-/* Bit i of `bits` is vector 64 * part + i. */
+/* Requests posted vectors. Bit i of `bits` is vector 64 * part + i; `part` is 0 to 3. Vectors below 16
+ * are ignored. */
 synicboard_reply synicboard_absorb(synicboard *board, uint8_t vp, uint8_t part, uint64_t bits);
-/* Up to 8 bytes. */
+/* A guest stores `length` bytes, 1 to 8, within one page. SYNICBOARD_NO_EVENT if `length` is above 8. */
 synicboard_reply synicboard_store(synicboard *board, uint64_t address, const uint8_t *bytes, size_t length);
+/* A guest loads `length` bytes, 1 to 8, from within one page. */
 synicboard_reply synicboard_load(synicboard *board, uint64_t address, uint8_t length);
-/* In units of 100 ns. */
+/* Moves the clock to `moment`, in units of 100 ns, and expires the timers that are due by then. The clock
+ * never goes back. */
 synicboard_reply synicboard_tick(synicboard *board, uint64_t moment);
+/* A processor accepts its next vector. A vector that is auto-EOI does not enter service. */
 synicboard_reply synicboard_take(synicboard *board, uint8_t vp);
+/* Suspends a processor: it has no next vector, and its timers do not expire, until it resumes. */
 synicboard_reply synicboard_suspend(synicboard *board, uint8_t vp);
+/* Resumes a suspended processor. Its timers that are due expire at the next tick. */
 synicboard_reply synicboard_resume(synicboard *board, uint8_t vp);
+/* Resets a processor and withdraws the messages in its queues and slots. */
 synicboard_reply synicboard_reset(synicboard *board, uint8_t vp);
 
-/* The kinds of events. */
+/* Kinds of events. The comment names the fields of synicboard_event that the kind uses. */
 enum {
     SYNICBOARD_OPEN_MESSAGE_PORT = 1,   /* port, vp, sint, buffers */
-    SYNICBOARD_OPEN_EVENT_PORT = 2,     /* port, vp, sint, flag (the first), count */
+    SYNICBOARD_OPEN_EVENT_PORT = 2,     /* port, vp, sint, flag (the base), count */
     SYNICBOARD_CLOSE_PORT = 3,          /* port */
     SYNICBOARD_WRITE = 4,               /* vp, msr, value */
     SYNICBOARD_READ = 5,                /* vp, msr */
@@ -171,7 +213,7 @@ enum {
     SYNICBOARD_RESET = 16               /* vp */
 };
 
-/* An event; what its kind does not use is not looked at. */
+/* An event. Fields that its kind does not use are ignored. */
 typedef struct synicboard_event {
     uint8_t kind;
     uint8_t vp;
@@ -191,9 +233,13 @@ typedef struct synicboard_event {
     uint8_t bytes[240];
 } synicboard_event;
 
+/* Performs an event that is given as a struct. SYNICBOARD_NO_EVENT if its kind is unknown, its vector is
+ * below 16 (assert), or its `length` is above 240 (post) or 8 (store). */
 synicboard_reply synicboard_perform(synicboard *board, const synicboard_event *event);
 
-/* The kinds of notices. */
+/* ---- Notices ---- */
+
+/* Kinds of notices. The comment names the fields of synicboard_notice that the kind uses. */
 enum {
     SYNICBOARD_NOTICE_ACCEPTED = 1,     /* ticket, vp, sint */
     SYNICBOARD_NOTICE_PLACED = 2,       /* ticket, vp, sint */
@@ -206,7 +252,7 @@ enum {
     SYNICBOARD_NOTICE_SKIPPED = 9       /* vp, timer, count */
 };
 
-/* A notice; what its kind does not use is 0. */
+/* A notice. Fields that its kind does not use are 0. */
 typedef struct synicboard_notice {
     uint8_t kind;
     uint8_t vp;
@@ -219,87 +265,113 @@ typedef struct synicboard_notice {
     uint64_t count;
 } synicboard_notice;
 
-/* No event gives more. */
+/* No event emits more notices. */
 #define SYNICBOARD_MOST_NOTICES 276
 
-/* Copies the notices of the last event, in their order and as many as there is room for, and answers how
- * many there are. What is refused has none; where nothing was performed they are those of the event before. */
+/* Copies the notices of the last event, in order, as many as fit into `length` elements, and returns
+ * how many there are; 0 if the handle is closed. An event that is refused or raises #GP has none. A call
+ * that performs no event keeps the notices of the event before. */
 size_t synicboard_notices(synicboard *board, synicboard_notice *room, size_t length);
 
-/* How a batch ended. */
+/* ---- Batches ---- */
+
+/* Why a batch stopped. */
 enum {
     SYNICBOARD_ALL_PERFORMED = 0,
     SYNICBOARD_BATCH_NO_BOARD = 1,      /* the handle is closed */
-    SYNICBOARD_BATCH_NO_EVENT = 2,      /* the next one has no such kind, a vector below 16, or too many bytes */
-    SYNICBOARD_BATCH_NO_ROOM = 3        /* for one more reply, or for SYNICBOARD_MOST_NOTICES more notices */
+    SYNICBOARD_BATCH_NO_EVENT = 2,      /* the next event is invalid, as for synicboard_perform */
+    SYNICBOARD_BATCH_NO_ROOM = 3        /* one more reply, or SYNICBOARD_MOST_NOTICES more notices, might not fit */
 };
 
 typedef struct synicboard_batch {
     uint8_t end;
-    size_t done;                        /* how many events were performed */
-    size_t told;                        /* how many notices they gave */
+    size_t done;                        /* number of events performed */
+    size_t told;                        /* number of notices that they emitted */
 } synicboard_batch;
 
-/* Performs events in order, as long as each is one and there is room. Each has a reply, and the notices of
- * all stand one behind another in `notices`, of which each reply says how many are its own. */
+/* Performs events in order. Stops before an event that is invalid, or for which `replies` has no free
+ * element, or `notices` fewer than SYNICBOARD_MOST_NOTICES free ones. The reply to events[i] is
+ * replies[i]. The notices of all events follow one another in `notices`; the `notices` field of each
+ * reply counts its own. */
 synicboard_batch synicboard_perform_all(synicboard *board, const synicboard_event *events, size_t count, synicboard_reply *replies, size_t reply_room, synicboard_notice *notices, size_t notice_room);
 
-/* Posted vectors: a device raises them by one atomic step, without the lock of the board, and the thread of
- * a processor takes them in. A line is what one thread does that with; lines of the same words are used by
- * threads at the same time, each by one. The words are opened with their first line, from which 31 lines can
- * be split in all, and are given back when the last of them is closed. What a thread wrote before it raised
- * is seen by who absorbed that. */
+/* ---- Posted vectors ----
+ *
+ * Posted words have one bit for each vector of each processor. A device sets a bit by one atomic step,
+ * without the lock of the board; the thread of a processor absorbs the bits into the board. A line is
+ * the right of one thread to do so: each thread uses its own line, and lines of the same words may be
+ * used at the same time. Opening the words returns their first line, from which at most 31 more can be
+ * split. The words are freed when the last of their lines is closed. What a thread wrote before it
+ * raised a vector is visible to the thread that absorbs this raise. */
+
+/* A handle of a line. */
 typedef struct synicboard_line {
     void *at;
     bool is_open;
 } synicboard_line;
 
-/* A closed handle of a line. */
+/* The initial value of a handle of a line: closed. */
 #define SYNICBOARD_LINE_CLOSED { 0, false }
 
-/* Opens words for so many processors, with no vector raised, and their first line. That a line is open is
- * judged before the size. */
+/* Opens words for that many processors, with no vector raised, and their first line.
+ *
+ * Returns SYNICBOARD_OPENED; SYNICBOARD_NO_HANDLE if `line` is null; SYNICBOARD_IS_OPEN if it is open,
+ * which is checked before the size; SYNICBOARD_BAD_SIZE unless `processors` is 1 to 8; or
+ * SYNICBOARD_NO_MEMORY if an allocation fails. */
 uint8_t synicboard_open_line(synicboard_line *line, uint8_t processors);
 
-/* Opens `other` as a line of the same words. No other call may use `line` meanwhile. That `other` is open is
- * judged first, then that `line` is closed. */
+/* Opens `other` as a line of the same words. Only the first line of the words can split off others, 31
+ * in all. No other call may use `line` at the same time.
+ *
+ * Returns SYNICBOARD_OPENED; SYNICBOARD_NO_HANDLE if `other` is null; SYNICBOARD_IS_OPEN if `other` is
+ * open; SYNICBOARD_IS_CLOSED if it is not and `line` is closed; SYNICBOARD_NO_MORE_LINES if `line` has
+ * none left; or SYNICBOARD_NO_MEMORY if an allocation fails. */
 uint8_t synicboard_split_line(synicboard_line *line, synicboard_line *other);
 
-/* Closes the line, if one is open. What was raised and not absorbed is lost with the last line. */
+/* Closes the line. Does nothing if the handle is closed. Closing the last line of the words frees them,
+ * and drops vectors that were raised and not absorbed. */
 void synicboard_close_line(synicboard_line *line);
 
-/* What synicboard_raise answers. */
+/* Results of synicboard_raise. */
 enum {
-    SYNICBOARD_NOT_RAISED = 0,          /* the handle is closed, no such processor, or a vector below 16 */
-    SYNICBOARD_FRESH = 1,               /* it was not raised: kick the processor */
-    SYNICBOARD_ALREADY = 2              /* it was raised, and not absorbed yet: nobody needs to be kicked */
+    SYNICBOARD_NOT_RAISED = 0,          /* closed handle, no such processor, or a vector below 16 */
+    SYNICBOARD_FRESH = 1,               /* the bit was clear: kick the processor */
+    SYNICBOARD_ALREADY = 2              /* the bit was already set: no kick needed */
 };
 
-/* Raises a vector, 16 to 255, of a processor. It waits for nobody. */
+/* Raises a vector, 16 to 255, of a processor, by one atomic step. Never blocks. */
 uint8_t synicboard_raise(synicboard_line *line, uint8_t vp, uint8_t vector);
 
-/* Takes what was raised of a processor in a part, 0 to 3, and has the board absorb it: bit i of `value` of the
- * reply is vector 64 * part + i. A closed board is judged before a closed line. Where the board refuses, nothing
- * is taken; of a processor that the words are not for, the board absorbs nothing. For the board it is one
- * event, so the lock of the board is held. */
+/* Clears the bits of a part, 0 to 3, of a processor's words, and performs an absorb of them on the
+ * board. Bit i of the reply's `value` is vector 64 * part + i. This uses the board, so threads that
+ * share it must hold its lock.
+ *
+ * The fault is SYNICBOARD_NO_BOARD if the board is closed, and otherwise SYNICBOARD_NO_LINE if the line
+ * is closed. If the board refuses, no bit is cleared. If the words do not have the processor, the board
+ * absorbs no vector. */
 synicboard_reply synicboard_absorb_line(synicboard *board, synicboard_line *line, uint8_t vp, uint8_t part);
 
-/* What the board is asked after each event. None of these changes it, or computes anything. */
+/* ---- Queries ----
+ *
+ * What a host reads after each event. No query changes the board. Each returns a cached value. */
 
-/* The next vector of a processor, 0 for none. */
+/* The next vector of a processor; 0 if it has none, or there is no such processor or board. */
 uint8_t synicboard_next(synicboard *board, uint8_t vp);
-/* Whether a vector ends by itself when a processor takes it. */
+/* Whether a vector is auto-EOI on a processor: if it is taken, it does not enter service. */
 bool synicboard_is_auto(synicboard *board, uint8_t vp, uint8_t vector);
-/* How many messages are queued for a source. */
+/* The number of messages that are queued for a source. */
 uint16_t synicboard_queued(synicboard *board, uint8_t vp, uint8_t sint);
+/* The present time, in units of 100 ns; 0 if the handle is closed. */
 uint64_t synicboard_moment(synicboard *board);
+/* The ticket that the next accepted message gets; 0 if the handle is closed. */
 uint64_t synicboard_next_ticket(synicboard *board);
 
+/* Which page is visible at a page number. */
 enum {
-    SYNICBOARD_OWNER_NOTHING = 0,       /* no such page */
-    SYNICBOARD_OWNER_GUEST = 1,
-    SYNICBOARD_OWNER_MESSAGES = 2,      /* the page of messages of `vp` */
-    SYNICBOARD_OWNER_FLAGS = 3          /* the page of event flags of `vp` */
+    SYNICBOARD_OWNER_NOTHING = 0,       /* no such page, or the handle is closed */
+    SYNICBOARD_OWNER_GUEST = 1,         /* the guest page */
+    SYNICBOARD_OWNER_MESSAGES = 2,      /* the message page of `vp` */
+    SYNICBOARD_OWNER_FLAGS = 3          /* the event flags page of `vp` */
 };
 
 typedef struct synicboard_page_owner {
@@ -307,10 +379,11 @@ typedef struct synicboard_page_owner {
     uint8_t vp;
 } synicboard_page_owner;
 
-/* Whose page a guest sees at a page number. */
+/* The page that a guest sees at page number `page`. */
 synicboard_page_owner synicboard_owner(synicboard *board, uint64_t page);
 
-/* The timer that is due first, if `is_due`: at high * 2^64 + low. No clock reaches a `high` above 0. */
+/* The earliest deadline of a timer. If `is_due`, timer `timer` of processor `vp` is due at
+ * high * 2^64 + low, in units of 100 ns. The clock never reaches a deadline with `high` above 0. */
 typedef struct synicboard_due {
     bool is_due;
     uint8_t vp;
@@ -319,95 +392,121 @@ typedef struct synicboard_due {
     uint64_t high;
 } synicboard_due;
 
+/* The timer with the earliest deadline, for a host to arm its own timer with. */
 synicboard_due synicboard_earliest(synicboard *board);
 
-/* Where a page of 4096 bytes lies, for reading. Whether there is one; if not, `page` is left as it was.
- * The address stays the same until the board is closed; the bytes change by events and by closing alone, so
- * they are not read while one of these runs. Each page is a block of its own, and begins a page of the host's
- * where malloc aligns blocks of this size so (examples/c/pages.c). A page of messages or flags is that of the
- * processor, wherever its overlay lies; a guest page is what lies below the overlays. */
+/* Store the address of a page of 4096 bytes in `*page`, for reading. Each returns whether there is such a
+ * page; if not, `*page` is unchanged.
+ *
+ * The board owns the page. The address is valid, and the same, until the board is closed. Only events
+ * and closing change the bytes, so do not read them while such a call runs. Each page is an allocation
+ * of its own, so it is aligned to a host page if malloc aligns blocks of this size so
+ * (examples/c/pages.c). The message and event flags pages are the processor's own, whether or not an
+ * overlay makes them visible; a guest page is the page below the overlays. */
 bool synicboard_message_page(synicboard *board, uint8_t vp, const uint8_t **page);
 bool synicboard_flag_page(synicboard *board, uint8_t vp, const uint8_t **page);
 bool synicboard_guest_page(synicboard *board, uint64_t number, const uint8_t **page);
 
-/* How the reading or the writing of a text ended. */
+/* ---- Texts ----
+ *
+ * Scripts and traces, in the formats of docs/FORMATS.md. */
+
+/* How a call on a text ended. */
 enum {
     SYNICBOARD_ALL_RIGHT = 0,
-    SYNICBOARD_WRONG_LINE = 1,          /* `line` is the first that is wrong, counted from 1 */
-    SYNICBOARD_WANTED_MEMORY = 2,
+    SYNICBOARD_WRONG_LINE = 1,          /* `line` is the first wrong line, counted from 1 */
+    SYNICBOARD_WANTED_MEMORY = 2,       /* an allocation failed */
     SYNICBOARD_TOO_LONG = 3,            /* more than 1,073,741,824 bytes, and no line of these is wrong */
-    SYNICBOARD_NO_TEXT = 4              /* there is none: its pointer is null and its length is not 0, or
-                                           nothing is shared that could be settled */
+    SYNICBOARD_NO_TEXT = 4              /* the text is null and its length is not 0, or the handle to
+                                           settle is closed */
 };
 
+/* The result of a call that writes a text. */
 typedef struct synicboard_end {
     uint8_t kind;
     uint64_t line;
-    size_t length;                      /* of the whole text, also where it did not fit, and 0 without one */
+    size_t length;                      /* of the whole text, even if it did not fit, or 0 if there is none */
 } synicboard_end;
 
-/* Performs a script on a board of its own, and writes its text (docs/FORMATS.md) into a room, as much as
- * fits; nothing where memory was wanting or the script is too long. */
+/* Performs a script on a board of its own, and writes its output to `room`, as much as fits. With
+ * SYNICBOARD_WRONG_LINE the output ends with the fault line. With SYNICBOARD_WANTED_MEMORY or
+ * SYNICBOARD_TOO_LONG nothing is written. */
 synicboard_end synicboard_replay(const uint8_t *script, size_t script_length, uint8_t *room, size_t length);
 
+/* The result of a check. */
 typedef struct synicboard_verdict {
-    uint8_t kind;
-    uint64_t entries;                   /* of the legal history */
-    uint64_t line;
+    uint8_t kind;                       /* SYNICBOARD_ALL_RIGHT if the trace is that of a legal history */
+    uint64_t entries;                   /* of the legal history, or 0 */
+    uint64_t line;                      /* the first wrong line, counted from 1, or 0 */
 } synicboard_verdict;
 
-/* Checks whether a text is the trace of a legal history. */
+/* Checks whether a text is the trace of a legal history. Allocates a board of its own. */
 synicboard_verdict synicboard_check(const uint8_t *trace, size_t length);
 
-/* Writes the two lines of a trace, each with its line feed, that tell of an event and of the reply to it, as
- * much of them as fits. So threads that share a board keep a trace of what they did, in the order in which
- * they held its lock; `actor` is a number of the thread. 76 bytes are enough for any event but a post, and 535
- * for that. Where the numbers mean no event, line 1 is wrong; where they tell no reply of a board's, line 2. Of
- * both, what their kind does not use is not looked at. */
+/* Writes the two lines of a trace entry for an event and its reply, each with its line feed, as much as
+ * fits. Threads that share a board with a lock of their own can record a trace this way, in the order
+ * in which they hold the lock. `actor` is the number of the thread. 76 bytes are enough for any event
+ * except a post, and 535 for a post.
+ *
+ * With SYNICBOARD_WRONG_LINE, `line` is 1 if the event is invalid, and otherwise 2 if the reply is not
+ * one of a board; then `room` is unchanged. Fields of the event and the reply that their kind does not
+ * use are ignored. */
 synicboard_end synicboard_tell(uint8_t actor, const synicboard_event *event, const synicboard_reply *reply, uint8_t *room, size_t length);
 
-/* A board that threads share, with its history: what was asked of it and what it answered, in the order in which
- * that was done. Who asks is an actor, by a number of its own, and a device raises by a line beside it. These
- * calls hold a lock of the board's own, so any number of threads may be in them at once, with one handle, but for
- * opening and closing. The history takes memory for each entry. */
+/* ---- Shared boards ----
+ *
+ * A board with a lock and a history, for several threads. The history has an entry for each event, with
+ * its actor and its reply, in the order in which the events were performed. An actor is a number that
+ * the caller gives to each thread. Devices raise through lines, without the lock.
+ *
+ * Any number of threads may be in these calls at the same time, with one handle, except while it is
+ * opened or closed. The calls block on the lock. Each entry allocates memory. */
+
+/* A handle of a shared board. */
 typedef struct synicboard_shared {
     void *at;
     bool is_open;
 } synicboard_shared;
 
-/* A closed handle of a shared board. */
+/* The initial value of a handle of a shared board: closed. */
 #define SYNICBOARD_SHARED_CLOSED { 0, false }
 
-/* Opens a shared board at moment 0, with an empty history, whose first accepted message takes `first_ticket`. */
+/* Opens a shared board at time 0, with an empty history. Arguments and results are those of
+ * synicboard_open. */
 uint8_t synicboard_open_shared(synicboard_shared *shared, uint8_t processors, uint8_t pages, uint64_t first_ticket);
 
-/* Closes the shared board, if one is open, and gives its memory back. */
+/* Frees the shared board and its history, and closes its handle. Does nothing if the handle is closed.
+ * No other call may use the handle at the same time. */
 void synicboard_close_shared(synicboard_shared *shared);
 
-/* Performs an event for an actor, enters it with its reply in the history, and copies its notices, as many as
- * there is room for. Where there is no memory for one more entry, nothing is performed. */
+/* Performs an event for an actor, as synicboard_perform does, appends the event and its reply to the
+ * history, and copies the notices of the event, as many as fit into `room` elements. If the history
+ * cannot grow, the fault is SYNICBOARD_NO_ENTRY, and no event is performed. */
 synicboard_reply synicboard_act(synicboard_shared *shared, uint8_t actor, const synicboard_event *event, synicboard_notice *notices, size_t room);
 
-/* The same for what synicboard_absorb_line does. Another thread may raise at other lines meanwhile. */
+/* The same for synicboard_absorb_line. Other threads may raise through other lines at the same time. */
 synicboard_reply synicboard_act_absorb(synicboard_shared *shared, uint8_t actor, synicboard_line *line, uint8_t vp, uint8_t part, synicboard_notice *notices, size_t room);
 
-/* Holds the lock, and lends the board to be asked; null where the handle is closed, and then nothing is held. The
- * thread that holds it makes no other call of the shared board until it has released the lock. It does not close
- * what it was lent, and performs no event on it, since that would not stand in the history. */
+/* Acquires the lock and returns the board, for queries; null if the handle is closed, and then no lock is
+ * held. The pointer is valid until the thread calls synicboard_release. Until then, the thread must
+ * make no other call on the shared board. It must not close the board, and must perform no event on it,
+ * since the history would lack that event. */
 synicboard *synicboard_hold(synicboard_shared *shared);
+
+/* Releases the lock. Does nothing if the handle is closed. */
 void synicboard_release(synicboard_shared *shared);
 
-/* What a history comes to. */
+/* The result of synicboard_settle. */
 typedef struct synicboard_settled {
-    uint8_t kind;                       /* as of a check: SYNICBOARD_ALL_RIGHT where it is legal */
+    uint8_t kind;                       /* as of synicboard_check: SYNICBOARD_ALL_RIGHT if it is legal */
     uint64_t entries;
     uint64_t line;
-    size_t length;                      /* of the whole trace, also where it did not fit, and 0 without one */
+    size_t length;                      /* of the whole trace, even if it did not fit, or 0 if there is none */
 } synicboard_settled;
 
-/* Writes the history as a trace, from the opening to here, into a room, as much as fits, and says of it what
- * synicboard_check says. It holds the lock while it writes. Nothing is changed, so it may be asked again.
- * SYNICBOARD_NO_TEXT where the handle is closed. */
+/* Writes the whole history as a trace to `room`, as much as fits, and returns what synicboard_check returns
+ * for that trace. Holds the lock only while it formats the trace. Changes nothing, so it may be called
+ * at any time and repeatedly. SYNICBOARD_NO_TEXT if the handle is closed. */
 synicboard_settled synicboard_settle(synicboard_shared *shared, uint8_t *room, size_t length);
 
 #ifdef __cplusplus
