@@ -1,26 +1,28 @@
-/* The calls of synicboard.h. Each judges its null pointers, and leaves all else to the proved call.
+/* The calls of synicboard.h. Each checks its pointers for null and leaves everything else to the
+ * proved call.
  *
- * What is proved is proved of pointers that are not null; it judges closed handles, numbers that mean no
- * event, and rooms that are too small. So in place of what is null, it is handed what it judges already:
+ * The proof assumes that no pointer is null. The proved calls themselves handle closed handles,
+ * numbers that encode no event, and buffers that are too small. So each null pointer is replaced by
+ * a value that they already handle:
  *
- *   a handle               one that is closed
+ *   a handle               a closed one
  *   bytes, and 0 of them   an empty array
- *   bytes, and more        more of them than any event has
- *   an event               one of no kind; in place of many, this one
- *   a reply                one of no kind
- *   a room                 one of no length
- *   where a page is told   a place that nobody reads
+ *   bytes, and more        more bytes than any event has
+ *   an event               one of an unknown kind; it also replaces an array
+ *   a reply                one of an unknown kind
+ *   an output buffer       one of length 0
+ *   `page` of a page call  a variable that is not read
  *
- * Nothing can stand in place of a handle that is to be opened, or of a text that has a length: what is
- * answered then is in the header, and these calls come last. No call here takes memory or keeps anything.
- * `./library` gives the proved calls the names that they have here. */
+ * A handle to open and a text with a length have no such value. The header defines what their calls
+ * return, and they come last here. No call in this file allocates or keeps state. `./library`
+ * renames the proved calls, so that these have the public names. */
 #include "synicboard.h"
 
 #ifndef __x86_64__
 #error "structs are answered here as on x86-64"
 #endif
 
-/* ---- What stands in place of a null pointer, as long as the call runs ---- */
+/* ---- Replacements for null pointers ---- */
 
 static const synicboard_event no_event = { 0 };
 static const synicboard_reply no_reply = { 0 };
@@ -38,13 +40,14 @@ static const uint8_t too_many[sizeof no_event.bytes + 1] = { 0 };
 #define ROOM(room, length, type) length = room != NULL ? length : 0; OR(room, &(type){ 0 })
 #define PLACE(page) OR(page, &(const uint8_t *){ NULL })
 
-/* ---- What a call is made of ---- */
+/* ---- How a call is built ---- */
 
 #define SELDOM(condition) __builtin_expect((condition), 0)
 #define APART __attribute__((cold, noinline)) static
 #define LISTED(...) __VA_ARGS__
 
-/* Where something is null, the proved call is made apart, with what stands in place; else it is jumped to. */
+/* Calls the proved function directly, as a tail call. If a pointer is null, an out-of-line function
+ * makes the call with the replacements. */
 #define CALL(answer, name, is_null, stand_ins, arguments, ...)                                          \
     answer proved_##name(__VA_ARGS__);                                                                  \
     APART answer null_##name(__VA_ARGS__)                                                               \
@@ -59,8 +62,9 @@ static const uint8_t too_many[sizeof no_event.bytes + 1] = { 0 };
         return proved_##name arguments;                                                                 \
     }
 
-/* The same of a call that answers a struct in memory. On x86-64 the address of the place for it is handed in
- * before all else, and answered; here both are written out, since the compilers that were tried make no jump where they are hidden. */
+/* The same for a call that returns a struct in memory. On x86-64 the caller passes the address of
+ * the result as the first argument, and the function returns it. Both are explicit here, because
+ * the compilers that were tried emit no tail call otherwise. */
 #define CALL_FOR_STRUCT(answer, name, is_null, stand_ins, arguments, ...)                               \
     _Static_assert(__builtin_types_compatible_p(__typeof__(name), answer(__VA_ARGS__)), "as declared"); \
     answer *proved_##name(answer *told, __VA_ARGS__);                                                   \
@@ -77,7 +81,7 @@ static const uint8_t too_many[sizeof no_event.bytes + 1] = { 0 };
         return proved_##name(told, LISTED arguments);                                                   \
     }
 
-/* Where the board is all that may be null. */
+/* For calls whose only pointer is the board. */
 #define EVENT_CALL(name, arguments, ...) \
     CALL_FOR_STRUCT(synicboard_reply, name, board == NULL, BOARD(board), arguments, __VA_ARGS__)
 #define LOOK(answer, name, arguments, ...) \
@@ -120,7 +124,7 @@ CALL_FOR_STRUCT(synicboard_batch, synicboard_perform_all,
                 synicboard *board, const synicboard_event *events, size_t count,
                 synicboard_reply *replies, size_t reply_room, synicboard_notice *notices, size_t notice_room)
 
-/* ---- Looks ---- */
+/* ---- Queries ---- */
 
 CALL(size_t, synicboard_notices, board == NULL || room == NULL,
      BOARD(board) ROOM(room, length, synicboard_notice), (board, room, length),
@@ -147,14 +151,14 @@ CALL_FOR_STRUCT(synicboard_reply, synicboard_absorb_line, board == NULL || line 
                 BOARD(board) LINE(line), (board, line, vp, part),
                 synicboard *board, synicboard_line *line, uint8_t vp, uint8_t part)
 
-/* ---- An entry of a trace ---- */
+/* ---- Trace entries ---- */
 
 CALL_FOR_STRUCT(synicboard_end, synicboard_tell, event == NULL || reply == NULL || room == NULL,
                 EVENT(event) REPLY(reply) ROOM(room, length, uint8_t), (actor, event, reply, room, length),
                 uint8_t actor, const synicboard_event *event, const synicboard_reply *reply,
                 uint8_t *room, size_t length)
 
-/* ---- What has no stand-in ---- */
+/* ---- Calls without a replacement ---- */
 
 #define PROVED(name) __typeof__(name) proved_##name
 

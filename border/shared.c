@@ -1,6 +1,6 @@
-/* Shared boards: a lock, a board, and the history of what was done under the lock. But for closed handles and
- * want of memory, nothing is answered here that a proved call has not answered: the replies are those of the
- * board, and whether the history is legal is what synicboard_check says of it. */
+/* Shared boards: a board, a lock, and the history of the events performed under the lock. Except
+ * for closed handles and allocation failures, every result comes from a proved call: the replies
+ * are the board's, and synicboard_check decides whether the history is legal. */
 #include <inttypes.h>
 #include <pthread.h>
 #include <stddef.h>
@@ -10,7 +10,7 @@
 
 #include "synicboard.h"
 
-/* Bytes that grow. */
+/* A growable byte array. */
 struct bytes {
     uint8_t *at;
     size_t length, room;
@@ -22,7 +22,8 @@ struct shared {
     synicboard board;
     uint8_t processors, pages;
     uint64_t first_ticket;
-    /* The entries, one behind another: each is the actor, the reply, and as much of the event as its kind has. */
+    /* The entries, one after another. Each is the actor, the reply, and the event up to the last byte
+     * that its kind uses. */
     struct bytes history;
     uint64_t entries;
 };
@@ -31,11 +32,11 @@ enum {
     EVENT_HEAD = offsetof(synicboard_event, bytes),
     MOST_ENTRY = 1 + sizeof(synicboard_reply) + sizeof(synicboard_event),
     FIRST_ROOM = 4096,
-    MOST_LINES = 535,   /* what the lines of an entry take */
-    MOST_LINE = 64      /* what a line around them takes */
+    MOST_LINES = 535,   /* capacity for the two lines of an entry */
+    MOST_LINE = 64      /* capacity for a line before or after the entries */
 };
 
-/* Makes room for so many more bytes; nothing is changed where there is no memory. */
+/* Ensures capacity for `more` bytes, at most FIRST_ROOM. Changes nothing if the allocation fails. */
 static bool reserve(struct bytes *bytes, size_t more)
 {
     if (bytes->room - bytes->length >= more)
@@ -49,28 +50,28 @@ static bool reserve(struct bytes *bytes, size_t more)
     return true;
 }
 
-/* Appends bytes, for which there is room. */
+/* Appends bytes within the capacity. */
 static void put(struct bytes *bytes, const void *from, size_t length)
 {
     memcpy(bytes->at + bytes->length, from, length);
     bytes->length += length;
 }
 
-/* Copies the next bytes of an entry, and answers where those behind them are. */
+/* Copies the next bytes of an entry, and returns the address after them. */
 static const uint8_t *get(const uint8_t *at, void *to, size_t length)
 {
     memcpy(to, at, length);
     return at + length;
 }
 
-/* How many bytes an event has beside its numbers. */
+/* The number of bytes that an event uses of `bytes`. */
 static size_t event_bytes(const synicboard_event *event)
 {
     bool has_bytes = event->kind == SYNICBOARD_POST || event->kind == SYNICBOARD_STORE;
     return has_bytes ? event->length : 0;
 }
 
-/* Enters what was performed, in room that was made before. */
+/* Appends a performed event to the history, within the capacity that `begin` has ensured. */
 static void enter(struct shared *shared, uint8_t actor, const synicboard_event *event, const synicboard_reply *reply)
 {
     put(&shared->history, &actor, 1);
@@ -79,7 +80,7 @@ static void enter(struct shared *shared, uint8_t actor, const synicboard_event *
     shared->entries++;
 }
 
-/* Tells the next entry, and answers where the one behind it is; null where memory is wanting. */
+/* Formats the next entry, and returns the address after it; null if an allocation fails. */
 static const uint8_t *tell_entry(const uint8_t *at, struct bytes *text)
 {
     uint8_t actor;
@@ -98,7 +99,7 @@ static const uint8_t *tell_entry(const uint8_t *at, struct bytes *text)
     return at;
 }
 
-/* Tells the whole history as a trace; false where memory is wanting. */
+/* Formats the whole history as a trace; false if an allocation fails. */
 static bool tell_all(struct shared *shared, struct bytes *text)
 {
     if (!reserve(text, MOST_LINE))
@@ -120,7 +121,7 @@ static bool tell_all(struct shared *shared, struct bytes *text)
 
 /* ---- The calls of the header ---- */
 
-/* The shared board of a handle, with its lock held; null where the handle is closed. */
+/* Acquires the lock of a shared board; null if the handle is closed. */
 static struct shared *lock(const synicboard_shared *handle)
 {
     if (handle == NULL || !handle->is_open)
@@ -176,8 +177,8 @@ static synicboard_reply not_performed(uint8_t fault)
     return (synicboard_reply){ .kind = SYNICBOARD_NOT_PERFORMED, .fault = fault };
 }
 
-/* The shared board with its lock held and room for one more entry, so that what is performed is always in the
- * history; else null, and why not. */
+/* Acquires the lock and ensures capacity for one more entry, so that every performed event is in
+ * the history. Else returns null, with the reason in the reply. */
 static struct shared *begin(const synicboard_shared *handle, synicboard_reply *reply)
 {
     struct shared *shared = lock(handle);
@@ -191,7 +192,7 @@ static struct shared *begin(const synicboard_shared *handle, synicboard_reply *r
     return shared;
 }
 
-/* Enters what was performed, copies its notices, and gives the lock back. */
+/* Appends a performed event to the history, copies its notices, and releases the lock. */
 static void end(struct shared *shared, uint8_t actor, const synicboard_event *event, const synicboard_reply *reply,
                 synicboard_notice *notices, size_t room)
 {
@@ -239,8 +240,7 @@ void synicboard_release(synicboard_shared *handle)
         unlock(handle->at);
 }
 
-/* What a check says of the text of a history. Where it says something of its lines, the text is copied as far as
- * there is room. */
+/* Checks the text of a history. If the check gives a verdict, copies the text, as much as fits. */
 static synicboard_settled judged(const struct bytes *text, uint8_t *room, size_t length)
 {
     synicboard_verdict verdict = synicboard_check(text->at, text->length);

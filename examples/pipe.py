@@ -1,15 +1,15 @@
 #!/usr/bin/env python3
 """examples/pipe.py PROGRAM
 
-A board at the other end of a pipe, and the run loop of one processor over it. Nothing marks the end of an
-event's notices; so each event is sent with a read of SVERSION behind it, whose reply ends them."""
+A board over a pipe, and the run loop of one processor. Nothing marks the end of an event's notices,
+so each event is followed by a read of SVERSION, whose reply ends them."""
 
 import subprocess
 import sys
 
 
 class Board:
-    """Sends events, and hands out what each was answered."""
+    """Sends events, and returns their replies and notices."""
 
     def __init__(self, program, opening):
         self.peer = subprocess.Popen([program, "replay"], stdin=subprocess.PIPE, stdout=subprocess.PIPE, text=True)
@@ -28,7 +28,8 @@ class Board:
 
 
 def run(board):
-    """The processor is willing: it takes what is next, reads its slot, gives it back, and ends."""
+    """The processor accepts interrupts: it takes the next vector, reads and empties its slot, and
+    writes EOM and EOI."""
     while True:
         taken, _ = board.event("take 0")
         if taken == "= taken none":

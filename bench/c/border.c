@@ -1,12 +1,14 @@
-/* What the border costs: performs the events of a workload of board_bench through the C calls.
+/* Measures the cost of the C border: performs the events of a workload of board_bench through the C
+ * calls.
  *
  *   border calls|notices|structs|batches|shared interrupts|messages|timers EVENTS
  *
- * `calls` performs each event by its own call, `notices` asks for its notices too, where there are some,
- * `structs` performs it by synicboard_perform and asks for them, `batches` performs up to 64 of them by
- * synicboard_perform_all, which gives their notices, and `shared` performs it by synicboard_act, which gives
- * them, too, and enters it in a history, under a lock that nobody else wants. Standard output has the events, their notices and the
- * sum of the replies, as board_bench has them, and standard error nanoseconds an event. */
+ * `calls` performs each event by its own call. `notices` also copies its notices, if there are any.
+ * `structs` performs it by synicboard_perform and copies them. `batches` performs up to 64 events
+ * at a time by synicboard_perform_all, which returns their notices. `shared` performs it by
+ * synicboard_act, which copies the notices and appends to a history, under an uncontended lock.
+ * Standard output has the number of events, of notices, and the sum of the replies, as board_bench
+ * prints them; standard error has nanoseconds per event. */
 #define _POSIX_C_SOURCE 200809L /* for clock_gettime */
 #include <inttypes.h>
 #include <stdbool.h>
@@ -23,8 +25,8 @@ enum { OVERLAY = 0x1000, SLOT = 256, FIRST_VECTOR = 0x40, PERIODIC_DIRECT = 0x10
 
 enum way { CALLS, NOTICES, STRUCTS, BATCHES, SHARED };
 
-/* A board on which all was done that comes before the time runs, the events that are then done over and
- * over, and by how much their ticks are put off each time. */
+/* A board after the untimed setup, the events that are then repeated, and how much later their
+ * ticks are in each round. */
 struct scene {
     enum way way;
     synicboard own;
@@ -60,7 +62,7 @@ static void open_board(struct scene *scene, uint8_t processors, uint8_t pages)
         answer = synicboard_open(&scene->own, processors, pages, 0);
     if (answer != SYNICBOARD_OPENED)
         give_up("no board was opened");
-    /* What comes before the time runs stands in no history. */
+    /* The setup is not in the history. */
     scene->board = scene->way == SHARED ? synicboard_hold(&scene->shared) : &scene->own;
 }
 
@@ -115,7 +117,7 @@ static void timers(struct scene *scene)
     scene->span = STEP * TICKS;
 }
 
-/* Of the kinds that the three workloads have. */
+/* For the kinds of events that the three workloads use. */
 static synicboard_reply perform_by_call(synicboard *board, const synicboard_event *event)
 {
     switch (event->kind) {
@@ -129,7 +131,7 @@ static synicboard_reply perform_by_call(synicboard *board, const synicboard_even
     }
 }
 
-/* The number that a reply carries; what its kind does not use is 0. */
+/* The number in a reply. Fields that its kind does not use are 0. */
 static uint64_t value_of(const synicboard_reply *reply)
 {
     return reply->ticket + reply->vector + reply->refusal;
@@ -148,7 +150,7 @@ static inline synicboard_reply perform_by_way(struct scene *scene, const synicbo
     return reply;
 }
 
-/* One event. The way is known where this is called, so it costs nothing. */
+/* Performs one event. `way` is a constant at each caller, so the choice costs nothing. */
 static inline void perform(struct scene *scene, synicboard_event *event, enum way way, struct totals *totals)
 {
     synicboard_reply reply = perform_by_way(scene, event, way);
@@ -157,7 +159,7 @@ static inline void perform(struct scene *scene, synicboard_event *event, enum wa
     event->moment += scene->span;
 }
 
-/* The first events of a round, by as few batches as there is room for. */
+/* Performs the first events of a round, in as few batches as the buffers allow. */
 static void perform_batch(struct scene *scene, size_t count, struct totals *totals)
 {
     enum { ROOM = 4 * SYNICBOARD_MOST_NOTICES };

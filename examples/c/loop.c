@@ -1,7 +1,7 @@
-/* A toy hypervisor: two processors with a thread each, and two devices, on a board behind one lock. One
- * device posts messages; the other raises a vector without the lock. The loops are those of
- * docs/EMBEDDING.md. The clock goes on when neither processor has anything to do, so that no schedule
- * changes what is printed.
+/* A toy hypervisor: two processors with a thread each, and two devices, on one board under a lock.
+ * One device posts messages; the other raises a vector without the lock. The loops are those of
+ * docs/EMBEDDING.md. The clock moves only when neither processor has work, so the output does not
+ * depend on the schedule.
  *
  *   cc -I include examples/c/loop.c build/libsynicboard.a -pthread -o loop */
 #include <pthread.h>
@@ -15,21 +15,23 @@ enum { PROCESSORS = 2, MESSAGES = 200, WORK = 500, PORT = 3, SOURCE = 2, END = 3
 enum { TIMER_VECTOR = 0x40, MESSAGE_VECTOR = 0x50, WORK_VECTOR = 0x60, SLOT = 0x2000 + 256 * SOURCE };
 enum { PERIODIC_DIRECT = 0x1003 };
 
-/* A board takes one call at a time, so who calls it holds the lock. All else here stands under it, too. */
+/* A board takes one call at a time, so each caller holds this lock. It also protects the other
+ * variables here. */
 static pthread_mutex_t lock = PTHREAD_MUTEX_INITIALIZER;
 static pthread_cond_t kicked[PROCESSORS] = { PTHREAD_COND_INITIALIZER, PTHREAD_COND_INITIALIZER };
 static pthread_cond_t placed = PTHREAD_COND_INITIALIZER;
 static synicboard board = SYNICBOARD_CLOSED;
-static const uint8_t *message_page; /* of processor 1, wherever its guest sees it */
+static const uint8_t *message_page; /* the message page of processor 1 */
 static unsigned handled, in_order, sum, work_seen, timer_interrupts[PROCESSORS];
 static bool runs_guest[PROCESSORS];
 
-/* Beside the lock: a line for each thread that raises or absorbs, and how much work the second device did. */
+/* Used without the lock: one line for each thread that raises or absorbs, and the work counter of
+ * the second device. */
 static synicboard_line lines[PROCESSORS], device_line = SYNICBOARD_LINE_CLOSED;
 static atomic_uint work_done;
 
-/* What the host does with an event's answer: a vector that was requested kicks its processor, and where a
- * message was placed a buffer is free again. This guest raises no #GP, and is refused nothing. */
+/* Handles the reply of an event. For each requested vector, kicks the processor; after a placed
+ * message, a buffer is free again. This guest causes no #GP and no refusal. */
 static void answer(synicboard_reply reply)
 {
     synicboard_notice notices[SYNICBOARD_MOST_NOTICES];
@@ -44,7 +46,7 @@ static void answer(synicboard_reply reply)
     }
 }
 
-/* An exit of a guest that writes a register. */
+/* A guest exits because it writes a register. */
 static void write_register(uint8_t vp, uint32_t msr, uint64_t value)
 {
     pthread_mutex_lock(&lock);
@@ -52,8 +54,8 @@ static void write_register(uint8_t vp, uint32_t msr, uint64_t value)
     pthread_mutex_unlock(&lock);
 }
 
-/* The guest reads its slot, empties it by a store where SIMP placed the page, and writes EOM. A post may
- * set MessagePending in the page meanwhile, so the lock is held for reading it, too. */
+/* The guest reads its slot, empties it by a store at the page that SIMP gives, and writes EOM. A
+ * post may set MessagePending in the page at any time, so the read holds the lock too. */
 static void handle_message(uint8_t vp)
 {
     static const uint8_t empty[4];
@@ -67,7 +69,7 @@ static void handle_message(uint8_t vp)
     write_register(vp, SYNICBOARD_MSR_EOM, 0);
 }
 
-/* The host's timer, when no guest has anything to do: a tick to the moment that is due first. */
+/* The host's timer fires when no guest has work: ticks to the earliest deadline. */
 static bool tick(void)
 {
     bool is_idle = true;
@@ -79,14 +81,14 @@ static bool tick(void)
     return is_idle && due <= END;
 }
 
-/* Takes in what was raised for a processor, and says whether it has something to do or to wait for. */
+/* Absorbs the raised vectors of a processor, and returns whether it has work now or later. */
 static bool goes_on(uint8_t vp)
 {
     answer(synicboard_absorb_line(&board, &lines[vp], vp, WORK_VECTOR / 64));
     return synicboard_next(&board, vp) != 0 || handled < MESSAGES || work_seen < WORK || synicboard_earliest(&board).low <= END;
 }
 
-/* Before each entry the next vector is asked for and taken; without one the processor waits for a kick. */
+/* Before each entry, takes the next vector. Without one, the processor waits for a kick. */
 static void *run_processor(void *number)
 {
     uint8_t vp = *(const uint8_t *)number;
@@ -108,14 +110,14 @@ static void *run_processor(void *number)
             pthread_cond_wait(&kicked[vp], &lock);
         }
     }
-    pthread_cond_signal(&kicked[1 - vp]); /* so that the other sees that all is done */
+    pthread_cond_signal(&kicked[1 - vp]); /* so that the other one sees the end */
     pthread_mutex_unlock(&lock);
     return NULL;
 }
 
-/* The second device raises its vector at processor 0 behind each piece of work, and waits for nobody. A vector
- * that was raised already is on its way; only for a fresh one the processor is kicked. The kick takes the lock,
- * since the processor absorbs, and falls asleep, in one go under it. */
+/* After each piece of work, the second device raises its vector at processor 0, without blocking.
+ * If the vector was already raised, it is on its way; if not, the device kicks the processor. The
+ * kick takes the lock because the processor absorbs and goes to sleep in one critical section. */
 static void *run_second_device(void *unused)
 {
     (void)unused;
@@ -130,7 +132,8 @@ static void *run_second_device(void *unused)
     return NULL;
 }
 
-/* The first device posts. Without a buffer it waits until a message is placed, and posts again. */
+/* The first device posts. If no buffer is free, it waits until a message is placed, and posts
+ * again. */
 static void run_first_device(void)
 {
     for (uint8_t number = 1; number <= MESSAGES; number++) {
@@ -143,7 +146,8 @@ static void run_first_device(void)
     }
 }
 
-/* Processor 1 has its messages at page 2, and each processor a periodic timer in direct mode. */
+/* Maps the message page of processor 1 at page 2, and starts a periodic timer in direct mode on
+ * each processor. */
 static void set_up(void)
 {
     write_register(1, SYNICBOARD_MSR_SCONTROL, 1);
@@ -156,7 +160,7 @@ static void set_up(void)
     }
 }
 
-/* A line for each processor's thread and one for the device's, all of the same words. */
+/* Opens one line for each processor thread and one for the device, all of the same words. */
 static bool open_lines(void)
 {
     return synicboard_open_line(&lines[0], PROCESSORS) == SYNICBOARD_OPENED

@@ -1,7 +1,8 @@
-/* Pages that can be mapped into a guest as they lie. The library takes each page of a board as a block of its
- * own; a program whose malloc aligns blocks of a page's size gets each page as a page of the host's, which KVM,
- * say, takes as a memory slot that a guest may read and not write (docs/EMBEDDING.md says when it may). Some
- * allocators do so anyway; here the linker sends the library's calls of malloc to this file.
+/* Pages that can be mapped into a guest directly. The library allocates each page of a board
+ * separately. If malloc aligns page-sized blocks to pages, each is a whole page of the host, which
+ * KVM, for example, accepts as a read-only memory slot (docs/EMBEDDING.md says when a guest may
+ * read it). Some allocators do that by themselves; here the linker redirects the library's calls of
+ * malloc to this file.
  *
  *   cc -I include examples/c/pages.c build/libsynicboard.a -Wl,--wrap=malloc -o pages */
 #define _DEFAULT_SOURCE /* for mprotect */
@@ -17,14 +18,14 @@ enum { PAGE = 4096, PROCESSORS = 8, PAGES = 64 };
 void *__real_malloc(size_t size);
 void *__wrap_malloc(size_t size);
 
-/* What aligned_alloc gives is given back by free, as all else. */
+/* free also frees what aligned_alloc returns. */
 void *__wrap_malloc(size_t size)
 {
     return size == PAGE ? aligned_alloc(PAGE, PAGE) : __real_malloc(size);
 }
 
-/* Whether the bytes are a page of the host's and nothing else: its protection can be changed, and back. What
- * a guest is shown is read-only; the board itself writes there. */
+/* Whether the bytes are exactly one page of the host: its protection can be changed and restored.
+ * The guest's mapping is read-only; the board writes through its own. */
 static bool is_mappable(const uint8_t *page)
 {
     return (uintptr_t)page % PAGE == 0 && mprotect((void *)page, PAGE, PROT_READ) == 0

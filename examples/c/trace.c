@@ -1,6 +1,6 @@
-/* Threads that share a board, which keeps the history of what they did. At the end it is settled: its trace is
- * that of a legal history, in whatever order they came. Two processors have a thread each; a device raises
- * vectors at both, without the lock.
+/* Threads that share a board with a history. At the end, the program settles the history: its trace
+ * is that of a legal history, whatever the schedule. Two processors have a thread each; a device
+ * raises vectors at both, without the lock.
  *
  *   cc -I include examples/c/trace.c build/libsynicboard.a -pthread -o trace */
 #include <inttypes.h>
@@ -14,7 +14,7 @@ enum { PROCESSORS = 2, TURNS = 500, RAISES = 2000, PART = 1 };
 static synicboard_shared board = SYNICBOARD_SHARED_CLOSED;
 static synicboard_line device_line = SYNICBOARD_LINE_CLOSED;
 
-/* A processor is an actor of its own number. Its line is used by its thread alone. */
+/* A processor is the actor of its own number. Only its thread uses its line. */
 struct processor {
     uint8_t vp;
     synicboard_line line;
@@ -47,7 +47,7 @@ static void *run_processor(void *argument)
     return NULL;
 }
 
-/* How many vectors were raised that were not raised before. */
+/* Returns how many vectors were fresh: their bit was clear before the raise. */
 static unsigned run_device(void)
 {
     unsigned fresh = 0;
@@ -69,7 +69,7 @@ static bool open_all(struct processor *processors)
     return is_open;
 }
 
-/* With a room, this would write the trace, too. */
+/* Given an output buffer, this also writes the trace. */
 static void settle(void)
 {
     synicboard_settled settled = synicboard_settle(&board, NULL, 0);

@@ -1,6 +1,6 @@
-//! A toy hypervisor of two processors, a thread for each, over one board under a lock. One device posts
-//! messages to processor 1. Another raises a vector at processor 0 without the lock; this processor has a
-//! periodic timer, too. The threads come in any order; what is printed at the end is the same. The steps
+//! A toy hypervisor of two processors, with a thread for each, over one board under a lock. One
+//! device posts messages to processor 1. Another raises a vector at processor 0 without the lock;
+//! this processor also has a periodic timer. The output does not depend on the schedule. The steps
 //! are those of "The run loop" in docs/EMBEDDING.md.
 
 use std::sync::atomic::{AtomicU64, Ordering};
@@ -13,7 +13,7 @@ const SINT2: u32 = 0x4000_0092;
 const TIMER_VECTOR: Vector = Vector::new(0x40).unwrap();
 const WORK_VECTOR: Vector = Vector::new(0x60).unwrap();
 
-/// Where the guest of processor 1 places its page of messages, and where in it the slot of SINT2 is.
+/// Where the guest of processor 1 maps its message page, and the offset of the slot of SINT2.
 const PAGE: u64 = 0x2000;
 const SLOT: usize = 0x200;
 
@@ -25,13 +25,13 @@ const WORK: u64 = 2000;
 /// What the threads share.
 struct Host {
     board: Mutex<Board>,
-    /// There may be something to take, a free buffer, or a timer.
+    /// Signalled when there may be a vector to take, a free buffer, or a due timer.
     kick: Condvar,
     /// How many pieces of work the second device has done.
     work: AtomicU64,
 }
 
-/// What the guest of a processor has had, and seen.
+/// What the guest of a processor has received.
 #[derive(Default)]
 struct Seen {
     expiries: u64,
@@ -59,7 +59,7 @@ fn post_messages(host: &Host) {
     let mut board = host.board.lock().unwrap();
     for number in 0..MESSAGES {
         while let Reply::Refused(refusal) = board.post(PORT, 1, &number.to_le_bytes()) {
-            // A buffer is free again behind the next message that is placed.
+            // A buffer is free again after the next message is placed.
             assert_eq!(refusal, Refusal::NoBuffers);
             board = host.kick.wait(board).unwrap();
         }
@@ -69,7 +69,8 @@ fn post_messages(host: &Host) {
     }
 }
 
-/// The thread of the second device. A vector that was raised already is on its way, and needs no kick.
+/// The thread of the second device. A vector that was already raised is on its way and needs no
+/// kick.
 fn do_work(host: &Host, mut line: Line) {
     for _ in 0..WORK {
         host.work.fetch_add(1, Ordering::SeqCst);
@@ -77,14 +78,15 @@ fn do_work(host: &Host, mut line: Line) {
             .raise(0, WORK_VECTOR)
             .expect("the words are for processor 0");
         if raised == Raised::Fresh {
-            // Processor 0 absorbs and falls asleep in one go under the lock: it does not miss this.
+            // Processor 0 absorbs and goes to sleep in one critical section, so it cannot miss this
+            // kick.
             let _board = host.board.lock().unwrap();
             host.kick.notify_all();
         }
     }
 }
 
-/// The thread of a processor, until its guest has had all.
+/// The thread of a processor. Ends when its guest has received everything.
 fn processor(host: &Host, vp: u8, mut line: Line) -> Seen {
     let mut seen = Seen::default();
     while !seen.is_all(vp) {
@@ -92,18 +94,18 @@ fn processor(host: &Host, vp: u8, mut line: Line) -> Seen {
         done(board.absorb_line(&mut line, vp, WORK_VECTOR.number() / 64));
         let are_idle = (0..2).all(|vp| board.next(vp).is_none());
         if let Some(next) = board.next(vp) {
-            // The guest is always willing, and its handler runs here, with the lock held all along.
+            // The guest always accepts interrupts, and its handler runs here, with the lock held.
             assert_eq!(board.take(vp), Reply::Taken(Some(next)));
             handle(host, &mut board, vp, next, &mut seen);
             done(board.write(vp, EOI, 0));
         } else if let (true, Some((due, _))) = (are_idle, board.earliest()) {
-            // A host arms its timer for this moment. The toy has no clock: the moment has come.
+            // A host arms its timer for this deadline. The toy has no clock, so it ticks at once.
             done(board.tick(due.try_into().expect("a moment that a clock reaches")));
         } else {
             drop(host.kick.wait(board));
             continue;
         }
-        // Behind what was done there may be a free buffer, a vector, or another timer.
+        // After this, there may be a free buffer, a vector, or another timer.
         host.kick.notify_all();
     }
     seen
@@ -131,7 +133,8 @@ fn receive(board: &mut Board, vp: u8) -> u64 {
     let slot = &board.message_page(vp).expect("it is on the board")[SLOT..];
     let is_pending = slot[5] & 1 == 1;
     let number = u64::from_le_bytes(slot[16..24].try_into().expect("eight bytes"));
-    // A type of zero empties the slot. The guest stores it where it has placed the page.
+    // A type of zero empties the slot. The guest stores it at the address where it has mapped the
+    // page.
     done(board.store(PAGE + SLOT as u64, &[0; 4]));
     if is_pending {
         done(board.write(vp, EOM, 0));
@@ -139,8 +142,8 @@ fn receive(board: &mut Board, vp: u8) -> u64 {
     number
 }
 
-/// The guest of processor 1 turns its SynIC and its page of messages on, and gives SINT2 vector 50. That of
-/// processor 0 sets its timer: direct mode, vector 40, every 10 units of 100 ns.
+/// The guest of processor 1 enables its SynIC and its message page, and gives SINT2 vector 50. That
+/// of processor 0 sets its timer: direct mode, vector 40, every 10 units of 100 ns.
 fn set_up(board: &mut Board) {
     for (register, value) in [(SCONTROL, 1), (SIMP, PAGE | 1), (SINT2, 0x50)] {
         done(board.write(1, register, value));

@@ -1,6 +1,6 @@
-//! Threads that share a board, which keeps the history of what they did. At the end it is settled: its trace
-//! is that of a legal history, in whatever order they came. Two processors have a thread each; a device raises
-//! vectors at both, without the lock.
+//! Threads that share a board with a history. At the end, the program settles the history: its
+//! trace is that of a legal history, whatever the schedule. Two processors have a thread each; a
+//! device raises vectors at both, without the lock.
 
 use std::error::Error;
 use std::thread;
@@ -12,13 +12,14 @@ const TURNS: usize = 500;
 const RAISES: usize = 2000;
 const PART: u8 = 1;
 
-/// A processor takes in what was raised. How many vectors these were.
+/// A processor absorbs its raised vectors. Returns how many there were.
 fn absorb(board: &SharedBoard, line: &mut Line, vp: u8) -> Result<u64, NoEntry> {
     let (_, bits) = board.absorb(vp, line, vp, PART, &mut NoticeRoom::new())?;
     Ok(bits.count_ones().into())
 }
 
-/// The loop of a processor's thread: an actor of its own number. How many vectors it absorbed.
+/// The loop of a processor's thread, the actor of its own number. Returns how many vectors it
+/// absorbed.
 fn run_processor(board: &SharedBoard, line: &mut Line, vp: u8) -> Result<u64, NoEntry> {
     let end = Event::Write {
         vp,
@@ -36,7 +37,7 @@ fn run_processor(board: &SharedBoard, line: &mut Line, vp: u8) -> Result<u64, No
     Ok(absorbed)
 }
 
-/// The device waits for nobody. How many vectors it raised that were not raised before.
+/// The device never blocks. Returns how many of its raises were fresh.
 fn run_device(line: &mut Line) -> u64 {
     let raises = (0..RAISES).map(|turn| {
         let bit = (turn / usize::from(PROCESSORS) % 64) as u8;

@@ -1,4 +1,4 @@
-/* What no script shows of a batch: closed handles, what is no event, and rooms that are too small. */
+/* Batches beyond what scripts show: closed handles, invalid events, and buffers that are too small. */
 #include <stdbool.h>
 #include <stddef.h>
 #include <stdint.h>
@@ -12,7 +12,7 @@ enum { EVENTS = 4, NOTICES = 300, FILLER = 0xee };
 static synicboard_reply replies[EVENTS];
 static synicboard_notice notices[NOTICES];
 
-/* Nothing was written into the rooms behind the first so many replies and notices. */
+/* The buffers are unchanged after the first `done` replies and `told` notices. */
 static void check_rooms(size_t done, size_t told, int line)
 {
     const uint8_t *reply = (const uint8_t *)(replies + done), *notice = (const uint8_t *)(notices + told);
@@ -34,7 +34,7 @@ static void check_batch(synicboard_batch batch, uint8_t end, size_t done, size_t
 
 #define CHECK_BATCH(batch, end, done, told) check_batch((batch), (end), (done), (told), __LINE__)
 
-/* Three vectors are asserted at two processors, and the last is there already. */
+/* Assert three vectors at two processors; the last one is already requested. */
 static const synicboard_event asserts[EVENTS] = {
     { .kind = SYNICBOARD_ASSERT, .vp = 0, .vector = 0x60 },
     { .kind = SYNICBOARD_ASSERT, .vp = 1, .vector = 0x61 },
@@ -42,7 +42,7 @@ static const synicboard_event asserts[EVENTS] = {
     { .kind = SYNICBOARD_ASSERT, .vp = 0, .vector = 0x60 },
 };
 
-/* Performs so many of these on a board of two processors, with room for so much. */
+/* Performs `count` of these on a board of two processors, with buffers of this capacity. */
 static synicboard_batch perform(synicboard *board, size_t count, size_t reply_room, size_t notice_room)
 {
     CHECK_NUMBER(synicboard_open(board, 2, 1, 0), SYNICBOARD_OPENED);
@@ -94,7 +94,7 @@ static void test_takes_no_memory(void)
     synicboard_close(&board);
 }
 
-/* What stands before it is performed, and nothing behind it. */
+/* The events before an invalid one are performed, and none after it. */
 static void test_no_event(void)
 {
     for (size_t place = 0; place < EVENTS; place++) {

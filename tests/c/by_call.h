@@ -1,10 +1,10 @@
-/* Events that are performed by their own calls. */
+/* Performs events by their own calls. */
 #ifndef BY_CALL_H
 #define BY_CALL_H
 
 #include "synicboard.h"
 
-/* Performs an event of a kind that there is by the call of this kind. */
+/* Performs an event of a valid kind by the call for its kind. */
 synicboard_reply perform_by_call(synicboard *board, const synicboard_event *event);
 
 #endif

@@ -1,5 +1,5 @@
-/* What no script shows of the C calls: closed handles, openings that are refused, numbers that mean no
- * event, rooms that are too small, boards side by side, handles that move, pages, and refused memory. */
+/* The C calls beyond what scripts show: closed handles, openings that fail, numbers that encode no
+ * event, buffers that are too small, several boards, moved handles, pages, and refused memory. */
 #include <pthread.h>
 #include <stdbool.h>
 #include <stddef.h>
@@ -25,8 +25,8 @@ static bool is_blank(const synicboard *board)
 
 enum { MESSAGE_PORT = 3, FLAG_PORT = 4, SOURCE = 2 };
 
-/* Turns the SynIC of a processor on: its messages at page 2, its flags at page 3, SOURCE with vector 50, a
- * port for each sort, and a periodic timer in direct mode with vector 40. */
+/* Enables the SynIC of a processor: message page at page 2, event flags page at page 3, vector 50
+ * for SOURCE, a port of each shape, and a periodic timer in direct mode with vector 40. */
 static void set_up(synicboard *board, uint8_t vp)
 {
     CHECK_REPLY(synicboard_write(board, vp, SCONTROL, 1), SYNICBOARD_DONE);
@@ -39,7 +39,7 @@ static void set_up(synicboard *board, uint8_t vp)
     CHECK_REPLY(synicboard_write(board, vp, STIMER0_CONFIG, 0x1403), SYNICBOARD_DONE);
 }
 
-/* A board of two processors and four pages that was set up; its last event gave three notices. */
+/* A set-up board of two processors and four pages; its last event emitted three notices. */
 static void open_busy(synicboard *board, uint64_t first_ticket)
 {
     static const uint8_t payload[] = { 0x0a, 0x0b, 0x0c };
@@ -64,7 +64,7 @@ static uint64_t random_below(uint64_t *state, uint64_t limit)
     return *state % limit;
 }
 
-/* Any event; ports, suspensions and resets come seldom. */
+/* Any kind of event; ports, suspensions and resets are rare. */
 static uint8_t random_kind(uint64_t *state)
 {
     static const uint8_t often[] = {
@@ -91,7 +91,7 @@ static uint64_t random_value(uint64_t *state)
     return values[random_below(state, sizeof values / sizeof *values)];
 }
 
-/* An event with numbers that mean something to a board that was set up, and some that do not. */
+/* An event with random numbers, of which most are valid for a set-up board. */
 static synicboard_event random_event(synicboard *board, uint64_t *state)
 {
     synicboard_event event = { .kind = random_kind(state) };
@@ -130,7 +130,7 @@ static void perform_many(synicboard *board, uint64_t seed, unsigned events)
 
 /* ---- Tests ---- */
 
-/* Each call with numbers that an open board would take, and each kind in a struct. */
+/* Each call with numbers that are valid for an open board, and each kind as a struct. */
 static void check_closed_events(synicboard *board)
 {
     const uint8_t byte = 1;
@@ -156,7 +156,7 @@ static void check_closed_events(synicboard *board)
     }
 }
 
-/* That there is no board is said before the numbers are judged. */
+/* A closed handle is reported before invalid numbers. */
 static void check_closed_faults(synicboard *board)
 {
     const uint8_t bytes[241] = { 0 };
@@ -270,7 +270,7 @@ static void check_no_event(synicboard *board, synicboard_reply reply, const char
 
 #define CHECK_NO_EVENT(board, reply) check_no_event((board), (reply), #reply, __LINE__)
 
-/* Too many bytes, of which 256 and more would be few if their number were cut to a byte. */
+/* Too many bytes; 256 and more would be few if the length were cut to 8 bits. */
 static void check_too_many_bytes(synicboard *board)
 {
     static const uint8_t bytes[70000] = { 1 };
@@ -282,7 +282,7 @@ static void check_too_many_bytes(synicboard *board)
     }
 }
 
-/* What is no event changes nothing, the notices of the last event not either. */
+/* An invalid event changes nothing, nor does it change the notices of the last event. */
 static void test_no_event(void)
 {
     const uint8_t byte = 1;
@@ -312,7 +312,7 @@ static void test_no_event(void)
     synicboard_close(&board);
 }
 
-/* The numbers just inside, and what is an event that the board refuses. */
+/* The greatest valid numbers, and events that the board refuses. */
 static void test_borders(void)
 {
     const uint8_t bytes[240] = { 1 };
@@ -339,7 +339,7 @@ static void test_borders(void)
     synicboard_close(&board);
 }
 
-/* With a count of 0 a pointer may point anywhere; nulls.c has null ones. */
+/* With a count of 0 a pointer may point anywhere; nulls.c tests null pointers. */
 static void test_counts_of_zero(void)
 {
     const uint8_t *nowhere = (const uint8_t *)8;
@@ -361,8 +361,9 @@ static void test_counts_of_zero(void)
 
 enum { POSTS = 17, TIMERS = 4 };
 
-/* All slots and queues of a processor are full: of each source the slot has one message, and 16 wait; of
- * SINT1 to SINT4 one of a timer waits behind them. Message i of source s has the ticket 17 s + i. */
+/* All slots and queues of a processor are full. Each source has one message in its slot and 16
+ * queued; for SINT1 to SINT4 a timer message is queued after them. Message i of source s has the
+ * ticket 17 s + i. */
 static void open_full(synicboard *board)
 {
     CHECK_NUMBER(synicboard_open(board, 1, 4, 0), SYNICBOARD_OPENED);
@@ -380,7 +381,7 @@ static void open_full(synicboard *board)
     CHECK_REPLY(synicboard_tick(board, 10), SYNICBOARD_DONE);
 }
 
-/* The tickets of the messages that are withdrawn: source by source, the slot, the posts, the timer. */
+/* The tickets of the messages that are withdrawn, by source: the slot, the posts, the timer. */
 static void list_tickets(uint64_t tickets[SYNICBOARD_MOST_NOTICES])
 {
     size_t count = 0;
@@ -418,7 +419,7 @@ static void test_notices(void)
     synicboard_close(&board);
 }
 
-/* A board that is closed leaves nothing to the next one behind its handle. */
+/* A closed board leaves nothing to the next one opened through its handle. */
 static void test_reopening(void)
 {
     synicboard board = SYNICBOARD_CLOSED;
@@ -440,7 +441,7 @@ static void test_reopening(void)
 
 enum { RANDOM_EVENTS = 1000, MANY_EVENTS = 50000 };
 
-/* What a board with nothing beside it tells after so many random events. */
+/* Describes a lone board after this many random events. */
 static void describe_alone(uint64_t seed, unsigned events, uint64_t first_ticket, struct text *text)
 {
     synicboard board = SYNICBOARD_CLOSED;
@@ -504,7 +505,7 @@ static void test_two_threads(void)
     }
 }
 
-/* A struct and a call that mean the same event are answered the same. */
+/* A struct and a call that encode the same event have the same reply. */
 static void test_structs_and_calls(void)
 {
     synicboard one = SYNICBOARD_CLOSED, other = SYNICBOARD_CLOSED;
@@ -563,7 +564,7 @@ static bool is_zero(const uint8_t *bytes, size_t from, size_t to)
     return true;
 }
 
-/* The page has these bytes in the slot of SOURCE, and zeros else. */
+/* The page has these bytes in the slot of SOURCE, and zeros elsewhere. */
 static bool has_slot(const uint8_t *page, const uint8_t *bytes, size_t length)
 {
     size_t place = SOURCE * SLOT;
@@ -598,7 +599,7 @@ static void test_message_page(void)
     synicboard_close(&board);
 }
 
-/* A message with as many bytes as there can be, one of a timer, and the other processor's page. */
+/* A message of the greatest length, a timer message, and the page of the other processor. */
 static void test_message_images(void)
 {
     uint8_t image[SLOT] = { 1, 0, 0, 0, 240, 0, 0, 0, MESSAGE_PORT };
@@ -648,7 +649,7 @@ static void test_flag_page(void)
     synicboard_close(&board);
 }
 
-/* A guest page is what lies below the overlays. */
+/* A guest page is the page below the overlays. */
 static void test_guest_page(void)
 {
     const uint8_t bytes[] = { 1, 2, 3, 4, 5, 6, 7, 8 };
@@ -689,7 +690,7 @@ static void test_no_such_page(void)
     synicboard_close(&board);
 }
 
-/* Of the greatest board each page is a page of its own, and stays where it is. */
+/* Each page of the greatest board is distinct, and its address does not change. */
 static void test_all_pages(void)
 {
     enum { ALL = 2 * PROCESSORS + PAGES };
@@ -719,7 +720,7 @@ static void test_all_pages(void)
 
 /* ---- Refused memory ---- */
 
-/* Refuses one request after the other, until an opening finds all its memory. */
+/* Refuses one allocation after another, until an opening succeeds. */
 static void check_refused_opening(uint8_t processors, uint8_t pages)
 {
     synicboard board = SYNICBOARD_CLOSED;
@@ -747,7 +748,7 @@ static void test_refused_opening(void)
     check_refused_opening(PROCESSORS, PAGES);
 }
 
-/* Events and looks neither ask for memory nor give any back. Each kind of reply is among the answers. */
+/* Events and queries neither allocate nor free. Each kind of reply occurs. */
 static void test_events_take_no_memory(void)
 {
     synicboard board = SYNICBOARD_CLOSED;

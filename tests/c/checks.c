@@ -161,7 +161,7 @@ static void describe_notices(synicboard *board, struct text *text)
     }
 }
 
-/* A page is told by how many of its bytes are not 0, and by a sum to which the place of each counts. */
+/* Describes a page by the number of its nonzero bytes and by a position-dependent sum. */
 static void describe_page(const char *word, uint64_t number, const uint8_t *page, struct text *text)
 {
     uint64_t sum = 0;

@@ -1,5 +1,5 @@
-/* What the checks of calls.c, lines.c, batches.c, shared.c, nulls.c and texts.c stand on: checks that are
- * counted, memory that can be refused, and all that a board can be asked as a text. */
+/* What calls.c, lines.c, batches.c, shared.c, nulls.c and texts.c share: counted checks, memory
+ * that can be refused, and a text of everything that can be queried of a board. */
 #ifndef CHECKS_H
 #define CHECKS_H
 
@@ -11,7 +11,7 @@
 
 enum { PAGE = 4096, SOURCES = 16, PROCESSORS = 8, PAGES = 64 };
 
-/* The first registers of each sort. */
+/* The first register of each group. */
 enum {
     REFERENCE_COUNTER = SYNICBOARD_MSR_TIME_REF_COUNT,
     EOI = SYNICBOARD_MSR_EOI,
@@ -33,15 +33,15 @@ struct test {
     void (*run)(void);
 };
 
-/* Runs tests, which leave no block of memory out. Each check that fails is printed, and the last line counts
- * them. The answer is the status of the program: 1 if one failed. */
+/* Runs tests, each of which must free all memory. Prints each failed check, and counts them in the
+ * last line. Returns the exit status of the program: 1 if one failed. */
 int run_tests(const struct test *tests, size_t count);
 
 void check(bool holds, const char *what, int line);
 void check_number(uint64_t number, uint64_t wanted, const char *what, int line);
 
-/* A reply is of this kind; or it is a refusal for this reason; or nothing was performed, for this reason,
- * and nothing else is told. */
+/* Checks that a reply has this kind; or is a refusal for this reason; or that no event was
+ * performed for this reason, and all other fields are 0. */
 void check_reply(synicboard_reply reply, uint8_t kind, const char *what, int line);
 void check_refusal(synicboard_reply reply, uint8_t refusal, const char *what, int line);
 void check_fault(synicboard_reply reply, uint8_t fault, const char *what, int line);
@@ -54,10 +54,11 @@ void check_fault(synicboard_reply reply, uint8_t fault, const char *what, int li
 
 /* ---- Memory: the linker sends malloc, calloc, realloc and free here (--wrap) ---- */
 
-/* How often memory was asked for and given back since the last `refuse`, and how many blocks are out. */
+/* How often memory was allocated and freed since the last `refuse`, and how many blocks are
+ * allocated now. */
 extern size_t requests, returns, blocks_out;
 
-/* Counts anew, and refuses the request of that number, counted from 1; none for 0. */
+/* Restarts the count, and refuses the allocation of that number, counted from 1; none for 0. */
 void refuse(size_t number);
 
 /* ---- Boards as texts ---- */
@@ -67,10 +68,11 @@ struct text {
     size_t length;
 };
 
-/* Asks a board all that it can be asked, of processors, sources and pages also those that there are not. */
+/* Writes everything that can be queried of a board, including processors, sources and pages that do
+ * not exist. */
 void describe(synicboard *board, struct text *text);
 
-/* Two texts are the same; if not, the first lines that differ are printed. */
+/* Checks that two texts are the same; if not, prints the first lines that differ. */
 void check_same(const struct text *one, const struct text *other, int line);
 
 #define CHECK_SAME(one, other) check_same((one), (other), __LINE__)

@@ -1,5 +1,5 @@
-/* Lines: closed handles, openings that are refused, which bit a vector has, what an absorb takes and what it
- * leaves, refused memory, and threads that raise while one absorbs. */
+/* Lines: closed handles, openings that fail, which bit a vector has, which bits an absorb takes and
+ * which it leaves, refused memory, and threads that raise while one absorbs. */
 #include <pthread.h>
 #include <stdbool.h>
 #include <stddef.h>
@@ -46,7 +46,7 @@ static void check_requests(synicboard *board, synicboard_line *line, uint8_t vp,
     CHECK_NUMBER(notice.vector, vector);
 }
 
-/* An absorb is performed, and finds nothing. */
+/* An absorb succeeds and requests nothing. */
 static void check_empty(synicboard *board, synicboard_line *line, uint8_t vp, uint8_t part)
 {
     synicboard_reply reply = synicboard_absorb_line(board, line, vp, part);
@@ -112,7 +112,7 @@ static void test_opening_twice(void)
     synicboard_close_line(&other);
 }
 
-/* 31 lines are split off, and they are of the same words for as long as one of them is open. */
+/* 31 lines are split off, and they share the same words as long as one of them is open. */
 static void test_splitting(void)
 {
     synicboard_line line = SYNICBOARD_LINE_CLOSED, others[MOST_SPLITS], more = SYNICBOARD_LINE_CLOSED;
@@ -137,7 +137,7 @@ static void test_splitting(void)
     CHECK_NUMBER(blocks_out, 0);
 }
 
-/* Each vector of each processor has a bit of its own, which an absorb of its part takes, and no other. */
+/* Each vector of each processor has its own bit, which only an absorb of its part takes. */
 static void test_each_vector(void)
 {
     synicboard board = SYNICBOARD_CLOSED;
@@ -160,7 +160,8 @@ static void test_each_vector(void)
     close_both(&board, &line);
 }
 
-/* Where the board refuses, what was raised stays for the next one; words of fewer processors give nothing. */
+/* If the board refuses, raised vectors stay for the next absorb. Words of fewer processors yield
+ * nothing. */
 static void test_refused_absorbs(void)
 {
     synicboard one = SYNICBOARD_CLOSED, two = SYNICBOARD_CLOSED;
@@ -181,7 +182,7 @@ static void test_refused_absorbs(void)
     close_both(&two, &line);
 }
 
-/* Refuses one request after the other, until a line finds all its memory; what was refused changed nothing. */
+/* Refuses one allocation after another, until a line opens; each failure changes nothing. */
 static void test_refused_memory(void)
 {
     synicboard_line line = SYNICBOARD_LINE_CLOSED, others[MOST_SPLITS];
@@ -227,7 +228,7 @@ enum { DEVICES = 4, TURNS = 60 };
 struct device {
     synicboard_line line;
     pthread_t thread;
-    unsigned first; /* with which vector it begins, so that devices meet each other everywhere */
+    unsigned first; /* the first vector, different for each device, so that devices collide everywhere */
     unsigned fresh[PROCESSORS][VECTORS];
 };
 
@@ -244,7 +245,8 @@ static void *raise_all(void *given)
     return NULL;
 }
 
-/* Absorbs a part, and takes and ends all that it requested, so that no vector stands when the next is absorbed. */
+/* Absorbs a part, and takes and ends every vector that it requested, so that none is pending at the
+ * next absorb. */
 static void absorb(synicboard *board, synicboard_line *line, uint8_t vp, uint8_t part, unsigned *absorbed)
 {
     synicboard_reply reply = synicboard_absorb_line(board, line, vp, part);
@@ -254,8 +256,8 @@ static void absorb(synicboard *board, synicboard_line *line, uint8_t vp, uint8_t
     }
 }
 
-/* While four devices raise all vectors of all processors, another thread absorbs: each Fresh answer is taken by
- * one absorb, and none is taken that nobody raised. */
+/* While four devices raise all vectors of all processors, another thread absorbs. The absorbs take
+ * each Fresh raise exactly once, and no vector that was not raised. */
 static void test_threads(void)
 {
     static struct device devices[DEVICES];

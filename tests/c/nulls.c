@@ -1,4 +1,5 @@
-/* Each call of the header with each of its pointers null: what it answers, and that it changes nothing. */
+/* Each call of the header with each of its pointers null: what it returns, and that it changes
+ * nothing. */
 #include <stdbool.h>
 #include <stddef.h>
 #include <stdint.h>
@@ -12,9 +13,10 @@ enum { MESSAGE_PORT = 3, SOURCE = 2, SLOT = 256, EVENTS = 4, NOTICES = 300, MOST
 
 static struct text before, after;
 
-/* ---- Boards and rooms ---- */
+/* ---- Boards and buffers ---- */
 
-/* A board of one processor and four pages that has its messages at page 2, and a port for two of them. */
+/* A board of one processor and four pages, with its message page at page 2 and a port with two
+ * buffers. */
 static void open_board(synicboard *board)
 {
     CHECK_NUMBER(synicboard_open(board, 1, 4, 7), SYNICBOARD_OPENED);
@@ -25,7 +27,7 @@ static void open_board(synicboard *board)
     CHECK_REPLY(synicboard_tick(board, 5), SYNICBOARD_DONE);
 }
 
-/* The same with a message in its slot, whose post gave three notices. */
+/* The same with a message in its slot, whose post emitted three notices. */
 static void open_busy(synicboard *board)
 {
     const uint8_t payload[] = { 0x0a, 0x0b };
@@ -82,7 +84,7 @@ static void test_null_board(void)
     CHECK_NUMBER(requests + returns, 0);
 }
 
-/* That there is no board is said before anything else is judged. */
+/* A null board is reported before anything else is checked. */
 static void test_null_board_and_more(void)
 {
     CHECK_FAULT(synicboard_post(NULL, 0, 1, NULL, 1), SYNICBOARD_NO_BOARD);
@@ -119,7 +121,7 @@ static void test_null_board_looks(void)
     CHECK(!synicboard_guest_page(NULL, 0, &page) && page == &byte);
 }
 
-/* ---- Handles that are to be opened or closed ---- */
+/* ---- Handles to open or close ---- */
 
 static void test_opening_and_closing(void)
 {
@@ -154,7 +156,7 @@ static void test_null_bytes(void)
     synicboard_close(&board);
 }
 
-/* No bytes, null or not, are the same message: one of length 0, which goes into the slot. */
+/* No bytes, null or not, are the same message: one of length 0, which is placed in the slot. */
 static void test_no_bytes(void)
 {
     const uint8_t byte = 1, *page = NULL;
@@ -228,7 +230,7 @@ static void test_batches(void)
     synicboard_close(&board);
 }
 
-/* ---- Rooms and places ---- */
+/* ---- Output buffers ---- */
 
 static void test_null_room(void)
 {
@@ -273,7 +275,7 @@ static void test_null_line(void)
     synicboard_close(&board);
 }
 
-/* That `other` is null is judged first, as it is where it is open; then the line is a closed one. */
+/* A null `other` is reported first, before it could be open; then a null line counts as closed. */
 static void test_splitting(void)
 {
     synicboard_line line = SYNICBOARD_LINE_CLOSED, closed = SYNICBOARD_LINE_CLOSED, others[MOST_SPLITS];

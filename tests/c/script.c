@@ -1,14 +1,14 @@
-/* Performs a script through the C calls alone, and writes what `synicboard replay` writes for it.
+/* Performs a script through the C calls, and writes what `synicboard replay` writes for it.
  *
- *   script --calls FILE      each event by the call of its own
+ *   script --calls FILE      each event by its own call
  *   script --structs FILE    each event by synicboard_perform
  *   script --batches FILE    up to seven events at a time by synicboard_perform_all
- *   script --text FILE       the whole script by synicboard_replay, into rooms of several sizes
+ *   script --text FILE       the whole script by synicboard_replay, into buffers of several sizes
  *
- * By calls and by structs a trace of what was performed is kept, too, by synicboard_tell, and checked.
+ * With --calls and --structs, synicboard_tell also records a trace, which is then checked.
  *
- * The status is 0, or 1 behind a line that is wrong; 2 for a wrong command line, 3 where the library did
- * what its header does not say, and 4 where a file could not be read or memory was wanting. */
+ * Exit status: 0; 1 after a wrong line; 2 for a wrong command line; 3 if the library did not do
+ * what its header says; 4 if a file could not be read or an allocation failed. */
 #define _POSIX_C_SOURCE 200809L /* for open_memstream */
 #include <inttypes.h>
 #include <stdbool.h>
@@ -49,7 +49,7 @@ static void *room_of(size_t size)
 
 /* ---- The fields of a line ---- */
 
-/* What is left of a line. */
+/* The rest of a line. */
 struct cursor {
     const char *at;
     const char *end;
@@ -57,12 +57,12 @@ struct cursor {
 
 enum form { DECIMAL, HEXADECIMAL, TWO_DIGITS, BYTES };
 
-/* How a field is written, and where its number goes in an event. */
+/* How a field is written, and where its number is stored in an event. */
 struct field {
     const char *name;
     enum form form;
     size_t place;
-    size_t size; /* of the number; of BYTES how many there may be */
+    size_t size; /* of the number; for BYTES the greatest count */
 };
 
 #define FIELD(name, form, member) \
@@ -206,7 +206,7 @@ static const struct field *field_named(const char *name, size_t length)
     return NULL;
 }
 
-/* Whether a line is one of this form. */
+/* Whether a line has this form. */
 static bool read_line(struct cursor cursor, const char *form, synicboard_event *event)
 {
     while (*form != '\0') {
@@ -220,7 +220,7 @@ static bool read_line(struct cursor cursor, const char *form, synicboard_event *
     return cursor.at == cursor.end;
 }
 
-/* What an event does not use is filled with what would show if it were looked at. */
+/* Fields that an event does not use are filled with a value that would show if they were read. */
 static bool read_event(struct cursor line, synicboard_event *event)
 {
     for (size_t at = 0; at < sizeof lines / sizeof *lines; at++) {
@@ -232,7 +232,7 @@ static bool read_event(struct cursor line, synicboard_event *event)
     return false;
 }
 
-/* ---- What is printed ---- */
+/* ---- Output ---- */
 
 static void print_bytes(const uint8_t *bytes, size_t length)
 {
@@ -262,7 +262,7 @@ static void print_reply(const synicboard_reply *reply)
     }
 }
 
-/* What the kind of a reply does not use is 0. */
+/* Fields that the kind of a reply does not use must be 0. */
 static void judge_reply(synicboard_reply reply)
 {
     switch (reply.kind) {
@@ -303,7 +303,7 @@ static void print_notice(const synicboard_notice *notice)
     }
 }
 
-/* What the kind of a notice does not use is 0. */
+/* Fields that the kind of a notice does not use must be 0. */
 static void judge_notice(synicboard_notice notice)
 {
     switch (notice.kind) {
@@ -319,7 +319,7 @@ static void judge_notice(synicboard_notice notice)
     demand(!is_used, "a field that the notice does not use is not 0");
 }
 
-/* A reply, and as many notices as it says. */
+/* Prints a reply, and as many notices as it counts. */
 static void print_told(const synicboard_reply *reply, const synicboard_notice *notices)
 {
     print_reply(reply);
@@ -365,7 +365,7 @@ static void print_auto(synicboard *board, uint8_t vp)
         printf("\n");
 }
 
-/* A decimal of 128 bits, which printf has no form for: divided by ten, 32 bits at a time. */
+/* Prints a 128-bit number in decimal, which printf cannot do: divides by ten, 32 bits at a time. */
 static void print_long(uint64_t high, uint64_t low)
 {
     uint64_t words[4] = { high >> 32, high & UINT32_MAX, low >> 32, low & UINT32_MAX };
@@ -420,8 +420,8 @@ typedef synicboard_reply perform_function(synicboard *board, const synicboard_ev
 
 enum { MOST_WAITING = 7, MORE_NOTICES = 3 };
 
-/* A script that is read, the line that is reached, counted from 1, and the board. Where no function
- * performs, events wait for a batch. */
+/* A script being read, the current line, counted from 1, and the board. If `perform` is null,
+ * events wait for a batch. */
 struct script {
     const char *at;
     const char *end;
@@ -432,7 +432,7 @@ struct script {
     uint8_t pages;
     synicboard_event waiting[MOST_WAITING]; /* for the next batch */
     size_t count;
-    FILE *trace; /* of what was performed by `perform`; its bytes are there once it is closed */
+    FILE *trace; /* the recorded trace; its bytes are valid once it is closed */
     char *trace_bytes;
     size_t trace_length;
     uint64_t entries;
@@ -453,8 +453,8 @@ static void print_summary(struct script *script)
             print_queue(board, vp, sint);
 }
 
-/* Goes to the next line that is not skipped; behind the last one `line->at` is null. A null pointer, or
- * the fault of the line that is reached. */
+/* Advances to the next significant line; after the last one `line->at` is null. Returns null, or
+ * the fault of the current line. */
 static const char *next_line(struct script *script, struct cursor *line)
 {
     line->at = NULL;
@@ -516,7 +516,8 @@ static const char *open_board(struct script *script)
     give_up(WRONG_LIBRARY, "a closed handle is not opened");
 }
 
-/* Performs the events that wait by as few batches as there is room for, and prints what they tell. */
+/* Performs the waiting events in as few batches as the buffers allow, and prints their replies and
+ * notices. */
 static void perform_waiting(struct script *script)
 {
     static synicboard_reply replies[MOST_WAITING];
@@ -540,8 +541,8 @@ static void perform_waiting(struct script *script)
     script->count = 0;
 }
 
-/* Enters an event and its reply in the trace. The first line is that of the script behind the actor's number,
- * in a room that is just enough, and as much of both lines as fits in one that is not. */
+/* Appends an event and its reply to the trace. The first line equals the script's line after the
+ * actor's number. Tried with a buffer that is just large enough, and with smaller ones. */
 static void tell(struct script *script, struct cursor line, const synicboard_event *event, const synicboard_reply *reply)
 {
     static uint8_t room[LONGEST_LINE], less[LONGEST_LINE];
@@ -561,7 +562,7 @@ static void tell(struct script *script, struct cursor line, const synicboard_eve
     script->entries++;
 }
 
-/* The trace is that of a legal history. */
+/* Checks that the trace is that of a legal history. */
 static void close_trace(struct script *script)
 {
     if (script->trace == NULL)
@@ -624,7 +625,7 @@ static int perform_script(const char *text, size_t length, perform_function *per
 
 enum { GUARD = 64 };
 
-/* Replays a script into a new room of this size. Nothing behind the text or the room is written. */
+/* Replays a script into a new buffer of this size. Nothing is written past the text or the buffer. */
 static uint8_t *replayed(const char *text, size_t length, size_t size, synicboard_end *end)
 {
     uint8_t *room = room_of(size + GUARD);
@@ -638,7 +639,7 @@ static uint8_t *replayed(const char *text, size_t length, size_t size, synicboar
     return room;
 }
 
-/* The last line names the line that the end names. */
+/* The last line names the line that the result names. */
 static void judge_fault(const uint8_t *text, size_t length, uint64_t line)
 {
     char wanted[40];
@@ -649,7 +650,7 @@ static void judge_fault(const uint8_t *text, size_t length, uint64_t line)
     demand(length - first > size && memcmp(text + first, wanted, size) == 0, "another line is wrong than is told");
 }
 
-/* The text is the same in each room, as far as there is room. */
+/* Each buffer has the same text, as much as fits. */
 static int replay_text(const char *text, size_t length)
 {
     synicboard_end end, again;

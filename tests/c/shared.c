@@ -1,5 +1,5 @@
-/* Shared boards: closed handles, openings that are refused, replies and notices beside those of a board that is
- * not shared, the trace of a history, refused memory, and threads that act at the same time. */
+/* Shared boards: closed handles, openings that fail, replies and notices compared with those of an
+ * unshared board, the trace of a history, refused memory, and threads that act at the same time. */
 #include <pthread.h>
 #include <stdbool.h>
 #include <stddef.h>
@@ -34,7 +34,7 @@ static void describe_shared(synicboard_shared *shared, struct text *text)
     synicboard_release(shared);
 }
 
-/* Each kind of event, some that are refused or raise #GP, and none that is none. */
+/* One of each kind of event, some that are refused or raise #GP, and an invalid one. */
 static const synicboard_event events[] = {
     { .kind = SYNICBOARD_WRITE, .vp = 0, .msr = SCONTROL, .value = 1 },
     { .kind = SYNICBOARD_WRITE, .vp = 0, .msr = SIMP, .value = SIMP_AT_PAGE_1 },
@@ -122,7 +122,7 @@ static void test_opening_twice(void)
     close_shared(&shared);
 }
 
-/* A shared board answers what a board answers, and tells the same notices. */
+/* A shared board has the same replies and notices as a board. */
 static void test_replies(void)
 {
     synicboard_shared shared = SYNICBOARD_SHARED_CLOSED;
@@ -157,7 +157,7 @@ static void test_replies(void)
     close_shared(&shared);
 }
 
-/* What is no event is not performed, and does not stand in the history. */
+/* An invalid event is not performed, and is not in the history. */
 static void test_no_event(void)
 {
     static const synicboard_event wrong[] = {
@@ -215,7 +215,7 @@ static void test_trace(void)
     CHECK_NUMBER(settled.line, 0);
     CHECK_NUMBER(settled.length, sizeof wanted - 1);
     CHECK(strcmp(trace, wanted) == 0);
-    /* As much as fits, and nothing behind it; and it may be asked again. */
+    /* Copies as much as fits, and nothing after it; settling may be repeated. */
     memset(trace, 'x', 12);
     CHECK_NUMBER(synicboard_settle(&shared, (uint8_t *)trace, 9).length, sizeof wanted - 1);
     CHECK(memcmp(trace, "trace 2\nbxxx", 12) == 0);
@@ -224,7 +224,7 @@ static void test_trace(void)
     close_shared(&shared);
 }
 
-/* An event that was performed beside the history is found by the first reply that shows it. */
+/* The check finds an event that bypassed the history, at the first reply that it changes. */
 static void test_beside_the_history(void)
 {
     static const synicboard_event count = { .kind = SYNICBOARD_READ, .vp = 0, .msr = REFERENCE_COUNTER };
@@ -242,7 +242,7 @@ static void test_beside_the_history(void)
     close_shared(&shared);
 }
 
-/* Each request of an opening is refused in turn. */
+/* Refuses each allocation of an opening in turn. */
 static void test_opening_without_memory(void)
 {
     synicboard_shared shared = SYNICBOARD_SHARED_CLOSED;
@@ -260,7 +260,7 @@ static void test_opening_without_memory(void)
     refuse(0);
 }
 
-/* Where the history cannot grow, nothing is performed, and the same is performed once there is memory. */
+/* If the history cannot grow, the event is not performed; it is once there is memory. */
 static void test_acting_without_memory(void)
 {
     synicboard_shared shared = SYNICBOARD_SHARED_CLOSED;
@@ -287,7 +287,7 @@ static void test_acting_without_memory(void)
     close_shared(&shared);
 }
 
-/* Each request of a settling is refused in turn; then it is asked again. */
+/* Refuses each allocation of a settling in turn; then settles again. */
 static void test_settling_without_memory(void)
 {
     synicboard_shared shared = SYNICBOARD_SHARED_CLOSED;
@@ -350,7 +350,7 @@ static void *run_actor(void *argument)
     return NULL;
 }
 
-/* How many entries of the trace are of an actor, if they are its events in its order; else none. */
+/* How many entries the trace has of an actor, if they are its events in its order; else none. */
 static unsigned entries_of(uint8_t actor)
 {
     static const char *const forms[] = { "%u absorb %u %u ", "%u take %u\n", "%u write %u 40000070 0\n" };
@@ -389,7 +389,7 @@ static void test_threads(void)
     CHECK_NUMBER(settled.entries, ACTORS * TURNS * 3);
     for (uint8_t vp = 0; vp < ACTORS; vp++)
         CHECK_NUMBER(entries_of(vp), TURNS * 3);
-    /* What stands still is absorbed by any of them; then each fresh vector was absorbed once. */
+    /* One of the actors absorbs what is left; then each fresh vector was absorbed once. */
     for (uint8_t vp = 0; vp < ACTORS; vp++)
         absorb(&actors[0], vp);
     for (uint8_t vp = 0; vp < ACTORS; vp++)

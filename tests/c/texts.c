@@ -1,5 +1,5 @@
-/* What no script shows of the calls for texts: traces that are wrong somewhere, texts that are too long,
- * numbers of which no entry can be told, and refused memory.
+/* The text calls beyond what scripts show: wrong traces, texts that are too long, numbers that
+ * encode no entry, and refused memory.
  *
  *   texts RECORDED_TRACE     (examples/recorded.trace) */
 #define _DEFAULT_SOURCE /* for MAP_ANONYMOUS */
@@ -94,7 +94,7 @@ static uint8_t *map_comments(void)
     return text == MAP_FAILED ? NULL : (uint8_t *)text;
 }
 
-/* As many bytes as a text may have are read, and no board line is among them; one more is too many. */
+/* A text of the greatest length is read whole, and has no board line; one byte more is too long. */
 static void test_long_texts(void)
 {
     const size_t most = 1073741824;
@@ -145,7 +145,7 @@ static void test_entries(void)
         REPLY(.kind = SYNICBOARD_ACCEPTED, .ticket = UINT64_MAX),
         0, "9 post 15 7fffffff 00fe00\n= accepted 18446744073709551615\n");
     CHECK_TOLD(take, REPLY(.kind = SYNICBOARD_VALUE, .value = 0xfed0), 0, "9 take 255\n= value fed0\n");
-    /* of a reply that fields are looked at that its kind uses, as of what a line absorbed */
+    /* a reply's fields are ignored unless its kind uses them, such as the bits of an absorb */
     CHECK_TOLD(EVENT(.kind = SYNICBOARD_ABSORB, .part = 1, .value = UINT64_MAX), REPLY(.kind = SYNICBOARD_DONE, .value = UINT64_MAX),
         0, "9 absorb 0 1 ffffffffffffffff\n= done\n");
     for (unsigned kind = 0; kind <= UINT8_MAX; kind++) {
@@ -161,7 +161,7 @@ static void test_entries(void)
         snprintf(text, sizeof text, "9 take 255\n= refused %u\n", refusal);
         CHECK_TOLD(take, REPLY(.kind = SYNICBOARD_REFUSED, .refusal = (uint8_t)refusal), is_told ? 0 : 2, is_told ? text : "");
     }
-    /* that there is no event is judged first */
+    /* an invalid event is reported before an invalid reply */
     CHECK_TOLD(EVENT(.kind = 0), REPLY(.kind = 0), 1, "");
     CHECK_TOLD(EVENT(.kind = SYNICBOARD_RESET + 1), done, 1, "");
     CHECK_TOLD(EVENT(.kind = SYNICBOARD_ASSERT, .vector = 15), done, 1, "");
@@ -171,7 +171,7 @@ static void test_entries(void)
 
 /* ---- Refused memory ---- */
 
-/* The text grows many times, so memory is asked for at many places of it. */
+/* The text grows many times, so allocations happen at many points of it. */
 static void test_refused_replay(void)
 {
     static char script[20000];
