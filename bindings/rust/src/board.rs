@@ -1,4 +1,4 @@
-//! A board, and what it is asked.
+//! A board: its events and queries.
 
 use crate::notice::Room;
 use crate::{
@@ -18,12 +18,12 @@ pub const PAGE_BYTES: usize = 4096;
 pub enum OpenFault {
     /// Not 1 to 8 processors, or not 1 to 64 pages.
     BadSize,
-    /// There was no memory.
+    /// An allocation failed.
     Memory,
 }
 
 impl OpenFault {
-    /// What opening a handle that was closed answered.
+    /// The result of opening a closed handle.
     pub(crate) fn judged(answer: u8) -> Result<(), OpenFault> {
         match answer {
             sys::SYNICBOARD_OPENED => Ok(()),
@@ -47,10 +47,11 @@ impl Error for OpenFault {}
 
 /// The interrupt side of a partition with 1 to 8 processors and 1 to 64 guest pages.
 ///
-/// An event is a call that takes `&mut self`, and answers a [`Reply`]; its notices are read behind it by
-/// [`notices`](Board::notices). What is refused, or raises #GP, changes nothing. The calls that take
-/// `&self` are looks: they change nothing, and compute nothing. After [`open`](Board::open) none of them
-/// takes memory. The value itself has some 9 KB, with room for the notices of an event.
+/// Each method with `&mut self` performs an event and returns a [`Reply`]; then
+/// [`notices`](Board::notices) returns the notices of the event. An event that is refused or raises
+/// #GP changes nothing. The methods with `&self` are queries: they change nothing, and return cached
+/// values. After [`open`](Board::open) no method allocates. The value itself takes some 9 KB, with a
+/// buffer for the notices of an event.
 ///
 /// ```
 /// use synicboard::{Board, Notice, Reply, Vector};
@@ -58,7 +59,7 @@ impl Error for OpenFault {}
 /// # fn main() -> Result<(), synicboard::OpenFault> {
 /// let mut board = Board::open(1, 4, 0)?;
 ///
-/// // The guest turns its SynIC on, puts its page of messages at page 2, and gives SINT2 vector 50.
+/// // The guest enables its SynIC, maps its message page at page 2, and gives SINT2 vector 50.
 /// for (register, value) in [(0x4000_0080, 1), (0x4000_0083, 0x2001), (0x4000_0092, 0x50)] {
 ///     assert_eq!(board.write(0, register, value), Reply::Done);
 /// }
@@ -75,7 +76,7 @@ impl Error for OpenFault {}
 /// let page = board.message_page(0).expect("the board has a processor 0");
 /// assert_eq!(&page[0x210..0x215], b"hello");
 ///
-/// // The guest empties the slot, and ends the interrupt.
+/// // The guest empties the slot and ends the interrupt.
 /// assert_eq!(board.store(0x2200, &[0; 4]), Reply::Done);
 /// assert_eq!(board.write(0, 0x4000_0070, 0), Reply::Done);
 /// # Ok(())
@@ -84,23 +85,23 @@ impl Error for OpenFault {}
 ///
 /// # Threads
 ///
-/// A board may go to another thread (`Send`), and threads that share one put it under a lock, as in
-/// `Mutex<Board>`. It is not `Sync`, since the library asks that one call at a time uses a handle, a look
-/// too. It is proved with the library that what a handle owns says the same to each thread. The bindings
-/// add, with no proof, that the handle lies in this value alone, and that no second thread has a call
-/// beside. A device that raises vectors without the lock has a [`Line`].
+/// A board is `Send`, and threads that share one put it under a lock, as in `Mutex<Board>`. It is not
+/// `Sync`, since the library allows one call at a time for a handle, including queries. That what a
+/// handle owns is `Send` is proved with the library. The bindings add, without proof, that the
+/// handle is only in this value, and that no second thread makes a call at the same time. A device that
+/// raises vectors without the lock uses a [`Line`].
 ///
 /// ```compile_fail,E0277
 /// # let board = synicboard::Board::open(1, 1, 0).unwrap();
 /// std::thread::scope(|scope| {
-///     scope.spawn(|| board.next(0)); // no other thread may look
+///     scope.spawn(|| board.next(0)); // no other thread may use it
 /// });
 /// ```
 ///
 /// # Pages
 ///
-/// A page is lent where it lies, and not copied: as long as it is held, there is no event. It lies anywhere
-/// in the host's memory, and begins a page of the host's where `malloc` aligns blocks of its size so.
+/// A page is returned by reference, not copied, and the borrow rules out events while it is held. It is
+/// aligned to a page of the host only if `malloc` aligns blocks of its size so.
 ///
 /// ```compile_fail,E0502
 /// # let mut board = synicboard::Board::open(1, 1, 0).unwrap();
@@ -109,39 +110,38 @@ impl Error for OpenFault {}
 /// assert_eq!(page[0], 0);
 /// ```
 pub struct Board {
-    // Looks hand it to the library as one that may change, as the header has it.
+    // Queries need a mutable pointer, as the header declares it.
     handle: UnsafeCell<sys::synicboard>,
-    // For the notices of the last event. Here it costs nothing where nobody asks for them.
+    // Buffer for the notices of the last event. It costs nothing unless `notices` is called.
     room: Room,
     processors: u8,
     pages: u8,
 }
 
-// SAFETY: what the handle owns says the same to each thread, which is proved with the library: `DeskHandle`
-// of its crate `handles` is `Send`. The handle is in this value alone, so who has the value makes all the
-// calls; and it is not `Sync`, because of the cell, so a second thread makes none beside. The room for
-// notices is of plain numbers.
+// SAFETY: what the handle owns is `Send`, which is proved with the library: `DeskHandle` of its
+// crate `handles`. The handle is only in this value, so the owner of the value makes all calls; the
+// cell makes it not `Sync`, so no second thread makes any. The buffer holds plain numbers.
 unsafe impl Send for Board {}
 
-/// Asks the library about a board's handle.
+/// Makes a call of the library with a board's handle.
 macro_rules! ask {
     ($board:expr, $call:ident $(, $argument:expr)*) => {{
         let handle = $board.handle.get();
-        // SAFETY: the handle was closed or opened by the library, lies here and has no copy. No other
-        // call uses it: a board is not `Sync`, and the library calls nobody back. Where a slice goes
-        // with it, its address is not null, and it is good for its own length; where the handle of a
-        // line does, it is open, has no copy, and is borrowed for this call alone.
+        // SAFETY: the handle was closed or opened by the library, is in this value and has no copy.
+        // No other call uses it: a board is not `Sync`, and the library calls nothing back. The
+        // address of each slice argument is not null and valid for the slice's length; a line's
+        // handle is open, has no copy, and is borrowed for this call alone.
         unsafe { sys::$call(handle $(, $argument)*) }
     }};
 }
 
-/// Lends a page as long as a board is borrowed, if the library says that there is one.
+/// Returns a page for as long as the board is borrowed, if the library has one.
 macro_rules! lent {
     ($board:expr, $call:ident, $number:expr) => {{
         let mut page = ptr::null();
         if ask!($board, $call, $number, &mut page) {
-            // SAFETY: this is where a page of 4096 bytes lies, until the board is closed. Its bytes
-            // change by events alone, and there is none as long as the board is borrowed.
+            // SAFETY: this is the address of a page of 4096 bytes, valid until the board is closed.
+            // Only events change its bytes, and none can happen while the board is borrowed.
             Some(unsafe { &*page.cast::<[u8; PAGE_BYTES]>() })
         } else {
             None
@@ -149,16 +149,17 @@ macro_rules! lent {
     }};
 }
 
-/// A board is opened, and what it is asked by events. With each call stands what it answers; one that is
-/// of a processor is also refused with [`NoSuchProcessor`](crate::Refusal::NoSuchProcessor), where `vp` is
-/// not on the board, but for the opening of a port.
+/// Opening a board, and its events. The docs of each event list its replies. An event of a
+/// processor is also refused with [`NoSuchProcessor`](crate::Refusal::NoSuchProcessor) if `vp` is
+/// not on the board, except for opening a port.
 impl Board {
-    /// Opens a board of 1 to 8 processors and 1 to 64 guest pages at moment 0, whose first accepted message
-    /// takes `first_ticket`. All memory that it will need is taken here.
+    /// Opens a board of 1 to 8 processors and 1 to 64 guest pages at time 0. The first message that
+    /// it accepts gets the ticket `first_ticket`. Allocates all memory that the board needs.
     ///
     /// # Errors
     ///
-    /// [`OpenFault::BadSize`] where a number is outside its range, [`OpenFault::Memory`] for want of memory.
+    /// [`OpenFault::BadSize`] if a size is out of range, [`OpenFault::Memory`] if an allocation
+    /// fails.
     pub fn open(processors: u8, pages: u8, first_ticket: Ticket) -> Result<Board, OpenFault> {
         let handle = UnsafeCell::new(sys::SYNICBOARD_CLOSED);
         let board = Board { handle, room: Room::new(), processors, pages };
@@ -166,7 +167,7 @@ impl Board {
         Ok(board)
     }
 
-    /// Performs any event: the call below that has its name.
+    /// Performs an event: the same as the method below with its name.
     pub fn perform(&mut self, event: &Event) -> Reply {
         match *event {
             Event::OpenPort { port, vp, sint, shape } => self.open_port(port, vp, sint, shape),
@@ -194,23 +195,25 @@ impl Board {
         }
     }
 
-    /// A port, 0 to 15, is opened for messages to source `sint`, 0 to 15, of processor `vp`. Of its messages
-    /// as many as `buffers`, 1 to 16, may be queued at once.
+    /// Opens a port, 0 to 15, for messages to source `sint`, 0 to 15, of processor `vp`. At most
+    /// `buffers` of its messages, 1 to 16, may be queued at once.
     ///
-    /// `Done`, or refused: `UnknownPort`, `PortOpen`, `BadTarget` (also where `vp` is not on the board).
+    /// `Done`, or refused: `UnknownPort`, `PortOpen`, `BadTarget` (also if `vp` is not on the
+    /// board).
     pub fn open_message_port(&mut self, port: u8, vp: u8, sint: u8, buffers: u8) -> Reply {
         Reply::of(ask!(self, synicboard_open_message_port, port, vp, sint, buffers))
     }
 
-    /// A port, 0 to 15, is opened for the event flags from `base` on, `count` of them, of source `sint`,
-    /// 0 to 15, of processor `vp`. There is at least one flag, and none from 2048 on.
+    /// Opens a port, 0 to 15, for the `count` event flags from `base` on, of source `sint`, 0 to
+    /// 15, of processor `vp`. `count` is at least 1, and `base` + `count` at most 2048.
     ///
-    /// `Done`, or refused: `UnknownPort`, `PortOpen`, `BadTarget` (also where `vp` is not on the board).
+    /// `Done`, or refused: `UnknownPort`, `PortOpen`, `BadTarget` (also if `vp` is not on the
+    /// board).
     pub fn open_event_port(&mut self, port: u8, vp: u8, sint: u8, base: u16, count: u16) -> Reply {
         Reply::of(ask!(self, synicboard_open_event_port, port, vp, sint, base, count))
     }
 
-    /// A port is closed, and its queued messages are withdrawn.
+    /// Closes a port and withdraws its queued messages. Messages in slots stay.
     ///
     /// `Done`, or refused: `UnknownPort`.
     pub fn close_port(&mut self, port: u8) -> Reply {
@@ -231,8 +234,8 @@ impl Board {
         Reply::of(ask!(self, synicboard_read, vp, register))
     }
 
-    /// A message with a payload of up to 240 bytes is posted to a port. Its type is not 0, and has bit 31
-    /// clear.
+    /// Posts a message with a payload of up to 240 bytes to a port. Its type must not be 0 and must
+    /// have bit 31 clear.
     ///
     /// `Accepted`, or refused: `UnknownPort`, `WrongKind`, `BadType`, `SynicOff`, `NoBuffers`,
     /// `TicketsSpent`. `NoEvent` for a payload of more than 240 bytes.
@@ -241,39 +244,40 @@ impl Board {
         Reply::of(ask!(self, synicboard_post, port, message_type, bytes, length))
     }
 
-    /// An event flag of a port is signalled. The flags of a port are counted from 0.
+    /// Signals an event flag of a port. The flags of a port are counted from 0.
     ///
-    /// `FlagWasClear` or `FlagWasSet`, or refused: `UnknownPort`, `WrongKind`, `BadFlag`, `SynicOff`.
+    /// `FlagWasClear` or `FlagWasSet`, or refused: `UnknownPort`, `WrongKind`, `BadFlag`,
+    /// `SynicOff`.
     pub fn signal(&mut self, port: u8, flag: u16) -> Reply {
         Reply::of(ask!(self, synicboard_signal, port, flag))
     }
 
-    /// A device asserts a vector at the local APIC of processor `vp`.
+    /// A device requests a vector at the local APIC of processor `vp`.
     ///
     /// `Done`.
     pub fn assert(&mut self, vp: u8, vector: Vector) -> Reply {
         Reply::of(ask!(self, synicboard_assert, vp, vector.number()))
     }
 
-    /// Posted vectors are taken in at the local APIC of processor `vp`: bit i of `bits` is vector
-    /// 64 * `part` + i, for a part of 0 to 3. Vectors below 16 are left out.
+    /// Requests posted vectors at the local APIC of processor `vp`: bit i of `bits` is vector 64 *
+    /// `part` + i, for a part of 0 to 3. Vectors below 16 are ignored.
     ///
     /// `Done`, or refused: `BadTarget` for a part above 3.
     pub fn absorb(&mut self, vp: u8, part: u8, bits: u64) -> Reply {
         Reply::of(ask!(self, synicboard_absorb, vp, part, bits))
     }
 
-    /// What was raised of processor `vp` in a part, 0 to 3, is taken out of the words of a line, and taken
-    /// in at the local APIC: the vectors from 64 * `part` on, 64 of them. There are none of a processor that
-    /// the words are not for. A raise behind this is [`Fresh`](crate::Raised::Fresh) again.
+    /// Clears the bits of a part, 0 to 3, of processor `vp` in the words of a line, and requests
+    /// their vectors at the local APIC: the 64 vectors from 64 * `part` on. There are none if the
+    /// words do not have the processor. A later raise of one of them is
+    /// [`Fresh`](crate::Raised::Fresh) again.
     ///
-    /// `Done`, or refused: `BadTarget` for a part above 3. Where it is refused, nothing is taken out.
+    /// `Done`, or refused: `BadTarget` for a part above 3. If it is refused, no bit is cleared.
     pub fn absorb_line(&mut self, line: &mut Line, vp: u8, part: u8) -> Reply {
         Reply::of(ask!(self, synicboard_absorb_line, &mut line.handle, vp, part))
     }
 
-    /// [`Board::absorb_line`], and the bits that were taken out of the words, for a host that enters what was
-    /// asked in a trace.
+    /// [`Board::absorb_line`], and the bits that it cleared, for a host that records a trace.
     pub fn absorb_line_bits(&mut self, line: &mut Line, vp: u8, part: u8) -> (Reply, u64) {
         let plain = ask!(self, synicboard_absorb_line, &mut line.handle, vp, part);
         (Reply::of(plain), plain.value)
@@ -281,8 +285,8 @@ impl Board {
 
     /// A guest stores 1 to 8 bytes at a guest physical address, all in one page.
     ///
-    /// `Done`, or refused: `BadLength` for no bytes, `OutsideSpace`, `CrossesPage`. `NoEvent` for more than
-    /// 8 bytes.
+    /// `Done`, or refused: `BadLength` for no bytes, `OutsideSpace`, `CrossesPage`. `NoEvent` for
+    /// more than 8 bytes.
     pub fn store(&mut self, address: u64, bytes: &[u8]) -> Reply {
         let (bytes, length) = (bytes.as_ptr(), bytes.len());
         Reply::of(ask!(self, synicboard_store, address, bytes, length))
@@ -295,36 +299,37 @@ impl Board {
         Reply::of(ask!(self, synicboard_load, address, length))
     }
 
-    /// The clock goes on to a moment, in units of 100 ns, and the timers that are due by then are tried.
+    /// Moves the clock to a time in units of 100 ns, and tries the timers that are due by then.
     ///
     /// `Done`, or refused: `ClockBack`.
     pub fn tick(&mut self, moment: Moment) -> Reply {
         Reply::of(ask!(self, synicboard_tick, moment))
     }
 
-    /// Processor `vp` takes its next interrupt: ask this when it is willing.
+    /// Processor `vp` takes its next vector. Call this when it accepts interrupts.
     ///
     /// `Taken`.
     pub fn take(&mut self, vp: u8) -> Reply {
         Reply::of(ask!(self, synicboard_take, vp))
     }
 
-    /// Processor `vp` is suspended: it takes no interrupt, and its timers are not tried, until it goes on.
+    /// Suspends processor `vp`: it takes no interrupt, and its timers are not tried, until it
+    /// resumes.
     ///
     /// `Done`, or refused: `AlreadySuspended`.
     pub fn suspend(&mut self, vp: u8) -> Reply {
         Reply::of(ask!(self, synicboard_suspend, vp))
     }
 
-    /// A suspended processor goes on. Nothing is tried.
+    /// Resumes a suspended processor. This tries no timer.
     ///
     /// `Done`, or refused: `NotSuspended`.
     pub fn resume(&mut self, vp: u8) -> Reply {
         Reply::of(ask!(self, synicboard_resume, vp))
     }
 
-    /// Processor `vp` is as it was opened: its messages in slots and queues are withdrawn, and its
-    /// registers, its local APIC, its timers and its own two pages are reset. Ports stay open.
+    /// Resets processor `vp` to its state at the opening: withdraws its messages in slots and
+    /// queues, and resets its registers, local APIC, timers and own two pages. Ports stay open.
     ///
     /// `Done`.
     pub fn reset(&mut self, vp: u8) -> Reply {
@@ -332,15 +337,15 @@ impl Board {
     }
 }
 
-/// What a board is asked by looks, which change nothing.
+/// Queries, which change nothing.
 impl Board {
-    /// The notices of the last event, in their order. There are none where it was refused or raised #GP, or
-    /// before the first. What answered [`Reply::NoEvent`] was no event, and they are still those of the event
-    /// before.
+    /// The notices of the last event, in order. There are none if it was refused or raised #GP, or
+    /// before the first event. [`Reply::NoEvent`] is no event: then these are still the notices of
+    /// the event before.
     pub fn notices(&self) -> Notices<'_> {
         let count = ask!(self, synicboard_notices, self.room.start(), MOST_NOTICES);
-        // SAFETY: the library wrote as many as it answers, or as there is room for, and the room is that of
-        // the board, which is not `Sync`.
+        // SAFETY: the library wrote `count` notices, or as many as fit into the buffer, which is
+        // this board's, and a board is not `Sync`.
         unsafe { self.room.first(count) }
     }
 
@@ -354,24 +359,24 @@ impl Board {
         self.pages
     }
 
-    /// The next vector of a processor: what [`take`](Board::take) would take. `None` where there is none, or
-    /// `vp` is not on the board.
+    /// The vector that [`take`](Board::take) would take. `None` if there is none, or `vp` is not on
+    /// the board.
     pub fn next(&self, vp: u8) -> Option<Vector> {
         Vector::new(ask!(self, synicboard_next, vp))
     }
 
-    /// Whether a vector ends by itself when a processor takes it. `false` where `vp` is not on the board.
+    /// Whether a vector is auto-EOI on a processor. `false` if `vp` is not on the board.
     pub fn is_auto(&self, vp: u8, vector: Vector) -> bool {
         ask!(self, synicboard_is_auto, vp, vector.number())
     }
 
-    /// How many messages are queued for a source of a processor. 0 where `vp` is not on the board, or `sint`
-    /// is above 15.
+    /// How many messages are queued for a source of a processor. 0 if `vp` is not on the board, or
+    /// `sint` is above 15.
     pub fn queued(&self, vp: u8, sint: u8) -> u16 {
         ask!(self, synicboard_queued, vp, sint)
     }
 
-    /// Whose page a guest sees at a page number.
+    /// Which page a guest sees at a page number.
     pub fn owner(&self, page: u64) -> Owner {
         let owner = ask!(self, synicboard_owner, page);
         let meant = match owner.kind {
@@ -384,42 +389,42 @@ impl Board {
         meant.unwrap_or_else(|| beyond_the_header(&owner))
     }
 
-    /// The timer that is due first, and when, in units of 100 ns: for this moment the host's timer is armed.
-    /// `None` where no timer is due at any moment. Timers of suspended processors are left out. A moment
-    /// above 2^64 - 1 never comes: no tick reaches it.
+    /// The timer with the earliest deadline, and the deadline in units of 100 ns: arm the host's
+    /// timer for it. `None` if no timer has a deadline. Timers of suspended processors do not
+    /// count. A deadline above 2^64 - 1 is never reached by a tick.
     pub fn earliest(&self) -> Option<(u128, TimerId)> {
         first_due(&ask!(self, synicboard_earliest))
     }
 
-    /// The present moment, in units of 100 ns.
+    /// The present time, in units of 100 ns.
     pub fn moment(&self) -> Moment {
         ask!(self, synicboard_moment)
     }
 
-    /// The ticket that the next accepted message takes.
+    /// The ticket that the next accepted message gets.
     pub fn next_ticket(&self) -> Ticket {
         ask!(self, synicboard_next_ticket)
     }
 
-    /// The page of messages of a processor, wherever it lies and whether a guest sees it or not: the slot of
-    /// source s is its bytes 256 s to 256 s + 255. `None` where `vp` is not on the board.
+    /// The message page of a processor, whether or not a guest sees it: the slot of source s is its
+    /// bytes 256 s to 256 s + 255. `None` if `vp` is not on the board.
     pub fn message_page(&self, vp: u8) -> Option<&[u8; PAGE_BYTES]> {
         lent!(self, synicboard_message_page, vp)
     }
 
-    /// The page of event flags of a processor, wherever it lies and whether a guest sees it or not: the flags
-    /// of source s are its bytes 256 s to 256 s + 255. `None` where `vp` is not on the board.
+    /// The event flags page of a processor, whether or not a guest sees it: the flags of source s
+    /// are its bytes 256 s to 256 s + 255. `None` if `vp` is not on the board.
     pub fn flag_page(&self, vp: u8) -> Option<&[u8; PAGE_BYTES]> {
         lent!(self, synicboard_flag_page, vp)
     }
 
-    /// A guest page, as it lies below what overlays it. `None` where there is no such page.
+    /// A guest page, without the overlays that obscure it. `None` if there is no such page.
     pub fn guest_page(&self, number: u64) -> Option<&[u8; PAGE_BYTES]> {
         lent!(self, synicboard_guest_page, number)
     }
 }
 
-/// When the timer that is due first is due, and which it is.
+/// The earliest deadline and its timer.
 pub(crate) fn first_due(due: &sys::synicboard_due) -> Option<(u128, TimerId)> {
     if !due.is_due {
         return None;

@@ -1,18 +1,18 @@
-//! What a board is asked.
+//! The events of a board.
 
 use crate::{sys, Moment, Vector};
 use core::fmt;
 use core::ops::Deref;
 
-/// What a board is asked, by [`Board::perform`](crate::Board::perform).
+/// An event of a board, for [`Board::perform`](crate::Board::perform).
 ///
-/// Numbers of processors, sources, ports, registers and flags are plain data, which the board judges: one
-/// that is out of range is refused.
+/// Numbers of processors, sources, ports, registers and flags are plain integers, and the board
+/// refuses those that are out of range.
 #[derive(Clone, Copy, PartialEq, Eq, Debug)]
-// A payload lies in its event, and in no memory that somebody would have to give.
+// A payload is stored in its event, so an event needs no allocation.
 #[allow(clippy::large_enum_variant)]
 pub enum Event {
-    /// A port is opened to a source of a processor.
+    /// Opens a port to a source of a processor.
     OpenPort {
         /// The port, 0 to 15.
         port: u8,
@@ -20,10 +20,10 @@ pub enum Event {
         vp: u8,
         /// The source, 0 to 15.
         sint: u8,
-        /// What it is opened for.
+        /// Its shape.
         shape: PortShape,
     },
-    /// A port is closed.
+    /// Closes a port.
     ClosePort {
         /// The port, 0 to 15.
         port: u8,
@@ -34,7 +34,7 @@ pub enum Event {
         vp: u8,
         /// The number of the register.
         register: u32,
-        /// What is written.
+        /// The value.
         value: u64,
     },
     /// A guest reads a register.
@@ -44,7 +44,7 @@ pub enum Event {
         /// The number of the register.
         register: u32,
     },
-    /// A message is posted to a port.
+    /// Posts a message to a port.
     Post {
         /// The port, 0 to 15.
         port: u8,
@@ -53,64 +53,64 @@ pub enum Event {
         /// Its payload.
         payload: PayloadBytes,
     },
-    /// An event flag of a port is signalled.
+    /// Signals an event flag of a port.
     Signal {
         /// The port, 0 to 15.
         port: u8,
-        /// The number of the flag among those of the port, from 0 on.
+        /// The number of the flag within the port, from 0 on.
         flag: u16,
     },
-    /// A device asserts a vector at the local APIC of a processor.
+    /// A device requests a vector at the local APIC of a processor.
     Assert {
         /// The processor.
         vp: u8,
         /// The vector.
         vector: Vector,
     },
-    /// Posted vectors are taken in at the local APIC of a processor.
+    /// Requests posted vectors at the local APIC of a processor.
     Absorb {
         /// The processor.
         vp: u8,
-        /// Which 64 vectors, 0 to 3.
+        /// Which group of 64 vectors, 0 to 3.
         part: u8,
-        /// Bit i is vector 64 * `part` + i. Vectors below 16 are left out.
+        /// Bit i is vector 64 * `part` + i. Vectors below 16 are ignored.
         bits: u64,
     },
     /// A guest stores bytes.
     Store {
-        /// The guest physical address of the first.
+        /// The guest physical address of the first byte.
         address: u64,
         /// The bytes: at least one, and all in one page.
         bytes: Bytes8,
     },
     /// A guest loads bytes.
     Load {
-        /// The guest physical address of the first.
+        /// The guest physical address of the first byte.
         address: u64,
-        /// How many, 1 to 8, and all in one page.
+        /// How many bytes: 1 to 8, all in one page.
         length: u8,
     },
-    /// The clock goes on.
+    /// Moves the clock.
     Tick {
-        /// The moment, in units of 100 ns, which is not before the present one.
+        /// The new time, in units of 100 ns, not before the present one.
         moment: Moment,
     },
-    /// A processor takes its next interrupt.
+    /// A processor takes its next vector.
     Take {
         /// The processor.
         vp: u8,
     },
-    /// A processor is suspended.
+    /// Suspends a processor.
     Suspend {
         /// The processor.
         vp: u8,
     },
-    /// A suspended processor goes on.
+    /// Resumes a suspended processor.
     Resume {
         /// The processor.
         vp: u8,
     },
-    /// A processor is reset.
+    /// Resets a processor.
     Reset {
         /// The processor.
         vp: u8,
@@ -136,7 +136,7 @@ const NO_NUMBERS: sys::synicboard_event = sys::synicboard_event {
     bytes: [0; 240],
 };
 
-/// An event of this kind in plain numbers, with these fields.
+/// A C event of this kind, with these fields.
 macro_rules! plain {
     ($kind:ident $(, $field:ident: $value:expr)*) => {
         sys::synicboard_event { kind: sys::$kind, $($field: $value,)* ..NO_NUMBERS }
@@ -144,7 +144,7 @@ macro_rules! plain {
 }
 
 impl Event {
-    /// The plain numbers that mean this event.
+    /// The C struct that encodes this event.
     pub(crate) fn to_plain(self) -> sys::synicboard_event {
         match self {
             Event::OpenPort { port, vp, sint, shape } => {
@@ -176,7 +176,7 @@ impl Event {
     }
 }
 
-/// What a port is opened for.
+/// The shape of a port.
 #[derive(Clone, Copy, PartialEq, Eq, Hash, Debug)]
 pub enum PortShape {
     /// Messages.
@@ -186,15 +186,15 @@ pub enum PortShape {
     },
     /// Event flags.
     Flags {
-        /// The first.
+        /// The first flag.
         base: u16,
-        /// How many: at least one, and `base` + `count` is at most 2048.
+        /// How many flags: at least one, and `base` + `count` is at most 2048.
         count: u16,
     },
 }
 
 impl PortShape {
-    /// The plain numbers that mean the opening of a port of this shape.
+    /// The C struct that encodes opening a port of this shape.
     fn to_plain(self) -> sys::synicboard_event {
         match self {
             PortShape::Messages { buffers } => plain!(SYNICBOARD_OPEN_MESSAGE_PORT, buffers: buffers),
@@ -206,19 +206,19 @@ impl PortShape {
 /// The payload of a message, at most 240 bytes.
 pub type PayloadBytes = Bytes<240>;
 
-/// What a guest loads or stores, at most 8 bytes.
+/// The bytes of a load or a store, at most 8.
 pub type Bytes8 = Bytes<8>;
 
-/// At most `MOST` bytes, which lie here. It is read as the slice of those that there are.
+/// At most `MOST` bytes, stored inline. Dereferences to the slice of those that are used.
 #[derive(Clone, Copy, PartialEq, Eq, Hash)]
 pub struct Bytes<const MOST: usize> {
     length: usize,
-    // Zeros behind `length`, so that equal bytes are equal values.
+    // Zeros after `length`, so that derived equality compares the bytes.
     room: [u8; MOST],
 }
 
 impl<const MOST: usize> Bytes<MOST> {
-    /// These bytes, `None` if there are more than `MOST`.
+    /// A copy of these bytes; `None` if there are more than `MOST`.
     pub fn new(bytes: &[u8]) -> Option<Self> {
         let mut room = [0; MOST];
         room.get_mut(..bytes.len())?.copy_from_slice(bytes);
@@ -230,7 +230,7 @@ impl<const MOST: usize> Bytes<MOST> {
         &self.room[..self.length]
     }
 
-    /// How many bytes there are, at most 240, and the bytes with zeros behind them, in a room for so many.
+    /// The length, and the bytes padded with zeros to `ROOM`.
     pub(crate) fn padded<const ROOM: usize>(&self) -> (u8, [u8; ROOM]) {
         let mut room = [0; ROOM];
         room[..self.length].copy_from_slice(self);

@@ -1,4 +1,4 @@
-//! Lines, which raise vectors beside a board.
+//! Lines, which raise vectors without the lock of a board.
 
 use crate::{beyond_the_header, sys, OpenFault, Vector};
 use core::error::Error;
@@ -7,9 +7,9 @@ use core::fmt;
 /// Why no line was split off.
 #[derive(Clone, Copy, PartialEq, Eq, Hash, Debug)]
 pub enum SplitFault {
-    /// The line has none left: 31 were split off it, or it was split off itself.
+    /// The line has none left: 31 were split off it, or it was itself split off.
     NoMore,
-    /// There was no memory.
+    /// An allocation failed.
     Memory,
 }
 
@@ -24,28 +24,30 @@ impl fmt::Display for SplitFault {
 
 impl Error for SplitFault {}
 
-/// What a raise found.
+/// The result of a raise.
 #[derive(Clone, Copy, PartialEq, Eq, Hash, Debug)]
 pub enum Raised {
-    /// The vector was not raised: who raised it now kicks the processor.
+    /// The bit was clear: the caller kicks the processor.
     Fresh,
-    /// It was raised, and not absorbed yet: nobody needs to be kicked.
+    /// The bit was already set: no kick is needed.
     Already,
 }
 
-/// What one thread raises vectors with, without the lock of a board, and takes them in with, inside it.
+/// One thread's access to posted words: it raises vectors without the lock of a board, and absorbs
+/// them under the lock.
 ///
-/// What was raised for 1 to 8 processors, and not absorbed yet, stands in words beside all boards, with a
-/// bit for each vector. [`open`](Line::open) opens such words and their first line, and
-/// [`split`](Line::split) makes others of the same words, for other threads. The words go with the last
-/// of their lines, and what stands in them then is lost.
+/// Posted words have one bit for each vector of 1 to 8 processors, set from a raise to the next absorb.
+/// [`open`](Line::open) opens words and their first line; [`split`](Line::split) returns other lines of
+/// the same words, for other threads. The words are freed with the last of their lines; bits that are
+/// still set then are lost.
 ///
-/// The thread of a device [raises](Line::raise) a vector by one atomic step, and waits for nobody. Where it
-/// was [`Fresh`](Raised::Fresh), the device kicks the processor; where it was raised
-/// [`Already`](Raised::Already), nobody needs to be kicked, since its absorb is still to come. The thread
-/// of the processor takes the vectors in by [`Board::absorb_line`](crate::Board::absorb_line), inside the
-/// lock of the board and before it asks for its next vector. What is raised before an absorb of its part is
-/// taken by it, and what is raised behind it is fresh again: nothing is lost, and nothing is taken twice.
+/// The thread of a device [raises](Line::raise) a vector by one atomic step, without blocking. If the
+/// result is [`Fresh`](Raised::Fresh), the device kicks the processor. If it is
+/// [`Already`](Raised::Already), no kick is needed, since an absorb is still to come. The thread of the
+/// processor absorbs the vectors by [`Board::absorb_line`](crate::Board::absorb_line), under the lock of
+/// the board and before it queries its next vector. An absorb takes each vector of its part that was
+/// raised before it; a raise after it is fresh again. `docs/THREADS.md` says which part of this is proved
+/// and which is shown by tests.
 ///
 /// ```
 /// use std::sync::Mutex;
@@ -60,7 +62,7 @@ pub enum Raised {
 ///
 /// thread::scope(|scope| {
 ///     let processor = thread::current();
-///     // The device never waits for who holds the board.
+///     // The device never waits for the lock of the board.
 ///     scope.spawn(move || {
 ///         if of_device.raise(0, vector) == Some(Raised::Fresh) {
 ///             processor.unpark();
@@ -84,15 +86,15 @@ pub enum Raised {
 ///
 /// # Threads
 ///
-/// A line may go to another thread (`Send`): it is proved with the library that what its handle owns says
-/// the same to each thread. The bindings add, with no proof, that the handle lies in this value alone, and
-/// that one call at a time uses it: each call borrows the line for itself, and it is not `Sync`. Lines of
-/// the same words are used at the same time, each by its own thread.
+/// A line is `Send`: that what its handle owns is `Send` is proved with the library. The bindings add,
+/// without proof, that the handle is only in this value, and that one call at a time uses it: each call
+/// borrows the line mutably, and a line is not `Sync`. Lines of the same words may be used at the same
+/// time, each by its own thread.
 ///
 /// ```compile_fail,E0277
 /// # let line = synicboard::Line::open(1).unwrap();
 /// std::thread::scope(|scope| {
-///     scope.spawn(|| line.processors()); // another thread has another line
+///     scope.spawn(|| line.processors()); // another thread needs its own line
 /// });
 /// ```
 pub struct Line {
@@ -100,17 +102,17 @@ pub struct Line {
     processors: u8,
 }
 
-// SAFETY: what the handle owns says the same to each thread, which is proved with the library: `LineHandle`
-// of its crate `handles` is `Send`. The handle is in this value alone, so who has the value makes all the
-// calls, and each borrows it for itself, so that there is one at a time.
+// SAFETY: what the handle owns is `Send`, which is proved with the library: `LineHandle` of its
+// crate `handles`. The handle is only in this value, so the owner of the value makes all calls, and
+// each borrows it mutably, so there is one at a time.
 unsafe impl Send for Line {}
 
-/// Asks the library about a line's handle.
+/// Makes a call of the library with a line's handle.
 macro_rules! ask {
     ($line:expr, $call:ident $(, $argument:expr)*) => {{
         let handle = &mut $line.handle;
-        // SAFETY: the handle was closed or opened by the library, lies here and has no copy. It is
-        // borrowed for this call alone, and so is that of another line which goes with it.
+        // SAFETY: the handle was closed or opened by the library, is in this value and has no copy.
+        // It is borrowed for this call alone, and so is the handle of a second line.
         unsafe { sys::$call(handle $(, $argument)*) }
     }};
 }
@@ -120,20 +122,21 @@ impl Line {
     ///
     /// # Errors
     ///
-    /// [`OpenFault::BadSize`] where the number is outside its range, [`OpenFault::Memory`] for want of memory.
+    /// [`OpenFault::BadSize`] if the number is out of range, [`OpenFault::Memory`] if an allocation
+    /// fails.
     pub fn open(processors: u8) -> Result<Line, OpenFault> {
         let mut line = Line::closed(processors);
         OpenFault::judged(ask!(line, synicboard_open_line, processors))?;
         Ok(line)
     }
 
-    /// Makes another line of the same words, for another thread. The first line of some words gives 31, and
-    /// no other gives any. Where one is dropped, there is no other for it.
+    /// Splits off another line of the same words, for another thread. Only the first line of the
+    /// words splits off others, 31 in all. Dropping one of them does not allow another.
     ///
     /// # Errors
     ///
-    /// [`SplitFault::NoMore`] where the line has none left, [`SplitFault::Memory`] for want of memory. Nothing
-    /// is changed then.
+    /// [`SplitFault::NoMore`] if the line has none left, [`SplitFault::Memory`] if an allocation
+    /// fails. Then nothing changes.
     pub fn split(&mut self) -> Result<Line, SplitFault> {
         let mut other = Line::closed(self.processors);
         match ask!(self, synicboard_split_line, &mut other.handle) {
@@ -148,10 +151,10 @@ impl Line {
         Line { handle: sys::SYNICBOARD_LINE_CLOSED, processors }
     }
 
-    /// Raises a vector of processor `vp`, and says whether it was raised before. It waits for nobody, and
-    /// takes no memory.
+    /// Raises a vector of processor `vp` by one atomic step, and returns whether its bit was clear.
+    /// Never blocks and never allocates.
     ///
-    /// `None`, and nothing is raised, where the words are not for that processor.
+    /// `None`, and no effect, if the words do not have the processor.
     #[must_use = "who raised a fresh vector kicks its processor"]
     pub fn raise(&mut self, vp: u8, vector: Vector) -> Option<Raised> {
         match ask!(self, synicboard_raise, vp, vector.number()) {

@@ -1,4 +1,4 @@
-//! What an event tells beside its reply.
+//! Notices: what an event did, in addition to its reply.
 
 use crate::{beyond_the_header, sys, Moment, Sint, Ticket, TimerId, Vector, Vp};
 use core::cell::UnsafeCell;
@@ -7,15 +7,15 @@ use core::iter::FusedIterator;
 use core::mem::MaybeUninit;
 use core::ops::Range;
 
-/// No event gives more notices than these. Only a reset gives more than 192.
+/// No event emits more notices than this. Only a reset emits more than 192.
 pub const MOST_NOTICES: usize = sys::SYNICBOARD_MOST_NOTICES;
 
-/// What an event tells beside its reply.
+/// Something that an event did, in addition to its reply.
 #[derive(Clone, Copy, PartialEq, Eq, Hash, Debug)]
 pub enum Notice {
     /// A message was appended to its queue.
     Accepted {
-        /// The message.
+        /// The ticket of the message.
         ticket: Ticket,
         /// The processor.
         vp: Vp,
@@ -24,23 +24,23 @@ pub enum Notice {
     },
     /// The head of a queue was written into its slot.
     Placed {
-        /// The message.
+        /// The ticket of the message.
         ticket: Ticket,
         /// The processor.
         vp: Vp,
         /// The source whose slot it is.
         sint: Sint,
     },
-    /// A message was placed with MessagePending set, or a clear MessagePending was set in an occupied
-    /// slot: the guest writes EOM when it is done with the slot.
+    /// A message was placed with MessagePending set, or a clear MessagePending was set in an
+    /// occupied slot: the guest writes EOM when it has emptied the slot.
     Pending {
         /// The processor.
         vp: Vp,
         /// The source whose slot it is.
         sint: Sint,
     },
-    /// A clear request bit of a local APIC was set: the processor has something to take, unless its
-    /// priority holds it back or it is suspended.
+    /// A clear request bit of a local APIC was set. The processor has a vector to take, unless its
+    /// priority blocks it or it is suspended.
     Requested {
         /// The processor.
         vp: Vp,
@@ -53,22 +53,22 @@ pub enum Notice {
         vp: Vp,
         /// The source.
         sint: Sint,
-        /// The base of the port and the number that was signalled, 0 to 2047.
+        /// The base of the port plus the number signalled, 0 to 2047.
         flag: u16,
     },
     /// A guest store emptied a slot that held a message.
     Consumed {
-        /// The message.
+        /// The ticket of the message.
         ticket: Ticket,
         /// The processor.
         vp: Vp,
         /// The source whose slot it is.
         sint: Sint,
     },
-    /// A queued message of a closed port, or a queued or placed one of a processor that was reset, was
-    /// taken out.
+    /// A queued message of a closed port, or a queued or placed one of a processor that was reset,
+    /// was withdrawn.
     Withdrawn {
-        /// The message.
+        /// The ticket of the message.
         ticket: Ticket,
         /// The processor.
         vp: Vp,
@@ -81,10 +81,10 @@ pub enum Notice {
         vp: Vp,
         /// The timer, 0 to 3.
         index: u8,
-        /// The moment for which it expired, in units of 100 ns.
+        /// The deadline at which it was due, in units of 100 ns.
         due: Moment,
     },
-    /// A timer skipped some of its moments.
+    /// A timer skipped some of its deadlines.
     Skipped {
         /// The processor.
         vp: Vp,
@@ -120,7 +120,7 @@ impl Notice {
     }
 }
 
-/// Room for the notices of an event, which the library fills.
+/// A buffer for the notices of an event, which the library fills.
 pub(crate) struct Room {
     notices: UnsafeCell<[MaybeUninit<sys::synicboard_notice>; MOST_NOTICES]>,
 }
@@ -130,22 +130,24 @@ impl Room {
         Room { notices: UnsafeCell::new([MaybeUninit::uninit(); MOST_NOTICES]) }
     }
 
-    /// Where it begins. It has room for [`MOST_NOTICES`].
+    /// Its start. It has capacity for [`MOST_NOTICES`].
     pub(crate) fn start(&self) -> *mut sys::synicboard_notice {
         self.notices.get().cast()
     }
 
-    /// The first of the notices here.
+    /// The first `count` notices of the buffer.
     ///
     /// # Safety
     ///
-    /// So many were written, and no other thread writes here as long as they are lent.
+    /// That many were written, and no other thread writes to the buffer while the result is
+    /// borrowed.
     pub(crate) unsafe fn first(&self, count: usize) -> Notices<'_> {
         Notices { room: self, left: 0..count.min(MOST_NOTICES) }
     }
 }
 
-/// The notices of one event, in their order. As long as they are held, there is no other event.
+/// The notices of one event, in order. They borrow the board, so there is no other event while they
+/// are held.
 #[derive(Clone)]
 pub struct Notices<'board> {
     room: &'board Room,
@@ -157,8 +159,8 @@ impl Iterator for Notices<'_> {
 
     fn next(&mut self) -> Option<Notice> {
         let at = self.left.next()?;
-        // SAFETY: this one was written. It is read out, and no reference to it is kept: another look at the
-        // notices of the same event writes the same here again.
+        // SAFETY: this element was written. It is copied, and no reference to it is kept: another
+        // query for the notices of the same event writes the same value again.
         let plain = unsafe { self.room.start().add(at).read() };
         Some(Notice::of(&plain))
     }

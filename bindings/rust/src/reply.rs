@@ -1,39 +1,39 @@
-//! What a board answers.
+//! Replies.
 
 use crate::{beyond_the_header, sys, Bytes8, Ticket, Vector};
 use core::error::Error;
 use core::fmt;
 
-/// What a board answers to an event.
+/// The reply to an event.
 #[derive(Clone, Copy, PartialEq, Eq, Debug)]
 #[must_use = "an event that was refused has changed nothing"]
 pub enum Reply {
     /// The event was performed.
     Done,
-    /// What the register reads.
+    /// The value of the register.
     Value(u64),
-    /// What the guest loads.
+    /// The bytes that the guest loads.
     Bytes(Bytes8),
-    /// The vector that was taken, if there was one.
+    /// The vector that was taken, or none.
     Taken(Option<Vector>),
     /// The post was accepted with this ticket.
     Accepted(Ticket),
     /// The event flag was clear, and was set.
     FlagWasClear,
-    /// The event flag was set already.
+    /// The event flag was already set.
     FlagWasSet,
-    /// The access raises #GP; nothing was changed.
+    /// The access raises #GP; nothing changed.
     GeneralProtection,
-    /// The event was refused; nothing was changed.
+    /// The event was refused; nothing changed.
     Refused(Refusal),
-    /// There is no such event: more than 240 bytes were to be posted, or more than 8 to be stored.
-    /// Nothing was performed, and nothing was changed. [`Board::perform`](crate::Board::perform) never
-    /// answers this: the types of an [`Event`](crate::Event) hold no more bytes.
+    /// There is no such event: a post of more than 240 bytes, or a store of more than 8. Nothing
+    /// was performed, and nothing changed. [`Board::perform`](crate::Board::perform) never returns
+    /// this, since an [`Event`](crate::Event) cannot hold more bytes.
     NoEvent,
 }
 
 impl Reply {
-    /// Why the event was refused, if it was.
+    /// The refusal, if the event was refused.
     pub fn refusal(self) -> Option<Refusal> {
         match self {
             Reply::Refused(refusal) => Some(refusal),
@@ -41,7 +41,7 @@ impl Reply {
         }
     }
 
-    /// The reply that plain numbers mean, where the board is open, and the line, if there is one.
+    /// Decodes a C reply of an open board, with an open line if one was used.
     pub(crate) fn of(plain: sys::synicboard_reply) -> Reply {
         let meant = match plain.kind {
             sys::SYNICBOARD_NOT_PERFORMED if plain.fault == sys::SYNICBOARD_NO_EVENT => Some(Reply::NoEvent),
@@ -60,7 +60,7 @@ impl Reply {
         meant.unwrap_or_else(|| beyond_the_header(&plain))
     }
 
-    /// The plain numbers that mean this reply.
+    /// The C struct that encodes this reply.
     pub(crate) fn to_plain(self) -> sys::synicboard_reply {
         let of_kind = |kind| sys::synicboard_reply { kind, ..sys::synicboard_reply::default() };
         match self {
@@ -92,40 +92,40 @@ fn first(bytes: &[u8; 8], length: u8) -> Option<Bytes8> {
     Bytes8::new(bytes.get(..usize::from(length))?)
 }
 
-/// Why an event was refused. A refused event changes nothing and gives no notice.
+/// Why an event was refused. A refused event changes nothing and emits no notice.
 #[derive(Clone, Copy, PartialEq, Eq, PartialOrd, Ord, Hash, Debug)]
 #[repr(u8)]
 pub enum Refusal {
-    /// The port is not open; for an opening, its number is above 15.
+    /// The port is not open; to open one, its number is above 15.
     UnknownPort = sys::SYNICBOARD_UNKNOWN_PORT,
-    /// The port is open already.
+    /// The port is already open.
     PortOpen = sys::SYNICBOARD_PORT_OPEN,
     /// A post to a port for event flags, or a signal to one for messages.
     WrongKind = sys::SYNICBOARD_WRONG_KIND,
-    /// No such processor, a source above 15, buffers, base or count out of range; for an absorb, a part
-    /// above 3.
+    /// No such processor, a source above 15, or buffers, base or count out of range; for an absorb,
+    /// a part above 3.
     BadTarget = sys::SYNICBOARD_BAD_TARGET,
     /// The message type is 0 or has bit 31 set.
     BadType = sys::SYNICBOARD_BAD_TYPE,
     /// The flag is not below the port's count.
     BadFlag = sys::SYNICBOARD_BAD_FLAG,
-    /// The target's SynIC is off, or for a signal its page of event flags is.
+    /// The target's SynIC is disabled, or, for a signal, its event flags page is.
     SynicOff = sys::SYNICBOARD_SYNIC_OFF,
-    /// All buffers of the port are in use: there is one again when a message of it is placed.
+    /// All buffers of the port are in use. One is free again when a message of the port is placed.
     NoBuffers = sys::SYNICBOARD_NO_BUFFERS,
     /// No ticket is left.
     TicketsSpent = sys::SYNICBOARD_TICKETS_SPENT,
-    /// The moment lies before the present one.
+    /// The time is before the present one.
     ClockBack = sys::SYNICBOARD_CLOCK_BACK,
-    /// The first byte lies in no page.
+    /// The first byte is in no page.
     OutsideSpace = sys::SYNICBOARD_OUTSIDE_SPACE,
-    /// The last byte lies in another page than the first.
+    /// The last byte is in another page than the first.
     CrossesPage = sys::SYNICBOARD_CROSSES_PAGE,
     /// The length is 0 or above 8.
     BadLength = sys::SYNICBOARD_BAD_LENGTH,
     /// The processor is not on the board.
     NoSuchProcessor = sys::SYNICBOARD_NO_SUCH_PROCESSOR,
-    /// The processor is suspended already.
+    /// The processor is already suspended.
     AlreadySuspended = sys::SYNICBOARD_ALREADY_SUSPENDED,
     /// The processor is not suspended.
     NotSuspended = sys::SYNICBOARD_NOT_SUSPENDED,
@@ -152,7 +152,7 @@ impl Refusal {
         Refusal::NotSuspended,
     ];
 
-    /// Its number, 1 to 16, as a script's text shows it.
+    /// Its number, 1 to 16, as in the output of a script.
     pub const fn number(self) -> u8 {
         self as u8
     }

@@ -1,4 +1,4 @@
-//! A board that threads share, with its history.
+//! A board with a lock and a history, for several threads.
 
 use crate::board::first_due;
 use crate::notice::Room;
@@ -7,7 +7,7 @@ use core::cell::UnsafeCell;
 use core::error::Error;
 use core::fmt;
 
-/// There was no memory for one more entry of the history, and nothing was performed.
+/// The history cannot grow: an allocation failed. No event was performed.
 #[derive(Clone, Copy, PartialEq, Eq, Hash, Debug)]
 pub struct NoEntry;
 
@@ -19,21 +19,22 @@ impl fmt::Display for NoEntry {
 
 impl Error for NoEntry {}
 
-/// Room for the notices of an event, which an actor keeps for all of its calls.
+/// A buffer for the notices of an event, which an actor reuses for all its calls.
 pub struct NoticeRoom {
     room: Room,
     count: usize,
 }
 
 impl NoticeRoom {
-    /// Room for those of any event, some 9 KB, with none in it.
+    /// An empty buffer with capacity for the notices of any event, some 9 KB.
     pub fn new() -> NoticeRoom {
         NoticeRoom { room: Room::new(), count: 0 }
     }
 
-    /// The notices of the event for which the room was used last.
+    /// The notices of the last event that used this buffer.
     pub fn notices(&self) -> Notices<'_> {
-        // SAFETY: the library wrote as many, and the room is in this value alone, which is not `Sync`.
+        // SAFETY: the library wrote `count` notices, and the buffer is only in this value, which is
+        // not `Sync`.
         unsafe { self.room.first(self.count) }
     }
 }
@@ -50,21 +51,21 @@ impl fmt::Debug for NoticeRoom {
     }
 }
 
-/// What a history comes to.
+/// The result of settling a history.
 #[derive(Clone, Copy, PartialEq, Eq, Debug)]
 pub struct Settled {
-    /// What a check says of it.
+    /// The verdict of a check of its trace.
     pub verdict: Verdict,
-    /// The bytes of the whole trace, also where they did not fit; 0 where there was no memory for it.
+    /// The length of the whole trace in bytes, even if it did not fit; 0 if an allocation failed.
     pub length: usize,
 }
 
-/// A board that threads share, with its history: what was asked of it and what it answered, in the order
-/// in which that was done.
+/// A board with a lock and a history, for several threads. The history has an entry for each event, with
+/// its actor and its reply, in the order in which the events were performed.
 ///
-/// Who asks is an actor, by a number of its own; a device raises beside it, by a [`Line`]. The calls hold
-/// a lock of the board's own, and the history takes memory for each entry. [`settle`](SharedBoard::settle)
-/// writes it as a trace, and has it checked.
+/// An actor is a number that the caller gives to each thread. Devices raise through a [`Line`], without
+/// the lock. The methods block on the lock, and each history entry allocates memory.
+/// [`settle`](SharedBoard::settle) writes the history as a trace and checks it.
 ///
 /// ```
 /// use std::thread;
@@ -84,60 +85,61 @@ pub struct Settled {
 /// # }
 /// ```
 pub struct SharedBoard {
-    // The library reads it alone but in opening and closing, which have the value for themselves.
+    // Only opening and closing write the handle, and they own the value.
     handle: UnsafeCell<sys::synicboard_shared>,
 }
 
-// SAFETY: any number of threads may be in the calls of the header at once, with one handle, but for opening
-// and closing, and these have the value for themselves.
+// SAFETY: the header allows any number of threads in its calls at the same time, with one handle,
+// except while it is opened or closed, and those own the value.
 unsafe impl Send for SharedBoard {}
 // SAFETY: as above.
 unsafe impl Sync for SharedBoard {}
 
-/// Asks the library about the handle of a shared board.
+/// Makes a call of the library with the handle of a shared board.
 macro_rules! ask {
     ($board:expr, $call:ident $(, $argument:expr)*) => {{
         let handle = $board.handle.get();
-        // SAFETY: the handle was closed or opened by the library, lies here and has no copy. Where a slice
-        // or a room goes with it, its address is not null, and it is good for its own length; where the
-        // handle of a line does, it has no copy, and is borrowed for this call alone.
+        // SAFETY: the handle was closed or opened by the library, is in this value and has no copy.
+        // The address of each slice or buffer is not null and valid for its length; a line's handle
+        // has no copy and is borrowed for this call alone.
         unsafe { sys::$call(handle $(, $argument)*) }
     }};
 }
 
 impl SharedBoard {
-    /// Opens a board of 1 to 8 processors and 1 to 64 guest pages at moment 0 with an empty history, whose
-    /// first accepted message takes `first_ticket`.
+    /// Opens a board of 1 to 8 processors and 1 to 64 guest pages at time 0 with an empty history.
+    /// The first message that it accepts gets the ticket `first_ticket`.
     ///
     /// # Errors
     ///
-    /// [`OpenFault::BadSize`] where a number is outside its range, [`OpenFault::Memory`] for want of memory.
+    /// [`OpenFault::BadSize`] if a size is out of range, [`OpenFault::Memory`] if an allocation
+    /// fails.
     pub fn open(processors: u8, pages: u8, first_ticket: Ticket) -> Result<SharedBoard, OpenFault> {
         let board = SharedBoard { handle: UnsafeCell::new(sys::SYNICBOARD_SHARED_CLOSED) };
         OpenFault::judged(ask!(board, synicboard_open_shared, processors, pages, first_ticket))?;
         Ok(board)
     }
 
-    /// Performs an event for an actor, and enters it with its reply in the history. Its notices are in the
-    /// room behind it.
+    /// Performs an event for an actor, and appends it with its reply to the history. Its notices
+    /// are then in `room`.
     ///
     /// # Errors
     ///
-    /// [`NoEntry`] where there is no memory for one more entry. Nothing is performed then, and the room has
-    /// no notices.
+    /// [`NoEntry`] if the history cannot grow. Then no event is performed, and `room` is empty.
     pub fn act(&self, actor: u8, event: &Event, room: &mut NoticeRoom) -> Result<Reply, NoEntry> {
         let event = event.to_plain();
         let plain = ask!(self, synicboard_act, actor, &event, room.room.start(), MOST_NOTICES);
         answered(plain, room)
     }
 
-    /// Takes what was raised of processor `vp` in a part, 0 to 3, and has the board absorb it, as
-    /// [`Board::absorb_line_bits`](crate::Board::absorb_line_bits) does, for an actor.
+    /// Clears the bits of a part, 0 to 3, of processor `vp` in the words of a line, and has the
+    /// board absorb them for an actor, as
+    /// [`Board::absorb_line_bits`](crate::Board::absorb_line_bits) does.
     ///
     /// # Errors
     ///
-    /// [`NoEntry`] where there is no memory for one more entry. Nothing is taken or performed then, and the
-    /// room has no notices.
+    /// [`NoEntry`] if the history cannot grow. Then no bit is cleared, no event is performed, and
+    /// `room` is empty.
     pub fn absorb(
         &self,
         actor: u8,
@@ -153,25 +155,25 @@ impl SharedBoard {
 
     /// The next vector of a processor, if it has one.
     pub fn next(&self, vp: u8) -> Option<Vector> {
-        // SAFETY: what is held is a board, with its lock.
+        // SAFETY: the pointer is an open board whose lock is held.
         self.looked_at(|board| Vector::new(unsafe { sys::synicboard_next(board, vp) }))
     }
 
-    /// The timer that is due first, and its moment.
+    /// The timer with the earliest deadline, and the deadline.
     pub fn earliest(&self) -> Option<(u128, TimerId)> {
-        // SAFETY: what is held is a board, with its lock.
+        // SAFETY: the pointer is an open board whose lock is held.
         first_due(&self.looked_at(|board| unsafe { sys::synicboard_earliest(board) }))
     }
 
-    /// Holds the lock as long as something looks at the board.
+    /// Runs a query with the lock held.
     fn looked_at<T>(&self, look: impl FnOnce(*mut sys::synicboard) -> T) -> T {
         let seen = look(ask!(self, synicboard_hold));
         ask!(self, synicboard_release);
         seen
     }
 
-    /// Writes the history as a trace into a room, as much as fits, and says what a check says of it. Nothing
-    /// is changed, so it may be asked again.
+    /// Writes the history as a trace to a buffer, as much as fits, and checks the trace. Changes
+    /// nothing, so it may be called repeatedly.
     pub fn settle(&self, room: &mut [u8]) -> Settled {
         let settled = ask!(self, synicboard_settle, room.as_mut_ptr(), room.len());
         let verdict = Verdict::of(settled.kind, settled.entries, settled.line);
@@ -179,7 +181,7 @@ impl SharedBoard {
     }
 }
 
-/// The reply of a call that was given a room for notices.
+/// The reply of a call that wrote notices to `room`.
 fn answered(plain: sys::synicboard_reply, room: &mut NoticeRoom) -> Result<Reply, NoEntry> {
     room.count = usize::from(plain.notices);
     if plain.fault == sys::SYNICBOARD_NO_ENTRY {

@@ -2,10 +2,10 @@
 
 use core::num::NonZeroU8;
 
-/// A moment of the partition's reference counter, in units of 100 ns.
+/// A time of the partition reference counter, in units of 100 ns.
 pub type Moment = u64;
 
-/// The number that an accepted message takes. It is given once. The greatest is 2^64 - 2.
+/// The ticket of an accepted message. No ticket is given twice. The greatest is 2^64 - 2.
 pub type Ticket = u64;
 
 /// A virtual processor, 0 to 7.
@@ -13,7 +13,7 @@ pub type Ticket = u64;
 pub struct Vp(u8);
 
 impl Vp {
-    /// The processor of that number, `None` above 7.
+    /// The processor with this number; `None` above 7.
     pub const fn new(number: u8) -> Option<Vp> {
         if number < 8 {
             Some(Vp(number))
@@ -33,7 +33,7 @@ impl Vp {
 pub struct Sint(u8);
 
 impl Sint {
-    /// The source of that number, `None` above 15.
+    /// The source with this number; `None` above 15.
     pub const fn new(number: u8) -> Option<Sint> {
         if number < 16 {
             Some(Sint(number))
@@ -53,7 +53,7 @@ impl Sint {
 pub struct Vector(NonZeroU8);
 
 impl Vector {
-    /// The vector of that number, `None` below 16.
+    /// The vector with this number; `None` below 16.
     pub const fn new(number: u8) -> Option<Vector> {
         match NonZeroU8::new(number) {
             Some(number) if number.get() >= 16 => Some(Vector(number)),
@@ -75,7 +75,7 @@ pub struct TimerId {
 }
 
 impl TimerId {
-    /// The timer of that index on a processor, `None` above 3.
+    /// The timer with this index on a processor; `None` above 3.
     pub const fn new(vp: Vp, index: u8) -> Option<TimerId> {
         if index < 4 {
             Some(TimerId { vp, index })
@@ -95,14 +95,14 @@ impl TimerId {
     }
 }
 
-/// Whose page a guest sees at a page number.
+/// Which page a guest sees at a page number.
 #[derive(Clone, Copy, PartialEq, Eq, Hash, Debug)]
 pub enum Owner {
-    /// The guest page itself.
+    /// The guest page.
     Guest,
-    /// The message page of a processor lies above it.
+    /// The message page of a processor, an overlay.
     Sim(Vp),
-    /// The event flags page of a processor lies above it.
+    /// The event flags page of a processor, an overlay.
     Sief(Vp),
     /// No page: the number is outside the guest's memory.
     Nothing,

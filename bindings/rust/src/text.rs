@@ -7,28 +7,28 @@ use core::fmt;
 /// How a replay ended.
 #[derive(Clone, Copy, PartialEq, Eq, Debug)]
 pub enum End {
-    /// Each line was performed.
+    /// No line is wrong.
     AllRight {
-        /// The bytes of the whole text, also where they did not fit.
+        /// The length of the whole text in bytes, even if it did not fit.
         length: usize,
     },
-    /// A line is wrong, and none behind it was performed. The text says so in its last line.
+    /// A line is wrong, and no line after it was performed. The last line of the text is the fault.
     WrongLine {
         /// The line, counted from 1.
         line: u64,
-        /// The bytes of the whole text, also where they did not fit.
+        /// The length of the whole text in bytes, even if it did not fit.
         length: usize,
     },
-    /// There was no memory for a board or for the text. The room was left as it was.
+    /// An allocation failed. The buffer is unchanged.
     WantedMemory,
-    /// The script has more than 1,073,741,824 bytes, and no line of these is wrong. The room was left as it
-    /// was.
+    /// The script has more than 1,073,741,824 bytes, and no line of these is wrong. The buffer is
+    /// unchanged.
     TooLong,
 }
 
-/// Performs a script on a board of its own, and writes its text into a room, as much as fits.
+/// Performs a script on a board of its own, and writes its output to a buffer, as much as fits.
 ///
-/// It takes memory for a board and for the whole text, and gives it back.
+/// Allocates a board and the whole output, and frees both.
 ///
 /// ```
 /// use synicboard::{replay, End};
@@ -40,7 +40,7 @@ pub enum End {
 /// assert_eq!(room[..text.len()], *text);
 /// ```
 pub fn replay(script: &[u8], room: &mut [u8]) -> End {
-    // SAFETY: both slices are good for their lengths, and an empty one has an address that is not null.
+    // SAFETY: both slices are valid for their lengths, and the address of an empty one is not null.
     let end = unsafe { sys::synicboard_replay(script.as_ptr(), script.len(), room.as_mut_ptr(), room.len()) };
     let (line, length) = (end.line, end.length);
     match end.kind {
@@ -52,7 +52,7 @@ pub fn replay(script: &[u8], room: &mut [u8]) -> End {
     }
 }
 
-/// What is said of a trace.
+/// The verdict on a trace.
 #[derive(Clone, Copy, PartialEq, Eq, Debug)]
 pub enum Verdict {
     /// It is the trace of a legal history.
@@ -62,17 +62,17 @@ pub enum Verdict {
     },
     /// It is not.
     Refused {
-        /// The first line that is wrong, counted from 1.
+        /// The first wrong line, counted from 1.
         line: u64,
     },
-    /// There was no memory for a board.
+    /// An allocation failed.
     WantedMemory,
     /// The trace has more than 1,073,741,824 bytes, and no line of these is wrong.
     TooLong,
 }
 
 impl Verdict {
-    /// What the numbers say of a trace that was handed in.
+    /// Decodes the result of a check of a text that is not null.
     pub(crate) fn of(kind: u8, entries: u64, line: u64) -> Verdict {
         match kind {
             sys::SYNICBOARD_ALL_RIGHT => Verdict::Legal { entries },
@@ -86,7 +86,7 @@ impl Verdict {
 
 /// Checks whether a text is the trace of a legal history.
 ///
-/// It takes memory for a board, and gives it back.
+/// Allocates a board, and frees it.
 ///
 /// ```
 /// use synicboard::{check, Verdict};
@@ -96,17 +96,17 @@ impl Verdict {
 /// assert_eq!(check(&trace[..20]), Verdict::Refused { line: 3 });
 /// ```
 pub fn check(trace: &[u8]) -> Verdict {
-    // SAFETY: the slice is good for its length, and an empty one has an address that is not null.
+    // SAFETY: the slice is valid for its length, and the address of an empty one is not null.
     let verdict = unsafe { sys::synicboard_check(trace.as_ptr(), trace.len()) };
     Verdict::of(verdict.kind, verdict.entries, verdict.line)
 }
 
-/// Why an entry was not told. The room was left as it was.
+/// Why no entry was written. The buffer is unchanged.
 #[derive(Clone, Copy, PartialEq, Eq, Debug)]
 pub enum TellFault {
     /// The reply is [`Reply::NoEvent`], so nothing was performed.
     NoEvent,
-    /// There was no memory for the lines.
+    /// An allocation failed.
     Memory,
 }
 
@@ -121,11 +121,11 @@ impl fmt::Display for TellFault {
 
 impl Error for TellFault {}
 
-/// Writes the two lines of a trace that tell of an event and of the reply to it into a room, as much of them
-/// as fits, and answers how many bytes they have: 76 at most for any event but a post, and 535 for that.
+/// Writes the two lines of a trace entry for an event and its reply to a buffer, as much as fits, and
+/// returns their length: at most 76 bytes for any event except a post, and 535 for a post.
 ///
-/// So threads that share a board keep a trace of what they did, in the order in which they held its lock;
-/// `actor` is a number of the thread. It takes memory for the lines, and gives it back.
+/// Threads that share a board with a lock of their own can record a trace this way, in the order in
+/// which they hold the lock. `actor` is the number of the thread. Allocates the lines, and frees them.
 ///
 /// ```
 /// use synicboard::{tell, Board, Event};
@@ -139,7 +139,7 @@ impl Error for TellFault {}
 /// ```
 pub fn tell(actor: u8, event: &Event, reply: &Reply, room: &mut [u8]) -> Result<usize, TellFault> {
     let (event, reply) = (event.to_plain(), reply.to_plain());
-    // SAFETY: both structs and the slice are good, and an empty slice has an address that is not null.
+    // SAFETY: both structs and the slice are valid, and the address of an empty slice is not null.
     let end = unsafe { sys::synicboard_tell(actor, &event, &reply, room.as_mut_ptr(), room.len()) };
     match (end.kind, end.line) {
         (sys::SYNICBOARD_ALL_RIGHT, _) => Ok(end.length),

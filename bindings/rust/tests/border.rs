@@ -1,5 +1,5 @@
-//! The safe calls at the edges of what they take: sizes, numbers, too many bytes, what is not there, pages,
-//! notices, memory that is given back, and boards in other threads.
+//! The safe calls at their limits: sizes, numbers, too many bytes, missing objects, pages, notices,
+//! memory that is freed, and boards in other threads.
 
 use std::error::Error;
 use std::fs;
@@ -15,8 +15,8 @@ const VP: Vp = Vp::new(0).unwrap();
 const SINT: Sint = Sint::new(2).unwrap();
 const VECTOR: Vector = Vector::new(0x50).unwrap();
 
-/// A board whose processor 0 has its SynIC on, its messages at page 2, its event flags at page 3, and
-/// vector 50 at SINT2.
+/// A board whose processor 0 has its SynIC enabled, its message page at page 2, its event flags
+/// page at page 3, and vector 50 at SINT2.
 fn booted(processors: u8, pages: u8, first_ticket: u64) -> Board {
     let mut board = Board::open(processors, pages, first_ticket).unwrap();
     let registers = [(SCONTROL, 1), (SIMP, 0x2001), (SIEFP, 0x3001), (SINT0 + 2, 0x50)];
@@ -166,7 +166,7 @@ fn looks_find_what_is_there() {
     assert_eq!(board.next(0), Vector::new(255));
     let auto = Vector::new(0x60).unwrap();
     assert!(board.is_auto(0, auto) && !board.is_auto(0, VECTOR) && !board.is_auto(1, auto));
-    // A period of 2^64 - 1 from moment 2 on is due behind what 64 bits hold.
+    // A period of 2^64 - 1 from time 2 on is due after the greatest 64-bit time.
     assert_eq!(board.tick(2), Reply::Done);
     assert_eq!(board.write(1, STIMER0_COUNT + 6, u64::MAX), Reply::Done);
     assert_eq!(board.write(1, STIMER0_CONFIG + 6, 0x1403), Reply::Done);
@@ -228,7 +228,8 @@ fn notices_are_those_of_the_last_event() {
     assert!(board.notices().eq(told));
     let mut notices = board.notices();
     assert_eq!(notices.nth(1), Some(told[1]));
-    // Beside those that are held there are looks, also at the notices.
+    // Other queries are allowed while the notices are held, and so is another query for the
+    // notices.
     assert_eq!((board.next(0), board.notices().len()), (Some(VECTOR), 3));
     assert_eq!((notices.len(), notices.next(), notices.next()), (1, Some(told[2]), None));
     assert_eq!(board.take(0), Reply::Taken(Some(VECTOR)));
@@ -288,7 +289,7 @@ fn a_late_timer_tells_when_it_was_due_and_what_it_skipped() {
     assert_eq!(board.earliest(), Some((160, TimerId::new(vp, 0).unwrap())));
 }
 
-/// Sixteen slots, sixteen buffers of sixteen ports, and one of each timer are withdrawn.
+/// Withdraws sixteen slots, sixteen buffers of sixteen ports, and one message of each timer.
 #[test]
 fn a_reset_gives_the_most_notices() {
     let mut board = booted(1, 4, 0);
@@ -318,13 +319,13 @@ fn a_reset_gives_the_most_notices() {
     assert!(tickets.into_iter().eq(1..276));
 }
 
-/// How much memory this process holds, in pages of the system, where the system says so.
+/// The memory of this process, in pages, if the system reports it.
 fn held() -> Option<usize> {
     let said = fs::read_to_string("/proc/self/statm").ok()?;
     said.split(' ').nth(1)?.parse().ok()
 }
 
-/// A board of the greatest size takes some 440 KB, and so 1500 of them more than half a gigabyte.
+/// A board of the greatest size takes some 440 KB, so 1500 of them take more than half a gigabyte.
 #[test]
 fn a_dropped_board_gives_its_memory_back() {
     let open = || Board::open(8, 64, 0).unwrap();
@@ -337,8 +338,8 @@ fn a_dropped_board_gives_its_memory_back() {
     assert!(before.zip(after).is_none_or(|(before, after)| after < before + 100_000), "{before:?} {after:?}");
 }
 
-/// A line and the 31 that are split off it take more than a kilobyte, and so 60,000 times as many more than
-/// 60 megabytes.
+/// A line and the 31 that are split off it take more than a kilobyte, so 60,000 times as many take
+/// more than 60 megabytes.
 #[test]
 fn dropped_lines_give_their_memory_back() {
     let open = || {
@@ -369,8 +370,8 @@ fn two_boards_know_nothing_of_each_other() {
     assert_eq!((other.next_ticket(), other.read(1, SVERSION)), (100, Reply::Value(1)));
 }
 
-/// A board is opened in one thread, used in another, and closed in a third. It is moved, and its pages are
-/// not.
+/// A board is opened in one thread, used in another, and closed in a third. The board moves; its
+/// pages do not.
 #[test]
 fn a_board_goes_to_other_threads() {
     let mut board = booted(1, 4, 0);
@@ -406,7 +407,7 @@ fn threads_share_a_board_under_a_lock() {
     assert_eq!(board.into_inner().unwrap().next(0), None);
 }
 
-/// Boards share nothing that is not theirs: without any lock, each thread has its own.
+/// Boards share no state: each thread has its own, without any lock.
 #[test]
 fn boards_run_side_by_side() {
     let told = |first_ticket| {

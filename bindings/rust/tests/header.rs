@@ -1,12 +1,12 @@
-//! The declarations of `src/sys.rs` and the version of the crate are those of the header, by the text of
-//! both. The header stands in `include` at the root of the repository, or beside the library.
+//! Compares the text of `src/sys.rs`, and the version of the crate, with the header in `include` at
+//! the root of the repository, or next to the library.
 
 use std::fs;
 use std::path::Path;
 
 const OURS: &str = include_str!("../src/sys.rs");
 
-/// The text of each header that is there, without its comments.
+/// The text of each header that exists, without its comments.
 fn headers() -> Vec<String> {
     let include = Path::new(env!("CARGO_MANIFEST_DIR")).join("../../include");
     let folders = [include.as_path(), Path::new(env!("SYNICBOARD_LIB_DIR"))];
@@ -23,7 +23,7 @@ fn without_comments(text: &str) -> String {
     parts.fold(first, |kept, part| kept + &behind(part))
 }
 
-/// What stands between two words, for each time that the first comes. White space is one space.
+/// The text between each `open` and the next `close`, with white space collapsed.
 fn between(text: &str, open: &str, close: &str) -> Vec<String> {
     let parts = text.split(open).skip(1).filter_map(|part| part.split_once(close));
     parts.map(|(part, _)| part.split_whitespace().collect::<Vec<_>>().join(" ")).collect()
@@ -34,12 +34,12 @@ fn items(list: &str, separator: char) -> impl Iterator<Item = &str> {
     list.split(separator).map(str::trim).filter(|item| !item.is_empty())
 }
 
-/// A name and its list, as both texts are compared.
+/// A name and its list, in the form in which both texts are compared.
 fn listed(name: &str, list: impl Iterator<Item = String>) -> String {
     format!("{name} {}", list.collect::<Vec<_>>().join(", "))
 }
 
-/// `const uint8_t *bytes` in the words of Rust: `bytes: *const u8`.
+/// Translates `const uint8_t *bytes` to Rust: `bytes: *const u8`.
 fn translated(declaration: &str) -> String {
     let (front, array) = declaration.split_once('[').unwrap_or((declaration, ""));
     let written = front.trim_end_matches(|letter: char| letter.is_alphanumeric() || letter == '_');
@@ -81,7 +81,7 @@ fn constants_of_ours() -> Vec<String> {
     found
 }
 
-/// Each struct of a header and its fields, in their order.
+/// Each struct of a header and its fields, in order.
 fn structs_of_header(text: &str) -> Vec<String> {
     let found = between(text, "typedef struct ", "} ");
     let parted = found.iter().filter_map(|item| item.split_once(" {"));
@@ -95,7 +95,7 @@ fn structs_of_ours(ours: &str) -> Vec<String> {
     parted.map(|(name, fields)| listed(name, items(fields, ',').map(own))).collect()
 }
 
-/// Each call of a header, which stands in one line, with what it answers and takes.
+/// Each call of a header, which must be on one line, with its result and parameters.
 fn calls_of_header(text: &str) -> Vec<String> {
     let found = text.lines().filter_map(|line| line.strip_suffix(");")?.split_once('('));
     let answer = |front| translated(front).replace(": c_void", "");

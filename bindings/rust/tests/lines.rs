@@ -1,5 +1,5 @@
-//! Lines through the safe calls: sizes, how many can be split off, what a raise finds, what an absorb takes
-//! and what it leaves, and threads that raise while another absorbs.
+//! Lines through the safe calls: sizes, how many can be split off, the results of raises, which
+//! bits an absorb clears and which it leaves, and threads that raise while another absorbs.
 
 use std::error::Error;
 use std::thread;
@@ -7,7 +7,7 @@ use synicboard::msr::EOI;
 use synicboard::{Board, Line, Notice, OpenFault, Raised, Refusal, Reply, SplitFault, Vector, Vp};
 
 const PARTS: u8 = 4;
-/// A vector of part 3, and its bit is not the first.
+/// A vector of part 3 whose bit is not the first.
 const VECTOR: Vector = Vector::new(0xc5).unwrap();
 const PART: u8 = 3;
 
@@ -22,7 +22,8 @@ fn part_of(vector: Vector) -> u8 {
     vector.number() / 64
 }
 
-/// A part is absorbed, which requests these vectors of the processor in this order, and tells nothing else.
+/// Absorbs a part, which requests these vectors of the processor in this order, and emits nothing
+/// else.
 #[track_caller]
 fn absorbs(board: &mut Board, line: &mut Line, vp: u8, part: u8, vectors: &[Vector]) {
     assert_eq!(board.absorb_line(line, vp, part), Reply::Done);
@@ -31,7 +32,7 @@ fn absorbs(board: &mut Board, line: &mut Line, vp: u8, part: u8, vectors: &[Vect
     assert_eq!(board.notices().collect::<Vec<_>>(), expected);
 }
 
-/// A processor takes this vector, and ends it.
+/// A processor takes this vector and ends it.
 #[track_caller]
 fn takes(board: &mut Board, vp: u8, vector: Vector) {
     assert_eq!(board.take(vp), Reply::Taken(Some(vector)));
@@ -72,7 +73,7 @@ fn a_first_line_gives_31_and_no_other_gives_any() {
     for other in &mut others {
         assert_eq!(other.split().unwrap_err(), SplitFault::NoMore);
     }
-    // Where some are dropped, there are no others for them.
+    // Dropping lines does not allow others.
     others.truncate(7);
     assert_eq!(line.split().unwrap_err(), SplitFault::NoMore);
     let fault: Box<dyn Error> = Box::new(SplitFault::NoMore);
@@ -80,7 +81,7 @@ fn a_first_line_gives_31_and_no_other_gives_any() {
     assert_eq!(SplitFault::Memory.to_string(), "out of memory");
 }
 
-/// All lines step at the same words, the last of them too, when the first is gone.
+/// All lines use the same words, even the last one after the first is dropped.
 #[test]
 fn the_words_stay_as_long_as_one_of_their_lines() {
     let mut board = Board::open(1, 1, 0).unwrap();
@@ -132,7 +133,7 @@ fn a_vector_is_fresh_again_behind_an_absorb_of_its_part() {
     }
 }
 
-/// An absorb requests what was raised in its part, the smallest first, and nothing of another.
+/// An absorb requests the vectors raised in its part, the smallest first, and none of another part.
 #[test]
 fn an_absorb_requests_what_was_raised_in_its_part() {
     let numbers = [16, 17, 63, 64, 65, 127, 128, 190, 191, 192, 254, 255];
@@ -166,7 +167,7 @@ fn all_vectors_of_a_part_are_absorbed_at_once() {
     }
 }
 
-/// A vector that is requested already is taken out of the words, and there is nothing to tell.
+/// The bit of a vector that is already requested is cleared, without a notice.
 #[test]
 fn an_absorb_tells_which_bits_it_took() -> Result<(), Box<dyn Error>> {
     let (mut board, mut line) = (Board::open(1, 1, 0)?, Line::open(1)?);
@@ -194,7 +195,7 @@ fn what_is_requested_already_is_not_told_again() {
     absorbs(&mut board, &mut line, 0, PART, &[VECTOR]);
 }
 
-/// Where the board has no such processor or part, the next absorb on one that has them finds what was raised.
+/// If the board has no such processor or part, the bits stay for the next absorb.
 #[test]
 fn an_absorb_that_is_refused_takes_nothing() {
     let (mut narrow, mut wide) = (Board::open(1, 1, 0).unwrap(), Board::open(2, 1, 0).unwrap());
@@ -208,7 +209,7 @@ fn an_absorb_that_is_refused_takes_nothing() {
     assert_eq!(narrow.absorb_line(&mut line, 0, 4), no_part);
     assert_eq!(wide.absorb_line(&mut line, 2, PART), no_processor);
     assert_eq!(wide.absorb_line(&mut line, 255, PART), no_processor);
-    // Four words further on stand those of the next processor.
+    // The words of the next processor are four words further on.
     assert_eq!(wide.absorb_line(&mut line, 0, 4 + PART), no_part);
     assert_eq!(wide.absorb_line(&mut line, 1, 255), no_part);
     assert_eq!((line.raise(1, VECTOR), line.raise(0, VECTOR)), (ALREADY, ALREADY));
@@ -217,7 +218,7 @@ fn an_absorb_that_is_refused_takes_nothing() {
     assert_eq!((line.raise(1, VECTOR), line.raise(0, VECTOR)), (FRESH, FRESH));
 }
 
-/// Words that are for fewer processors than the board has give it nothing for the others.
+/// Words of fewer processors than the board has yield nothing for the others.
 #[test]
 fn words_of_fewer_processors_give_nothing_for_the_others() {
     let mut board = Board::open(8, 1, 0).unwrap();
@@ -230,7 +231,7 @@ fn words_of_fewer_processors_give_nothing_for_the_others() {
     assert_eq!((line.raise(0, VECTOR), line.raise(1, VECTOR)), (ALREADY, ALREADY));
 }
 
-/// Suspensions and resets are the board's, and what was raised stands behind them.
+/// Suspending and resetting affect only the board: raised bits stay set.
 #[test]
 fn a_suspension_and_a_reset_leave_what_was_raised() {
     let mut board = Board::open(1, 1, 0).unwrap();
@@ -263,13 +264,13 @@ fn a_line_goes_to_other_threads() {
     assert_eq!(other.raise(0, VECTOR), FRESH);
 }
 
-/// How often each vector of each processor was met.
+/// A count for each vector of each processor.
 type Tally = [[u32; 256]; 8];
 
 const DEVICES: u8 = 4;
 
-/// Raises every vector of every processor so many times, and counts the fresh ones. The devices begin at
-/// different vectors, so that they meet each other everywhere.
+/// Raises every vector of every processor `times` times, and counts the fresh raises. The devices
+/// begin at different vectors, so that they collide everywhere.
 fn raise_all(mut line: Line, device: u8, times: u32) -> Tally {
     let mut fresh = [[0; 256]; 8];
     let numbers = (0..=u8::MAX).map(|number| number.wrapping_add(device * (255 / DEVICES)));
@@ -285,8 +286,8 @@ fn raise_all(mut line: Line, device: u8, times: u32) -> Tally {
     fresh
 }
 
-/// Absorbs every part of every processor, and counts what was requested. The processor takes and ends all of
-/// it, so that each vector that the next absorb takes is told again.
+/// Absorbs every part of every processor, and counts the requested vectors. The processor takes and
+/// ends all of them, so that the next absorb emits a notice for each vector again.
 fn absorb_all(board: &mut Board, line: &mut Line, absorbed: &mut Tally) {
     for (vp, absorbed) in (0..8).zip(absorbed) {
         for part in 0..PARTS {
@@ -306,18 +307,18 @@ fn absorb_all(board: &mut Board, line: &mut Line, absorbed: &mut Tally) {
     }
 }
 
-/// The sums of what the devices counted, for each vector of each processor.
+/// The sums of the devices' counts, for each vector of each processor.
 fn sums(fresh: &[Tally]) -> Tally {
     let sum = |vp: usize, number: usize| fresh.iter().map(|tally| tally[vp][number]).sum();
     std::array::from_fn(|vp| std::array::from_fn(|number| sum(vp, number)))
 }
 
-/// The same for each vector from 16 on, of each processor.
+/// The same count for each vector from 16 on, of each processor.
 fn all_vectors(count: u32) -> Tally {
     [std::array::from_fn(|number| if number < 16 { 0 } else { count }); 8]
 }
 
-/// As long as nobody absorbs, one raise of each vector is fresh, whichever thread it is of.
+/// Without an absorb, one raise of each vector is fresh, in whichever thread.
 #[test]
 fn of_all_raises_one_is_fresh() {
     let mut line = Line::open(8).unwrap();
@@ -331,8 +332,8 @@ fn of_all_raises_one_is_fresh() {
     assert_eq!(absorbed, all_vectors(1));
 }
 
-/// While devices raise, this thread absorbs: each fresh raise is taken by one absorb, and no absorb takes
-/// what nobody raised.
+/// While devices raise, this thread absorbs: one absorb takes each fresh raise, and none takes a
+/// vector that was not raised.
 #[test]
 fn each_fresh_raise_is_absorbed_once() {
     let mut board = Board::open(8, 1, 0).unwrap();

@@ -1,11 +1,11 @@
-//! The calls of the header by hand: closed handles and null pointers, which no `Board` and no `Line` has,
-//! handles that are opened twice, and events in plain numbers.
+//! Direct calls of the header: closed handles and null pointers, which no `Board` and no `Line`
+//! has, handles that are opened twice, and events as structs.
 
 use ::synicboard::sys::*;
 use std::mem;
 use std::ptr;
 
-/// A handle that is closed at its end.
+/// A handle that is closed when it is dropped.
 struct Handle(synicboard);
 
 impl Handle {
@@ -30,7 +30,7 @@ impl Drop for Handle {
     }
 }
 
-/// A handle of a line that is closed at its end.
+/// A handle of a line that is closed when it is dropped.
 struct Line(synicboard_line);
 
 impl Line {
@@ -55,7 +55,7 @@ impl Drop for Line {
 }
 
 fn event(kind: u8, fill: impl FnOnce(&mut synicboard_event)) -> synicboard_event {
-    // SAFETY: zeros are numbers.
+    // SAFETY: all fields are integers, for which zero is valid.
     let mut event: synicboard_event = unsafe { mem::zeroed() };
     event.kind = kind;
     fill(&mut event);
@@ -63,19 +63,19 @@ fn event(kind: u8, fill: impl FnOnce(&mut synicboard_event)) -> synicboard_event
 }
 
 fn reply(kind: u8, fill: impl FnOnce(&mut synicboard_reply)) -> synicboard_reply {
-    // SAFETY: zeros are numbers.
+    // SAFETY: all fields are integers, for which zero is valid.
     let mut reply: synicboard_reply = unsafe { mem::zeroed() };
     reply.kind = kind;
     fill(&mut reply);
     reply
 }
 
-/// Done, with so many notices.
+/// `Done`, with that many notices.
 fn told(notices: u16) -> synicboard_reply {
     reply(SYNICBOARD_DONE, |reply| reply.notices = notices)
 }
 
-/// What is told where a line's bits were absorbed.
+/// The reply of an absorb of these bits.
 fn absorbed(bits: u64) -> synicboard_reply {
     reply(SYNICBOARD_DONE, |reply| (reply.notices, reply.value) = (bits.count_ones() as u16, bits))
 }
@@ -89,7 +89,7 @@ fn a_closed_handle_has_no_board() {
     let mut handle = Handle(SYNICBOARD_CLOSED);
     let board: *mut synicboard = &mut handle.0;
     let byte = [0; 1];
-    // SAFETY: the handle is closed, has no copy, and each slice is good for what goes with it.
+    // SAFETY: the handle is closed, has no copy, and each slice is valid for the given length.
     let answers = unsafe {
         [
             synicboard_open_message_port(board, 3, 0, 2, 1),
@@ -139,7 +139,7 @@ fn looks_at_a_closed_handle_find_nothing() {
     let board: *mut synicboard = &mut handle.0;
     let mut room = [];
     let mut page = ptr::null();
-    // SAFETY: the handle is closed, has no copy, and the room has no notice.
+    // SAFETY: the handle is closed, has no copy, and the buffer has length 0.
     unsafe {
         assert_eq!(synicboard_notices(board, room.as_mut_ptr(), 0), 0);
         assert_eq!(synicboard_next(board, 0), 0);
@@ -193,7 +193,7 @@ fn a_closed_line_raises_and_gives_nothing() {
     assert!(line.is_blank() && other.is_blank());
 }
 
-/// That there is no board is said before the line is looked at, and nothing is taken out of its words.
+/// A closed board is reported before the line is checked, and no bit of its words is cleared.
 #[test]
 fn a_closed_board_absorbs_nothing() {
     let (mut closed, mut board) = (Handle(SYNICBOARD_CLOSED), Handle::open());
@@ -218,7 +218,7 @@ fn a_line_is_opened_once_and_closed_as_often_as_one_likes() {
         assert_eq!(synicboard_open_line(&mut line.0, 8), SYNICBOARD_IS_OPEN);
         assert_eq!(synicboard_open_line(&mut line.0, 9), SYNICBOARD_IS_OPEN);
         assert_eq!(synicboard_split_line(&mut other.0, &mut line.0), SYNICBOARD_IS_OPEN);
-        // It is still of its own words, which are for one processor.
+        // It is still a line of its own words, which are for one processor.
         assert_eq!(synicboard_raise(&mut line.0, 0, 0x60), SYNICBOARD_ALREADY);
         assert_eq!(synicboard_raise(&mut line.0, 1, 0x60), SYNICBOARD_NOT_RAISED);
         synicboard_close_line(&mut line.0);
@@ -251,9 +251,9 @@ fn a_room_for_some_notices_gets_the_first() {
     let mut handle = Handle::open();
     let absorb = event(SYNICBOARD_ABSORB, |event| (event.part, event.value) = (3, 7));
     assert_eq!(handle.perform(&absorb).kind, SYNICBOARD_DONE);
-    // SAFETY: zeros are numbers.
+    // SAFETY: all fields are integers, for which zero is valid.
     let mut room: [synicboard_notice; 3] = unsafe { mem::zeroed() };
-    // SAFETY: the handle has no copy, and the room is good for two.
+    // SAFETY: the handle has no copy, and the buffer is valid for two notices.
     let count = unsafe { synicboard_notices(&mut handle.0, room.as_mut_ptr(), 2) };
     assert_eq!(count, 3);
     assert_eq!(room.map(|notice| notice.vector), [192, 193, 0]);
@@ -280,12 +280,12 @@ fn numbers_that_mean_no_event_change_nothing() {
     assert_eq!(answer, fault(SYNICBOARD_NO_EVENT));
 }
 
-/// A register of processor 0 is written.
+/// A write of a register of processor 0.
 fn write(msr: u32, value: u64) -> synicboard_event {
     event(SYNICBOARD_WRITE, |event| (event.msr, event.value) = (msr, value))
 }
 
-/// Events that only the host makes, and what each is answered.
+/// Events that only the host performs, with their replies.
 fn of_the_host() -> Vec<(synicboard_event, synicboard_reply)> {
     let done = reply(SYNICBOARD_DONE, |_| ());
     let signal = event(SYNICBOARD_SIGNAL, |event| (event.port, event.flag) = (4, 8));
@@ -325,7 +325,7 @@ fn of_the_host() -> Vec<(synicboard_event, synicboard_reply)> {
     ]
 }
 
-/// Events of processor 0 and its guest, behind those of the host.
+/// Events of processor 0 and its guest, after those of the host.
 fn of_the_guest() -> Vec<(synicboard_event, synicboard_reply)> {
     let done = reply(SYNICBOARD_DONE, |_| ());
     let take = event(SYNICBOARD_TAKE, |_| ());

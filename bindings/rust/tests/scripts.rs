@@ -1,5 +1,5 @@
-//! Every worked script of the repository, through the safe calls: what is told is what is stored, byte for
-//! byte. `replay` and `check` are held to the stored texts too.
+//! Every worked script of the repository, through the safe calls: the output equals the stored
+//! text, byte for byte. `replay` and `check` are compared with the stored texts too.
 
 #[path = "scripts/lines.rs"]
 mod lines;
@@ -12,7 +12,7 @@ use std::path::{Path, PathBuf};
 use std::str;
 use synicboard::{check, replay, Board, End, OpenFault, Verdict};
 
-/// The files of a folder of the repository that have this ending and a stored text, by what stands in both.
+/// The files of a folder with this suffix that have a stored output: the path and both contents.
 fn stored(folder: &str, ending: &str) -> Vec<(PathBuf, Vec<u8>, Vec<u8>)> {
     let folder = Path::new(env!("CARGO_MANIFEST_DIR")).join("../..").join(folder);
     let entries = fs::read_dir(&folder).unwrap_or_else(|fault| panic!("{folder:?}: {fault}"));
@@ -33,7 +33,7 @@ fn scripts() -> Vec<(PathBuf, Vec<u8>, Vec<u8>)> {
     found
 }
 
-/// The text of a script, by a board of the safe calls.
+/// The output of a script, by a board of the safe calls.
 fn performed(script: &[u8]) -> String {
     let mut text = String::new();
     if let Err((line, fault)) = perform(script, &mut text) {
@@ -42,7 +42,7 @@ fn performed(script: &[u8]) -> String {
     text
 }
 
-/// Performs a script up to its first fault, which is answered with its line.
+/// Performs a script up to its first fault, which is returned with its line.
 fn perform(script: &[u8], text: &mut String) -> Result<(), (usize, &'static str)> {
     let mut board = None;
     let mut number = 0;
@@ -86,8 +86,8 @@ fn each_script_is_told_as_it_is_stored() {
     }
 }
 
-/// The trace of a script up to its first fault, entered event by event, and how many entries it has. `None`
-/// where no board is opened.
+/// The trace of a script up to its first fault, recorded event by event, and the number of its
+/// entries. `None` if no board is opened.
 fn traced(script: &[u8]) -> Option<(Vec<u8>, u64)> {
     let lines = Lines::of(script).map_while(Result::ok);
     let mut lines = lines.filter(|line| !line.is_empty() && !line.starts_with(b"#"));

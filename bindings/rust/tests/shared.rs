@@ -1,5 +1,5 @@
-//! Shared boards through the safe calls: sizes, the notices of each event, the trace of a history, looks, and
-//! threads that act at the same time.
+//! Shared boards through the safe calls: sizes, the notices of each event, the trace of a history,
+//! queries, and threads that act at the same time.
 
 use std::error::Error;
 use std::thread;
@@ -42,7 +42,7 @@ fn the_first_timer_is_seen() -> Result<(), Box<dyn Error>> {
     let board = SharedBoard::open(1, 1, 0)?;
     let mut room = NoticeRoom::new();
     assert_eq!(board.earliest(), None);
-    // Timer 2 of the processor is a one-shot of direct mode, with vector 60, and is due at 100.
+    // Timer 2 of the processor is a one-shot in direct mode, with vector 60, due at 100.
     for (register, value) in [(0x4000_00b4, 0x1609), (0x4000_00b5, 100)] {
         assert_eq!(board.act(0, &Event::Write { vp: 0, register, value }, &mut room)?, Reply::Done);
     }
@@ -72,7 +72,7 @@ fn the_trace_is_told_in_the_order_of_the_lock() -> Result<(), Box<dyn Error>> {
     assert_eq!(settled.verdict, Verdict::Legal { entries: 3 });
     assert_eq!(trace[..settled.length], *wanted);
     assert_eq!(check(wanted), settled.verdict);
-    // As much as fits.
+    // Truncated to the buffer.
     let mut cut = [b'x'; 10];
     assert_eq!(board.settle(&mut cut[..9]), settled);
     assert_eq!(cut, *b"trace 2\nbx");

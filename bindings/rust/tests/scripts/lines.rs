@@ -1,9 +1,9 @@
-//! A strict reader of script lines, as `docs/FORMATS.md` has them: each event has one line that means it.
+//! A strict parser of script lines, as in `docs/FORMATS.md`: each event has exactly one line.
 
 use std::str::{self, FromStr};
 use synicboard::{Bytes, Event, PortShape, Ticket, Vector};
 
-/// No line has more bytes before its line feed.
+/// The greatest length of a line, without its line feed.
 const MOST_BYTES: usize = 640;
 
 /// The lines of a text without their line feeds, up to the first that is too long or has none.
@@ -34,7 +34,7 @@ impl<'a> Iterator for Lines<'a> {
     }
 }
 
-/// What a line behind the board line asks for.
+/// A parsed line after the board line.
 pub enum Step {
     Event(Box<Event>),
     Summary,
@@ -50,7 +50,7 @@ pub fn opening(line: &[u8]) -> Option<(u8, u8, Ticket)> {
     }
 }
 
-/// What a line that is not skipped asks for, `None` where it is malformed.
+/// Parses a line that is not skipped; `None` if it is malformed.
 pub fn step(line: &[u8]) -> Option<Step> {
     let fields = fields(line)?;
     if fields == ["summary"] {

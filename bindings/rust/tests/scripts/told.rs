@@ -1,4 +1,4 @@
-//! What a replay writes, as `docs/FORMATS.md` has it: replies, notices and summaries.
+//! The output of a replay, as in `docs/FORMATS.md`: replies, notices and summaries.
 
 use synicboard::{Board, Notice, Owner, Reply, Vector};
 
@@ -42,7 +42,7 @@ fn place(ticket: u64, vp: u8, sint: u8) -> String {
     format!("{ticket} {vp} {sint}")
 }
 
-/// The lines of a summary, read off by looks.
+/// The lines of a summary, from queries.
 pub fn summary(board: &Board) -> String {
     let parts = [nexts(board), autos(board), timer(board), pages(board), queues(board)];
     parts.concat()
