@@ -1,7 +1,7 @@
-"""What can be said of a crew's trace without knowing the schedule: it is legal, it begins with the
-setup and ends with the last absorbs of actor 0, each actor's entries are its script, each vector that
-was raised is absorbed at least once and at most as often as it was raised, and its end counts the
-entries and the posts that were accepted."""
+"""What holds for a crew's trace under any schedule: it is legal; it begins with the setup and ends
+with the last absorbs of actor 0; each actor's entries are its script; each raised vector is
+absorbed at least once and at most as often as it was raised; and its end line counts the entries
+and the accepted posts."""
 
 import collections
 import random
@@ -10,7 +10,7 @@ ACTORS, LINES = 15, 16
 
 
 class Script:
-    """A crew script with no fault, by its sections."""
+    """The sections of a crew script without faults."""
 
     def __init__(self, text):
         lines = [line for line in text.decode().splitlines() if line and not line.startswith("#")]
@@ -51,11 +51,11 @@ class Trace:
         return [(event, reply) for number, event, reply in self.entries if number == str(actor)]
 
     def accepted(self):
-        """How many posts were accepted. No crew here has a timer that posts."""
+        """How many posts were accepted. No crew here has a timer that sends messages."""
         return sum(reply.startswith("= accepted ") for _, _, reply in self.entries)
 
     def absorbed(self):
-        """How often each vector of each processor stands among the bits of an absorb that was done."""
+        """How often each vector of each processor is among the bits of a performed absorb."""
         counts = collections.Counter()
         for _, event, reply in self.entries:
             words = event.split()
@@ -68,7 +68,8 @@ class Trace:
 
 
 def is_step(step, event):
-    """Whether an event is a step of a script: a sweep stands as the absorb of the bits that it took."""
+    """Whether an event performs a step of a script: a sweep appears as the absorb of the bits that
+    it took."""
     if step.startswith("absorb "):
         return event.startswith(step + " ")
     return event == step
@@ -106,8 +107,8 @@ def complaints_of(script, trace):
 
 
 def crowd(seed, steps):
-    """A full crew on one board: every actor posts, sweeps, takes and ends, suspends, resumes and resets,
-    and every line raises."""
+    """A crew of the greatest size on one board: every actor posts, sweeps, takes and ends,
+    suspends, resumes and resets, and every line raises."""
     chance = random.Random(seed)
     text = ["board 8 4 0"]
     for vp in range(8):
@@ -130,7 +131,7 @@ def crowd(seed, steps):
 
 
 def full(processors, more):
-    """As many steps as a history has room for, and so many more, in one section."""
+    """As many steps as a history has capacity for, plus `more`, in one section."""
     room = 65536 - 4 * processors
     lines = ["board %d 1 0" % processors, "actor"] + ["take 0"] * (room + more)
     return ("\n".join(lines) + "\n").encode(), room + 3

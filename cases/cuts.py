@@ -1,11 +1,11 @@
-"""What a text that is cut after some byte must give, from what the whole one gives."""
+"""The expected result for each truncated text, derived from that of the whole text."""
 
 LONGEST = 640
 
 
 def outputs_of_lines(lines, output):
-    """What each of these lines of a script writes, by the answer that each kind of line has. None of
-    them has a fault."""
+    """The output of each of these lines of a script, without faults, split by what each kind of
+    line prints."""
     left = output.splitlines(True)
     blocks = []
     for line in lines:
@@ -28,7 +28,7 @@ def fault_of(output):
 
 
 class Script:
-    """A script, and what it writes."""
+    """A script and its output."""
 
     def __init__(self, text, output):
         self.text = text
@@ -40,7 +40,7 @@ class Script:
         self.opening = next((i for i, line in enumerate(lines) if line and not line.startswith(b"#")), len(lines))
 
     def cut(self, size):
-        """The status and the output of the first bytes."""
+        """The status and the output for the first bytes."""
         begun = self.text[:size]
         whole = begun.count(b"\n")
         if self.fault is not None and whole >= self.fault:
@@ -57,7 +57,7 @@ class Script:
 
 
 def verdict_of_cut(trace, verdict, size):
-    """The status and the verdict of the first bytes of a trace that has this verdict."""
+    """The status and the verdict for the first bytes of a trace that has this verdict."""
     begun = trace[:size]
     wrong = int(verdict.split()[1]) if verdict.startswith(b"refused") else None
     line = begun.count(b"\n") + 1
@@ -70,8 +70,8 @@ def verdict_of_cut(trace, verdict, size):
 
 
 def trace_of(text, output, number):
-    """The trace in format 1 or 2 of a script's events and their replies, all by actor 0, and how many
-    they are. Each message that was accepted took a ticket."""
+    """The trace in format 1 or 2 of a script's events and their replies, all by actor 0, and the
+    number of entries. Each accepted message took a ticket."""
     entries = []
     for line, block in zip(text.splitlines(), outputs_of_lines(text.splitlines(), output)):
         if block.startswith(b"= "):

@@ -1,6 +1,6 @@
-"""What the board does at its edges, as scripts with all that has to be written for them: full buffers, the
-last ticket, all overlays at one page, the first and the last flags and vectors, the last moments. They are
-too long to be stored, or belong together, and what is expected is worked out here, event by event."""
+"""The limits of the board, as scripts with their whole expected output: full buffers, the last
+ticket, all overlays at one page, the first and the last flags and vectors, the last times. They
+are too long to store, or belong together. The expected output is derived here, event by event."""
 
 TIME_REF_COUNT, TPR = 0x40000020, 0x40000072
 SCONTROL, SIEFP, SIMP, EOM = 0x40000080, 0x40000082, 0x40000083, 0x40000084
@@ -15,7 +15,7 @@ LAST = 2 ** 64 - 1
 
 
 class Scene:
-    """A script, and what is written for it."""
+    """A script and its expected output."""
 
     def __init__(self, processors, pages, ticket=0):
         self.processors = processors
@@ -39,7 +39,7 @@ class Scene:
         self.write(vp, CONFIG + 2 * index, config, *notices)
 
     def summary(self, nexts=None, timer="none", pages=None, queues=None):
-        """The stored summary, with the vectors, pages and queues that there are."""
+        """A summary, with the given vectors, pages and queues."""
         self.lines.append("summary")
         vectors = nexts or {}
         self.output += [": next %d %s" % (vp, vectors.get(vp, "none")) for vp in range(self.processors)]
@@ -92,7 +92,7 @@ def put(scene, number, is_here):
 
 
 def shows(scene, here):
-    """The first overlay that lies at page 3 is what shows there."""
+    """The first overlay at page 3 is visible there."""
     first = min(here, default=None)
     name = None if first is None else "%s %d" % ("sief" if first % 2 else "sim", first // 2)
     scene.summary(pages={3: name} if name else {})
@@ -171,8 +171,8 @@ def ports_of_one_queue_are_closed(first, second):
 # ---- Full buffers ----
 
 def fill_ports(scene, first, target, behind_a_slot):
-    """Each of 16 ports posts 16 times, in turn, and refuses one more. A post behind an occupied slot whose
-    MessagePending is clear sets it."""
+    """Each of 16 ports posts 16 times, in turn, and refuses one more. A post to an occupied slot
+    whose MessagePending is clear sets it."""
     for number in range(256):
         port, ticket = number % 16, first + number
         pending = ["pending %d 2" % target(port)] if behind_a_slot and number == 0 else []
@@ -195,7 +195,8 @@ def expire_timers(scene, processors, first):
 
 
 def receive(scene, vp, message, is_last):
-    """The slot is shown and emptied. The message page of a processor lies at the page of its own number."""
+    """Reads and empties the slot. The message page of a processor is mapped at the page of its own
+    number."""
     ticket, kind, length, origin, byte = message
     slot = 4096 * vp + 512
     scene.ask("load %x 8" % slot, "bytes %s%02x%02x0000" % (kind, length, 0 if is_last else 1))
@@ -214,7 +215,7 @@ def of_port(ticket, number):
 
 
 def of_timer(ticket, turn):
-    """That of the timer that is due at `turn` + 1."""
+    """The message of the timer that is due at `turn` + 1."""
     return ticket, "10000080", 0x18, 0, 3 - turn
 
 
@@ -331,7 +332,7 @@ def a_reset_ends_what_a_processor_does():
     # the suspension is over too, and the port is open
     scene.ask("resume 0", "refused 16")
     scene.ask("post 0 1 -", "refused 7")
-    # its page of messages is empty where it comes again
+    # its message page is empty when it is mapped again
     scene.write(0, SCONTROL, 1)
     scene.write(0, SIMP, 0x2001)
     scene.ask("load 2200 8", "bytes 0000000000000000")
@@ -374,7 +375,7 @@ def all_vectors_are_posted():
             vectors = range(max(16, 64 * part), 64 * part + 64)
             scene.ask("absorb %d %d ffffffffffffffff" % (vp, part), "done",
                       *("requested %d %02x" % (vp, vector) for vector in vectors))
-        # requests that stand merge
+        # vectors that are already requested merge
         scene.done("absorb %d 3 ffffffffffffffff" % vp)
         nexts[vp] = "ff"
         scene.summary(nexts)
@@ -398,7 +399,7 @@ def a_suspended_processor_takes_nothing():
     scene = suspended()
     scene.ask("take 0", "taken none")
     scene.ask("suspend 0", "refused 15")
-    # what comes meanwhile stands
+    # a request during the suspension stays
     scene.ask("assert 0 72", "done", "requested 0 72")
     scene.summary()
     scene.done("resume 0")
@@ -424,7 +425,7 @@ def the_processor_is_judged_before_its_suspension():
     for vp in (2, 8, 255):
         for event in ("suspend", "suspend", "resume", "reset"):
             scene.ask("%s %d" % (event, vp), "refused 14")
-    # each of those on the board has a mark of its own
+    # each processor of the board has its own flag
     scene.done("suspend 1")
     scene.ask("resume 0", "refused 16")
     scene.done("suspend 0", "resume 1")
@@ -435,7 +436,7 @@ def the_processor_is_judged_before_its_suspension():
 # ---- The last moments ----
 
 def the_largest_count_is_the_last_moment():
-    """The due moment of a one-shot timer is its count."""
+    """The deadline of a one-shot timer is its count."""
     scene = Scene(1, 1)
     scene.start_timer(0, 0, ONE_SHOT, LAST)
     scene.summary(timer="%d 0 0" % LAST)
@@ -454,7 +455,7 @@ def nothing_is_behind_the_last_moment():
     scene.ask("tick %d" % (LAST - 1), "refused 10")
     scene.ask("tick 0", "refused 10")
     scene.ask("read 0 %x" % TIME_REF_COUNT, "value %x" % LAST)
-    # a one-shot timer is due at its count, so the write tries it: at the last moment itself too
+    # a one-shot timer is due at its count, so the write tries it, even at the last time
     scene.start_timer(0, 0, ONE_SHOT, 1, "expired 0 0 1", "requested 0 40")
     scene.start_timer(0, 0, ONE_SHOT, LAST, "expired 0 0 %d" % LAST)
     scene.summary({0: "40"})
@@ -470,11 +471,11 @@ def due_moments_may_need_more_than_64_bits():
     # (2^64 - 2) + (2^64 - 1)
     scene.start_timer(0, 0, PERIODIC, LAST)
     scene.summary(timer="%d 0 0" % (2 ** 65 - 3))
-    # a due moment with 64 bits lies before it, whatever their low 64 bits are
+    # a deadline of at most 64 bits comes before it, whatever the low 64 bits are
     scene.start_timer(0, 3, ONE_SHOT, LAST)
     scene.summary(timer="%d 0 3" % LAST)
     scene.ask("tick %d" % LAST, "done", "expired 0 3 %d" % LAST, "requested 0 40")
-    # there is no later moment, so it stays due
+    # there is no later time, so it stays due
     scene.summary({0: "40"}, "%d 0 0" % (2 ** 65 - 3))
     return scene
 
@@ -486,7 +487,7 @@ def the_shortest_period_is_looked_at_last():
     scene.start_timer(0, 0, PERIODIC, 1)
     scene.ask("tick %d" % LAST, "done", "expired 0 0 1", "skipped 0 0 %d" % (k - 8), "requested 0 40")
     scene.summary({0: "40"}, "%d 0 0" % (k - 6))
-    # there is no later moment, and a tick to the present one tries nothing
+    # there is no later time, and a tick to the present one tries nothing
     scene.done("tick %d" % LAST)
     scene.summary({0: "40"}, "%d 0 0" % (k - 6))
     return scene

@@ -1,10 +1,11 @@
-"""What the machine refuses the program: memory, threads, streams, and bytes beyond the limit."""
+"""What the operating system can deny the program: memory, threads, streams; and inputs beyond the
+limit."""
 
 import os
 import resource
 import subprocess
 
-# how many bytes a text may have
+# the greatest length of a text, in bytes
 MOST = 1 << 30
 
 KIB = 1024
@@ -15,7 +16,7 @@ SECONDS = 120
 
 
 def with_memory(binary, arguments, data, most):
-    """A run in an address space of so many bytes."""
+    """Limits the address space of a run to this many bytes."""
     def narrow():
         resource.setrlimit(resource.RLIMIT_AS, (most, most))
     return subprocess.run([binary, *arguments], input=data, stdout=subprocess.PIPE,
@@ -23,8 +24,8 @@ def with_memory(binary, arguments, data, most):
 
 
 def out_of_memory(binary):
-    """In smaller and smaller address spaces the program does its work, then says that memory is
-    wanting, and then isn't loaded. Nothing else is written."""
+    """As the address space shrinks, the program first does its work, then reports that it is out of
+    memory, and then cannot be loaded. It writes nothing else."""
     complaints, wanting = [], 0
     for most in range(8 * MIB, MIB, -64 * KIB):
         ended = with_memory(binary, ["replay"], b"board 8 64 0\ntake 0\n", most)
@@ -41,14 +42,14 @@ def out_of_memory(binary):
 
 
 def no_thread(binary, crowd):
-    """Where stacks of threads have no room, no crew is run, and nothing is written."""
+    """If thread stacks cannot be allocated, no crew runs, and nothing is written."""
     ended = with_memory(binary, ["crew"], crowd, 64 * MIB)
     seen = (ended.returncode, ended.stdout, ended.stderr)
     return [] if seen == (4, b"", b"synicboard: no thread\n") else ["%r" % (seen,)]
 
 
 def closed_streams(binary):
-    """Standard input or standard output is no open file."""
+    """Standard input or standard output is not an open file."""
     complaints = []
     for closed, stderr in (("<&-", b"synicboard: read failed\n"), (">&-", b"synicboard: write failed\n")):
         for subcommand in ("replay", "check", "crew"):
@@ -60,7 +61,7 @@ def closed_streams(binary):
 
 
 def of_length(binary, subcommand, length):
-    """How a script of so many bytes ends: a board, and comments."""
+    """The result for a script of this many bytes: a board line and comments."""
     program = subprocess.Popen([binary, subcommand], stdin=subprocess.PIPE, stdout=subprocess.PIPE,
                                stderr=subprocess.PIPE)
     first = b"board 1 1 0\n#" + b"#" * 498 + b"\n"
@@ -80,7 +81,7 @@ def of_length(binary, subcommand, length):
 
 
 def bytes_at_the_limit(binary):
-    """As many bytes as may be read, and one more."""
+    """The greatest length of an input, and one byte more."""
     complaints = []
     failed = (5, b"", b"synicboard: read failed\n")
     for subcommand, length, wanted in (("replay", MOST, (0, b"", b"")), ("replay", MOST + 1, failed), ("crew", MOST + 1, failed)):

@@ -1,11 +1,12 @@
-"""Scripts of events near every limit, made from a seed. What they answer is judged by the program's own
-check of traces, and by nothing that was written down here."""
+"""Generates scripts of events near every limit, from a seed. The program's own check of traces
+validates their replies; no expected output is stored."""
 
 import random
 
 EVENTS = 40
 
-# EOI and task priority, the SynIC's registers, its sources, the timers, and registers that there are not
+# EOI and task priority, the SynIC's registers, its sources, the timers, and registers that do not
+# exist
 REGISTERS = ([0x40000070, 0x40000072] + list(range(0x40000080, 0x40000085))
              + list(range(0x40000090, 0x400000A0)) + list(range(0x400000B0, 0x400000B8))
              + [0, 0x40000071, 0x400000A0, 0xFFFFFFFF])
@@ -20,7 +21,7 @@ SLOT = 256
 
 
 class Maker:
-    """Makes the lines of one script."""
+    """Generates the lines of one script."""
 
     def __init__(self, seed):
         self.random = random.Random(seed)
@@ -53,7 +54,7 @@ class Maker:
         return self.mostly(self.page() * PAGE + place, (MOST,))
 
     def value(self, register):
-        """A value that means something to the register, or any."""
+        """A value that is valid for the register, or a random one."""
         if register in (SCONTROL, EOM):
             return self.random.choice((0, 1, 1, 1, 2))
         if register in (SIMP, SIEFP):
@@ -101,14 +102,15 @@ class Maker:
         return "store %x %s" % (self.address(), self.data(8))
 
     def consume(self):
-        """The slot of source 2 is emptied, if the page of messages lies where it lay first."""
+        """Empties the slot of source 2, if the message page is where it was first mapped."""
         return "store %x 00000000" % (self.sims[self.random.randrange(self.processors)] * PAGE + 2 * SLOT)
 
     def end(self):
         return "write %d %x 0" % (self.processor(), self.random.choice((0x40000070, EOM)))
 
     def timer(self):
-        """The count or the configuration of a timer, periodic or not, that requests a vector or posts."""
+        """Writes the count or the configuration of a timer, periodic or not, that requests a vector
+        or sends messages."""
         vp, index = self.processor(), self.random.randrange(4)
         if self.random.random() < 0.5:
             return "write %d %x %x" % (vp, 0x400000B1 + 2 * index, self.random.choice((0, 1, 10, 100, 2 ** 32, MOST)))
@@ -135,7 +137,7 @@ class Maker:
         return "reset %d" % self.processor()
 
     def setup(self):
-        """Each processor's SynIC with its two pages, a message port and an event port."""
+        """Sets up each processor's SynIC with its two pages, a message port and an event port."""
         for vp in range(self.processors):
             yield "write %d %x 1" % (vp, SCONTROL)
             yield "write %d %x %x" % (vp, SIMP, self.sims[vp] * PAGE + 1)

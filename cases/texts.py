@@ -1,6 +1,6 @@
-"""Short texts, and what is said of them: one difference each, from a text that is right."""
+"""Short texts, each with one change to a valid text, and the expected verdict."""
 
-# lines that nearly mean an event
+# lines that are almost events
 LINES_WITHOUT_A_MEANING = (
     b"take",
     b"take ",
@@ -29,7 +29,7 @@ LINES_WITHOUT_A_MEANING = (
     b" ",
 )
 
-# scripts that have a fault, and all that is written for them
+# scripts with a fault, and their whole output
 SCRIPTS_WITH_A_FAULT = (
     (b"", b"! 1 first\n"),
     (b"take 0\n", b"! 1 first\n"),
@@ -52,7 +52,7 @@ SCRIPTS_WITH_A_FAULT = (
     (b"board 0 255 0\n", b"! 1 size\n"),
 ) + tuple((b"board 1 1 0\n" + line + b"\n", b"! 2 form\n") for line in LINES_WITHOUT_A_MEANING)
 
-# scripts that have none
+# scripts without a fault
 SCRIPTS = (
     (b"board 1 1 0\n", b""),
     (b"# one processor\n\nboard 1 64 18446744073709551615\n", b""),
@@ -61,7 +61,7 @@ SCRIPTS = (
     (b"board 1 1 0\nwrite 0 40000072 1ff\nread 0 40000072\n", b"= done\n= value ff\n"),
 )
 
-# traces that are wrong, and the first line that is
+# wrong traces, and their first wrong line
 TRACES_WITH_A_WRONG_LINE = (
     # the title
     (b"trace 3\nboard 1 1 0\nend 0 0\n", 1),
@@ -99,7 +99,7 @@ TRACES_WITH_A_WRONG_LINE = (
     (b"trace 2\nboard 1 1 0\n0 reset 1\n= done\nend 1 0\n", 4),
 )
 
-# legal traces, and how many entries they have
+# legal traces, and their number of entries
 TRACES = (
     (b"trace 1\nboard 1 1 0\nend 0\n", 0),
     (b"trace 1\nboard 8 64 18446744073709551615\n255 take 8\n= refused 14\nend 1\n", 1),
@@ -110,7 +110,7 @@ TRACES = (
      b"1 post 3 1 -\n= accepted 7\n0 reset 0\n= done\nend 4 8\n", 4),
 )
 
-# crew scripts that have a fault: nothing else is written
+# crew scripts with a fault: nothing else is written
 CREWS_WITH_A_FAULT = (
     (b"board 1 1 0\nassert 0 60\nactor\ntake x\nline\n", b"! 4 form\n"),
     (b"board 1 1 0\nline\nraise 1 60\n", b"! 3 form\n"),

@@ -1,4 +1,4 @@
-"""What a board answered to each event of a script or of a trace, and what stood behind each."""
+"""The replies of a board to the events of a script or a trace, and the state after each event."""
 
 import subprocess
 
@@ -8,11 +8,11 @@ TITLES = (["trace 1"], ["trace 2"])
 
 
 class Fault(Exception):
-    """The text has no answers: it is no script and no trace, or the program failed."""
+    """There are no replies: the text is neither a script nor a trace, or the program failed."""
 
 
 class Summary:
-    """What a summary tells."""
+    """A parsed summary."""
 
     def __init__(self, lines):
         self.next, self.auto, self.pages, self.queues, self.timer = {}, {}, {}, {}, None
@@ -31,7 +31,8 @@ class Summary:
 
 
 class Step:
-    """One event: its line, its actor (None in a script), its answer, and the summary behind it."""
+    """One event: its line, its actor (None in a script), its reply and notices, and the summary
+    after it."""
 
     def __init__(self, line, actor, output):
         self.line, self.actor = line, actor
@@ -46,7 +47,7 @@ class Step:
 
 
 def events_of(text):
-    """The board line and each event with its actor, of a script or of a trace."""
+    """The board line, and each event with its actor, of a script or of a trace."""
     lines = [line for line in text.splitlines() if line and not line.startswith("#")]
     if lines[:1] in TITLES:
         numbered = [line.split(" ", 1) for line in lines[2:] if line[0].isdigit()]
@@ -64,7 +65,7 @@ def answers(program, script):
 
 
 def steps_of(program, text):
-    """How many processors there are, and the steps of a script or of a trace."""
+    """The number of processors, and the steps of a script or of a trace."""
     if not text.startswith("trace "):
         answers(program, text)
     board, events = events_of(text)
@@ -76,7 +77,8 @@ def steps_of(program, text):
 
 
 class State:
-    """What stands behind the steps so far: requests, what is in service, slots, queues, who is suspended and the moment."""
+    """The state after the steps so far: requests, vectors in service, slots, queues, suspended
+    processors, and the time."""
 
     def __init__(self):
         self.moment = 0

@@ -1,4 +1,4 @@
-"""The steps of a board as a picture: an event a row, and lanes for each processor beside it."""
+"""Draws the steps of a board: one event per row, with lanes for each processor."""
 
 from xml.sax.saxutils import escape
 
@@ -17,7 +17,7 @@ LEGEND = (("o", REQUESTED, "requested"), ("*", SERVING, "taken, in service"), ("
 
 
 class Canvas:
-    """What is drawn, as SVG."""
+    """An SVG drawing."""
 
     def __init__(self):
         self.parts, self.width = [], 0
@@ -45,7 +45,7 @@ class Canvas:
 
 
 class Lanes:
-    """Where each vector, source and timer of the steps has its lane."""
+    """The position of the lane of each vector, source and timer of the steps."""
 
     def __init__(self, processors, steps, x):
         self.vectors, self.sources, self.timers, self.heads = {}, {}, {}, []
@@ -153,7 +153,7 @@ def draw_legend(canvas, y, any_suspended):
 
 
 def columns(steps):
-    """Where the actor, the moment, the line and the answer stand, and where the lanes begin."""
+    """The positions of the actor, the time, the line, the reply, and the first lane."""
     actor = LEFT + 34
     moment = actor + (34 if any(step.actor is not None for step in steps) else 0)
     line = moment + 70
@@ -172,7 +172,7 @@ def brief(number, most):
 
 
 def draw(processors, steps, first, rows):
-    """The rows of one page; what stands behind the steps before it is kept."""
+    """The rows of one page. The state after the steps before it is carried over."""
     shown, canvas = steps[first:first + rows], Canvas()
     actor, moment, line, reply, lane = columns(shown)
     lanes = Lanes(processors, shown, lane)

@@ -1,4 +1,4 @@
-"""What a step says, in words."""
+"""Describes a step in words."""
 
 REFUSALS = {
     1: "no such port is open", 2: "the port is open already", 3: "the port is of the other kind",
@@ -38,7 +38,7 @@ def page_word(value):
 
 
 def written(step, state):
-    """What a write means that was done."""
+    """Describes a successful write."""
     words = step.words
     vp, number, value = int(words[1]), int(words[2], 16), int(words[3], 16)
     name = register(number)
@@ -96,7 +96,7 @@ NOTICES = {
 
 
 def reply(step, state):
-    """What the answer says beyond its notices, or nothing."""
+    """What the reply says beyond the notices, or nothing."""
     words = step.reply.split()
     if words[0] == "refused":
         return "refused: %s" % REFUSALS[int(words[1])]
@@ -114,7 +114,8 @@ def reply(step, state):
 
 
 def notice(words, before, state):
-    """What a notice tells; `before` are those of the same event before it, and the state is that before the event."""
+    """Describes a notice; `before` has the earlier notices of the same event, and the state is that
+    before the event."""
     if words[0] == "pending" and any(other[0] == "placed" and other[2:] == words[1:] for other in before):
         return "more waits behind it: MessagePending set"
     if words[0] == "withdrawn" and state.slots.get((int(words[2]), int(words[3]))) == int(words[1]):
@@ -123,7 +124,8 @@ def notice(words, before, state):
 
 
 def explain(step, state):
-    """The sentences of a step, from the state before it: the event with its answer, and each notice."""
+    """The sentences for a step, given the state before it: the event with its reply, and each
+    notice."""
     answer = reply(step, state)
     first = EVENTS[step.words[0]](step.words[1:]) + (": " + answer if answer else "")
     return [first] + [notice(words, step.notices[:i], state) for i, words in enumerate(step.notices)]

@@ -1,5 +1,5 @@
-"""What the crates stand on, and the words that have the toolchain check a crate over the libraries that
-`rt ci` proved in this checkout."""
+"""The dependencies of the crates, and the command that has the toolchain check a crate against the
+libraries that `rt ci` proved in this checkout."""
 
 import os
 import subprocess
@@ -8,7 +8,7 @@ ROOT = os.path.dirname(os.path.dirname(os.path.abspath(__file__)))
 
 
 def libraries():
-    """What each crate stands on, in the order of crates.txt, which has the lowest first."""
+    """The dependencies of each crate, in the order of crates.txt, which has the lowest first."""
     crates = {}
     with open(os.path.join(ROOT, "crates.txt"), encoding="utf-8") as file:
         for line in file:
@@ -19,7 +19,7 @@ def libraries():
 
 
 def below(crates, name):
-    """The crates that this one stands on, lowest first."""
+    """The crates that this one depends on, lowest first."""
     found = set()
     left = [name]
     while left:
@@ -45,7 +45,7 @@ def proved(library):
 
 
 def words(verb, name):
-    """The command that does `verb` with the crate in whose folder it is run."""
+    """The command that runs `verb` on the crate whose folder is current."""
     crates, home = libraries(), kit()
     found = [os.path.join(home, "bin", "rattle"), verb, "--crate-name", name, os.path.join("src", "lib.rt")]
     found += ["-L", "dependency=" + os.path.join(home, "rlibs")]

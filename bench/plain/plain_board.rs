@@ -1,6 +1,6 @@
-//! A board in plain Rust, as fast as its author would write it without proofs: what board_bench
-//! does is done here too, with the same replies, notices and summary, so that times can be compared.
-//! It has the events of the workloads, and those that suspend, resume and reset a processor.
+//! A board in plain Rust, as fast as its author would write it without proofs. It does what
+//! board_bench does, with the same replies, notices and summary, so that times can be compared. It
+//! has the events of the workloads, and suspends, resumes and resets.
 
 #[allow(dead_code)]
 mod board;

@@ -1,7 +1,7 @@
-//! `synicboard replay` and `synicboard check` in plain Rust: reads a script from standard input,
-//! performs it on the plain board, and writes the same text; or reads a trace of either format, and says whether the
-//! plain board answers so. Lines of kinds that no workload has (close, read, absorb) are malformed
-//! here.
+//! `synicboard replay` and `synicboard check` in plain Rust. Reads a script from standard input,
+//! performs it on the plain board, and writes the same text; or reads a trace of either format, and
+//! checks whether the plain board gives these replies. Kinds of lines that no workload has (close,
+//! read, absorb) are malformed here.
 
 #[allow(dead_code)]
 mod board;
@@ -13,14 +13,14 @@ use std::io;
 use std::os::fd::AsFd;
 use std::process::ExitCode;
 
-/// A script with a fault, or a trace that is none.
+/// A script with a fault, or a wrong trace.
 const WRONG_TEXT: u8 = 1;
 
 const USAGE_FAULT: u8 = 2;
 
 const STREAM_FAULT: u8 = 5;
 
-/// The standard streams as files: they are read and written by blocks that have buffers of their own.
+/// The standard streams as files: reads and writes go by blocks with buffers of their own.
 fn streams() -> io::Result<(File, File)> {
     let input = File::from(io::stdin().as_fd().try_clone_to_owned()?);
     let output = File::from(io::stdout().as_fd().try_clone_to_owned()?);

@@ -1,4 +1,4 @@
-//! What is kept of what events gave: sums beside which an event costs much, and a digest of all.
+//! What a run accumulates: sums, which cost little next to an event, and a digest of everything.
 
 use crate::board::Board;
 use crate::board::events::{Notice, Owner, Reply};

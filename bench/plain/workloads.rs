@@ -29,7 +29,7 @@ const DENSE_TICKS: u64 = 64;
 const DENSE_STEP: u64 = 50;
 const MESSAGE_STEP: u64 = 125;
 
-/// A board's sizes, the events before the time runs, and those that are timed.
+/// A board's sizes, the untimed events, and the timed ones.
 #[derive(Default)]
 pub struct Scene {
     processors: u8,

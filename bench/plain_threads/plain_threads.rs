@@ -1,5 +1,5 @@
-//! A shared board in plain Rust, as fast as its author would write it without proofs: what
-//! thread_bench does is done here too, with the same standard output, so that times can be compared.
+//! A shared board in plain Rust, as fast as its author would write it without proofs. It does what
+//! thread_bench does, with the same standard output, so that times can be compared.
 
 #[path = "../plain/board/mod.rs"]
 #[allow(dead_code)]
@@ -22,7 +22,7 @@ const PAGES: u8 = 4;
 
 const ASSERTED: u8 = 0x60;
 
-/// After so many raises a thread absorbs one word.
+/// A thread absorbs one word after this many raises.
 const RAISES: u32 = 1024;
 
 const MOST_EVENTS: u32 = 60_000;
@@ -58,7 +58,7 @@ impl Workload {
         WORKLOADS.into_iter().find(|workload| workload.name == name)
     }
 
-    /// How many calls each thread makes on one board at most.
+    /// The greatest number of calls of each thread on one board.
     fn most(self) -> u32 {
         match self.job {
             Job::Raise => MOST_RAISES,
@@ -114,7 +114,7 @@ fn event_at(turn: u32) -> Event<'static> {
     }
 }
 
-/// Each actor does a job in a thread of its own, by halves.
+/// Runs the job of each actor in a thread of its own, started by halves.
 fn run(board: &SharedBoard, job: Job, calls: u32, actors: &mut [Actor]) -> u64 {
     match actors {
         [] => 0,
@@ -132,7 +132,7 @@ fn run(board: &SharedBoard, job: Job, calls: u32, actors: &mut [Actor]) -> u64 {
     }
 }
 
-/// Each thread makes so many calls on one board. The threads' work is timed.
+/// Each thread makes `calls` calls on one board. Only the threads' work is timed.
 fn measure_board(workload: Workload, calls: u32) -> (u64, Duration) {
     let board = SharedBoard::open(PROCESSORS, PAGES);
     let mut actors: Vec<Actor> = (0..workload.threads).map(Actor::new).collect();

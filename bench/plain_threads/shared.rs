@@ -1,4 +1,4 @@
-//! The plain board behind a lock, with its history, and the words of raised vectors beside it.
+//! The plain board with a lock and a history, and the words of raised vectors, which need no lock.
 
 use crate::board::Board;
 use crate::board::events::{Event, Notices, Reply};
@@ -7,7 +7,7 @@ use std::sync::atomic::{AtomicU64, Ordering};
 
 const MOST_ENTRIES: usize = 65_536;
 
-/// What an actor asked for: an event, or the absorb of the bits of a word.
+/// The call of an actor: an event, or the absorb of the bits of a word.
 #[derive(Clone, Copy, PartialEq)]
 pub enum Call {
     Event(Event<'static>),
@@ -20,8 +20,8 @@ struct Entry {
     reply: Reply,
 }
 
-/// A call as an actor's list keeps it. Where lists are lent (`--cfg lending`), each call has room of its
-/// own for the longest payload, as the events of the proved board have.
+/// A call as an actor's list stores it. If lists are borrowed (`--cfg lending`), each call has
+/// space for the longest payload, as the events of the proved board have.
 #[derive(Clone, Copy)]
 struct Kept {
     call: Call,
@@ -78,14 +78,14 @@ impl SharedBoard {
         }
     }
 
-    /// Whether the vector was not pending.
+    /// Returns whether the vector was not pending.
     pub fn raise(&self, vp: u8, vector: u8) -> bool {
         let word = &self.words[(4 * vp + vector / 64) as usize];
         let bit = 1 << (vector % 64);
         word.fetch_or(bit, Ordering::SeqCst) & bit == 0
     }
 
-    /// `None` where the history is full.
+    /// `None` if the history is full.
     pub fn perform(&self, actor: &mut Actor, event: Event<'static>) -> Option<Reply> {
         let mut guard = self.recorded.lock().expect("no thread panics");
         let recorded = &mut *guard;
@@ -97,8 +97,7 @@ impl SharedBoard {
         Some(reply)
     }
 
-    /// The bits of a word, which are taken in by the processor one by one. `None` where the history is
-    /// full.
+    /// Takes the bits of a word and has the processor absorb them. `None` if the history is full.
     pub fn absorb(&self, actor: &mut Actor, vp: u8, part: u8) -> Option<Reply> {
         let mut guard = self.recorded.lock().expect("no thread panics");
         let recorded = &mut *guard;
@@ -117,7 +116,7 @@ impl SharedBoard {
         Some(Reply::Done)
     }
 
-    /// Whether the history is what these actors called, and nothing else.
+    /// Returns whether the history consists of these actors' calls and nothing else.
     pub fn settle(&self, actors: &[Actor]) -> bool {
         let recorded = self.recorded.lock().expect("no thread panics");
         let history = &recorded.history;

@@ -1,4 +1,4 @@
-//! What a board is asked, what it answers, and what it tells.
+//! Events, replies and notices.
 
 pub const EOI: u32 = 0x4000_0070;
 pub const SCONTROL: u32 = 0x4000_0080;
@@ -10,7 +10,7 @@ pub const STIMER0_CONFIG: u32 = 0x4000_00b0;
 pub const LAST_SINT: u32 = SINT0 + 15;
 pub const LAST_TIMER: u32 = STIMER0_CONFIG + 7;
 
-/// More than one event can give.
+/// An upper bound of the notices of one event.
 const MOST_NOTICES: usize = 320;
 
 #[derive(Clone, Copy, PartialEq)]
@@ -19,7 +19,7 @@ pub enum Shape {
     Flags { base: u16, count: u16 },
 }
 
-/// An event lends its payload. The bytes of a store are one word, zero behind its length.
+/// An event borrows its payload. The bytes of a store are one word, zero beyond its length.
 #[derive(Clone, Copy, PartialEq)]
 pub enum Event<'a> {
     OpenPort {
@@ -95,7 +95,7 @@ pub enum Refusal {
 #[derive(Clone, Copy, PartialEq)]
 pub enum Reply {
     Done,
-    /// One word, zero behind its length.
+    /// One word, zero beyond its length.
     Bytes {
         word: u64,
         length: u8,
@@ -121,7 +121,7 @@ pub enum Notice {
     Skipped { vp: u8, index: u8, count: u64 },
 }
 
-/// Room for the notices of one event, taken once.
+/// Buffer for the notices of one event, allocated once.
 pub struct Notices {
     room: [Notice; MOST_NOTICES],
     length: usize,

@@ -1,10 +1,10 @@
-//! The interrupts of one processor: sets of four words, and the greatest members that count, kept.
+//! The interrupts of one processor: sets of four words, with cached greatest members.
 
 #[derive(Clone, Copy, Default)]
 pub struct VectorSet([u64; 4]);
 
 impl VectorSet {
-    /// Whether the vector was no member.
+    /// Returns whether the vector was not a member.
     pub fn insert(&mut self, vector: u8) -> bool {
         let (word, bit) = (&mut self.0[vector as usize / 64], 1 << (vector % 64));
         let is_new = *word & bit == 0;
@@ -20,7 +20,7 @@ impl VectorSet {
         self.0[vector as usize / 64] >> (vector % 64) & 1 == 1
     }
 
-    /// The greatest member, where none is in a word above that of `vector`; 0 if there is none.
+    /// The greatest member, if no word above that of `vector` has one; 0 if there is none.
     fn greatest_below(&self, vector: u8) -> u8 {
         let mut place = vector as usize / 64;
         while self.0[place] == 0 {
@@ -33,19 +33,19 @@ impl VectorSet {
     }
 }
 
-/// No vector is below 16, so 0 stands for none.
+/// No vector is below 16, so 0 encodes none.
 pub struct Lapic {
     requested: VectorSet,
     in_service: VectorSet,
     pub auto: VectorSet,
-    /// The greatest requested vector above the priority: what is taken next.
+    /// The greatest requested vector above the priority: the next vector.
     next: u8,
     /// The greatest vector in service.
     serving: u8,
-    /// What a request has to exceed to be the next: the next vector, or the last of the priority's class.
-    /// While the processor is suspended, the last of all.
+    /// The bound that a request must exceed to become the next vector: the next vector, or the
+    /// greatest vector of the priority's class. While the processor is suspended, 255.
     barrier: u8,
-    /// The barrier where nothing is in service and nothing is next.
+    /// The barrier if nothing is in service and nothing is next.
     floor: u8,
 }
 
@@ -66,7 +66,7 @@ impl Lapic {
         (self.next != 0).then_some(self.next)
     }
 
-    /// Whether the processor was not suspended.
+    /// Returns whether the processor was not suspended.
     pub fn suspend(&mut self) -> bool {
         let is_new = self.floor != u8::MAX;
         self.next = 0;
@@ -75,7 +75,7 @@ impl Lapic {
         is_new
     }
 
-    /// Whether the processor was suspended.
+    /// Returns whether the processor was suspended.
     pub fn resume(&mut self) -> bool {
         let is_new = self.floor == u8::MAX;
         if is_new {
@@ -85,7 +85,7 @@ impl Lapic {
         is_new
     }
 
-    /// Whether the vector was not requested yet.
+    /// Returns whether the vector was not requested.
     #[inline(always)]
     pub fn request(&mut self, vector: u8) -> bool {
         let is_new = self.requested.insert(vector);
@@ -96,7 +96,7 @@ impl Lapic {
         is_new
     }
 
-    /// Behind a vector that is served nothing is next: those left are not above its class.
+    /// After a vector enters service there is no next one: the others are not above its class.
     #[inline(always)]
     pub fn take(&mut self) -> Option<u8> {
         let vector = self.next()?;
@@ -112,7 +112,7 @@ impl Lapic {
         Some(vector)
     }
 
-    /// A next vector stays the next one, as the greatest of all that are requested.
+    /// A next vector stays the next one, since it is the greatest requested one.
     #[inline(always)]
     pub fn end(&mut self) {
         let ended = self.serving;
@@ -126,7 +126,7 @@ impl Lapic {
         }
     }
 
-    /// None is requested in a word above that of `vector`.
+    /// No word above that of `vector` has a request.
     #[inline(always)]
     fn find_next(&mut self, vector: u8) {
         let greatest = self.requested.greatest_below(vector);

@@ -1,5 +1,5 @@
-//! The plain board. Closed ports, reads of registers, task priorities, lazy timers and those that
-//! enable themselves are in no workload, and not here.
+//! The plain board. It lacks what no workload uses: closing ports, reading registers, task
+//! priorities, lazy timers and timers with AutoEnable.
 
 pub mod events;
 mod lapic;
@@ -187,7 +187,7 @@ impl Board {
         }
     }
 
-    /// A store touched the first four bytes of a slot.
+    /// A store has written to the first four bytes of a slot.
     fn consume(&mut self, vp: u8, sint: u8, notices: &mut Notices) -> Reply {
         if is_empty(self.pages.slot(vp, sint)) {
             self.processors[vp as usize].consume(vp, sint, notices);
@@ -257,7 +257,7 @@ impl Board {
         Reply::Accepted(self.deliver(vp, sint, message, notices))
     }
 
-    /// A message goes straight into its slot, where nothing is queued before it and the slot is empty.
+    /// Places a message directly if the slot is empty and nothing is queued before it.
     #[inline(always)]
     fn deliver<M: Message>(&mut self, vp: u8, sint: u8, message: M, notices: &mut Notices) -> u64 {
         let ticket = self.next_ticket;
@@ -288,7 +288,7 @@ impl Board {
         Reply::Done
     }
 
-    /// A source that has something queued is tried.
+    /// Tries a source that has a queued message.
     fn try_source(&mut self, vp: u8, sint: u8, notices: &mut Notices) {
         let processor = &mut self.processors[vp as usize];
         if processor.control & processor.sim & ENABLE == 0 {
@@ -345,7 +345,7 @@ impl Board {
         Reply::Done
     }
 
-    /// Nothing is tried: a timer that came due meanwhile waits for the next tick.
+    /// Tries no timer: one that became due during the suspension waits for the next tick.
     #[inline(never)]
     fn resume(&mut self, vp: u8) -> Reply {
         let Some(processor) = self.processors.get_mut(vp as usize) else {
@@ -358,7 +358,7 @@ impl Board {
         Reply::Done
     }
 
-    /// What waits in slots and queues is withdrawn, and then the processor is a new one.
+    /// Withdraws the messages in slots and queues, and resets the processor.
     #[inline(never)]
     fn reset(&mut self, vp: u8, notices: &mut Notices) -> Reply {
         let Some(processor) = self.processors.get_mut(vp as usize) else {
@@ -373,7 +373,7 @@ impl Board {
         Reply::Done
     }
 
-    /// Below the earliest due moment nothing is looked at. Those that are due are tried once each.
+    /// Before the earliest deadline this does nothing. Each timer that is due is tried once.
     #[inline(never)]
     fn tick(&mut self, moment: u64, notices: &mut Notices) -> Reply {
         if moment < self.moment {
@@ -391,7 +391,7 @@ impl Board {
         Reply::Done
     }
 
-    /// A timer that is due expires, unless its last message still waits.
+    /// A timer that is due expires, unless its last message is still queued.
     fn attempt(&mut self, number: u8, notices: &mut Notices) {
         let (vp, index) = (number / 4, number % 4);
         let config = self.timers.config(number);

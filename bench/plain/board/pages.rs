@@ -1,5 +1,5 @@
-//! The guest's pages and the overlays: the owner of each page is kept, and what the owners have lies
-//! in frames, the overlays' first. Eight bytes are read and written as one word under a mask.
+//! The guest pages and the overlays. Caches the owner of each page. All pages are in one array of
+//! frames, the overlays' first. Eight bytes are read and written as one word with a mask.
 
 use super::events::{Owner, Refusal};
 
@@ -8,8 +8,8 @@ pub const SLOT: usize = 256;
 
 const PAGE: usize = 4096;
 
-/// Overlays in the order in which they hide each other: the SIM and the SIEF page of processor 0, those
-/// of processor 1, and so on.
+/// Overlays in the order in which they obscure each other: the SIM and the SIEF page of processor
+/// 0, those of processor 1, and so on.
 const OVERLAYS: usize = 16;
 
 const NOWHERE: u8 = 255;
@@ -42,7 +42,7 @@ impl Frame {
     }
 }
 
-/// A whole word in which the bytes from `at` on lie, and by how many bits they are shifted in it.
+/// The word that contains the bytes from `at` on, and their shift in bits.
 fn word_at(at: usize) -> (usize, usize) {
     let base = at.min(PAGE - 8);
     (base, 8 * (at - base))
@@ -54,9 +54,9 @@ fn mask(length: u8) -> u64 {
 
 pub struct Pages {
     frames: Vec<Frame>,
-    /// The number of each page's visible frame: that of an overlay, or behind those its own.
+    /// The number of each page's visible frame: an overlay's, or the guest page's.
     visible: Vec<u8>,
-    /// The pages at which the SIM pages lie, and those of the SIEF pages: eight bytes a row.
+    /// The page numbers of the SIM pages, and those of the SIEF pages: eight bytes a row.
     places: [u64; 2],
 }
 
@@ -104,7 +104,7 @@ impl Pages {
         self.move_overlay(2 * vp + 1, register);
     }
 
-    /// Both pages of a processor are disabled, and zero.
+    /// Disables both pages of a processor and sets them to zero.
     pub fn clear(&mut self, vp: u8) {
         self.move_sim(vp, 0);
         self.move_sief(vp, 0);
@@ -113,8 +113,8 @@ impl Pages {
         }
     }
 
-    /// Only the page that the overlay left and the page that it reached can have another owner, and
-    /// the others are looked at only where it was the visible one.
+    /// Only the page that the overlay left and the page that it reached can have a new owner. Other
+    /// overlays are searched only if it was the visible one.
     #[inline(always)]
     fn move_overlay(&mut self, overlay: u8, register: u64) {
         let page = register / PAGE as u64;
@@ -132,7 +132,7 @@ impl Pages {
         }
     }
 
-    /// The first overlay at a page, or the page's own frame.
+    /// The first overlay at a page, or the guest page's frame.
     fn first_at(&self, page: u8) -> u8 {
         let [sim, sief] = self.places.map(|row| first_equal(row, page));
         let overlay = (2 * sim).min(2 * sief + 1);
@@ -163,8 +163,8 @@ impl Pages {
         Ok(self.frames[frame].load(at, length))
     }
 
-    /// Gives the processor and the source of the one slot of which the store touches one of the first
-    /// four bytes, if there is such a slot.
+    /// Returns the processor and source of the slot if the store writes to any of its first four
+    /// bytes.
     #[inline(always)]
     pub fn store(
         &mut self,
@@ -180,8 +180,8 @@ impl Pages {
     }
 }
 
-/// The place of the first of eight bytes that is equal, or 8. Behind the exclusive or it is 0, and the
-/// lowest byte that is 0 is the lowest of which the top bit is left.
+/// The index of the first of eight bytes that is equal to `byte`, or 8. An equal byte is 0 after
+/// the exclusive or, and the lowest zero byte is the lowest whose top bit survives.
 fn first_equal(row: u64, byte: u8) -> u8 {
     const ONES: u64 = u64::MAX / 255;
     let differing = row ^ (ONES * u64::from(byte));

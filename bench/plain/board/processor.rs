@@ -20,7 +20,7 @@ pub struct Processor {
     sints: [u64; 16],
     /// The vector that each source raises; 0 for none.
     raised: [u8; 16],
-    /// Which sources have something queued.
+    /// Which sources have a queued message.
     pub queued: u16,
     pub chains: [Chain; 16],
     tickets: [u64; 16],
@@ -73,14 +73,14 @@ impl Processor {
         Reply::Done
     }
 
-    /// A message was placed.
+    /// A message was placed in the slot.
     #[inline(always)]
     pub fn hold(&mut self, vp: u8, sint: u8, ticket: u64, notices: &mut Notices) {
         self.tickets[sint as usize] = ticket;
         notices.push(Notice::Placed { ticket, vp, sint });
     }
 
-    /// The ticket of a slot, and then those of its queue, are withdrawn.
+    /// Withdraws the ticket of a slot, and then those of its queue.
     pub fn withdraw(&mut self, vp: u8, sint: u8, buffers: &mut Buffers, notices: &mut Notices) {
         let ticket = self.tickets[sint as usize];
         if ticket != NO_TICKET {
@@ -93,7 +93,7 @@ impl Processor {
         }
     }
 
-    /// A slot is empty behind a guest's store.
+    /// A slot is empty after a guest store.
     #[inline(always)]
     pub fn consume(&mut self, vp: u8, sint: u8, notices: &mut Notices) {
         let ticket = std::mem::replace(&mut self.tickets[sint as usize], NO_TICKET);

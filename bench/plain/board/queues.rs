@@ -1,4 +1,4 @@
-//! Messages: their images, the buffers in which they wait, and the chains of buffers that are queues.
+//! Messages: their images, the buffers, and the chains of buffers that form queues.
 
 use super::pages::SLOT;
 
@@ -12,7 +12,7 @@ const DELIVERY: usize = 32;
 const MESSAGE_FLAGS: usize = 5;
 const PENDING: u8 = 1;
 
-/// Sixteen buffers for each of 16 ports, and behind them one for each of 32 timers.
+/// Sixteen buffers for each of 16 ports, then one for each of 32 timers.
 const BUFFERS: usize = FIRST_OF_TIMERS + 32;
 const FIRST_OF_TIMERS: usize = 256;
 
@@ -20,14 +20,14 @@ pub fn is_empty(slot: &Image) -> bool {
     slot[..4] == [0; 4]
 }
 
-/// Whether MessagePending was clear.
+/// Returns whether MessagePending was clear.
 pub fn set_pending(slot: &mut Image) -> bool {
     let was_clear = slot[MESSAGE_FLAGS] & PENDING == 0;
     slot[MESSAGE_FLAGS] |= PENDING;
     was_clear
 }
 
-/// A message on its way to a source.
+/// A message to deliver to a source.
 pub trait Message {
     /// Writes the image into an empty slot.
     fn write(self, slot: &mut Image, moment: u64);
@@ -77,7 +77,7 @@ impl Message for Expiration {
     }
 }
 
-/// The image begins with some words, and all behind them is 0.
+/// Writes the first words of an image and zeros after them.
 #[inline(always)]
 fn write_words<const N: usize>(image: &mut Image, words: [u64; N]) {
     let (front, back) = image.split_at_mut(8 * N);
@@ -99,24 +99,24 @@ pub struct Chain {
     pub length: u16,
 }
 
-/// A message that waits, all but the delivery time and MessagePending.
+/// A queued message, without the delivery time and MessagePending.
 #[derive(Clone)]
 #[repr(align(64))]
 struct Buffer {
     image: Image,
     ticket: u64,
-    /// The buffer behind it in its queue.
+    /// The next buffer in its queue.
     next: u16,
 }
 
 pub struct Buffers {
     buffers: Vec<Buffer>,
-    /// Which of 16 buffers are in use: those of each port, and of the timers by sixteens.
+    /// Which of 16 buffers are in use: those of each port, then the timers in groups of sixteen.
     used: [u16; BUFFERS / 16],
 }
 
 impl Buffers {
-    /// A timer's buffer has all that is the same in each message of that timer.
+    /// A timer's buffer holds what is the same in each of its messages.
     pub fn new() -> Buffers {
         let buffer = Buffer {
             image: [0; SLOT],
@@ -153,7 +153,7 @@ impl Buffers {
         chain.length += 1;
     }
 
-    /// The head of a queue that is not empty is taken out. Gives its ticket.
+    /// Removes the head of a queue that is not empty, and returns its ticket.
     pub fn withdraw(&mut self, chain: &mut Chain) -> u64 {
         let number = chain.head as usize;
         let buffer = &self.buffers[number];
@@ -163,7 +163,7 @@ impl Buffers {
         buffer.ticket
     }
 
-    /// The head of a queue that is not empty goes into an empty slot. Gives its ticket.
+    /// Moves the head of a queue that is not empty to an empty slot, and returns its ticket.
     pub fn place(&mut self, chain: &mut Chain, slot: &mut Image, moment: u64) -> u64 {
         let number = chain.head as usize;
         let buffer = &self.buffers[number];

@@ -1,4 +1,4 @@
-//! The timers of all processors, with a table of two levels that has the earliest.
+//! The timers of all processors, with a two-level table of the earliest deadline.
 
 pub const ENABLE: u64 = 1;
 pub const DIRECT: u64 = 1 << 12;
@@ -7,16 +7,16 @@ const PERIODIC: u64 = 1 << 1;
 const KEPT: u64 = 0xf1ff3;
 const CATCHES_UP: u64 = 8;
 
-/// The key of a due moment is one less, since none is 0. No tick reaches a moment from 2^64 on.
+/// A key is the deadline minus one, since no deadline is 0. No tick reaches 2^64 or later.
 const NEVER: u64 = u64::MAX;
 
 #[derive(Clone, Copy, Default)]
 struct Timer {
     config: u64,
     count: u64,
-    /// Where there is a due moment, its low 64 bits.
+    /// If there is a deadline, its low 64 bits.
     due: u64,
-    /// Whether the due moment is 2^64 and more.
+    /// Whether the deadline is 2^64 or later.
     is_beyond: bool,
     is_running: bool,
     /// Whether its processor is suspended.
@@ -55,7 +55,7 @@ impl Timer {
             return Expiry { signal, skipped: 0 };
         }
         let late = moment - signal;
-        // It is seldom so late that something is skipped: only then is there a division by the count.
+        // Deadlines are rarely late enough to be skipped; only then is the division needed.
         let skipped = if late / (CATCHES_UP + 1) < self.count {
             0
         } else {
@@ -66,16 +66,16 @@ impl Timer {
     }
 }
 
-/// A key, and the number of its timer.
+/// A key and the number of its timer.
 type Least = (u64, u8);
 
 pub struct Timers {
     timers: [Timer; 32],
-    /// Keys, as far as they are not put aside, of four timers of a processor each.
+    /// The keys of the four timers of each processor, except those set aside.
     keys: [[u64; 4]; 8],
-    /// The least of each processor.
+    /// The least key of each processor.
     least: [Least; 8],
-    /// The least of all.
+    /// The least key of all.
     first: Least,
     /// Which timers were tried in this tick and are still due.
     aside: u32,
@@ -137,13 +137,13 @@ impl Timers {
         self.timers[number as usize].expire(moment)
     }
 
-    /// The first of the timers that are due and not put aside.
+    /// The first of the timers that are due and not set aside.
     pub fn first_due(&self, moment: u64) -> Option<u8> {
         let (key, number) = self.first;
         (key < moment).then_some(number)
     }
 
-    /// A timer that was tried in a tick goes back into the table, unless it is still due.
+    /// Returns a timer that was tried in a tick to the table, unless it is still due.
     pub fn settle(&mut self, number: u8, moment: u64) {
         let key = self.timers[number as usize].key();
         if key < moment {
@@ -154,7 +154,7 @@ impl Timers {
         }
     }
 
-    /// The timers that were put aside go back into the table.
+    /// Returns the timers that were set aside to the table.
     pub fn bring_back(&mut self) {
         while self.aside != 0 {
             self.update(self.aside.trailing_zeros() as u8);
@@ -162,7 +162,7 @@ impl Timers {
         }
     }
 
-    /// A processor is suspended, or goes on.
+    /// A processor is suspended or resumed.
     pub fn hold(&mut self, vp: u8, is_held: bool) {
         for number in 4 * vp..4 * vp + 4 {
             self.timers[number as usize].is_held = is_held;
@@ -170,7 +170,7 @@ impl Timers {
         }
     }
 
-    /// The timers of a processor are as at first.
+    /// Resets the timers of a processor.
     pub fn reset(&mut self, vp: u8) {
         for number in 4 * vp..4 * vp + 4 {
             self.timers[number as usize] = Timer::default();
@@ -200,7 +200,7 @@ impl Timers {
     }
 }
 
-/// Of the same keys the former counts, which is that of the lower number.
+/// Of equal keys the former is less: it has the lower number.
 fn lesser(former: Least, latter: Least) -> Least {
     if latter.0 < former.0 { latter } else { former }
 }

@@ -13,11 +13,11 @@ const DIGITS: [u8; 256] = {
     digits
 };
 
-/// What of a line is not read yet.
+/// The unread rest of a line.
 pub struct Fields<'a>(pub &'a [u8]);
 
 impl Fields<'_> {
-    /// A number has no leading zero. Nineteen digits always fit.
+    /// A number has no leading zero. Nineteen digits always fit into 64 bits.
     #[inline(always)]
     pub fn decimal(&mut self) -> Option<u64> {
         let mut value: u64 = 0;
@@ -79,7 +79,8 @@ impl Fields<'_> {
         byte_of(pair)
     }
 
-    /// The bytes that the rest of the line is, two digits each, or `-` for none. Gives their number.
+    /// Decodes the rest of the line: two digits for each byte, or `-` for none. Returns the number
+    /// of bytes.
     #[inline(always)]
     pub fn data(&mut self, bytes: &mut [u8]) -> Option<usize> {
         let (pairs, odd) = std::mem::take(&mut self.0).as_chunks();
@@ -107,7 +108,7 @@ impl Fields<'_> {
     }
 }
 
-/// Above 15 there is no digit.
+/// A value above 15 is no digit.
 fn byte_of(pair: &[u8; 2]) -> Option<u8> {
     let [high, low] = pair.map(|digit| DIGITS[digit as usize]);
     (high | low < 16).then_some(high << 4 | low)

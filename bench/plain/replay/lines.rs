@@ -1,4 +1,4 @@
-//! The lines of a script, out of a block that is read into anew.
+//! The lines of a script, from a block that is refilled.
 
 use super::text::Text;
 use std::fs::File;
@@ -20,7 +20,7 @@ pub enum Next<'a> {
 pub struct Lines {
     input: File,
     block: Vec<u8>,
-    /// What of the block is not used yet.
+    /// Where the unused part of the block begins.
     start: usize,
     end: usize,
     number: u64,
@@ -37,12 +37,12 @@ impl Lines {
         }
     }
 
-    /// The number of the last line, from 1.
+    /// The number of the last line, counted from 1.
     pub fn number(&self) -> u64 {
         self.number
     }
 
-    /// The text is flushed before a read that may wait.
+    /// Flushes the text before a read that may block.
     pub fn next(&mut self, text: &mut Text) -> io::Result<Next<'_>> {
         self.number += 1;
         let mut looked = 0;
@@ -67,7 +67,7 @@ impl Lines {
         }
     }
 
-    /// Whether there was more. What is left, less than a line, goes to the front.
+    /// Returns whether there was more. Moves the unused rest, less than a line, to the front.
     fn read_more(&mut self) -> io::Result<bool> {
         self.block.copy_within(self.start..self.end, 0);
         self.end -= self.start;
@@ -85,8 +85,8 @@ impl Lines {
     }
 }
 
-/// Eight bytes at a time: behind the exclusive or a line feed is 0, and the lowest byte that is 0 is
-/// the lowest of which the top bit is left.
+/// Eight bytes at a time: a line feed is 0 after the exclusive or, and the lowest zero byte is the
+/// lowest whose top bit survives.
 fn find_line_feed(bytes: &[u8]) -> Option<usize> {
     const ONES: u64 = u64::MAX / 255;
     let (words, tail) = bytes.as_chunks();

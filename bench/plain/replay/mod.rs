@@ -1,4 +1,5 @@
-//! A script, line by line: read, performed, and its text written. A trace likewise, and checked.
+//! Processes a script line by line: parses and performs each line, and writes its output. Checks a
+//! trace in the same way.
 
 mod fields;
 mod lines;
@@ -16,7 +17,7 @@ use std::io;
 use text::Text;
 pub use trace::check;
 
-/// The most bytes that a message carries.
+/// The greatest length of a payload.
 pub const PAYLOAD: usize = 240;
 
 enum Fault {
@@ -39,7 +40,7 @@ impl Fault {
     }
 }
 
-/// Whether the whole script was performed. A fault is the last line of the text.
+/// Returns whether the whole script was performed. A fault is the last line of the text.
 pub fn replay(input: File, output: File) -> io::Result<bool> {
     let mut lines = Lines::new(input);
     let mut text = Text::new(output);
@@ -93,7 +94,7 @@ fn open(line: &[u8]) -> Result<Board, Fault> {
     }
 }
 
-/// Whether the line means something.
+/// Returns whether the line is well formed.
 fn perform(
     board: &mut Board,
     line: &[u8],

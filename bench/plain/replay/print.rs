@@ -67,7 +67,7 @@ pub fn put_notice(text: &mut Text, notice: &Notice) {
     }
 }
 
-/// Only resets give these, so they stand aside.
+/// Only resets emit these, so this is out of line.
 #[cold]
 #[inline(never)]
 fn put_withdrawn(text: &mut Text, ticket: u64, vp: u8, sint: u8) {

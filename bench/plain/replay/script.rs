@@ -1,4 +1,4 @@
-//! What a line of a script means.
+//! Parses the lines of a script.
 
 use super::PAYLOAD;
 use super::fields::Fields;
@@ -21,7 +21,7 @@ pub fn opening_of(line: &[u8]) -> Option<(u8, u8, u64)> {
     Some((processors, pages, ticket))
 }
 
-/// The first bytes decide. A payload is written where the event lends it from.
+/// Dispatches on the first bytes. A payload is decoded to the buffer that the event borrows.
 pub fn event_of<'a>(line: &[u8], payload: &'a mut [u8; PAYLOAD]) -> Option<Item<'a>> {
     let event = match line {
         [b'w', b'r', b'i', b't', b'e', b' ', rest @ ..] => write_of(Fields(rest)),
@@ -39,7 +39,7 @@ pub fn event_of<'a>(line: &[u8], payload: &'a mut [u8; PAYLOAD]) -> Option<Item<
     Some(Item::Event(event?))
 }
 
-/// An actor's number, and the event behind it.
+/// An actor's number and its event.
 pub fn entry_of<'a>(line: &[u8], payload: &'a mut [u8; PAYLOAD]) -> Option<Event<'a>> {
     let mut fields = Fields(line);
     fields.small()?;
@@ -99,7 +99,7 @@ fn tick_of(mut fields: Fields) -> Option<Event<'static>> {
     Some(Event::Tick { moment })
 }
 
-/// A processor is suspended, goes on or is reset. These come seldom, and stand aside.
+/// Suspend, resume and reset are rare, so they are out of line.
 #[inline(never)]
 fn rare_of(line: &[u8]) -> Option<Event<'static>> {
     let place = line.iter().position(|byte| *byte == b' ')?;

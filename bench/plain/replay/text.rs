@@ -1,14 +1,14 @@
-//! The text that a replay writes, gathered in one block.
+//! The output of a replay, collected in one block.
 
 use std::fs::File;
 use std::io::{self, Write};
 
 const BLOCK: usize = 65_536;
 
-/// What one line of a script writes fits into half a block.
+/// The output of one line of a script fits into half a block.
 const FULL: usize = BLOCK / 2;
 
-/// All numbers of two digits, one behind the other.
+/// All two-digit numbers, one after another.
 const PAIRS: [u8; 200] = {
     let mut pairs = [0; 200];
     let mut at = 0;
@@ -20,7 +20,7 @@ const PAIRS: [u8; 200] = {
     pairs
 };
 
-/// The least number with one digit more than the place says.
+/// The least number with one digit more than the index.
 const LEAST: [u64; 20] = {
     let mut least = [0; 20];
     let mut place = 1;
@@ -53,13 +53,13 @@ impl Text {
         self.output.write_all(&self.block[..length])
     }
 
-    /// What was gathered, which is not written.
+    /// Returns the collected text and empties the block.
     pub fn take(&mut self) -> &[u8] {
         let length = std::mem::take(&mut self.length);
         &self.block[..length]
     }
 
-    /// Flushes where the next line's text might not fit.
+    /// Flushes if the next line's output might not fit.
     #[inline(always)]
     pub fn flush_full(&mut self) -> io::Result<()> {
         if self.length < FULL {
@@ -132,7 +132,7 @@ impl Text {
     }
 }
 
-/// Each bit is worth 0.301 digits: so many, or one more.
+/// Each bit adds 0.301 digits, so the estimate is exact or one too small.
 #[inline(always)]
 fn count_digits(number: u64) -> usize {
     let bits = 64 - (number | 1).leading_zeros();

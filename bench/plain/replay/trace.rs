@@ -1,4 +1,5 @@
-//! A trace of either format, line by line: its entries are performed, and each reply is compared with the one due.
+//! A trace of either format, line by line: performs its entries, and compares each reply with that
+//! of the board.
 
 use super::lines::{Lines, Next};
 use super::open;
@@ -9,8 +10,8 @@ use crate::board::events::{Event, Notices};
 use std::fs::File;
 use std::io;
 
-/// Whether the text is a legal trace. Its verdict is written, with the number of entries or of the
-/// first wrong line.
+/// Returns whether the text is a legal trace. Writes the verdict, with the number of entries or of
+/// the first wrong line.
 pub fn check(input: File, output: File) -> io::Result<bool> {
     let mut lines = Lines::new(input);
     let mut text = Text::new(output);
@@ -30,7 +31,7 @@ pub fn check(input: File, output: File) -> io::Result<bool> {
     Ok(entries.is_some())
 }
 
-/// How many entries a legal trace has. If it is none, the last line that was read is wrong.
+/// The number of entries of a legal trace. Otherwise the last line read is wrong.
 fn count_entries(lines: &mut Lines, text: &mut Text) -> io::Result<Option<u64>> {
     let is_second = match lines.next(text)? {
         Next::Line(b"trace 1") => false,
