@@ -1,28 +1,28 @@
--- When each timer is due, and which is due first (TLFS, "Synthetic Timers").
+-- The deadlines of all timers, and the earliest one (TLFS, "Synthetic Timers").
 use Rattle.std.specs.Prelude.{◌≡◌, ◌≤◌, ℕ, zero, suc, ◌<◌, ◌+◌, ◌*◌, ◌/◌, ◌%◌, nat_lt, List, Option, None, Some, slice_index_or, if◌then◌else◌}
 use Rattle.std.specs.Option.{option_map_or, option_map}
 use Rattle.board_terms.specs.Quantities.{TimerId, Moment}
 
--- the due moment of each timer, or none: that of a timer stands at its number
+-- the deadline of each timer, by its number, or none
 abbrev pub Dues : Type 0
 Dues = List (Option Moment)
 
--- a timer is a processor and an index, and its number counts them in this order
+-- the number of a timer: 4 * processor + index
 abbrev pub number_of : TimerId → ℕ
 number_of t = 4 * t.0 + t.1
 
 abbrev pub timer_of : ℕ → TimerId
 timer_of n = (n / 4, n % 4)
 
--- when a timer is due
+-- the deadline of a timer
 abbrev pub due_of : Dues → TimerId → Option Moment
 due_of m t = slice_index_or m (number_of t) None
 
--- a timer that is due at d, and the least so far: the earlier, and of equals the least so far
+-- the lesser of a timer that is due at d and the least so far; on a tie, the least so far
 abbrev pub earlier : Option (ℕ × ℕ) → ℕ × ℕ → ℕ × ℕ
 earlier o x = option_map_or (λ r. if nat_lt x.0 r.0 then x else r) o x
 
--- the least due moment with its number, of the numbers below n
+-- the least deadline and its number, among the numbers below n
 unfoldable pub least_below : Dues → ℕ → Option (ℕ × ℕ)
 least_below m zero = None
 least_below m (suc n) = option_map_or (λ d. Some (earlier (least_below m n) (d, n))) (slice_index_or m n None) (least_below m n)
@@ -31,7 +31,7 @@ least_below m (suc n) = option_map_or (λ d. Some (earlier (least_below m n) (d,
 unfoldable pub least : Dues → Option (Moment × TimerId)
 least m = option_map (λ r. (r.0, timer_of r.1)) (least_below m 32)
 
--- the timer of number n is due at d, and none comes before it
+-- timer n is due at d, and no timer is before it in the order (due, processor, index)
 pub record IsLeast (m : Dues) (d n : ℕ) : Type 0 where
   pub low : n < 32
   pub due : slice_index_or m n None ≡ Some d

@@ -1,4 +1,4 @@
--- What a message tells of itself.
+-- The ticket of a message.
 use Rattle.std.specs.Prelude.{ℕ}
 use Rattle.board_terms.specs.declared.messages.Message.{Message}
 use Rattle.board_terms.specs.declared.messages.Message.TheVariants.{FromPort, FromTimer}

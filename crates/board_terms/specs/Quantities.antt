@@ -1,4 +1,4 @@
--- What the numbers of the definitions count, so that a signature says what it takes.
+-- Names for the numbers in the definitions, so that a signature says what it takes.
 use Rattle.std.specs.Prelude.{ℕ}
 
 -- a virtual processor, 0 to 7
@@ -9,30 +9,30 @@ Processor = ℕ
 abbrev pub Source : Type 0
 Source = ℕ
 
--- an interrupt vector, 0 to 255, of which those from 16 on can be requested (SDM volume 3, "Interrupt Priorities")
+-- an interrupt vector, 0 to 255; only those from 16 on can be requested (SDM volume 3, "Interrupt Priorities")
 abbrev pub Vector : Type 0
 Vector = ℕ
 
--- a timer: its processor, and its index 0 to 3 there (TLFS, "Synthetic Timers")
+-- a timer: its processor, and its index on it, 0 to 3 (TLFS, "Synthetic Timers")
 abbrev pub TimerId : Type 0
 TimerId = ℕ × ℕ
 
--- a port, 0 to 15, and a flag of a port for event flags (TLFS, "Ports")
+-- a port, 0 to 15, and the number of an event flag within a port (TLFS, "Ports")
 abbrev pub PortNumber : Type 0
 PortNumber = ℕ
 
 abbrev pub Flag : Type 0
 Flag = ℕ
 
--- a moment of the partition reference counter, in units of 100 ns; a due moment may exceed 64 bits
+-- a time of the partition reference counter, in units of 100 ns; a deadline may exceed 64 bits
 abbrev pub Moment : Type 0
 Moment = ℕ
 
--- the number that an accepted message takes
+-- the ticket of an accepted message
 abbrev pub Ticket : Type 0
 Ticket = ℕ
 
--- the number of a page of 4096 bytes, by guest physical address
+-- the number of a page of 4096 bytes: its guest physical address divided by 4096
 abbrev pub PageNumber : Type 0
 PageNumber = ℕ
 
@@ -40,7 +40,7 @@ PageNumber = ℕ
 abbrev pub Address : Type 0
 Address = ℕ
 
--- the number of a register, and what a register of 64 bits stores
+-- the number of a register, and the 64-bit value of a register
 abbrev pub RegisterNumber : Type 0
 RegisterNumber = ℕ
 

@@ -2,6 +2,6 @@
 use Rattle.std.specs.Prelude.{ℕ, ◌+◌, ◌*◌}
 use Rattle.board_terms.specs.Quantities.{Processor, Source}
 
--- the number of source i of processor p: those of processor 0 come first, sixteen of each
+-- the number of source i of processor p: 16 * p + i
 abbrev pub source_number : Processor → Source → ℕ
 source_number p i = 16 * p + i

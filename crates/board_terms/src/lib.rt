@@ -1,4 +1,4 @@
-//! The words of the board: numbers whose range is in the type, notices and refusals.
+//! The vocabulary of the board: numbers whose range is in the type, notices and refusals.
 #![tactic(auto)]
 
 mod messages;
@@ -19,8 +19,9 @@ pub use timer_id::TimerId;
 pub use vector::Vector;
 pub use vp::Vp;
 
-/// A moment of the partition reference counter, in units of 100 ns (TLFS, "Partition Reference Counter").
+/// A time of the partition reference counter, in units of 100 ns (TLFS, "Partition Reference
+/// Counter").
 pub type Moment = u64;
 
-/// The number that an accepted message takes. It is given once.
+/// The ticket of an accepted message. No ticket is given twice.
 pub type Ticket = u64;

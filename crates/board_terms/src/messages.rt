@@ -1,4 +1,4 @@
-// Messages, and the shapes of the ports that carry them and event flags.
+// Messages, and the shapes of ports.
 ghost use Rattle.std.specs.Prelude.{◌≡◌};
 ghost use Rattle.board_terms.specs.Messages.{ticket_of};
 
@@ -9,26 +9,27 @@ use arrayvec::ArrayVec;
 /// The payload of a message, at most 240 bytes (TLFS, "SynIC Message").
 pub type PayloadBytes = ArrayVec<u8, 240>;
 
-/// What a port is opened for.
+/// The shape of a port: messages or event flags.
 #[derive(Clone, Copy, PartialEq, Eq, Debug)]
 pub enum PortShape {
-    /// Messages, of which `buffers` may be queued at once: 1 to 16.
+    /// Messages, of which at most `buffers`, 1 to 16, may be queued at once.
     Messages { buffers: u8 },
-    /// The event flags from `base` on, `count` of them: at least one, and none from 2048 on.
+    /// The `count` event flags from `base` on. `count` is at least 1, and `base + count` at most
+    /// 2048.
     Flags { base: u16, count: u16 },
 }
 
-/// A message that was accepted, and the ticket that it took.
+/// An accepted message and its ticket.
 #[derive(PartialEq, Debug, Drop)]
 pub enum Message {
-    /// A post of a type (`kind`) to a port.
+    /// A message of type `kind` that was posted to a port.
     FromPort {
         ticket: Ticket,
         port: u8,
         kind: u32,
         payload: PayloadBytes,
     },
-    /// The message of a timer that expired for the moment `expiration`.
+    /// The message of a timer that was due at `expiration`.
     FromTimer {
         ticket: Ticket,
         timer: TimerId,
@@ -37,7 +38,7 @@ pub enum Message {
 }
 
 impl Message {
-    /// The ticket that it took.
+    /// The ticket of the message.
     pub fn ticket(&self) -> Ticket
         ensures { result ≡ ticket_of self.now }
     {

@@ -1,4 +1,4 @@
-// What an event tells beside its reply.
+// Notices: what an event did, in addition to its reply.
 ghost use Rattle.std.specs.Prelude.{◌≡◌, ◌<◌, ◌≤◌, [], ◌∷◌, ◌++◌, length, IfOk};
 
 use crate::sint::Sint;
@@ -8,10 +8,10 @@ use crate::{Moment, Ticket};
 use std::alloc::{AllocError, Global};
 use std::marker::Model;
 
-/// How many notices there is room for, more than any event gives.
+/// The capacity of a list of notices, more than any event emits.
 pub const ROOM: usize = 320;
 
-/// What an event tells beside its reply.
+/// Something that an event did, in addition to its reply.
 #[derive(Clone, Copy, PartialEq, Eq, Debug)]
 pub enum Notice {
     /// A message was appended to its queue.
@@ -27,15 +27,16 @@ pub enum Notice {
     FlagSet { vp: Vp, sint: Sint, flag: u16 },
     /// A guest store emptied a slot that held a ticket.
     Consumed { ticket: Ticket, vp: Vp, sint: Sint },
-    /// A queued message of a closed port was taken out.
+    /// A queued message of a closed port, or a queued or placed one of a reset processor, was
+    /// withdrawn.
     Withdrawn { ticket: Ticket, vp: Vp, sint: Sint },
-    /// A timer expired for the moment `due`.
+    /// A timer that was due at `due` expired.
     Expired { vp: Vp, index: u8, due: Moment },
-    /// A timer skipped `count` of its moments, at least one.
+    /// A timer skipped `count` of its deadlines, at least one.
     Skipped { vp: Vp, index: u8, count: u64 },
 }
 
-/// The notices of one event, in order. The room is made once, by `open`.
+/// The notices of one event, in order. `open` allocates the list once.
 #[derive(Drop)]
 pub struct Notices {
     items: Vec<Notice>,
@@ -53,7 +54,7 @@ impl Model for Notices {
 }
 
 impl Notices {
-    /// An empty list with room for 320. The only call here that may want memory.
+    /// An empty list with capacity for 320. The only call here that allocates.
     pub fn open(alloc: Global) -> Result<Notices, AllocError>
         ensures { IfOk result (λ n. n ≡ []) }
     {
@@ -61,7 +62,7 @@ impl Notices {
         Ok(Notices { items })
     }
 
-    /// Appends a notice. It takes no memory.
+    /// Appends a notice. Never allocates.
     pub fn push(&mut self, notice: Notice)
         requires { length self.old < 320 }
         ensures { self.new ≡ self.old ++ notice ∷ [] }
@@ -69,7 +70,7 @@ impl Notices {
         self.items.push_reserved(notice);
     }
 
-    /// Empties the list, and keeps the room.
+    /// Empties the list and keeps its capacity.
     pub fn clear(&mut self)
         ensures { self.new ≡ [] }
     {

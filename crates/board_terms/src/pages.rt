@@ -1,25 +1,25 @@
-// Guest pages: whose page a guest sees, and what it loads and stores.
+// Guest pages: which page a guest sees, and what it loads and stores.
 use crate::vp::Vp;
 use arrayvec::ArrayVec;
 
-/// At most 8 bytes, as a guest loads or stores them.
+/// The bytes of a guest load or store, at most 8.
 pub type Bytes8 = ArrayVec<u8, 8>;
 
-/// Which overlay page of a processor: the page of message slots (SIM) or that of event flags (SIEF).
+/// The two overlay pages of a processor: message slots (SIM) and event flags (SIEF).
 #[derive(Clone, Copy, PartialEq, Eq, Debug)]
 pub enum Kind {
     Sim,
     Sief,
 }
 
-/// Whose page a guest sees at a page number.
+/// Which page a guest sees at a page number.
 #[derive(Clone, Copy, PartialEq, Eq, Debug)]
 pub enum Owner {
-    /// The guest page itself.
+    /// The guest page.
     Guest,
-    /// The message page of a processor lies above it.
+    /// The message page of a processor, an overlay.
     Sim(Vp),
-    /// The event flags page of a processor lies above it.
+    /// The event flags page of a processor, an overlay.
     Sief(Vp),
     /// No page: the number is outside the guest's memory.
     Nothing,

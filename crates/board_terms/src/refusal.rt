@@ -1,10 +1,10 @@
-// Why an event was refused.
+// Refusals.
 ghost use Rattle.std.specs.Prelude.{◌≡◌};
 ghost use Rattle.board_terms.specs.Numbers.{refusal_number};
 
 use thiserror::Error;
 
-/// Why an event was refused. A refused event changes nothing and gives no notice.
+/// Why an event was refused. A refused event changes nothing and emits no notice.
 #[derive(Clone, Copy, PartialEq, Eq, Debug, Drop, Error)]
 pub enum Refusal {
     #[error("the port is not open")]
@@ -42,7 +42,7 @@ pub enum Refusal {
 }
 
 impl Refusal {
-    /// Its number, as the script's reply shows it.
+    /// Its number, as in a reply line of a script's output.
     pub fn number(self) -> u8
         ensures { result ≡ refusal_number self }
     {

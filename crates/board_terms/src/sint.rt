@@ -24,7 +24,7 @@ impl Model for Sint {
 }
 
 impl Sint {
-    /// The source of that number, `None` above 15.
+    /// The source with this number; `None` above 15.
     pub fn new(number: u8) -> Option<Sint>
         ensures valid { IsSome result ↔ (number < 16) }
         ensures value { IfSome result (λ s. s ≡ number) }
@@ -45,7 +45,7 @@ impl Sint {
     }
 }
 
-/// The number of a source among those of all processors, 0 to 127: those of processor 0 come first.
+/// The number of a source among those of all processors, 0 to 127: 16 * processor + source.
 #[inline]
 pub fn source_number(vp: Vp, sint: Sint) -> usize
     ensures value { result ≡ source_number vp sint }

@@ -25,7 +25,7 @@ impl Model for TimerId {
 }
 
 impl TimerId {
-    /// The timer of that index on a processor, `None` above 3.
+    /// The timer with this index on a processor; `None` above 3.
     pub fn new(vp: Vp, index: u8) -> Option<TimerId>
         ensures valid { IsSome result ↔ (index < 4) }
         ensures value { IfSome result (λ t. t ≡ (vp, index)) }
@@ -37,7 +37,7 @@ impl TimerId {
         }
     }
 
-    /// The timer of that number, 4 * processor + index; `None` above 31.
+    /// The timer with this number, 4 * processor + index; `None` above 31.
     pub fn from_number(number: u8) -> Option<TimerId>
         ensures valid { IsSome result ↔ (number < 32) }
         ensures value { IfSome result (λ t. t ≡ timer_of number) }

@@ -22,7 +22,7 @@ impl Model for Vector {
 }
 
 impl Vector {
-    /// The vector of that number, `None` below 16.
+    /// The vector with this number; `None` below 16.
     pub fn new(number: u8) -> Option<Vector>
         ensures valid { IsSome result ↔ (16 ≤ number) }
         ensures value { IfSome result (λ v. v ≡ number) }

@@ -22,7 +22,7 @@ impl Model for Vp {
 }
 
 impl Vp {
-    /// The processor of that number, `None` above 7.
+    /// The processor with this number; `None` above 7.
     pub fn new(number: u8) -> Option<Vp>
         ensures valid { IsSome result ↔ (number < 8) }
         ensures value { IfSome result (λ v. v ≡ number) }

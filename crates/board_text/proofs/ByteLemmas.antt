@@ -1,4 +1,4 @@
--- Bytes in two digits each.
+-- Bytes as two digits each.
 use Rattle.std.proofs.Common.{◌≡◌, ℕ, ◌+◌, ◌*◌, ◌/◌, ◌%◌, ◌<◌, ◌≤◌, List, [], ◌∷◌, ◌++◌, length, get_or, take, drop, ◌-◌, nat_eq, append-nil, refl, sym, ap, ◌∙◌, arith, Bool, false, append_assoc}
 use Rattle.std.specs.Bool.{MatchBool}
 use Rattle.std.specs.Fmt.{digit_glyph}
@@ -7,7 +7,7 @@ use Rattle.std.proofs.lemmas.List.Elements.{All-head, All-tail, All-push}
 use Rattle.board_text.proofs.DigitLemmas.{glyph-injective}
 use Rattle.board_text.specs.Numbers.{spelled, IsByte, AreBytes}
 
--- what begins so goes on so
+-- decoding a prefix leaves the rest to decode
 pub record GoesOn (xs r bytes : List ℕ) : Type 0 where
   pub more : List ℕ
   pub whole : bytes ≡ xs ++ more
@@ -33,7 +33,7 @@ pub spelled-push : (xs : List ℕ) (h l : ℕ) → h < 16 → l < 16 → spelled
 spelled-push [] h l a b = let high : (h * 16 + l) / 16 ≡ h = omega arith in let low : (h * 16 + l) % 16 ≡ l = omega arith in rw (high, low) refl
 spelled-push (x ∷ xs) h l a b = ap (λ (y : List ℕ). digit_glyph false (x / 16) ∷ digit_glyph false (x % 16) ∷ y) (spelled-push xs h l a b)
 
--- the byte that comes next
+-- decoding the next byte
 pub record Next (xs r bytes : List ℕ) : Type 0 where
   pub b : ℕ
   pub more : List ℕ

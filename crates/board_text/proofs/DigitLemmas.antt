@@ -84,7 +84,7 @@ module _ (base : ℕ) where
     less : (k n : ℕ) → n < base ^ suc k → n / base < base ^ k
     less k n h = (div-lt_iff_lt-mul (omega arith)).1 (omega (arith, pow-suc base k))
 
-    -- room for a digit more changes nothing
+    -- one more digit of capacity changes nothing
     onto-room : (k n : ℕ) (acc : List ℕ) → 0 < k → n < base ^ k → onto k n acc ≡ onto (suc k) n acc
     onto-room zero n acc some h = absurd (omega arith)
     onto-room (suc zero) n acc some h = go (nat_eq (n / base) 0) refl
@@ -160,7 +160,7 @@ decimal-more zero n more h = absurd (omega (arith, pow-zero 10))
 decimal-more (suc zero) n more h = absurd (omega arith)
 decimal-more (suc (suc k)) n more h = omega arith
 
--- a digit is put before what is written, and more are to come
+-- a digit is put before the digits so far, and more follow
 pub decimal-step : (k n : ℕ) (acc : List ℕ) → 0 < k → 10 ≤ n → digits_onto k 10 false n acc ≡ digits_onto (k - 1) 10 false (n / 10) ((48 + n % 10) ∷ acc)
 decimal-step k n acc some more = onto-step 10 k n acc some (λ e. omega (arith, e)) ∙ ap (λ (g : ℕ). digits_onto (k - 1) 10 false (n / 10) (g ∷ acc)) (decimal-glyph (n % 10) (omega arith))
 

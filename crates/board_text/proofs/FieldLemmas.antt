@@ -20,7 +20,7 @@ no_spaces : (text : List ℕ) → IsPlain text → All (λ (x : ℕ). nat_eq x 3
 no_spaces [] h = All-nil (λ (x : ℕ). nat_eq x 32 ≡ false)
 no_spaces (x ∷ xs) h = All-cons (λ (x : ℕ). nat_eq x 32 ≡ false) x xs (ne_eqb x 32 (λ e. let low = h.0 in omega arith)) (no_spaces xs h.1)
 
--- a number in front, and a space behind it
+-- a number, and a space after it
 pub at_number : (text : List ℕ) (i base n : ℕ) → i < length text → take i text ≡ digits base false n → get_or text i 0 ≡ 32 → fields_of text ≡ digits base false n ∷ fields_of (take (length text - (i + 1)) (drop (i + 1) text))
 at_number text i base n within is space =
     let others = subst (λ (front : List ℕ). All (λ (x : ℕ). nat_eq x 32 ≡ false) front) (sym is) (no_spaces (digits base false n) (digits-plain base n)) in

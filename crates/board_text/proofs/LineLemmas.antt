@@ -1,4 +1,4 @@
--- The lines of a text that goes on.
+-- The lines of a growing text.
 use Rattle.std.proofs.Common.{◌≡◌, ◌≢◌, ℕ, List, [], ◌∷◌, ◌++◌, append_assoc, cond, eqb, Bool, true, false, refl, sym, ap, ◌∙◌, ne_eqb, eq-eqb, eqb-true}
 use Rattle.board_text.specs.Lines.{lines_of, rest_of, onto_lines, onto_rest, joined, IsOneLine}
 
@@ -10,7 +10,7 @@ pub rest_of-line : (xs ys : List ℕ) → IsOneLine xs → rest_of (xs ++ 10 ∷
 rest_of-line [] ys h = refl
 rest_of-line (x ∷ xs) ys h = rw (ne_eqb x 10 h.0, lines_of-line xs ys h.1, rest_of-line xs ys h.1) refl
 
--- a line that goes on
+-- a line that continues
 abbrev pub before_lines : List ℕ → List (List ℕ) → List (List ℕ)
 before_lines xs [] = []
 before_lines xs (line ∷ lines) = (xs ++ line) ∷ lines
@@ -83,7 +83,7 @@ pub rest_of-joined : (lines : List (List ℕ)) (ys : List ℕ) → AreLines line
 rest_of-joined [] ys h = refl
 rest_of-joined (l ∷ lines) ys h = ap rest_of (append_assoc l (10 ∷ joined lines) ys) ∙ rest_of-line l (joined lines ++ ys) h.0 ∙ rest_of-joined lines ys h.1
 
--- a text is its lines, and what stands behind the last line feed
+-- a text is its lines, and the rest after the last line feed
 pub record IsCut (text : List ℕ) (lines : List (List ℕ)) (rest : List ℕ) : Type 0 where
   pub each : AreLines lines
   pub one : IsOneLine rest

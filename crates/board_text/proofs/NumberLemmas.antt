@@ -59,7 +59,7 @@ so_far-more base text (suc i) n d low high within first digit small is h =
       spells = λ _. take_more text (suc i) 0 within ∙ ap (λ (x : ℕ). take (suc i) text ++ x ∷ []) is ∙ ap (λ (x : List ℕ). x ++ digit_glyph false d ∷ []) (h.spells (omega arith)) ∙ sym (digits-push base low high n d digit some (let few = h.small in omega arith));
     }
 
--- a digit more of a number that has room for it
+-- one more digit of a number that has capacity for it
 pub front-room : (base i longest n d : ℕ) → 10 ≤ base → i < longest → base ^ longest ≤ 2 ^ 64 → n < base ^ i → d < base → (n * base + d < base ^ (i + 1)) × (n * base + d < 2 ^ 64)
 front-room base i longest n d low within few small digit =
     let product : (n + 1) * base ≤ base ^ i * base = mul-le-mul_right base (omega (arith, small)) in
@@ -103,7 +103,7 @@ pub no_zero-first : (base : ℕ) (text : List ℕ) (n : ℕ) → 10 ≤ base →
 no_zero-first base text zero low high small first long e = let one = ap length (e ∙ digits-one base low high 0 (omega arith)) in omega arith
 no_zero-first base text (suc n) low high small first long e = digits-first base low high (suc n) (omega arith) (let wide = pow-le-pow_left low 64 in omega arith) (sym (ap (λ (x : List ℕ). get_or x 0 0) e) ∙ first)
 
--- What is read is what is spelled so.
+-- A text decodes to a number iff the number is spelled so.
 module _ (spell : ℕ → List ℕ) (value : List ℕ → ℕ) (limit : ℕ) (reads : (n : ℕ) → n < limit → value (spell n) ≡ n) where
   abbrev pub number_at : ℕ → List ℕ → Option ℕ
   number_at most text = cond (nat_le (value text) most && bytes_eq text (spell (value text))) (Some (value text)) None
@@ -146,7 +146,7 @@ decimal_at-answer = number_at-answer decimal (digits_value 10) (2 ^ 64) decimal-
 pub hex_at-answer : (most : ℕ) (text : List ℕ) (r : Option ℕ) → most < 2 ^ 64 → IfSome r (λ n. (n ≤ most) × (text ≡ hex n)) → IfNone r ((n : ℕ) → n ≤ most → text ≡ hex n → ⊥) → r ≡ hex_at most text
 hex_at-answer = number_at-answer hex (digits_value 16) (2 ^ 64) hex-value
 
--- a number has one text, and a text is that of one number
+-- each number has one text, and each such text one number
 pub decimal_at-spelled : (most n : ℕ) → most < 2 ^ 64 → n ≤ most → decimal_at most (decimal n) ≡ Some n
 decimal_at-spelled = number_at-spelled decimal (digits_value 10) (2 ^ 64) decimal-value
 

@@ -1,4 +1,4 @@
--- What a source has taken so far.
+-- What a source has read and taken so far.
 use Rattle.std.proofs.Common.{◌≡◌, ◌≢◌, ℕ, ◌+◌, ◌-◌, ◌<◌, ◌≤◌, min, zero, suc, List, [], ◌∷◌, ◌++◌, length, length-append, take, drop, get_or, slice_range, Option, refl, sym, ap, ◌∙◌, arith, append_assoc}
 use Rattle.std.proofs.Math.Seq.{split_at, take-append-add}
 use Rattle.std.proofs.lemmas.Slice.{take-put_mid}
@@ -11,7 +11,7 @@ use Rattle.board_text.specs.Buffered.{Buffered}
 use Rattle.board_text.specs.Lines.{IsOneLine}
 use Rattle.board_text.specs.Streams.{Grows}
 
--- more came, and was put behind what waited
+-- more bytes were read, and appended to the buffered ones
 pub record SearchedSoFar (r0 r w0 w : Option (List ℕ)) (old now : Buffered) : Type 0 where
   pub came : List ℕ
   pub reads : Consumes r0 r came
@@ -44,7 +44,7 @@ cut_at u v k within =
     let tail : drop (suc k) u ++ v ≡ drop (k + 1) (u ++ v) = ap (λ (n : ℕ). drop n u ++ v) next ∙ sym (drop-append-le (k + 1) u v (omega arith)) in
     ap (λ (x : List ℕ). x ++ v) (split_at u k 0 within) ∙ append_assoc (take k u) (get_or u k 0 ∷ drop (suc k) u) v ∙ ap (λ (x : List ℕ). take k u ++ get_or u k 0 ∷ x) tail
 
--- what is left behind the first bytes
+-- what is left after the first bytes
 pub range-left : (bytes : List ℕ) (at j end : ℕ) → at + j ≤ end → drop j (slice_range bytes at end) ≡ slice_range bytes (at + j) end
 range-left bytes at j end fits =
     let long : end - at ≡ j + (end - (at + j)) = omega arith in
@@ -55,7 +55,7 @@ take_short zero xs = omega arith
 take_short (suc n) [] = omega arith
 take_short (suc n) (x ∷ xs) = let h = take_short n xs in omega arith
 
--- what waits, cut at a place near enough
+-- the buffered bytes, cut at an index that is near enough
 pub piece-cut : (bytes : List ℕ) (at end n k : ℕ) → at ≤ end → k < length (take n (slice_range bytes at end)) → slice_range bytes at end ≡ take k (take n (slice_range bytes at end)) ++ get_or (take n (slice_range bytes at end)) k 0 ∷ slice_range bytes (at + (k + 1)) end
 piece-cut bytes at end n k fits within =
     let w = slice_range bytes at end in
@@ -64,13 +64,13 @@ piece-cut bytes at end n k fits within =
     let bound : length w ≤ end - at = take_short (end - at) (drop at bytes) in
     sym all ∙ cut_at (take n w) (drop n w) k within ∙ ap (λ (x : List ℕ). take k (take n w) ++ get_or (take n w) k 0 ∷ x) (ap (drop (k + 1)) all ∙ range-left bytes at (k + 1) end (omega (arith, room, bound, fits)))
 
--- the front of what waits
+-- the first of the buffered bytes
 pub range-front : (bytes : List ℕ) (at end n k : ℕ) → k ≤ n → k ≤ end - at → slice_range bytes at (at + k) ≡ take k (take n (slice_range bytes at end))
 range-front bytes at end n k near within =
     let one : at + k - at ≡ k = omega arith in
     ap (λ (m : ℕ). take m (drop at bytes)) one ∙ sym (take-take k (end - at) (drop at bytes) within) ∙ sym (take-take k n (slice_range bytes at end) near)
 
--- the front was moved, and a part behind it was written
+-- the buffered bytes were moved to the front, and new ones were written after them
 pub refill-bytes : (bytes buf : List ℕ) (at end room n : ℕ) → at ≤ end → end ≤ length bytes → end + room ≤ at + length bytes → length buf ≡ room → n ≤ room →
     take (length (slice_range bytes at end) + n) (put_mid (end - at) (end - at + room - (end - at)) (copy_within bytes at end 0) buf) ≡ slice_range bytes at end ++ take n buf
 refill-bytes bytes buf at end room n range within fits long few =
@@ -85,7 +85,7 @@ refill-bytes bytes buf at end room n range within fits long few =
     let whole : take (held + length buf) all ≡ front ++ buf = take-put_mid held (held + room - held) moved buf (held + length buf) refl (omega arith) ∙ ap (λ (x : List ℕ). x ++ buf) first in
     sym (take-take (length front + n) (held + length buf) all (omega arith)) ∙ ap (take (length front + n)) whole ∙ take-append-add front buf n
 
--- What is near of what waits holds a line feed, or is all, or is 641 bytes.
+-- The near part of the buffered bytes has a line feed, or is all of them, or has 641 bytes.
 module _ (bytes : List ℕ) (at end near : ℕ) (range : at ≤ end) (is : near ≡ min (length (slice_range bytes at end)) 641) where
   pub near-line : (k : ℕ) → k < length (take near (slice_range bytes at end)) → IsOneLine (take k (take near (slice_range bytes at end))) → get_or (take near (slice_range bytes at end)) k 0 ≡ 10 →
       (slice_range bytes at end ≡ slice_range bytes at (at + k) ++ 10 ∷ slice_range bytes (at + (k + 1)) end) × IsOneLine (slice_range bytes at (at + k)) × (length (slice_range bytes at (at + k)) ≤ 640)

@@ -1,7 +1,7 @@
--- What a source has buffered.
+-- The abstract state of a source.
 use Rattle.std.specs.Prelude.{ℕ, List, []}
 
--- the line that was found last, the bytes that came and were not yet taken, and how many more may come
+-- the line found last, the bytes read but not yet taken, and how many more may be read
 pub record Buffered : Type 0 where
   pub line : List ℕ
   pub waiting : List ℕ

@@ -1,7 +1,7 @@
 -- A text as its lines.
 use Rattle.std.specs.Prelude.{◌≢◌, ℕ, List, [], ◌∷◌, ◌++◌, ◌==◌, if◌then◌else◌}
 
--- b, and then the first line
+-- prepends b to the first line
 abbrev pub onto_lines : ℕ → List (List ℕ) → List (List ℕ)
 onto_lines b [] = []
 onto_lines b (line ∷ lines) = (b ∷ line) ∷ lines

@@ -1,4 +1,4 @@
--- Numbers and bytes as a text writes them: lower case, no leading zero, each in one way.
+-- The text forms of numbers and bytes: lower case, no leading zero. Each number has exactly one.
 use Rattle.std.specs.Prelude.{◌∷◌, [], ◌/◌, ◌%◌, ◌&&◌, ℕ, List, Option, None, Some, false, if◌then◌else◌, ◌<◌, nat_le, decimal}
 use Rattle.std.specs.Fmt.{digits, digit_glyph}
 use Rattle.std.specs.List.{All}
@@ -17,14 +17,14 @@ abbrev pub spelled : List ℕ → List ℕ
 spelled [] = []
 spelled (b ∷ bytes) = digit_glyph false (b / 16) ∷ digit_glyph false (b % 16) ∷ spelled bytes
 
--- the number up to `most` that is written so
+-- the number, at most `most`, that this text denotes
 abbrev pub decimal_at : ℕ → List ℕ → Option ℕ
 decimal_at most text = let n = digits_value 10 text in if nat_le n most && bytes_eq text (decimal n) then Some n else None
 
 abbrev pub hex_at : ℕ → List ℕ → Option ℕ
 hex_at most text = let n = digits_value 16 text in if nat_le n most && bytes_eq text (hex n) then Some n else None
 
--- the byte that is written so, in two digits
+-- the byte that two digits denote
 abbrev pub byte_at : List ℕ → Option ℕ
 byte_at text = let b = digits_value 16 text in if nat_le b 255 && bytes_eq text (two_digits b) then Some b else None
 

@@ -1,4 +1,4 @@
-// Bytes in two hexadecimal digits each.
+// Bytes as two hexadecimal digits each.
 ghost use Rattle.std.specs.Prelude.{◌≡◌, ℕ, List, ◌<◌, ◌≤◌, ◌++◌, length, IfSome, IfNone, OnOk};
 ghost use Rattle.std.specs.Bool.{MatchBool};
 ghost use Rattle.board_text.specs.Numbers.{spelled, two_digits, byte_at, AreBytes};
@@ -7,7 +7,7 @@ use crate::numbers::{digit_of, glyph_of};
 use arrayvec::ArrayVec;
 use std::alloc::AllocError;
 
-/// The byte that is written so, in two digits.
+/// The byte that two digits denote.
 #[inline(always)]
 pub fn byte_of(text: &[u8]) -> Option<u8>
     ensures found { IfSome result (λ b. text.now ≡ two_digits b) }
@@ -22,8 +22,8 @@ pub fn byte_of(text: &[u8]) -> Option<u8>
     Some(high * 16 + low)
 }
 
-/// Puts in `out` the bytes that are written so, two digits each, and says whether the text is that
-/// of bytes that `out` has room for. If it is not, `out` holds some bytes.
+/// Decodes two digits for each byte into `out`. Returns whether the whole text decodes and fits
+/// into `out`; if not, `out` holds some of the bytes.
 pub fn bytes_of<const N: usize>(text: &[u8], out: &mut ArrayVec<u8, N>) -> bool
     ensures { MatchBool result ((text.now ≡ spelled out.new.items) × AreBytes out.new.items)
         ((bytes : List ℕ) → AreBytes bytes → length bytes ≤ N → text.now ≡ spelled bytes → ⊥) }
@@ -46,7 +46,7 @@ pub fn bytes_of<const N: usize>(text: &[u8], out: &mut ArrayVec<u8, N>) -> bool
     rest.is_empty()
 }
 
-/// Writes a byte in two digits at the end of `out`.
+/// Appends a byte to `out` as two digits. An error is an allocation failure.
 #[inline(always)]
 pub fn put_byte(out: &mut Vec<u8>, byte: u8) -> Result<(), AllocError>
     ensures { OnOk result (out.new.items ≡ out.old.items ++ two_digits byte) }
@@ -55,7 +55,7 @@ pub fn put_byte(out: &mut Vec<u8>, byte: u8) -> Result<(), AllocError>
     out.extend_from_slice(&digits)
 }
 
-/// Writes bytes at the end of `out`, two digits each.
+/// Appends bytes to `out`, two digits each. An error is an allocation failure.
 pub fn put_bytes(out: &mut Vec<u8>, bytes: &[u8]) -> Result<(), AllocError>
     ensures { OnOk result (out.new.items ≡ out.old.items ++ spelled bytes.now) }
 {

@@ -1,4 +1,4 @@
-// The fields of a line, one by one.
+// The fields of a line, one at a time.
 ghost use Rattle.std.specs.Prelude.{◌≡◌, ◌↔◌, ◌≤◌, ◌^◌, [], Option, IsTrue, IfSome};
 ghost use Rattle.std.specs.Str.{bytes_eq};
 ghost use Rattle.board_text.specs.Fields.{fields_of, TakesField, ReadsField};
@@ -8,8 +8,8 @@ ghost use Rattle.board_text.specs.Numbers.{decimal_at, hex_at};
 use crate::numbers::{decimal_of, hex_of, short_number};
 use std::marker::Model;
 
-/// Whether a field is that word. The length is known where this is called, so that the comparison has
-/// no loop there.
+/// Whether a field is that word. `N` is constant at each caller, so the comparison compiles to no
+/// loop.
 #[inline(always)]
 pub fn is_word<const N: usize>(field: &[u8], word: &[u8; N]) -> bool
     ensures { result ≡ bytes_eq field.now word.now }
@@ -25,8 +25,8 @@ pub fn is_word<const N: usize>(field: &[u8], word: &[u8; N]) -> bool
     true
 }
 
-/// The fields of a line that were not yet taken. Single spaces part them, so an empty line has one
-/// empty field, and two spaces in a row have one between them.
+/// The fields of a line that were not yet taken. Single spaces separate them, so an empty line has
+/// one empty field, and two adjacent spaces have an empty field between them.
 #[derive(Drop)]
 pub struct Fields<'a> {
     rest: Option<&'a [u8]>,
@@ -66,7 +66,8 @@ impl<'a> Fields<'a> {
         Some(rest)
     }
 
-    /// The next field, if it is a decimal number up to `most`. If it is not, some fields are left.
+    /// Takes the next field, if it is a decimal number up to `most`. `None` otherwise; then some
+    /// fields are left.
     #[inline(always)]
     pub fn decimal(&mut self, most: u64) -> Option<u64>
         ensures read { ReadsField (decimal_at most) result self.old self.new }
@@ -78,7 +79,8 @@ impl<'a> Fields<'a> {
         self.long_decimal(most)
     }
 
-    /// The next field, if it is a hexadecimal number up to `most`. If it is not, some fields are left.
+    /// Takes the next field, if it is a hexadecimal number up to `most`. `None` otherwise; then
+    /// some fields are left.
     #[inline(always)]
     pub fn hexadecimal(&mut self, most: u64) -> Option<u64>
         ensures read { ReadsField (hex_at most) result self.old self.new }
@@ -90,8 +92,8 @@ impl<'a> Fields<'a> {
         self.long_hexadecimal(most)
     }
 
-    /// The next field, if it is a number up to `most` of not too many digits. If it is not, nothing was
-    /// taken.
+    /// Takes the next field, if it is a number up to `most` with at most `digits` digits. Takes
+    /// nothing otherwise.
     #[inline(always)]
     fn short(&mut self, base: u64, digits: usize, most: u64) -> Option<u64>
         requires low { 10 ≤ base }

@@ -1,14 +1,14 @@
-// Short texts that are written from their end to their front, so that a number needs no count of its
-// digits, and a line is formed in one place.
+// Short texts written from the end to the front, so that a number needs no count of its digits, and
+// a line is formed in one buffer.
 ghost use Rattle.std.specs.Prelude.{◌≡◌, ◌+◌, ◌≤◌, ◌<◌, ◌++◌, decimal, drop};
 ghost use Rattle.board_text.specs.Numbers.{two_digits};
 
 use crate::numbers::glyph_of;
 
-/// How many bytes such a text has room for.
+/// The capacity of the buffer.
 pub const ROOM: usize = 96;
 
-/// Writes a text before a place, and says where it begins.
+/// Writes a text that ends before `at`, and returns where it begins.
 #[inline(always)]
 pub fn text_before<const N: usize>(room: &mut [u8; ROOM], at: usize, text: &[u8; N]) -> usize
     requires place { at ≤ 96 }
@@ -21,7 +21,7 @@ pub fn text_before<const N: usize>(room: &mut [u8; ROOM], at: usize, text: &[u8;
     start
 }
 
-/// Writes a number in decimal before a place, and says where it begins.
+/// Writes a decimal number that ends before `at`, and returns where it begins.
 #[inline(always)]
 pub fn decimal_before(room: &mut [u8; ROOM], at: usize, n: u64) -> usize
     requires place { at ≤ 96 }
@@ -42,7 +42,7 @@ pub fn decimal_before(room: &mut [u8; ROOM], at: usize, n: u64) -> usize
     start
 }
 
-/// Writes a byte in two hexadecimal digits before a place, and says where it begins.
+/// Writes a byte as two hexadecimal digits that end before `at`, and returns where it begins.
 #[inline(always)]
 pub fn byte_before(room: &mut [u8; ROOM], at: usize, byte: u8) -> usize
     requires place { at ≤ 96 }

@@ -1,4 +1,4 @@
-//! What every text of the program needs: numbers both ways, fields, lines of a reader, and sending.
+//! Text input and output of the program: numbers, fields, the lines of a reader, and writing.
 #![tactic(auto)]
 
 mod bytes;

@@ -7,7 +7,7 @@ ghost use Rattle.board_text.specs.inside.Parsing.{IsFront};
 use itoa::{Buffer, Integer};
 use std::alloc::AllocError;
 
-/// The number that is written so in decimal, if it is at most `most`: no leading zero, no sign.
+/// The number that a decimal text denotes, if it is at most `most`: no leading zero, no sign.
 pub fn decimal_of(text: &[u8], most: u64) -> Option<u64>
     ensures found { IfSome result (λ n. (n ≤ most) × (text.now ≡ decimal n)) }
     ensures none { IfNone result ((n : ℕ) → n ≤ most → text.now ≡ decimal n → ⊥) }
@@ -17,7 +17,8 @@ pub fn decimal_of(text: &[u8], most: u64) -> Option<u64>
     if n <= most { Some(n) } else { None }
 }
 
-/// The number that is written so in hexadecimal, if it is at most `most`: lower case, no leading zero.
+/// The number that a hexadecimal text denotes, if it is at most `most`: lower case, no leading
+/// zero.
 pub fn hex_of(text: &[u8], most: u64) -> Option<u64>
     ensures found { IfSome result (λ n. (n ≤ most) × (text.now ≡ hex n)) }
     ensures none { IfNone result ((n : ℕ) → n ≤ most → text.now ≡ hex n → ⊥) }
@@ -27,8 +28,8 @@ pub fn hex_of(text: &[u8], most: u64) -> Option<u64>
     if n <= most { Some(n) } else { None }
 }
 
-/// The number of few digits that a text begins with, and how many they are. It ends at a space or with
-/// the text.
+/// The number at the front of a text, with at most `digits` digits, and its length. A space or the
+/// end of the text must follow.
 #[inline(always)]
 pub(crate) fn short_number(text: &[u8], base: u64, digits: usize) -> Option<(u64, usize)>
     requires low { 10 ≤ base }
@@ -51,7 +52,7 @@ pub(crate) fn short_number(text: &[u8], base: u64, digits: usize) -> Option<(u64
     None
 }
 
-/// The same of a text that does not begin with a zero.
+/// The same for a text that does not begin with a zero.
 #[inline(always)]
 fn positive_front(text: &[u8], base: u64, digits: usize) -> Option<(u64, usize)>
     requires low { 10 ≤ base }
@@ -85,7 +86,7 @@ fn positive_front(text: &[u8], base: u64, digits: usize) -> Option<(u64, usize)>
     Some((n, count))
 }
 
-/// What a digit of at most 16 stands for, in lower case.
+/// The value of a digit of base 16 or less, in lower case.
 #[inline(always)]
 pub(crate) fn digit_of(c: u8) -> Option<u8>
     ensures { MatchOption result ((d : ℕ) → d < 16 → c ≡ digit_glyph false d → ⊥) (λ d. (d < 16) × (c ≡ digit_glyph false d)) }
@@ -97,7 +98,7 @@ pub(crate) fn digit_of(c: u8) -> Option<u8>
     }
 }
 
-/// The digit that stands for a number below 16.
+/// The digit of a value below 16.
 #[inline(always)]
 pub(crate) fn glyph_of(digit: u8) -> u8
     requires { digit < 16 }
@@ -107,7 +108,7 @@ pub(crate) fn glyph_of(digit: u8) -> u8
     glyphs[digit as usize]
 }
 
-/// The number below 2^64 that is written so.
+/// The number below 2^64 that a text denotes.
 fn number_of(text: &[u8], base: u64) -> Option<u64>
     requires low { 10 ≤ base }
     requires high { base ≤ 16 }
@@ -123,7 +124,7 @@ fn number_of(text: &[u8], base: u64) -> Option<u64>
     if text.len() == 1 { Some(0) } else { None }
 }
 
-/// The same of a text that does not begin with a zero.
+/// The same for a text that does not begin with a zero.
 fn positive_of(text: &[u8], base: u64) -> Option<u64>
     requires low { 10 ≤ base }
     requires high { base ≤ 16 }
@@ -152,7 +153,8 @@ fn positive_of(text: &[u8], base: u64) -> Option<u64>
     Some(n)
 }
 
-/// Writes a number in decimal at the end of `out`, a signed one with its sign.
+/// Appends a number to `out` in decimal, with its sign if it is negative. An error is an allocation
+/// failure.
 pub fn put_decimal<I: Integer>(out: &mut Vec<u8>, n: I) -> Result<(), AllocError>
     ensures { OnOk result (out.new.items ≡ out.old.items ++ I.text n) }
 {
@@ -160,7 +162,7 @@ pub fn put_decimal<I: Integer>(out: &mut Vec<u8>, n: I) -> Result<(), AllocError
     out.extend_from_slice(buffer.format(n).as_bytes())
 }
 
-/// Writes a number in hexadecimal at the end of `out`.
+/// Appends a number to `out` in hexadecimal. An error is an allocation failure.
 pub fn put_hex(out: &mut Vec<u8>, n: u64) -> Result<(), AllocError>
     ensures { OnOk result (out.new.items ≡ out.old.items ++ hex n) }
 {
@@ -169,7 +171,7 @@ pub fn put_hex(out: &mut Vec<u8>, n: u64) -> Result<(), AllocError>
     out.extend_from_slice(&text[start..])
 }
 
-/// Writes the number in hexadecimal at the end of `out`, and says where it begins.
+/// Writes the number in hexadecimal at the end of `out`, and returns where it begins.
 fn write_hex(n: u64, out: &mut [u8; 16]) -> usize
     ensures bound { result ≤ 16 }
     ensures value { drop result out.new ≡ hex n }

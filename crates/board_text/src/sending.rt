@@ -1,11 +1,11 @@
-// Sending.
+// Writing to a stream.
 ghost use Rattle.std.specs.Prelude.{◌≡◌, ℕ, ◌++◌, List, [], IsTrue};
 ghost use Rattle.std.specs.Io.KnownBytes.{Appends};
 
 use std::io::Write;
 
-/// Writes all of the bytes, unless a write fails or takes nothing: no write is tried again. What was
-/// written is a beginning of them.
+/// Writes all of the bytes; false if a write fails or returns 0, which is not retried. Then a
+/// prefix of them was written.
 #[inline(always)]
 pub fn send<W: Write>(writer: &mut W, bytes: &[u8]) -> bool
     ensures { (sent rest : List ℕ) × Appends (W.contents writer.old) (W.contents writer.new) sent

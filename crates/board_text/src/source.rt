@@ -11,15 +11,15 @@ use std::alloc::{AllocError, Global};
 use std::io::{Read, Write};
 use std::marker::Model;
 
-/// How many bytes are read at most. One byte more is a failed read.
+/// The greatest number of bytes that are read. If the reader has more, the read fails.
 pub const LIMIT: u64 = 1_073_741_824;
 
-/// How many bytes a line has at most, before its line feed.
+/// The greatest length of a line, without its line feed.
 pub const LONGEST: usize = 640;
 
 const ROOM: usize = 65_536;
 
-/// Reads a reader's bytes in blocks, and finds their lines. Its memory is made when it is opened.
+/// Reads a stream in blocks and finds its lines. Allocates only in `open`.
 #[derive(Drop)]
 pub struct Source {
     bytes: Vec<u8>,
@@ -60,23 +60,23 @@ enum Scan {
     Short,
 }
 
-/// What came of looking for the next line.
+/// The result of looking for the next line.
 #[derive(Clone, Copy, PartialEq, Eq, Debug)]
 pub enum NextLine {
-    /// It is whole.
+    /// A whole line with a line feed.
     Whole,
-    /// It has more than 640 bytes.
+    /// The line has more than 640 bytes.
     Long,
-    /// The input has ended, and the line is what is left: nothing, or a line with no line feed.
+    /// The input has ended, and the line is the rest: nothing, or a line without a line feed.
     Last,
-    /// A read failed, or the reader has more bytes than are read.
+    /// A read failed, or the input exceeds the limit.
     ReadFailed,
     /// The flush before a read failed.
     FlushFailed,
 }
 
 impl Source {
-    /// With the first line still to be found.
+    /// A source before its first line.
     pub fn open(alloc: Global) -> Result<Source, AllocError>
         ensures { IfOk result (λ s. s ≡ at_start) }
     {
@@ -91,15 +91,15 @@ impl Source {
         })
     }
 
-    /// The line that was found last, without its line feed.
+    /// The line found last, without its line feed.
     pub fn line(&self) -> &[u8]
         ensures { result.now ≡ self.now.line }
     {
         &self.bytes[self.line_at..self.line_end]
     }
 
-    /// Finds the next line. The writer is flushed before each read, since the peer that reads what
-    /// was written may be the one whose bytes are waited for.
+    /// Finds the next line. Flushes the writer before each read: the peer may wait for the output
+    /// before it sends more input.
     pub fn next_line<R: Read, W: Write>(&mut self, reader: &mut R, writer: &mut W) -> NextLine
         ensures written { Keeps (W.contents writer.old) (W.contents writer.new) }
         ensures found { (came : List ℕ) × Consumes (R.remaining reader.old) (R.remaining reader.new) came
@@ -123,7 +123,7 @@ impl Source {
         }
     }
 
-    /// Takes the next line of what waits, if it is there.
+    /// Takes the next line from the buffer, if it is there.
     fn scan(&mut self) -> Scan
         ensures { Scans result self.old self.new }
     {
@@ -141,7 +141,7 @@ impl Source {
         Scan::Short
     }
 
-    /// Takes all that waits as the line.
+    /// Takes all buffered bytes as the line.
     fn take_rest(&mut self)
         ensures line { self.new.line ≡ self.old.waiting }
         ensures waiting { self.new.waiting ≡ [] }
@@ -152,7 +152,7 @@ impl Source {
         self.at = self.end;
     }
 
-    /// Reads once, behind what waits, while the budget lasts.
+    /// Reads once, after the buffered bytes, within the budget.
     fn fill<R: Read, W: Write>(&mut self, reader: &mut R, writer: &mut W) -> Fill
         requires { length self.old.waiting ≤ 640 }
         ensures written { Keeps (W.contents writer.old) (W.contents writer.new) }
@@ -181,7 +181,7 @@ impl Source {
         }
     }
 
-    /// Looks whether the input ends where the budget does.
+    /// Checks whether the input ends where the budget does.
     fn probe<R: Read>(&self, reader: &mut R) -> Fill
         ensures { (came : List ℕ) × Consumes (R.remaining reader.old) (R.remaining reader.new) came
             × Fills result (IsAtEnd (R.remaining reader.new)) self.now self.now came }
@@ -194,8 +194,8 @@ impl Source {
     }
 }
 
-/// Moves `bytes[at..end]` to the front, reads once behind it, at most `room` bytes, and says how
-/// many came, if the read did not fail.
+/// Moves `bytes[at..end]` to the front, and reads once, at most `room` bytes, after it. Returns how
+/// many bytes were read, unless the read failed.
 fn refill<R: Read>(
     bytes: &mut [u8],
     at: usize,
@@ -218,7 +218,7 @@ fn refill<R: Read>(
     }
 }
 
-/// Where the first line feed is.
+/// The index of the first line feed.
 fn feed(text: &[u8]) -> Option<usize>
     ensures { MatchOption result (IsOneLine text.now) (λ k. (k < length text.now) × IsOneLine (take k text.now) × (get_or text.now k 0 ≡ 10)) }
 {

@@ -1,4 +1,4 @@
-//! A number that contracts alone see.
+//! A ghost counter: a number that exists only in contracts.
 #![tactic(auto)]
 
 ghost use Rattle.std.specs.Prelude.{◌≡◌, ◌+◌, ℕ};
@@ -6,7 +6,7 @@ ghost use base.Fml.{ftrue};
 
 use std::marker::{Model, PhantomData};
 
-/// A number that contracts alone see. It takes no bytes.
+/// A ghost number. It takes no bytes.
 pub struct Count {
     marker: PhantomData<()>,
     pub ghost number: { ℕ },
@@ -25,7 +25,7 @@ impl Count {
         }
     }
 
-    /// One more.
+    /// The successor of a count.
     pub fn after(previous: &Count) -> Count
         ensures { result.number ≡ previous.now.number + 1 }
     {
@@ -42,5 +42,6 @@ impl Drop for Count {
     }
 }
 
-// It has no bytes, and what it says holds in any thread. So what has a count may go to another thread.
+// A count has no bytes, and its ghost value does not depend on the thread. So a type that contains
+// one can be `Send`.
 unsafe impl Send for Count {}

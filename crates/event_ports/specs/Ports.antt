@@ -10,7 +10,7 @@ use Rattle.event_ports.specs.declared.ports.Port.{Port}
 use Rattle.event_ports.specs.Shapes.{fits}
 
 pub record Ports : Type 0 where
-  -- how many processors are on the board
+  -- the number of processors on the board
   pub processors : ℕ
   -- the ports 0 to 15
   pub ports : List (Option Port)
@@ -18,7 +18,7 @@ pub record Ports : Type 0 where
 abbrev pub no_ports : ℕ → Ports
 no_ports n = record { processors = n; ports = replicate 16 None }
 
--- an open port, none above 15
+-- the open port with this number; none above 15
 abbrev pub port_at : Ports → PortNumber → Option Port
 port_at s n = slice_index_or s.ports n None
 
@@ -32,7 +32,7 @@ without_port s n = record s { ports = slice_set s.ports n None }
 abbrev pub is_target : Ports → Processor → Source → Bool
 is_target s vp sint = nat_lt vp s.processors && nat_lt sint 16
 
--- why a port is not opened, in the order in which it is judged
+-- why a port cannot be opened; the checks are in this order
 abbrev pub open_refusal : Ports → PortNumber → Processor → Source → PortShape → Option Refusal
 open_refusal s port vp sint shape =
     if nat_lt 15 port then Some UnknownPort
@@ -43,7 +43,7 @@ open_refusal s port vp sint shape =
 abbrev pub target_of : Ports → PortNumber → Result Port Refusal
 target_of s port = option_map_or (λ p. Ok p) (port_at s port) (Err UnknownPort)
 
--- a type that a post may have: not 0, and bit 31 is the hypervisor's
+-- a valid message type: not 0, and without bit 31, which is reserved for the hypervisor
 abbrev pub is_posted_type : ℕ → Bool
 is_posted_type kind = not (kind == 0) && nat_lt kind 0x80000000
 

@@ -1,4 +1,5 @@
-//! The ports of a partition (TLFS, "Ports"): where a post or a signal goes, and what it may carry.
+//! The ports of a partition (TLFS, "Ports"): the target of a post or a signal, and what a port may
+//! carry.
 #![tactic(auto)]
 
 mod ports;

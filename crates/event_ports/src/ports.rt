@@ -9,10 +9,10 @@ use std::marker::Model;
 /// The greatest number of event flags of one source (TLFS, "Event Flags").
 const FLAGS: u32 = 2048;
 
-/// Bit 31 of a message type: it is the hypervisor's own (TLFS, "Message Types").
+/// Bit 31 of a message type is reserved for the hypervisor (TLFS, "Message Types").
 const HYPERVISOR_TYPE: u32 = 0x8000_0000;
 
-/// An open port: the source of a processor that it reaches, and what it carries.
+/// An open port: its target, a source of a processor, and its shape.
 #[derive(Clone, Copy, PartialEq, Eq, Debug)]
 pub struct Port {
     pub vp: Vp,
@@ -50,7 +50,7 @@ fn fits(shape: PortShape) -> bool
 }
 
 impl Ports {
-    /// No port is open, on a board with that many processors.
+    /// All ports closed, on a board with that many processors.
     pub fn new(processors: u8) -> Ports
         requires some { 1 ≤ processors }
         requires few { processors ≤ 8 }
@@ -62,8 +62,8 @@ impl Ports {
         }
     }
 
-    /// Opens a port. Refused, in this order: `UnknownPort` above 15; `PortOpen`; `BadTarget` where
-    /// the processor is not on the board, the source is above 15 or the shape is out of range.
+    /// Opens a port. Refused, in this order: `UnknownPort` above 15; `PortOpen`; `BadTarget` if the
+    /// processor is not on the board, the source is above 15 or the shape is out of range.
     pub fn open_port(&mut self, port: u8, vp: u8, sint: u8, shape: PortShape) -> Result<(), Refusal>
         ensures answer { MatchResult result (λ _. open_refusal self.old port vp sint shape ≡ None) (λ r. open_refusal self.old port vp sint shape ≡ Some r) }
         ensures opened { IfOk result (λ _. self.new ≡ with_port self.old port (record { vp = vp; sint = sint; shape = shape })) }
@@ -88,7 +88,7 @@ impl Ports {
         Ok(())
     }
 
-    /// Closes a port and gives what it was. `UnknownPort` where it is not open.
+    /// Closes a port and returns it. `UnknownPort` if it is not open.
     pub fn close_port(&mut self, port: u8) -> Result<Port, Refusal>
         ensures answer { result ≡ target_of self.old port }
         ensures on_the_board { IfOk result (λ p. p.vp < self.old.processors) }
@@ -100,7 +100,7 @@ impl Ports {
         Ok(closed)
     }
 
-    /// An open port. `UnknownPort` where it is not open.
+    /// Returns an open port. `UnknownPort` if it is not open.
     pub fn target(&self, port: u8) -> Result<Port, Refusal>
         ensures answer { result ≡ target_of self.now port }
         ensures on_the_board { IfOk result (λ p. p.vp < self.now.processors) }
@@ -113,8 +113,8 @@ impl Ports {
         }
     }
 
-    /// Where a message of a type goes. Refused, in this order: `UnknownPort`; `WrongKind` for a port
-    /// of event flags; `BadType` for type 0 and types with bit 31 set.
+    /// The target of a message of a type. Refused, in this order: `UnknownPort`; `WrongKind` for a
+    /// port of event flags; `BadType` for type 0 and types with bit 31 set.
     pub fn message_target(&self, port: u8, kind: u32) -> Result<Port, Refusal>
         ensures answer { result ≡ message_target_of self.now port kind }
         ensures on_the_board { IfOk result (λ p. p.vp < self.now.processors) }
@@ -135,9 +135,9 @@ impl Ports {
         }
     }
 
-    /// Which event flag a signal sets: the processor, the source, and the base of the port plus the
-    /// number. Refused, in this order: `UnknownPort`; `WrongKind` for a port of messages; `BadFlag`
-    /// for a number not below the port's count.
+    /// The event flag that a signal sets: the processor, the source, and the base of the port plus
+    /// the number. Refused, in this order: `UnknownPort`; `WrongKind` for a port of messages;
+    /// `BadFlag` for a number not below the port's count.
     pub fn flag_place(&self, port: u8, flag: u16) -> Result<(Vp, Sint, u16), Refusal>
         ensures answer { result ≡ flag_place_of self.now port flag }
         ensures on_the_board { IfOk result (λ p. p.0 < self.now.processors) }
@@ -156,7 +156,7 @@ impl Ports {
         }
     }
 
-    /// The processor of that number, if it is on the board.
+    /// The processor with this number, if it is on the board.
     fn processor(&self, number: u8) -> Option<Vp>
         ensures on { IsSome result ↔ (number < self.now.processors) }
         ensures value { IfSome result (λ vp. vp ≡ number) }

@@ -1,4 +1,4 @@
--- Sets that are kept as four words: one bit more, one bit less, the greatest.
+-- Sets that are stored as four words: set a bit, clear a bit, the greatest member.
 use Rattle.std.proofs.Common.{◌≡◌, ◌≢◌, ℕ, ◌+◌, ◌-◌, ◌*◌, ◌/◌, ◌%◌, ◌^◌, ◌<◌, ◌≤◌, Bool, true, false, ◌&&◌, ◌||◌, not, nat_lt, List, [], ◌∷◌, length, set as list_set, slice_index_or, refl, sym, ap, subst, ◌∙◌, arith, bit_and, bit_or, w64, zero, suc}
 use Rattle.std.specs.Prelude.{Option, None, Some, IsSome, IfSome, ◌==◌}
 use Rattle.std.specs.Int.{bit_at}
@@ -47,7 +47,7 @@ cleared_bit word i j h k =
 same_place : (q v : ℕ) → q / 64 ≡ v / 64 → q % 64 ≡ v % 64 → q ≡ v
 same_place q v a b = omega arith
 
--- in one word, numbers differ as their bits do; in two, they differ
+-- within one word, vectors differ iff their bits do; in two words, they differ
 same_word : (q v : ℕ) → q / 64 ≡ v / 64 → (q % 64 == v % 64) ≡ eq_by_cmp nat_cmp q v
 same_word q v e =
     elim (q % 64 == v % 64) as (λ b. (q % 64 == v % 64) ≡ b → b ≡ eq_by_cmp nat_cmp q v) [
@@ -58,7 +58,7 @@ same_word q v e =
 other_word : (q v : ℕ) → q / 64 ≢ v / 64 → false ≡ eq_by_cmp nat_cmp q v
 other_word q v e = let other : q ≢ v = λ s. e (ap (λ n. n / 64) s) in grind (arith, nat_tests)
 
--- what stands after a change of one bit, for a change that acts on that bit by `act`
+-- membership after a change of one bit, for a change that acts on that bit by `act`
 changed : (change : ℕ → ℕ → ℕ) (act : Bool → Bool → Bool) → ((word i j : ℕ) → i < 64 → j < 64 → stands (change word j) i ≡ act (i == j) (stands word i)) → ((b : Bool) → act false b ≡ b) → (words : List ℕ) (v q : ℕ) → v < 256 → length words ≡ 4 →
     holds (with_bit change words v) q ≡ act (eq_by_cmp nat_cmp q v) (holds words q)
 changed change act acts keeps words v q h l =
@@ -106,7 +106,7 @@ word_remove words value n v is same h l =
     swapped false true c = refl
     swapped false false c = refl
 
--- nothing below 16 stays nothing
+-- no member below 16 stays so
 pub low_insert : (words : List ℕ) (n : ℕ) → NoneBelow16 words → 16 ≤ n → n < 256 → length words ≡ 4 → NoneBelow16 (with_bit bits_set words n)
 low_insert words n none from h l = λ q low. holds-set words n q h l ∙ (let f = none q low in let g : eq_by_cmp nat_cmp q n ≡ false = grind (arith, nat_tests) in grind (arith, nat_tests))
 
@@ -193,7 +193,7 @@ at_top words at j h least below =
 member_at : (words : List ℕ) (v : ℕ) → v < 256 → holds words v ≡ true → set.contains (word_members words) v ≡ true
 member_at words v h marked = contains-word_members words v ∙ (let b : nat_lt v 256 ≡ true = grind (arith, nat_tests) in grind (arith, nat_tests))
 
--- the top bit of the first word from above that is not 0
+-- the top bit of the highest word that is not 0
 pub word_greatest : (words : List ℕ) (value : Vectors) (at n : ℕ) (o : Option ℕ) → word_members words ≡ value → NoneBelow16 words → at < 4 → ZeroFrom words (at + 1) → 0 < slice_index_or words at 0 → slice_index_or words at 0 < 18446744073709551616 →
     n ≡ 64 * at + 63 - count_leading_zeros 64 (slice_index_or words at 0) → (16 ≤ n → IsSome o) → IfSome o (λ v. v ≡ n) → o ≡ greatest value
 word_greatest words value at n o is low h zeros some fits e valid exact =

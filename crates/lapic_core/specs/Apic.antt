@@ -4,7 +4,7 @@ use Rattle.std.specs.Option.{option_map_or}
 use Rattle.std.specs.FinSet as set
 use Rattle.lapic_core.specs.Vectors.{Vectors, greatest}
 
--- what is requested (IRR), what is in service (ISR), the task priority (TPR), and whether the processor is suspended
+-- the requests (IRR), the vectors in service (ISR), the task priority (TPR), and whether the processor is suspended
 pub record Apic : Type 0 where
   pub requested : Vectors
   pub in_service : Vectors
@@ -26,11 +26,11 @@ in_service_class a = option_map_or class (greatest a.in_service) 0
 abbrev pub priority : Apic → ℕ
 priority a = max (class a.task_priority) (in_service_class a)
 
--- the requested vectors that the priority lets through
+-- the requested vectors that the priority does not block
 abbrev pub deliverable : Apic → Vectors
 deliverable a = set.retain a.requested (λ v. nat_lt (priority a) (class v))
 
--- the vector that would come next: the greatest of these
+-- the vector that would be next: the greatest of these
 abbrev pub awaited : Apic → Option ℕ
 awaited a = greatest (deliverable a)
 
@@ -45,11 +45,11 @@ request a v = record a { requested = set.insert a.requested v }
 abbrev pub with_task_priority : Apic → ℕ → Apic
 with_task_priority a value = record a { task_priority = value }
 
--- the processor is suspended, or runs again
+-- the processor is suspended or resumed
 abbrev pub with_suspension : Apic → Bool → Apic
 with_suspension a mark = record a { suspended = mark }
 
--- the vector leaves the requests, and joins those in service unless it ends by itself
+-- the vector leaves the requests, and enters service unless it is auto-EOI
 abbrev pub take_vector : Bool → ℕ → Apic → Apic
 take_vector auto v a = record a { requested = set.remove a.requested v; in_service = if auto then a.in_service else set.insert a.in_service v }
 
@@ -57,10 +57,10 @@ take_vector auto v a = record a { requested = set.remove a.requested v; in_servi
 abbrev pub after_take : Bool → Apic → Apic
 after_take auto a = option_map_or (λ v. take_vector auto v a) (next a) a
 
--- the vector leaves those in service
+-- the vector leaves service
 abbrev pub end_vector : ℕ → Apic → Apic
 end_vector v a = record a { in_service = set.remove a.in_service v }
 
--- the greatest vector in service ends
+-- EOI: the greatest vector in service ends
 abbrev pub after_end : Apic → Apic
 after_end a = option_map_or (λ v. end_vector v a) (greatest a.in_service) a

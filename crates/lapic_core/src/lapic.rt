@@ -17,15 +17,15 @@ pub struct Lapic {
     in_service: VectorSet,
     task_priority: u8,
     suspended: bool,
-    // The task priority, but while the processor is suspended 255, which holds everything back, so that
-    // no call has to look at the mark. `set_task_priority` and `set_suspended` keep it.
+    // Cache: the task priority, or 255 while the processor is suspended, which blocks every vector.
+    // So no call needs to test the flag. `set_task_priority` and `set_suspended` update it.
     floor: u8,
-    // The greatest number that the processor priority (PPR) holds back, the last of its class: a
-    // vector has to exceed it. It depends on `in_service` and `floor`, so `take`, `end` and what keeps
-    // `floor` keep it.
+    // Cache: the greatest number that the processor priority (PPR) blocks, the last of its class. A
+    // vector has to exceed it. It depends on `in_service` and `floor`, so `take`, `end` and the
+    // writers of `floor` update it.
     threshold: u8,
-    // The greatest requested vector above `threshold`, which is the next one. Each call that changes
-    // `requested` or `threshold` keeps it.
+    // Cache: the greatest requested vector above `threshold`, which is the next vector. Each call
+    // that changes `requested` or `threshold` updates it.
     next: Option<Vector>,
 }
 
@@ -60,7 +60,7 @@ impl Lapic {
         }
     }
 
-    /// Requests a vector, and tells whether its request bit was clear. A request of a requested
+    /// Requests a vector, and returns whether its request bit was clear. A request of a requested
     /// vector merges with it.
     pub fn request(&mut self, vector: Vector) -> bool
         ensures fresh { result ≡ not (set.contains self.old.requested vector) }
@@ -68,7 +68,7 @@ impl Lapic {
     {
         let fresh = !self.requested.contains(vector);
         self.requested.insert(vector);
-        // The priority and the other requests are as they were.
+        // The priority and the other requests are unchanged.
         if vector.number() > to_exceed(self.threshold, self.next) {
             self.next = Some(vector);
         }
@@ -82,16 +82,16 @@ impl Lapic {
         self.requested.contains(vector)
     }
 
-    /// The greatest requested vector whose class is above the processor priority. None while the
-    /// processor is suspended.
+    /// The next vector: the greatest requested vector whose class is above the processor priority.
+    /// `None` while the processor is suspended.
     pub fn next(&self) -> Option<Vector>
         ensures { result ≡ next self.now }
     {
         self.next
     }
 
-    /// Takes the next vector, if there is one: its request bit is cleared, and its in-service bit is
-    /// set unless it ends by itself (`auto`).
+    /// Takes the next vector, if there is one: clears its request bit, and sets its in-service bit
+    /// unless it is auto-EOI (`auto`).
     pub fn take(&mut self, auto: bool) -> Option<Vector>
         ensures vector { result ≡ next self.old }
         ensures after { self.new ≡ after_take auto self.old }
@@ -102,14 +102,15 @@ impl Lapic {
             self.next = next_above(&self.requested, self.threshold);
         } else {
             self.in_service.insert(vector);
-            // Its class is the priority now, and it was the greatest request.
+            // Its class is now the priority, and it was the greatest request.
             self.threshold = last_of_class(vector.number());
             self.next = None;
         }
         Some(vector)
     }
 
-    /// Ends the interrupt in service (EOI): the greatest vector in service, if there is one.
+    /// Ends an interrupt (EOI): the greatest vector in service, if there is one, leaves service and
+    /// is returned.
     pub fn end(&mut self) -> Option<Vector>
         ensures vector { result ≡ greatest self.old.in_service }
         ensures after { self.new ≡ after_end self.old }
@@ -138,14 +139,14 @@ impl Lapic {
         self.task_priority
     }
 
-    /// Suspends the processor: no vector is next until it is resumed, and requests still join.
+    /// Suspends the processor: no vector is next until it resumes. Requests are still recorded.
     pub fn suspend(&mut self)
         ensures { self.new ≡ with_suspension self.old true }
     {
         self.set_suspended(true);
     }
 
-    /// Resumes the processor: what was requested meanwhile counts again.
+    /// Resumes the processor: requests made during the suspension count again.
     pub fn resume(&mut self)
         ensures { self.new ≡ with_suspension self.old false }
     {
@@ -169,7 +170,8 @@ impl Lapic {
     }
 }
 
-/// What a vector has to exceed to be the next one: the next vector, or the threshold if there is none.
+/// What a vector has to exceed to become the next one: the next vector, or the threshold if there
+/// is none.
 fn to_exceed(threshold: u8, next: Option<Vector>) -> u8
     ensures { result ≡ to_exceed threshold next }
 {
@@ -179,22 +181,22 @@ fn to_exceed(threshold: u8, next: Option<Vector>) -> u8
     }
 }
 
-/// The greatest number of the class of that number.
+/// The greatest number in the class of a number.
 fn last_of_class(number: u8) -> u8
     ensures { result ≡ last_of (class number) }
 {
     16 * (number / 16) + 15
 }
 
-/// The task priority, or 255 of a processor that is suspended.
+/// The task priority, or 255 for a suspended processor.
 fn floor_of(suspended: bool, task_priority: u8) -> u8
     ensures { result ≡ floor suspended task_priority }
 {
     if suspended { 255 } else { task_priority }
 }
 
-/// What the processor priority holds back: the priority is the greater of the classes of the floor and
-/// of the greatest vector in service.
+/// The greatest number that the processor priority blocks. The priority is the greater of the
+/// classes of the floor and of the greatest vector in service.
 fn threshold_of(in_service: &VectorSet, floor: u8) -> u8
     ensures { (requested : Vectors) → result ≡ threshold (serving in_service.now floor requested) }
 {

@@ -1,5 +1,5 @@
-//! The interrupt priorities of one processor's local APIC (Intel SDM volume 3, "Interrupt, Task, and
-//! Processor Priority"): what is requested, what is in service, what comes next.
+//! The interrupt priorities of one processor's local APIC (Intel SDM volume 3, "Interrupt, Task,
+//! and Processor Priority"): requests, vectors in service, and the next vector.
 #![tactic(auto)]
 
 mod lapic;

@@ -9,8 +9,8 @@ use std::marker::Model;
 /// A set of interrupt vectors.
 #[derive(Drop)]
 pub struct VectorSet {
-    // A vector is a member if its bit stands: bit number % 64 of word number / 64. The lowest 16
-    // bits never stand, since no vector has them.
+    // Bit number % 64 of word number / 64 is set iff the vector is a member. The lowest 16 bits are
+    // always clear, since no vector has them.
     words: [u64; 4],
 }
 
@@ -52,7 +52,7 @@ impl VectorSet {
         self.words[number / 64] |= 1 << (number % 64);
     }
 
-    /// Takes a vector out.
+    /// Removes a vector.
     pub fn remove(&mut self, vector: Vector)
         ensures { self.new ≡ set.remove self.old vector }
     {
@@ -68,11 +68,11 @@ impl VectorSet {
         (self.words[number / 64] >> (number % 64)) & 1 == 1
     }
 
-    /// The greatest member, `None` if the set is empty.
+    /// The greatest member; `None` if the set is empty.
     pub fn greatest(&self) -> Option<Vector>
         ensures { result ≡ greatest self.now }
     {
-        // from the top down, so that the first word with a bit has the greatest member
+        // from the top down: the first word that is not 0 has the greatest member
         for at in (0..4usize).rev() {
             let word = self.words[at];
             if word != 0 {

@@ -24,7 +24,7 @@ message_at buffers key = option_map (λ (b : Buffer). b.message) (buffers key)
 abbrev pub those : Buffers → List ℕ → List Message
 those buffers keys = filter_map (message_at buffers) keys
 
--- walking the chain gives the messages of its keys
+-- following the links gives the messages of the keys
 pub messages-links : (m : Buffers) (o r : ℕ → ℕ) (q low : ℕ) (p s : Option ℕ) (ks : List ℕ) (l : Option ℕ) (top : ℕ) → Links m o r q low p s ks None l top → messages (length ks) m s ≡ those m ks
 messages-links m o r q low p s [] l top h = refl
 messages-links m o r q low p s (k ∷ ks) l top h = rw (h.1, h.4) (ap (λ (x : List Message). h.0.message ∷ x) (messages-links m o r q (suc (r k)) (Some k) h.0.behind ks l top h.6))
@@ -47,7 +47,7 @@ pub record IsKey (m : Buffers) (o r : ℕ → ℕ) (q low top e : ℕ) : Type 0 
 low-more : (a b c : ℕ) → a ≤ b → suc b ≤ c → a ≤ c
 low-more a b c x y = omega arith
 
--- the buffers that stay may have other owners and ranks by name only
+-- the buffers may get other owners and ranks, if those in the chain keep theirs
 pub links-frame : (m n : Buffers) (o r o' r' : ℕ → ℕ) (q low : ℕ) (p s : Option ℕ) (ks : List ℕ) (t l : Option ℕ) (top : ℕ) → ((k : ℕ) → IsKey m o r q low top k → (n k ≡ m k) × (o' k ≡ q) × (r' k ≡ r k)) → Links m o r q low p s ks t l top → Links n o' r' q low p s ks t l top
 links-frame m n o r o' r' q low p s [] t l top f h = h
 links-frame m n o r o' r' q low p s (k ∷ ks) t l top f h =
@@ -91,7 +91,7 @@ abbrev pub new_start : Option ℕ → Option ℕ → List ℕ → Option ℕ
 new_start s u [] = u
 new_start s u (k ∷ ks) = s
 
--- Behind the last key comes another one.
+-- another key is linked after the last one
 pub links-extend : (m n : Buffers) (o r : ℕ → ℕ) (q low : ℕ) (p s : Option ℕ) (ks : List ℕ) (t l u : Option ℕ) (top : ℕ) →
     ((k : ℕ) → IsKey m o r q low top k → l ≢ Some k → n k ≡ m k) → ((k : ℕ) → IsKey m o r q low top k → l ≡ Some k → n k ≡ option_map (with_behind u) (m k)) →
     Links m o r q low p s ks t l top → Links n o r q low p (new_start s u ks) ks u l top
@@ -126,7 +126,7 @@ abbrev pub new_end : Option ℕ → List ℕ → Option ℕ → Option ℕ
 new_end v [] l = v
 new_end v (k ∷ ks) l = l
 
--- Before the first key comes another one, and the ranks need only be above a lower one.
+-- another key is linked before the first one, and the lower bound of the ranks decreases
 pub links-rebase : (m n : Buffers) (o r : ℕ → ℕ) (q low low' : ℕ) (p s : Option ℕ) (ks : List ℕ) (t l v : Option ℕ) (top : ℕ) → low' ≤ low →
     ((k : ℕ) → IsKey m o r q low top k → s ≢ Some k → n k ≡ m k) → ((k : ℕ) → IsKey m o r q low top k → s ≡ Some k → n k ≡ option_map (with_before v) (m k)) →
     Links m o r q low p s ks t l top → Links n o r q low' v s ks t (new_end v ks l) top
@@ -164,7 +164,7 @@ links-cut m o r q low p s (x ∷ xs) ys t l top h =
     let c = links-cut m o r q (suc (r x)) (Some x) h.0.behind xs ys t l top h.6 in
     record { mid = c.mid; u = c.u; v = c.v; front = (h.0, h.1, h.2, h.3, h.4, h.5, c.front); back = c.back }
 
--- a number is given another value
+-- a function with another value at one number
 abbrev pub at_key : ℕ → ℕ → (ℕ → ℕ) → ℕ → ℕ
 at_key key value f k = cond (nat_eq k key) value (f k)
 
@@ -177,12 +177,12 @@ at_key-other key value k f ne = rw (ne_eqb k key ne) refl
 pub not_free : (m : Buffers) (k key : ℕ) (b : Buffer) → m k ≡ Some b → m key ≡ None → k ≢ key
 not_free m k key b there free same = let e = ap m same in cc
 
--- behind some key there is a last one
+-- after some key there is a last one
 last_there : (m : Buffers) (o r : ℕ → ℕ) (q low k : ℕ) (s : Option ℕ) (ks : List ℕ) (t l : Option ℕ) (top : ℕ) → Links m o r q low (Some k) s ks t l top → (e : ℕ) × (l ≡ Some e)
 last_there m o r q low k s [] t l top h = (k, h.1)
 last_there m o r q low k s (j ∷ ks) t l top h = last_there m o r q (suc (r j)) j h.0.behind ks t l top h.6
 
--- the first key of a chain where another one comes behind these
+-- the first key of a chain in which another key follows these
 cut_start : (m : Buffers) (o r : ℕ → ℕ) (q low : ℕ) (s : Option ℕ) (ks : List ℕ) (t l : Option ℕ) (top : ℕ) (it : Option ℕ) → Links m o r q low None s ks t l top → if_none l it s ≡ new_start s it ks
 cut_start m o r q low s [] t l top it h = rw h.1 refl
 cut_start m o r q low s (k ∷ ks) t l top it h = go l (last_there m o r q (suc (r k)) k h.0.behind ks t l top h.6)
@@ -241,12 +241,12 @@ links-first m o r q low p s (k ∷ ks) l top e h is =
     let here : IsKey m o r q low top k = record { b = h.0; owned = h.2; above = h.3; below = room; there = h.4 } in
     rw (← same) here
 
--- the last key of a chain where another one comes before these
+-- the last key of a chain in which another key precedes these
 cut_end : (m : Buffers) (o r : ℕ → ℕ) (q low : ℕ) (p s : Option ℕ) (ks : List ℕ) (l : Option ℕ) (top : ℕ) (it : Option ℕ) → Links m o r q low p s ks None l top → if_none s it l ≡ new_end it ks l
 cut_end m o r q low p s [] l top it h = rw h.0 refl
 cut_end m o r q low p s (k ∷ ks) l top it h = rw h.1 refl
 
--- taking a key out joins what is before it and what is behind it
+-- unlinking a key joins its predecessor and its successor
 pub unlink-chain : (m n : Buffers) (o r : ℕ → ℕ) (q : ℕ) (c d : Chain) (key : ℕ) (b : Buffer) (message : Message) (h : IsChain m o r q c) (xs ys : List ℕ) → h.keys ≡ xs ++ key ∷ ys → Unlinked m n c d key b message → (after : IsChain n o r q d) × (after.keys ≡ xs ++ ys)
 unlink-chain m n o r q c d key b message h xs ys split move = (
   record {
@@ -311,7 +311,7 @@ slice_get-set_other (y ∷ xs) zero (suc j) x h = refl
 slice_get-set_other (y ∷ xs) (suc i) zero x h = refl
 slice_get-set_other (y ∷ xs) (suc i) (suc j) x h = slice_get-set_other xs i j x (λ e. h (ap (λ (k : ℕ). suc k) e))
 
--- one chain is another, and the others have the same messages
+-- one chain is replaced, and the others have the same messages
 pub queues-set : (m n : Buffers) (chains : List Chain) (q : ℕ) (d : Chain) → ((i : ℕ) (c : Chain) → slice_get chains i ≡ Some c → i ≢ q → queue_at n c ≡ queue_at m c) → queues_at n (slice_set chains q d) ≡ slice_set (queues_at m chains) q (queue_at n d)
 queues-set m n [] q d same = refl
 queues-set m n (c ∷ cs) zero d same = ap (λ (x : Queues). queue_at n d ∷ x) (all n m cs (λ i e h. same (suc i) e h (omega arith)))
@@ -338,12 +338,12 @@ is_or_not (Some j) k = go (nat_eq j k) refl
     go true e = inl (ap (λ (x : ℕ). Some x) (eqb-true j k e))
     go false e = inr (λ same. let is : j ≡ k = cc in eqb-false j k e is)
 
--- What a move leaves: the queues are kept, and one queue_at is another.
+-- The result of a change of one queue: the invariant holds, and the other queues are unchanged.
 pub record Moved (m n : Buffers) (chains : List Chain) (q : ℕ) (d : Chain) (after : List Message) : Type 0 where
   pub kept : Kept n (slice_set chains q d)
   pub view : queues_at n (slice_set chains q d) ≡ slice_set (queues_at m chains) q after
 
--- A move of one queue moves no buffer of another.
+-- A change of one queue moves no buffer of another.
 pub moved : (m n : Buffers) (chains : List Chain) (q : ℕ) (c d : Chain) (o' r' : ℕ → ℕ) (after : List Message) (k : Kept m chains) → slice_get chains q ≡ Some c →
     ((i : ℕ) (key : ℕ) (top : ℕ) → i ≢ q → IsKey m k.owner k.rank i 0 top key → (n key ≡ m key) × (o' key ≡ i) × (r' key ≡ k.rank key)) →
     IsChain n o' r' q d → queue_at n d ≡ after → Moved m n chains q d after
@@ -404,7 +404,7 @@ push-moved m n chains q c d message key k at move = moved m n chains q c d (at_k
         by j free (inl is) = ap (option_map (λ (b : Buffer). b.message)) (move.end j is free) ∙ same_message (Some key) (m j)
         by j free (inr not) = ap (option_map (λ (b : Buffer). b.message)) (move.others j not free)
 
--- What taking out the key between xs and ys leaves.
+-- The result of unlinking the key between xs and ys.
 pub record Taken (m n : Buffers) (o r : ℕ → ℕ) (q : ℕ) (d : Chain) (xs ys : List ℕ) : Type 0 where
   pub after : IsChain n o r q d
   pub keys : after.keys ≡ xs ++ ys
@@ -479,7 +479,7 @@ unlink-taken m n o r q c d key b message h xs ys split move = record { after = t
         by j w (inl is) = ap (option_map (λ (x : Buffer). x.message)) (move.right j (apart j w.above) (past j w.above) is) ∙ same_message_before b.before (m j)
         by j w (inr not) = ap (option_map (λ (x : Buffer). x.message)) (move.others j (apart j w.above) (past j w.above) not)
 
--- Taking out the key between xs and ys takes its message out of the queue_at.
+-- Unlinking the key between xs and ys removes its message from the queue.
 pub unlink-moved : (m n : Buffers) (chains : List Chain) (q : ℕ) (c d : Chain) (key : ℕ) (b : Buffer) (message : Message) (k : Kept m chains) (at : slice_get chains q ≡ Some c) (xs ys : List ℕ) → (k.each q c at).keys ≡ xs ++ key ∷ ys → Unlinked m n c d key b message →
     Moved m n chains q d (those m xs ++ those m ys) × (queue_at m c ≡ those m xs ++ message ∷ those m ys)
 unlink-moved m n chains q c d key b message k at xs ys split move =
@@ -522,7 +522,7 @@ len-le-total chains q c at =
     let here = ap (λ (x : Chain). x.len) (get_or_from_slice_get chains q c c at) in
     omega (arith, here, get_or-le-sum_by (λ (x : Chain). x.len) chains q c (slice_get_within chains q c at))
 
--- read by `behind` from the first, by `before` from the last
+-- following `behind` from the first key gives the reverse of following `before` from the last
 keys-forward : (m : Buffers) (o r : ℕ → ℕ) (q low : ℕ) (p s : Option ℕ) (ks : List ℕ) (t l : Option ℕ) (top : ℕ) → Links m o r q low p s ks t l top → keys_from (λ b. b.behind) m (length ks) s ≡ ks
 keys-forward m o r q low p s [] t l top h = refl
 keys-forward m o r q low p s (k ∷ ks) t l top h = rw (h.1, h.4) (ap (λ (x : List ℕ). k ∷ x) (keys-forward m o r q (suc (r k)) (Some k) h.0.behind ks t l top h.6))
@@ -544,7 +544,7 @@ both-ways m chains k q c at =
     let front = keys-forward m k.owner k.rank q 0 None c.first h.keys None c.last h.top h.links in
     rw h.len (ap (λ (x : ℕ). keys_from (λ b. b.before) m x c.last) (sym (add-zero (length h.keys))) ∙ back ∙ append-nil (reverse h.keys) ∙ ap reverse (sym front))
 
--- the first key of a queue and the keys behind it
+-- the first key of a queue and the keys after it
 pub first-split : (m : Buffers) (o r : ℕ → ℕ) (q : ℕ) (c : Chain) (key : ℕ) (h : IsChain m o r q c) → c.first ≡ Some key → (ys : List ℕ) × (h.keys ≡ key ∷ ys)
 first-split m o r q c key h is = by h.keys h.links
   where

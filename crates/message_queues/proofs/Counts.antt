@@ -1,4 +1,4 @@
--- How many buffers each owner has in use, and that an owner that has one left finds room for its message.
+-- How many buffers each owner has in use, and that there is capacity for the message of an owner with a free buffer.
 use Rattle.std.proofs.Common.{◌≡◌, ◌≢◌, ◌⊎◌, inl, inr, ℕ, zero, suc, ◌+◌, ◌-◌, ◌<◌, ◌≤◌, List, [], ◌∷◌, ◌++◌, length, refl, sym, ap, ◌∙◌, arith, cond, nat_eq, Bool, true, false, ne_eqb, eq-eqb, ◌&&◌}
 use Rattle.std.specs.List.{All}
 use Rattle.std.specs.Prelude.{◌==◌, slice_index_or, slice_set, sum_by, count_by}
@@ -30,7 +30,7 @@ unfolding sum_below
 sum_below-add zero f g = refl
 sum_below-add (suc n) f g = let more = sum_below-add n f g in omega arith
 
--- one is counted at its own place, and nowhere else
+-- 1 at one number, and 0 elsewhere
 abbrev pub at_place : ℕ → ℕ → ℕ
 at_place x o = cond (nat_eq x o) 1 0
 
@@ -118,14 +118,14 @@ all-counts n (q ∷ qs) below h =
     let same = sum_below-same n (λ o. used_by o (q ∷ qs)) (λ o. count_of o q + used_by o qs) (λ o. sum_by-cons (count_of o) q qs) in
     omega (arith, more, here, add, same, sum_by-cons (length {A = Message}) q qs)
 
--- where an owner has a buffer left, there is room
+-- if an owner has a free buffer, the slab has a free entry
 pub has_room : (qs : Queues) (in_use : List ℕ) (o : ℕ) → EachOwned qs → IsCounted qs in_use → o < 48 → used_by o qs < share o → sum_by (length {A = Message}) qs < 288
 has_room qs in_use o owned counts below left =
     let total = all-counts 48 qs owner-below owned in
     let less = sum_below-lt 48 o (λ x. used_by x qs) share counts.within below left in
     omega (arith, total, less, shares)
 
--- no owner has more than its share, so there are no more messages than buffers
+-- no owner exceeds its share, so there are no more messages than buffers
 pub all-within : (qs : Queues) (in_use : List ℕ) → EachOwned qs → IsCounted qs in_use → sum_by (length {A = Message}) qs ≤ 288
 all-within qs in_use owned counts = omega (arith, all-counts 48 qs owner-below owned, sum_below-le 48 (λ x. used_by x qs) share counts.within, shares)
 
@@ -137,7 +137,7 @@ pub is_from_port-owner : (port : ℕ) (m : Message) → port < 16 → is_from_po
 is_from_port-owner port (FromPort ticket n kind payload) h = refl
 is_from_port-owner port (FromTimer ticket timer expiration) h = sym (ne_eqb (owner_of_timer timer) port (λ e. omega (arith, e)))
 
--- the buffers of a port are those of the owner of its number
+-- the buffers of a port are those of the owner with its number
 pub port_used-owner : (qs : Queues) (port : ℕ) → port < 16 → port_used qs port ≡ used_by port qs
 port_used-owner qs port h =
     sum_by-same (count_by (is_from_port port)) (count_of port) qs (λ q. sum_by-same (λ m. cond (is_from_port port m) 1 0) (λ m. cond (owner_of m == port) 1 0) q (λ m. ap (λ (b : Bool). cond b 1 0) (is_from_port-owner port m h)))
@@ -159,7 +159,7 @@ queue-timer (m ∷ ms) timer h k =
     let here : cond (is_from_timer timer m) 1 0 ≡ at_place (owner_of m) (owner_of_timer timer) = ap (λ (b : Bool). cond b 1 0) (is_from_timer-owner timer m h k.0) in
     omega (arith, more, here, sum_by-cons (λ x. cond (is_from_timer timer x) 1 0) m ms, count_of-cons (owner_of_timer timer) m ms)
 
--- the one buffer of a timer is that of its owner number
+-- the one buffer of a timer is that of its owner
 pub timer_used-owner : (qs : Queues) (timer : ℕ × ℕ) → timer.1 < 4 → EachOwned qs → timer_used qs timer ≡ used_by (owner_of_timer timer) qs
 timer_used-owner [] timer h k = refl
 timer_used-owner (q ∷ qs) timer h k =
@@ -194,14 +194,14 @@ share-timer o h = grind (arith, nat_tests)
 pub share-le : (o : ℕ) → share o ≤ 16
 share-le o = grind (arith, nat_tests)
 
--- the owner of a message that has a buffer has one left
+-- the owner of a message that has a buffer has a free one
 pub buffer-left : (qs : Queues) (m : Message) → EachOwned qs → HasOwner m → HasBuffer qs m → used_by (owner_of m) qs < share (owner_of m)
 buffer-left qs (FromPort ticket port kind payload) owned h b = omega (arith, b.1, port_used-owner qs port b.0, share-port port b.0)
 buffer-left qs (FromTimer ticket timer expiration) owned h b =
     let none : timer_used qs timer ≡ 0 = grind (arith, nat_tests) in
     omega (arith, none, timer_used-owner qs timer h.1 owned, share-timer (owner_of_timer timer) (omega arith))
 
--- one queue is another, of which one owner has more or fewer messages
+-- one queue is replaced, and one owner has more or fewer messages
 pub counted-set : (qs : Queues) (in_use : List ℕ) (q : ℕ) (r : List Message) (o v : ℕ) → IsCounted qs in_use → q < length qs → o < 48 →
     ((x : ℕ) → x ≢ o → count_of x r ≡ count_of x (slice_index_or qs q [])) → v + count_of o (slice_index_or qs q []) ≡ used_by o qs + count_of o r → v ≤ share o → IsCounted (slice_set qs q r) (slice_set in_use o v)
 counted-set qs in_use q r o v counts at below same now few = record {
@@ -234,7 +234,7 @@ counted-append qs in_use q m counts at below left =
     pushed : (x : ℕ) → count_of x (slice_index_or qs q [] ++ m ∷ []) ≡ count_of x (slice_index_or qs q []) + at_place (owner_of m) x
     pushed x = sum_by_push (λ y. cond (owner_of y == x) 1 0) (slice_index_or qs q []) m
 
--- what a queue holds of an owner is in use
+-- an owner's messages in one queue are at most its buffers in use
 pub count-le-used : (qs : Queues) (q o : ℕ) → q < length qs → count_of o (slice_index_or qs q []) ≤ used_by o qs
 count-le-used qs q o at = get_or-le-sum_by (count_of o) qs q [] at
 

@@ -1,4 +1,4 @@
--- What an append, a place and a withdrawal leave of the fields.
+-- The fields after an append, a place and a withdrawal.
 use Rattle.std.proofs.Common.{◌≡◌, ◌≢◌, ◌⊎◌, inl, inr, ℕ, ◌+◌, ◌-◌, ◌<◌, ◌≤◌, List, [], ◌∷◌, ◌++◌, length, zero, suc, drop, map, Some, None, refl, sym, ap, subst, ◌∙◌, cond, nat_eq, Bool, true, false, not, arith, get_or}
 use Rattle.std.specs.List.{All, filter, slice_get}
 use Rattle.std.specs.Prelude.{◌==◌, slice_index_or, slice_set, count_by}
@@ -22,7 +22,7 @@ use Rattle.message_queues.proofs.Counts.{owner-below, has_room, all-within, buff
 use Rattle.message_queues.proofs.ChainLemmas.{those, push-moved, unlink-moved, first-split, no-first, row-chain, chain_at, queue-is, length-chain, total-queues, total-set, len-le-total, both-ways}
 use Rattle.message_queues.proofs.Walks.{withdrawn-moved}
 
--- the fields keep what they have to, and stand for these queues
+-- the fields satisfy the invariant, and their view is these queues
 pub record Step (buffers : Slab Buffer) (chains : List Chain) (in_use : List ℕ) (view : Queues) : Type 0 where
   pub linked : Kept (get buffers) chains
   pub held : slab_len buffers ≡ total_of chains
@@ -32,7 +32,7 @@ pub record Step (buffers : Slab Buffer) (chains : List Chain) (in_use : List ℕ
   pub counts : IsCounted (queues_at (get buffers) chains) in_use
   pub view_is : queues_at (get buffers) chains ≡ view
 
--- What an append finds: its owner has a buffer left, and there is room in the slab and in each chain.
+-- What an append relies on: its owner has a free buffer, and the slab and each chain have capacity.
 pub record Room (a : Inside) (owner : ℕ) : Type 0 where
   pub left : used_by owner (queues_of a) < share owner
   pub fits : slice_index_or a.in_use owner 0 < 16
@@ -52,7 +52,7 @@ room-for a qs message o k shown own has is =
       total = omega (arith, few, total);
     })
 
--- What any call finds: the chain of the queue, and the queue that it stands for.
+-- What every call relies on: the chain of the queue, and the queue that is its view.
 pub record Here (a : Inside) (qs : Queues) (q : ℕ) (c : Chain) : Type 0 where
   pub at : slice_get a.chains.items q ≡ Some c
   pub row : slice_index_or (queues_of a) q [] ≡ queue_at (get a.buffers) c
@@ -108,7 +108,7 @@ append-step a qs q c d key message o new k shown within read own has is pushed l
       view_is = view ∙ ap (λ (x : Queues). slice_set x q (slice_index_or x q [] ++ message ∷ [])) shown;
     }
 
--- What a place finds where the chain has a first key: the head of the queue is there.
+-- What a place relies on if the chain has a first key: the queue has a head.
 pub record Head (a : Inside) (qs : Queues) (q : ℕ) (c : Chain) (key : ℕ) : Type 0 where
   pub b : Buffer
   pub rest : List Message
@@ -208,7 +208,7 @@ port-below a qs port k shown some = go (cases_lt port 16)
     go (inl below) = below
     go (inr above) = absurd (some (ap (λ (x : Queues). port_used x port) (sym shown) ∙ port_used-past (queues_of a) port above (each-owned (queues_of a) k.owned)))
 
--- What a withdrawal finds: the port's messages in the queue are among its buffers in use.
+-- What a withdrawal relies on: the port's messages in the queue are among its buffers in use.
 pub record Found (a : Inside) (c : Chain) (port : ℕ) : Type 0 where
   pub few : length (withdrawn_of port (queue_at (get a.buffers) c)) ≤ slice_index_or a.in_use port 0
   pub in_use : slice_index_or a.in_use port 0 ≤ 16
@@ -250,7 +250,7 @@ withdrawn-step a qs q c d port n tickets new k shown within read below w len cap
       view_is = view ∙ ap (λ (x : Queues). slice_set x q (left_of port (slice_index_or x q []))) shown;
     }
 
--- a port with no message leaves a queue as it is
+-- a port without messages leaves a queue unchanged
 none-there : (port : ℕ) (q : List Message) → count_by (is_from_port port) q ≡ 0 → (filter (is_from_port port) q ≡ []) × (left_of port q ≡ q)
 none-there port [] none = (refl, refl)
 none-there port (m ∷ ms) none = go (λ fewer. none-there port ms fewer) (is_from_port port m) refl

@@ -1,4 +1,4 @@
--- The walk that takes a port's messages out.
+-- The loop that removes a port's messages.
 use Rattle.std.proofs.Common.{◌≡◌, ◌≢◌, ℕ, suc, ◌+◌, ◌<◌, ◌≤◌, List, [], ◌∷◌, ◌++◌, length, map, Option, Some, None, refl, sym, ap, ◌∙◌, arith, true, false, not, length-append, append_assoc, append-nil}
 use Rattle.std.specs.Prelude.{filter}
 use Rattle.std.specs.List.{slice_get}
@@ -21,7 +21,7 @@ links-first_of : (m : Buffers) (o r : ℕ → ℕ) (q low : ℕ) (p s : Option �
 links-first_of m o r q low p s [] l top h = h.0
 links-first_of m o r q low p s (k ∷ ks) l top h = h.1
 
--- The messages seen so far are those before `back`: of them those that stay are in `front`, and the tickets are of the others.
+-- The loop has passed the messages before `back`: those that stay are in `front`, and `tickets` has the tickets of the others.
 pub record Walk (m0 m : Buffers) (o r : ℕ → ℕ) (q : ℕ) (c0 c : Chain) (port : ℕ) (next : Option ℕ) (i : ℕ) (tickets : List ℕ) : Type 0 where
   pub now : IsChain m o r q c
   pub front : List ℕ
@@ -52,7 +52,7 @@ walk-start m o r q c port h = record {
   others = λ k ne. refl;
 }
 
--- where the walk is at a key
+-- the loop at a key
 pub record AtKey (m0 m : Buffers) (o r : ℕ → ℕ) (q : ℕ) (c0 c : Chain) (port : ℕ) (next : Option ℕ) (i : ℕ) (tickets : List ℕ) (key : ℕ) (w : Walk m0 m o r q c0 c port next i tickets) : Type 0 where
   pub rest : List ℕ
   pub back_is : w.back ≡ key ∷ rest
@@ -77,7 +77,7 @@ at_key_now m0 m o r q c0 c port next i tickets key w is = by w.back refl
 seen_more : (m : Buffers) (key : ℕ) (rest : List ℕ) (b : Buffer) → m key ≡ Some b → those m (key ∷ rest) ≡ b.message ∷ those m rest
 seen_more m key rest b e = rw e refl
 
--- before the last turn there is a key left
+-- before the last iteration there is a key left
 pub walk-more : (m0 m : Buffers) (o r : ℕ → ℕ) (q : ℕ) (c0 c : Chain) (port : ℕ) (next : Option ℕ) (i : ℕ) (tickets : List ℕ) (w : Walk m0 m o r q c0 c port next i tickets) → IsChain m0 o r q c0 → i < c0.len → (key : ℕ) × (next ≡ Some key)
 walk-more m0 m o r q c0 c port next i tickets w h0 more = by w.back refl
   where
@@ -88,7 +88,7 @@ walk-more m0 m o r q c0 c port next i tickets w h0 more = by w.back refl
         absurd (omega (arith, long, ap length all, w.count, more))
     by (k ∷ ks) e = (k, w.next_is ∙ ap first_of e)
 
--- after the last turn there is none
+-- after the last iteration there is none
 walk-end : (m0 m : Buffers) (o r : ℕ → ℕ) (q : ℕ) (c0 c : Chain) (port : ℕ) (next : Option ℕ) (i : ℕ) (tickets : List ℕ) (w : Walk m0 m o r q c0 c port next i tickets) → IsChain m0 o r q c0 → c0.len ≤ i → w.back ≡ []
 walk-end m0 m o r q c0 c port next i tickets w h0 turns = by w.back refl
   where
@@ -179,7 +179,7 @@ walk-take m0 m n o r q c0 c d port next i tickets key b b' message w is there fr
       others = λ k ne. t.others k ne ∙ w.others k ne;
     }
 
--- there is room for its ticket, and the chain is not empty
+-- its ticket fits, and the chain is not empty
 pub record Leaves (m0 : Buffers) (c0 c : Chain) (port : ℕ) (tickets : List ℕ) : Type 0 where
   pub room : length tickets < length (withdrawn_of port (queue_at m0 c0))
   pub some : 1 ≤ c.len

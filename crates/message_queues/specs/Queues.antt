@@ -6,7 +6,7 @@ use Rattle.board_terms.specs.declared.messages.Message.TheVariants.{FromPort, Fr
 use Rattle.board_terms.specs.Messages.{ticket_of}
 use Rattle.board_terms.specs.Sources.{source_number}
 
--- the queues, those of processor 0 first, each front first
+-- all queues, those of processor 0 first; each has its front first
 abbrev pub Queues : Type 0
 Queues = List (List Message)
 
@@ -19,7 +19,7 @@ queue_of qs p i = slice_index_or qs (source_number p i) []
 abbrev pub with_queue : Queues → Processor → Source → List Message → Queues
 with_queue qs p i q = slice_set qs (source_number p i) q
 
--- whose message it is
+-- the message is from that port, or from that timer
 abbrev pub is_from_port : PortNumber → Message → Bool
 is_from_port port (FromPort ticket n kind payload) = n == port
 is_from_port port (FromTimer ticket timer expiration) = false
@@ -32,14 +32,14 @@ is_from_timer timer (FromTimer ticket t expiration) = (t.0 == timer.0) && (t.1 =
 abbrev pub port_used : Queues → PortNumber → ℕ
 port_used qs port = sum_by (count_by (is_from_port port)) qs
 
--- the one buffer of a timer is free: no message of it is queued
+-- the one buffer of a timer is in use: a message of it is queued
 abbrev pub timer_used : Queues → ℕ × ℕ → ℕ
 timer_used qs timer = sum_by (count_by (is_from_timer timer)) qs
 
 abbrev pub is_timer_free : Queues → ℕ × ℕ → Bool
 is_timer_free qs timer = timer_used qs timer == 0
 
--- there is a buffer for the message: a port below 16 has 16 of them, a timer has one
+-- there is a free buffer for the message: a port below 16 has 16 of them, a timer has one
 abbrev pub HasBuffer : Queues → Message → Type 0
 HasBuffer qs (FromPort ticket port kind payload) = (port < 16) × (port_used qs port < 16)
 HasBuffer qs (FromTimer ticket timer expiration) = is_timer_free qs timer ≡ true
@@ -52,7 +52,7 @@ appended qs p i m = with_queue qs p i (queue_of qs p i ++ m ∷ [])
 abbrev pub after_place : Queues → Processor → Source → Queues
 after_place qs p i = with_queue qs p i (drop 1 (queue_of qs p i))
 
--- the messages of a port leave a queue: their tickets, front first, and the others in order
+-- removes the messages of a port from a queue: returns their tickets, front first, and the rest in order
 abbrev pub withdrawn_of : PortNumber → List Message → List Ticket
 withdrawn_of port q = map ticket_of (filter (is_from_port port) q)
 

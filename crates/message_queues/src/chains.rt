@@ -1,4 +1,4 @@
-// Buffers in chains, and what joining a chain and leaving it do to them.
+// Doubly linked chains of buffers.
 ghost use Rattle.std.specs.Prelude.{◌≡◌, ℕ, ◌+◌, ◌<◌, ◌≤◌, ◌^◌, length};
 ghost use Rattle.slab.specs.Slab.{get, slab_len, ContainsKey, HasRoomFor};
 ghost use Rattle.message_queues.specs.declared.chains.Buffer.{Buffer};
@@ -10,28 +10,28 @@ use arrayvec::ArrayVec;
 use board_terms::{Message, Ticket};
 use slab::Slab;
 
-/// A message that is queued.
+/// A queued message.
 #[derive(Drop)]
 pub(crate) struct Buffer {
     pub(crate) message: Message,
-    /// The key of the buffer that is one nearer to the front. `push` and `unlink` keep it so.
+    /// The key of the next buffer towards the front. `push` and `unlink` maintain it.
     pub(crate) before: Option<usize>,
-    /// The key of the buffer that is one nearer to the end. `push` and `unlink` keep it so.
+    /// The key of the next buffer towards the end. `push` and `unlink` maintain it.
     pub(crate) behind: Option<usize>,
 }
 
 /// A queue.
 #[derive(Drop)]
 pub(crate) struct Chain {
-    /// The key of its front buffer, before which is none.
+    /// The key of its first buffer, which has none before it.
     pub(crate) first: Option<usize>,
-    /// The key of its end buffer, behind which is none.
+    /// The key of its last buffer, which has none after it.
     pub(crate) last: Option<usize>,
-    /// How many buffers there are from the first to the last. `push` raises it, `unlink` lowers it.
+    /// The number of its buffers. `push` increments it, `unlink` decrements it.
     pub(crate) len: u16,
 }
 
-/// Sets what is behind a key, if there is one.
+/// Sets the successor of a key, if there is a key.
 #[inline]
 fn set_behind(buffers: &mut Slab<Buffer>, at: Option<usize>, to: Option<usize>)
     ensures sets { Sets (get buffers.old) (get buffers.new) at (with_behind to) }
@@ -45,7 +45,7 @@ fn set_behind(buffers: &mut Slab<Buffer>, at: Option<usize>, to: Option<usize>)
     }
 }
 
-/// Sets what is before a key, if there is one.
+/// Sets the predecessor of a key, if there is a key.
 #[inline]
 fn set_before(buffers: &mut Slab<Buffer>, at: Option<usize>, to: Option<usize>)
     ensures sets { Sets (get buffers.old) (get buffers.new) at (with_before to) }
@@ -59,7 +59,7 @@ fn set_before(buffers: &mut Slab<Buffer>, at: Option<usize>, to: Option<usize>)
     }
 }
 
-/// Puts a message behind the last of a chain, and says at which key.
+/// Appends a message to a chain, and returns its key.
 #[inline]
 pub(crate) fn push(buffers: &mut Slab<Buffer>, chain: &mut Chain, message: Message) -> usize
     requires room { HasRoomFor buffers.old 1 }
@@ -83,8 +83,8 @@ pub(crate) fn push(buffers: &mut Slab<Buffer>, chain: &mut Chain, message: Messa
     key
 }
 
-/// Takes the message at a key out of its chain. Its neighbours become each other's, or the chain's
-/// ends.
+/// Removes the message at a key from its chain. Its neighbours are linked to each other, or become
+/// the chain's ends.
 #[inline]
 pub(crate) fn unlink(buffers: &mut Slab<Buffer>, chain: &mut Chain, key: usize) -> Message
     requires there { ContainsKey buffers.old key }
@@ -121,8 +121,8 @@ fn is_from_port(message: &Message, port: u8) -> bool
     }
 }
 
-/// Takes the messages of a port out of a chain, and answers their tickets, front first. No other
-/// message moves.
+/// Removes the messages of a port from a chain, and returns their tickets, front first. Other
+/// messages stay in order.
 pub(crate) fn withdraw(
     buffers: &mut Slab<Buffer>,
     chain: &mut Chain,

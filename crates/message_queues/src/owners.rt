@@ -1,13 +1,13 @@
-// Who owns a buffer.
+// The owners of buffers.
 ghost use Rattle.std.specs.Prelude.{◌≡◌, ◌<◌};
 ghost use Rattle.message_queues.specs.inside.Owners.{owner_of, owner_of_timer, HasOwner, IsPortOwned};
 
 use board_terms::{Message, TimerId};
 
-/// How many ports own buffers.
+/// The number of ports, each of which owns buffers.
 pub(crate) const PORTS: usize = 16;
 
-/// How many owners there are: the ports, and behind them 32 timers.
+/// The number of owners: the ports, then 32 timers.
 pub(crate) const OWNERS: usize = 48;
 
 /// The owner of a message's buffer.

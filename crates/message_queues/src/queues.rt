@@ -12,20 +12,20 @@ use slab::Slab;
 use std::alloc::{AllocError, Global};
 use std::marker::Model;
 
-/// How many messages may be queued at once: 16 of each port, one of each timer.
+/// The greatest number of queued messages: 16 of each port, one of each timer.
 const BUFFERS: usize = 288;
 
 /// The message queues of a board: one for each source of each processor.
 #[derive(Drop)]
 pub struct Queues {
-    /// The messages of all queues, each with the keys of its neighbours: each key stands in one
-    /// chain, once. `append`, `place` and `withdraw_port` keep it so.
+    /// The messages of all queues, each with the keys of its neighbours: each key is in exactly one
+    /// chain, once. `append`, `place` and `withdraw_port` maintain this.
     buffers: Slab<Buffer>,
     /// The ends and the length of each queue, those of processor 0 first. `append`, `place` and
-    /// `withdraw_port` keep them so.
+    /// `withdraw_port` maintain them.
     chains: Vec<Chain>,
-    /// How many messages of each owner are in the queues. `append` raises it, `place` and
-    /// `withdraw_port` lower it.
+    /// How many messages of each owner are queued. `append` increments it, `place` and
+    /// `withdraw_port` decrement it.
     in_use: [u8; OWNERS],
 }
 
@@ -43,8 +43,8 @@ impl Model for Queues {
 }
 
 impl Queues {
-    /// Empty queues for that many processors, with room for 288 messages. The only call here that
-    /// may want memory.
+    /// Empty queues for that many processors, with capacity for 288 messages. The only call here
+    /// that allocates.
     pub fn open(alloc: Global, processors: u8) -> Result<Queues, AllocError>
         requires some { 1 ≤ processors }
         requires few { processors ≤ 8 }
@@ -67,7 +67,7 @@ impl Queues {
         })
     }
 
-    /// A message joins the end of a queue. It takes no memory.
+    /// Appends a message to a queue. Never allocates.
     #[inline]
     pub fn append(&mut self, vp: Vp, sint: Sint, message: Message)
         requires on_the_board { source_number vp sint < length self.old }
@@ -80,7 +80,7 @@ impl Queues {
         let _ = push(&mut self.buffers, chain, message);
     }
 
-    /// Takes the head out of a queue, if there is one.
+    /// Removes and returns the head of a queue, if there is one.
     #[inline]
     #[inline(always)]
     pub fn place(&mut self, vp: Vp, sint: Sint) -> Option<Message>
@@ -98,7 +98,7 @@ impl Queues {
         Some(message)
     }
 
-    /// Takes the messages of a port out of a queue, and answers their tickets, front first. The
+    /// Removes the messages of a port from a queue, and returns their tickets, front first. The
     /// others stay in order.
     pub fn withdraw_port(&mut self, vp: Vp, sint: Sint, port: u8) -> ArrayVec<Ticket, 16>
         requires { source_number vp sint < length self.old }
@@ -115,8 +115,8 @@ impl Queues {
         tickets
     }
 
-    /// Takes all messages out of a queue, and answers their tickets, front first. It takes no memory.
-    /// No more than 288 messages are in all queues.
+    /// Removes all messages from a queue, and returns their tickets, front first. Never allocates.
+    /// All queues together have at most 288 messages.
     pub fn withdraw_all(&mut self, vp: Vp, sint: Sint) -> ArrayVec<Ticket, 288>
         requires { source_number vp sint < length self.old }
         ensures tickets { result.items ≡ map ticket_of (queue_of self.old vp sint) }
@@ -133,7 +133,7 @@ impl Queues {
         tickets
     }
 
-    /// How many messages are in a queue, at most 288, as there are in all.
+    /// How many messages are in a queue, at most 288, the bound for all queues together.
     #[inline]
     pub fn count(&self, vp: Vp, sint: Sint) -> u16
         requires { source_number vp sint < length self.now }
@@ -144,7 +144,7 @@ impl Queues {
         self.chains[source_number(vp, sint)].len
     }
 
-    /// How many buffers of a port are in use: its messages over all queues, at most 16. None of a
+    /// How many buffers of a port are in use: its messages over all queues, at most 16. 0 for a
     /// port above 15.
     #[inline]
     pub fn port_used(&self, port: u8) -> u8

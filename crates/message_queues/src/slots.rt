@@ -1,17 +1,17 @@
-// Messages in their slots.
+// The images of messages in their slots.
 ghost use Rattle.std.specs.Prelude.{◌≡◌, ◌-◌, ◌≤◌, ◌++◌, length, replicate};
 ghost use Rattle.message_queues.specs.Image.{flags_of, header, timer_payload, image, slot_type};
 
 use board_terms::{Message, Moment, Sint};
 
-/// The size of a message slot, and so of a message (TLFS, "SynIC Message").
+/// The size of a message slot in bytes, and so of a message (TLFS, "SynIC Message").
 const SLOT: usize = 256;
 
 /// The type of a timer's message (TLFS, "Message Types").
 const TIMER_EXPIRED: u32 = 0x8000_0010;
 
-/// The image of a message that is placed at a moment: the 256 bytes of its slot. `pending` is
-/// whether more messages wait behind it (TLFS, "SynIC Message").
+/// The image of a message that is placed at a given time: the 256 bytes of its slot. `pending` sets
+/// MessagePending: more messages are queued (TLFS, "SynIC Message").
 #[inline]
 pub fn image(message: &Message, pending: bool, moment: Moment) -> [u8; SLOT]
     ensures { result ≡ image message.now pending moment }
@@ -37,7 +37,7 @@ pub fn image(message: &Message, pending: bool, moment: Moment) -> [u8; SLOT]
     }
 }
 
-/// A header, a payload and zeros.
+/// A header, a payload, and zeros up to 256 bytes.
 #[inline]
 fn assembled(header: &[u8; 16], payload: &[u8]) -> [u8; SLOT]
     requires { length payload.now ≤ 240 }
@@ -57,8 +57,8 @@ fn flags_of(pending: bool) -> u8
     if pending { 1 } else { 0 }
 }
 
-/// Bytes 0 to 15 of a message: its type, the payload's length, whether more messages wait behind it,
-/// and its port (TLFS, "SynIC Message").
+/// Bytes 0 to 15 of a message: its type, the length of its payload, whether more messages are
+/// queued, and its port (TLFS, "SynIC Message").
 #[inline]
 pub fn header(kind: u32, size: u8, pending: bool, port: u64) -> [u8; 16]
     ensures { result ≡ header kind size pending port }
@@ -97,7 +97,7 @@ fn timer_payload(index: u8, expiration: Moment, delivery: Moment) -> [u8; 24]
     payload
 }
 
-/// The type of the message in a slot of a SIM page. The slot is empty where it is 0.
+/// The type of the message in a slot of a SIM page. The slot is empty iff it is 0.
 #[inline]
 pub fn slot_type(page: &[u8], sint: Sint) -> u32
     requires { length page.now ≡ 4096 }

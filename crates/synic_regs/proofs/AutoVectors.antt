@@ -1,4 +1,4 @@
--- The vectors that end by themselves: their members, and one more source.
+-- The auto-EOI vectors: their members, and one more source.
 use Rattle.std.proofs.Common.{◌≡◌, ℕ, ◌+◌, ◌<◌, ◌≤◌, Bool, true, false, ◌&&◌, ◌||◌, not, nat_lt, List, [], take, take_all, length, get_or, refl, sym, ap, ◌∙◌, arith}
 use Rattle.std.specs.Prelude.{Option, None, Some, ◌==◌, if◌then◌else◌}
 use Rattle.std.specs.Ordering.{nat_cmp}
@@ -29,15 +29,15 @@ contains-auto_eoi_of sints v =
       | false ↦ λ e. sym (list_any_none (is_auto_source v) sints (λ k d h. above_none v (get_or sints k d) (grind (arith, nat_tests))))
     ] refl)
 
--- a vector ends by itself exactly if some source says so
+-- a vector is auto-EOI iff some source makes it so
 pub contains-auto_vectors : (r : Regs) (v : ℕ) → set.contains (auto_vectors r) v ≡ list_any (is_auto_source v) r.sints
 contains-auto_vectors r v = contains-auto_eoi_of r.sints v
 
--- the vector that ends by itself by a source
+-- the vector that a source makes auto-EOI
 abbrev pub auto_of_word : ℕ → Option ℕ
 auto_of_word word = if has word auto_eoi then raised_by_word word else None
 
--- with the vector that was found
+-- the set with the vector that was found
 abbrev pub with_found : Vectors → Option ℕ → Vectors
 with_found s o = option_map_or (λ v. set.insert s v) o s
 

@@ -9,7 +9,7 @@ use Rattle.synic_regs.specs.Registers.{Exists, number_of_register, timer_registe
 abbrev Means : ℕ → Register → Type 0
 Means n r = Exists r × (number_of_register r ≡ n)
 
--- the answer is the first, or that of the rest
+-- the result is the first register, or that of the remaining cases
 judged : (b : Bool) (x : Register) (rest : Option Register) (r : Register) (P : Type 0) → (if b then Some x else rest) ≡ Some r → (b ≡ true → x ≡ r → P) → (b ≡ false → rest ≡ Some r → P) → P
 judged true x rest r P h first later = first refl (cc)
 judged false x rest r P h first later = later refl h

@@ -17,18 +17,18 @@ number_of_register (Source n) = 0x40000090 + n
 number_of_register (TimerConfig n) = 0x400000b0 + 2 * n
 number_of_register (TimerCount n) = 0x400000b1 + 2 * n
 
--- there are sixteen sources and four timers
+-- a source below 16, or a timer below 4
 abbrev pub Exists : Register → Type 0
 Exists (Source n) = n < 16
 Exists (TimerConfig n) = n < 4
 Exists (TimerCount n) = n < 4
 Exists _ = Unit {0}
 
--- the two registers of each timer, in turn
+-- the two registers of each timer, in alternation
 abbrev pub timer_register : ℕ → Register
 timer_register k = if k % 2 == 0 then TimerConfig (k / 2) else TimerCount (k / 2)
 
--- the register of a number
+-- the register with a number
 abbrev pub register_of : ℕ → Option Register
 register_of n =
     if n == 0x40000020 then Some ReferenceCounter
@@ -43,6 +43,6 @@ register_of n =
     else if nat_le 0x400000b0 n && nat_le n 0x400000b7 then Some (timer_register (n - 0x400000b0))
     else None
 
--- a number is that of a register exactly if the register exists and has it
+-- register_of a number is r iff r exists and has that number
 abbrev pub HaveTheirNumbers : Type 0
 HaveTheirNumbers = (n : ℕ) (r : Register) → (register_of n ≡ Some r) ↔ (Exists r × (number_of_register r ≡ n))

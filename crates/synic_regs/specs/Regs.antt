@@ -28,7 +28,7 @@ auto_eoi = 0x20000
 abbrev pub polling : ℕ
 polling = 0x40000
 
--- a word has a bit
+-- the word has the bit
 abbrev pub has : ℕ → ℕ → Bool
 has word bit = bit_and word bit == bit
 
@@ -40,11 +40,11 @@ vector_of word = word % 256
 abbrev pub is_silent : ℕ → Bool
 is_silent word = has word masked || has word polling
 
--- after reset every source is masked
+-- after reset every source is masked, and all else is 0
 abbrev pub reset_regs : Regs
 reset_regs = record { control = 0; sief = 0; sim = 0; sints = replicate 16 masked }
 
--- the registers that store what is written
+-- the registers that store a written value here
 abbrev pub stores : Register → Bool
 stores Control = true
 stores Sief = true
@@ -56,7 +56,7 @@ stores _ = false
 abbrev pub is_legal : ℕ → Bool
 is_legal word = not (nat_lt (vector_of word) 16) || has word masked
 
--- a write of a source that may not be so is refused, and no other
+-- a write of an illegal value to a source is refused, and no other write
 abbrev pub is_refused : Register → ℕ → Bool
 is_refused (Source _) value = not (is_legal value)
 is_refused _ value = false
@@ -64,7 +64,7 @@ is_refused _ value = false
 abbrev pub outcome_of : Register → ℕ → Outcome
 outcome_of register value = if is_refused register value then GeneralProtection else Stored
 
--- a register takes a value
+-- a register stores a value
 abbrev pub with_value : Regs → Register → ℕ → Regs
 with_value r Control value = record r { control = value }
 with_value r Sief value = record r { sief = value }
@@ -95,15 +95,14 @@ raised_by_word word = if is_silent word then None else Some (vector_of word)
 abbrev pub raised_by : Regs → ℕ → Option ℕ
 raised_by r n = raised_by_word (source_of r n)
 
--- a vector ends by itself by a source: that has the AutoEOI bit, is neither masked nor polling, and
--- has that vector
+-- a source makes a vector auto-EOI: it has the AutoEOI bit, is neither masked nor polling, and has that vector
 abbrev pub is_auto_source : ℕ → ℕ → Bool
 is_auto_source v word = has word auto_eoi && not (is_silent word) && (vector_of word == v)
 
--- the vectors that end by themselves by some of these sources
+-- the vectors that some of these sources make auto-EOI
 unfoldable pub auto_eoi_of : List ℕ → Vectors
 auto_eoi_of sints = numbers_where (λ v. list_any (is_auto_source v) sints) 256
 
--- the vectors that end by themselves
+-- the auto-EOI vectors
 abbrev pub auto_vectors : Regs → Vectors
 auto_vectors r = auto_eoi_of r.sints

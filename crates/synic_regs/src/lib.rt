@@ -1,5 +1,5 @@
 //! The registers of one processor's synthetic interrupt controller (TLFS, "Virtual Interrupt
-//! Controller"): their numbers, what a write stores, and what a source raises.
+//! Controller"): their numbers, what a write stores, and which vector a source raises.
 #![tactic(auto)]
 
 mod laws;

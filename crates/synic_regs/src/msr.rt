@@ -1,6 +1,6 @@
-//! The numbers of the registers, as the standard has them (TLFS, "Virtual Interrupt Controller",
-//! "Synthetic Timers" and "Partition Reference Counter"), without the prefix `HV_X64_MSR_`. SINT0 to
-//! SINT15 follow one another, and so do STIMER0_CONFIG, STIMER0_COUNT, STIMER1_CONFIG and so on.
+//! Register numbers, by their names in the TLFS without the prefix `HV_X64_MSR_` ("Virtual
+//! Interrupt Controller", "Synthetic Timers" and "Partition Reference Counter"). SINT0 to SINT15
+//! are consecutive, and so are STIMER0_CONFIG, STIMER0_COUNT, STIMER1_CONFIG and so on.
 
 /// The partition reference counter, in units of 100 ns.
 pub const TIME_REF_COUNT: u32 = 0x4000_0020;
@@ -8,19 +8,19 @@ pub const TIME_REF_COUNT: u32 = 0x4000_0020;
 /// End of interrupt.
 pub const EOI: u32 = 0x4000_0070;
 
-/// The task priority.
+/// Task priority.
 pub const TPR: u32 = 0x4000_0072;
 
-/// The control of the SynIC.
+/// SynIC control.
 pub const SCONTROL: u32 = 0x4000_0080;
 
-/// The version of the SynIC.
+/// SynIC version.
 pub const SVERSION: u32 = 0x4000_0081;
 
-/// The page of event flags.
+/// Event flags page.
 pub const SIEFP: u32 = 0x4000_0082;
 
-/// The page of messages.
+/// Message page.
 pub const SIMP: u32 = 0x4000_0083;
 
 /// End of message.
@@ -29,7 +29,7 @@ pub const EOM: u32 = 0x4000_0084;
 /// The first synthetic interrupt source.
 pub const SINT0: u32 = 0x4000_0090;
 
-/// The source that most guests give to messages.
+/// The source that most guests use for messages.
 pub const SINT2: u32 = 0x4000_0092;
 
 /// The last synthetic interrupt source.

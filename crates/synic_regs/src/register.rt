@@ -12,15 +12,15 @@ pub enum Register {
     ReferenceCounter,
     /// End of interrupt (TLFS, "EOI").
     Eoi,
-    /// The task priority (TLFS, "TPR").
+    /// Task priority (TLFS, "TPR").
     Tpr,
-    /// SCONTROL: the control of the SynIC.
+    /// SCONTROL: SynIC control.
     Control,
-    /// SVERSION: the version of the SynIC.
+    /// SVERSION: SynIC version.
     Version,
-    /// SIEFP: the page of event flags.
+    /// SIEFP: event flags page.
     Sief,
-    /// SIMP: the page of messages.
+    /// SIMP: message page.
     Sim,
     /// End of message.
     Eom,
@@ -32,7 +32,7 @@ pub enum Register {
     TimerCount(u8),
 }
 
-/// The register of a number (TLFS, "Virtual Interrupt Controller" and "Synthetic Timers"), `None`
+/// The register with a number (TLFS, "Virtual Interrupt Controller" and "Synthetic Timers"); `None`
 /// for any other number.
 pub fn decode(number: u32) -> Option<Register>
     ensures register { result ≡ register_of number }
@@ -58,7 +58,7 @@ pub fn decode(number: u32) -> Option<Register>
     }
 }
 
-/// The registers of the timers, two for each in turn.
+/// The registers of the timers: configuration and count of each, in alternation.
 fn timer_register(place: u8) -> Register
     ensures { result ≡ timer_register place }
 {

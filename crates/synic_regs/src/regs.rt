@@ -11,7 +11,7 @@ use board_terms::{Sint, Vector};
 use lapic_core::VectorSet;
 use std::marker::Model;
 
-/// What a write of a register comes to.
+/// The result of a register write.
 #[derive(Clone, Copy, PartialEq, Eq, Debug)]
 pub enum Outcome {
     /// The value is stored whole.
@@ -20,15 +20,15 @@ pub enum Outcome {
     GeneralProtection,
 }
 
-/// SCONTROL, SIEFP, SIMP and SINT0 to SINT15 of one processor, stored whole (profile).
+/// SCONTROL, SIEFP, SIMP and SINT0 to SINT15 of one processor, which store all 64 bits (profile).
 #[derive(Drop)]
 pub struct SynicRegs {
     control: u64,
     sief: u64,
     sim: u64,
     sints: [u64; 16],
-    // The vectors that end by themselves. It depends on the sources alone, and each write of a
-    // source makes it anew.
+    // Cache: the auto-EOI vectors. It depends only on the sources, and each write of a source
+    // recomputes it.
     auto: VectorSet,
 }
 
@@ -48,7 +48,7 @@ impl Model for SynicRegs {
 }
 
 impl SynicRegs {
-    /// The registers after reset: all are 0 but the sources, which are masked.
+    /// The registers after reset: every source is masked, and all else is 0.
     pub fn new() -> SynicRegs
         ensures { result ≡ reset_regs }
     {
@@ -62,8 +62,8 @@ impl SynicRegs {
         }
     }
 
-    /// Writes SCONTROL, SIEFP, SIMP or a source. A source whose vector is below 16 has to be masked,
-    /// or else the write is refused (profile). No other register is stored here.
+    /// Writes SCONTROL, SIEFP, SIMP or a source. A source whose vector is below 16 must be masked,
+    /// or the write is refused (profile). A write to any other register stores nothing here.
     pub fn write(&mut self, register: Register, value: u64) -> Outcome
         requires { IsTrue (stores register) }
         ensures outcome { result ≡ outcome_of register value }
@@ -91,7 +91,7 @@ impl SynicRegs {
         Outcome::Stored
     }
 
-    /// What SCONTROL, SIEFP, SIMP or a source stores.
+    /// The value of SCONTROL, SIEFP, SIMP or a source.
     pub fn read(&self, register: Register) -> u64
         requires { IsTrue (stores register) }
         ensures { result ≡ value_of self.now register }
@@ -112,36 +112,36 @@ impl SynicRegs {
         EnableWord::new(self.control).is_enabled()
     }
 
-    /// Whether the page of messages is enabled: bit 0 of SIMP.
+    /// Whether the message page is enabled: bit 0 of SIMP.
     pub fn sim_is_enabled(&self) -> bool
         ensures { result ≡ has self.now.sim enable }
     {
         EnableWord::new(self.sim).is_enabled()
     }
 
-    /// Whether the page of event flags is enabled: bit 0 of SIEFP.
+    /// Whether the event flags page is enabled: bit 0 of SIEFP.
     pub fn sief_is_enabled(&self) -> bool
         ensures { result ≡ has self.now.sief enable }
     {
         EnableWord::new(self.sief).is_enabled()
     }
 
-    /// Whether a vector ends by itself when it is taken: some source that is neither masked nor
-    /// polling has it, and its AutoEOI bit.
+    /// Whether a vector is auto-EOI: some source that is neither masked nor polling has this vector
+    /// and the AutoEOI bit.
     pub fn is_auto(&self, vector: Vector) -> bool
         ensures { result ≡ set.contains (auto_vectors self.now) vector }
     {
         self.auto.contains(vector)
     }
 
-    /// The vectors that end by themselves when they are taken.
+    /// The auto-EOI vectors.
     pub fn auto_set(&self) -> &VectorSet
         ensures { result.now ≡ auto_vectors self.now }
     {
         &self.auto
     }
 
-    /// The vector that a source raises, `None` if it is masked or polling (profile).
+    /// The vector that a source raises; `None` if it is masked or polling (profile).
     pub fn raises(&self, sint: Sint) -> Option<Vector>
         ensures { result ≡ raised_by self.now sint }
     {
@@ -149,7 +149,7 @@ impl SynicRegs {
     }
 }
 
-/// The vectors that end by themselves by some of these sources.
+/// The vectors that some of these sources make auto-EOI.
 fn auto_eoi_of(sints: &[u64; 16]) -> VectorSet
     requires { AreLegal sints.now }
     ensures { result ≡ auto_eoi_of sints.now }

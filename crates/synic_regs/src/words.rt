@@ -1,11 +1,11 @@
-// The words of the registers that store what is written, and their bits.
+// The values of the registers that store what is written, and their bits.
 ghost use Rattle.std.specs.Prelude.{◌≡◌, IsTrue, None, if◌then◌else◌};
 ghost use Rattle.synic_regs.specs.Regs.{has, enable, auto_eoi, is_legal, is_silent, vector_of, raised_by_word};
 
 use bitflags::{Flag, Flags, bitflag_items};
 use board_terms::Vector;
 
-/// The word of SCONTROL, SIEFP or SIMP.
+/// The value of SCONTROL, SIEFP or SIMP.
 #[derive(Clone, Copy, PartialEq, Eq, Debug)]
 pub struct EnableWord(u64);
 
@@ -40,7 +40,7 @@ impl Flags for EnableWord {
 }
 
 impl EnableWord {
-    /// The word of these bits.
+    /// The value with these bits.
     pub fn new(bits: u64) -> EnableWord
         ensures { result.0 ≡ bits }
     {
@@ -55,7 +55,7 @@ impl EnableWord {
     }
 }
 
-/// The word of a synthetic interrupt source (TLFS, "SINTx Registers").
+/// The value of a synthetic interrupt source (TLFS, "SINTx Registers").
 #[derive(Clone, Copy, PartialEq, Eq, Debug)]
 pub struct SintWord(u64);
 
@@ -92,36 +92,36 @@ impl Flags for SintWord {
 }
 
 impl SintWord {
-    /// The word of these bits.
+    /// The value with these bits.
     pub fn new(bits: u64) -> SintWord
         ensures { result.0 ≡ bits }
     {
         SintWord(bits)
     }
 
-    /// The number in its vector field, which is no vector below 16.
+    /// The number in its vector field. Below 16 it is no vector.
     fn vector_number(self) -> u8
         ensures { result ≡ vector_of self.0 }
     {
         (self.0 % 256) as u8
     }
 
-    /// Whether it may be written: below 16 no vector can be raised, so the source has to be masked
-    /// (profile).
+    /// Whether the value is legal: no vector below 16 can be raised, so with such a vector the
+    /// source must be masked (profile).
     pub fn is_legal(self) -> bool
         ensures { result ≡ is_legal self.0 }
     {
         self.vector_number() >= 16 || self.contains(SintWord::MASKED)
     }
 
-    /// Whether it raises nothing: it is masked or polling (profile).
+    /// Whether the source raises nothing: it is masked or polling (profile).
     fn is_silent(self) -> bool
         ensures { result ≡ is_silent self.0 }
     {
         self.contains(SintWord::MASKED) || self.contains(SintWord::POLLING)
     }
 
-    /// The vector that it raises.
+    /// The vector that the source raises.
     pub fn raised(self) -> Option<Vector>
         requires { IsTrue (is_legal self.0) }
         ensures { result ≡ raised_by_word self.0 }
@@ -133,7 +133,8 @@ impl SintWord {
         }
     }
 
-    /// The vector that ends by itself by it: the one that it raises, if it has the AutoEOI bit.
+    /// The vector that the source makes auto-EOI: the one that it raises, if it has the AutoEOI
+    /// bit.
     pub fn auto_eoi(self) -> Option<Vector>
         requires { IsTrue (is_legal self.0) }
         ensures { result ≡ (if has self.0 auto_eoi then raised_by_word self.0 else None) }

@@ -1,4 +1,4 @@
--- What the fields stand for, and what they keep.
+-- The abstract view of the fields, and their invariant.
 use Rattle.std.specs.Prelude.{◌≡◌, ◌<◌, ◌≤◌, ℕ, true, Some}
 use Rattle.event_ports.specs.declared.ports.Port.{Port}
 use Rattle.event_ports.specs.declared.ports.Ports.TheInside.{Inside}
@@ -8,7 +8,7 @@ use Rattle.event_ports.specs.Ports.{Ports, port_at}
 abbrev pub ports_of : Inside → Ports
 ports_of a = record { processors = a.processors; ports = a.ports }
 
--- an open port reaches a processor on the board, and its shape is in range
+-- an open port has a target on the board, and its shape is in range
 pub record IsKept (a : Inside) : Type 0 where
   pub few_processors : a.processors ≤ 8
   pub on_the_board : (n : ℕ) (p : Port) → port_at (ports_of a) n ≡ Some p → p.vp < a.processors

@@ -1,4 +1,4 @@
--- What a vector has to exceed.
+-- The threshold: what a vector has to exceed to be the next one.
 use Rattle.std.specs.Prelude.{ℕ, ◌+◌, ◌*◌, nat_lt, Option, Bool, false, if◌then◌else◌}
 use Rattle.std.specs.FinSet as set
 use Rattle.std.specs.Option.{option_map_or}
@@ -9,11 +9,11 @@ use Rattle.lapic_core.specs.Apic.{Apic, priority}
 abbrev pub last_of : ℕ → ℕ
 last_of c = 16 * c + 15
 
--- the greatest number that the processor priority holds back
+-- the greatest number that the processor priority blocks
 abbrev pub threshold : Apic → ℕ
 threshold a = last_of (priority a)
 
--- what a vector has to exceed to be the next one: the next vector, or what is held back if there is none
+-- what a vector has to exceed to become the next one: the next vector, or the threshold if there is none
 abbrev pub to_exceed : ℕ → Option ℕ → ℕ
 to_exceed n o = option_map_or (λ v. v) o n
 
@@ -21,10 +21,10 @@ to_exceed n o = option_map_or (λ v. v) o n
 abbrev pub above : Vectors → ℕ → Vectors
 above s n = set.retain s (λ v. nat_lt n v)
 
--- the task priority, but of a suspended processor 255, which holds every vector back
+-- the task priority; for a suspended processor 255, which blocks every vector
 abbrev pub floor : Bool → ℕ → ℕ
 floor suspended task_priority = if suspended then 255 else task_priority
 
--- a processor that serves these vectors at a task priority, and has these requests
+-- a processor with these vectors in service, this task priority, and these requests
 abbrev pub serving : Vectors → ℕ → Vectors → Apic
 serving in_service task_priority requested = record { requested = requested; in_service = in_service; task_priority = task_priority; suspended = false }

@@ -3,11 +3,11 @@ use Rattle.std.specs.Prelude.{ℕ, Bool, false, List, ◌≡◌, ◌<◌, ◌/�
 use Rattle.std.specs.Int.{bit_at}
 use Rattle.lapic_core.specs.Vectors.{Vectors, numbers_where}
 
--- the bit of a vector stands: bit v % 64 of word v / 64
+-- the bit of a vector is set: bit v % 64 of word v / 64
 abbrev pub holds : List ℕ → ℕ → Bool
 holds words v = bit_at (slice_index_or words (v / 64) 0) (v % 64) == 1
 
--- the numbers whose bits stand
+-- the numbers whose bits are set
 unfoldable pub word_members : List ℕ → Vectors
 word_members words = numbers_where (holds words) 256
 

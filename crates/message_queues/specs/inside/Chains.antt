@@ -1,4 +1,4 @@
--- Queues as chains of buffers: each buffer has the keys of its neighbours, each queue those of its ends.
+-- Queues as doubly linked chains of buffers: each buffer has the keys of its neighbours, each queue the keys of its ends.
 use Rattle.std.specs.Prelude.{◌≡◌, ℕ, zero, suc, ◌≤◌, List, [], ◌∷◌, length, map, reverse, slice_get, Option, Some, None}
 use Rattle.std.specs.Option.{option_and_then}
 use Rattle.board_terms.specs.declared.messages.Message.{Message}
@@ -17,7 +17,7 @@ abbrev pub put_first : Option Buffer → List Message → List Message
 put_first None messages = messages
 put_first (Some buffer) messages = buffer.message ∷ messages
 
--- the messages of so many buffers, from a key on
+-- the messages of that many buffers, from a key on
 abbrev pub messages : ℕ → Buffers → Option ℕ → List Message
 messages zero buffers from = []
 messages (suc n) buffers None = []
@@ -30,7 +30,7 @@ queue_at buffers chain = messages chain.len buffers chain.first
 abbrev pub queues_at : Buffers → List Chain → Queues
 queues_at buffers chains = map (queue_at buffers) chains
 
--- the keys of so many buffers, from one on, by what is next to each
+-- that many keys, from one on, following the links
 abbrev pub keys_from : (Buffer → Option ℕ) → Buffers → ℕ → Option ℕ → List ℕ
 keys_from next buffers zero from = []
 keys_from next buffers (suc n) None = []
@@ -40,21 +40,19 @@ keys_from next buffers (suc n) (Some key) = key ∷ keys_from next buffers n (op
 abbrev pub ReadsBothWays : Buffers → Chain → Type 0
 ReadsBothWays buffers chain = keys_from (λ b. b.before) buffers chain.len chain.last ≡ reverse (keys_from (λ b. b.behind) buffers chain.len chain.first)
 
--- These keys follow one another from `from` on, and `before` is before the first of them; behind the last of them, which is `last`, comes `to`.
--- What is before each is the key that it stands behind, so that from the end the keys are the same.
--- They belong to the queue, and their ranks rise from `low` on and stay below `top`, so none stands twice.
+-- These keys follow one another from `from` on; `before` precedes the first of them, and `to` follows the last of them, which is `last`. The back link of each is the key that it follows, so from the end the keys are the same. They belong to the queue, and their ranks increase from `low` on and stay below `top`, so no key occurs twice.
 abbrev pub Links : Buffers → (ℕ → ℕ) → (ℕ → ℕ) → ℕ → ℕ → Option ℕ → Option ℕ → List ℕ → Option ℕ → Option ℕ → ℕ → Type 0
 Links buffers owner rank queue low before from [] to last top = (from ≡ to) × (last ≡ before) × (low ≤ top)
 Links buffers owner rank queue low before from (key ∷ keys) to last top = (b : Buffer) × (from ≡ Some key) × (owner key ≡ queue) × (low ≤ rank key) × (buffers key ≡ Some b) × (b.before ≡ before) × Links buffers owner rank queue (suc (rank key)) (Some key) b.behind keys to last top
 
--- A chain: its keys are linked from its first to its last, nothing is before the one or behind the other, and its length is how many there are.
+-- A chain: its keys are linked from its first to its last, nothing precedes the first or follows the last, and its length is their number.
 pub record IsChain (buffers : Buffers) (owner rank : ℕ → ℕ) (queue : ℕ) (chain : Chain) : Type 0 where
   pub keys : List ℕ
   pub top : ℕ
   pub links : Links buffers owner rank queue 0 None chain.first keys None chain.last top
   pub len : chain.len ≡ length keys
 
--- Each queue is a chain of its own: each key belongs to one queue, and stands in it once.
+-- Each queue is a chain: each key belongs to one queue, and occurs in it once.
 pub record Kept (buffers : Buffers) (chains : List Chain) : Type 0 where
   pub owner : ℕ → ℕ
   pub rank : ℕ → ℕ

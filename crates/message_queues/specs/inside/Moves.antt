@@ -1,4 +1,4 @@
--- What joining a chain and leaving it do to the buffers.
+-- What linking a buffer and unlinking it do to the buffers.
 use Rattle.std.specs.Prelude.{◌≡◌, ◌≢◌, ℕ, ◌+◌, List, length, Option, Some, None}
 use Rattle.std.specs.Option.{option_map}
 use Rattle.board_terms.specs.declared.messages.Message.{Message}
@@ -7,24 +7,24 @@ use Rattle.message_queues.specs.inside.Chains.{Buffers, queue_at, IsChain}
 use Rattle.message_queues.specs.declared.chains.Buffer.{Buffer}
 use Rattle.message_queues.specs.declared.chains.Chain.{Chain}
 
--- a buffer with another neighbour behind it, and with another one before it
+-- a buffer with another successor, and with another predecessor
 abbrev pub with_behind : Option ℕ → Buffer → Buffer
 with_behind key b = record b { behind = key }
 
 abbrev pub with_before : Option ℕ → Buffer → Buffer
 with_before key b = record b { before = key }
 
--- one buffer is changed so, if the key is there and has one
+-- the buffer at a key, if there is one, is changed by `change`, and no other buffer is changed
 pub record Sets (old new : Buffers) (at : Option ℕ) (change : Buffer → Buffer) : Type 0 where
   pub here : (k : ℕ) → at ≡ Some k → new k ≡ option_map change (old k)
   pub others : (k : ℕ) → at ≢ Some k → new k ≡ old k
 
--- where the one is none it is the next, else the last
+-- the neighbour to use: if the first is none, the second, else the third
 abbrev pub if_none : Option ℕ → Option ℕ → Option ℕ → Option ℕ
 if_none None it else_it = it
 if_none (Some k) it else_it = else_it
 
--- The message lies at a key that was free, and no buffer but the last of the chain changed.
+-- The message is at a key that was free, and of the other buffers only the chain's last one changed.
 pub record Pushed (old new : Buffers) (c d : Chain) (message : Message) (key : ℕ) : Type 0 where
   pub free : old key ≡ None
   pub here : c.last ≢ Some key → new key ≡ Some (record { message = message; before = c.last; behind = None })
@@ -34,7 +34,7 @@ pub record Pushed (old new : Buffers) (c d : Chain) (message : Message) (key : �
   pub last : d.last ≡ Some key
   pub len : d.len ≡ c.len + 1
 
--- The buffer b at the key is gone, and its neighbours are joined.
+-- The buffer b at the key is removed, and its neighbours are linked to each other.
 pub record Unlinked (old new : Buffers) (c d : Chain) (key : ℕ) (b : Buffer) (message : Message) : Type 0 where
   pub was : old key ≡ Some b
   pub message_is : message ≡ b.message
@@ -45,7 +45,7 @@ pub record Unlinked (old new : Buffers) (c d : Chain) (key : ℕ) (b : Buffer) (
   pub last : d.last ≡ if_none b.behind b.before c.last
   pub len : d.len + 1 ≡ c.len
 
--- The port's messages left the chain of a queue, and no buffer of another queue changed.
+-- The port's messages were removed from the chain of a queue, and no buffer of another queue changed.
 pub record Withdrawn (old new : Buffers) (owner rank : ℕ → ℕ) (queue : ℕ) (c d : Chain) (port : ℕ) (tickets : List ℕ) : Type 0 where
   pub after : IsChain new owner rank queue d
   pub stay : queue_at new d ≡ left_of port (queue_at old c)

@@ -1,4 +1,4 @@
--- The owners of the 288 buffers (profile): ports 0 to 15 have 16 each, and each of the 32 timers has one.
+-- The owners of the 288 buffers (profile): each of the ports 0 to 15 has 16, and each of the 32 timers has one.
 use Rattle.std.specs.Prelude.{◌≡◌, ℕ, ◌+◌, ◌*◌, ◌<◌, ◌≤◌, nat_lt, ◌==◌, List, length, sum_by, count_by, slice_index_or, if◌then◌else◌}
 use Rattle.board_terms.specs.declared.messages.Message.{Message}
 use Rattle.board_terms.specs.declared.messages.Message.TheVariants.{FromPort, FromTimer}
@@ -12,7 +12,7 @@ abbrev pub owner_of : Message → ℕ
 owner_of (FromPort ticket port kind payload) = port
 owner_of (FromTimer ticket timer expiration) = owner_of_timer timer
 
--- it is from one of the owners
+-- the message has an owner
 abbrev pub HasOwner : Message → Type 0
 HasOwner (FromPort ticket port kind payload) = port < 16
 HasOwner (FromTimer ticket timer expiration) = (timer.0 < 8) × (timer.1 < 4)
@@ -26,11 +26,11 @@ IsPortOwned (FromTimer ticket timer expiration) = Unit {0}
 abbrev pub used_by : ℕ → Queues → ℕ
 used_by o qs = sum_by (count_by (λ m. owner_of m == o)) qs
 
--- how many it has
+-- how many buffers it has in all
 abbrev pub share : ℕ → ℕ
 share o = if nat_lt o 16 then 16 else 1
 
--- the counts that are kept are those of the queues, and no owner has more in use than it has
+-- the counts are those of the queues, and no owner exceeds its share
 pub record IsCounted (qs : Queues) (in_use : List ℕ) : Type 0 where
   pub size : length in_use ≡ 48
   pub counted : (o : ℕ) → o < 48 → slice_index_or in_use o 0 ≡ used_by o qs

@@ -1,4 +1,4 @@
--- What the fields stand for, and what they keep.
+-- The abstract view of the fields, and their invariant.
 use Rattle.std.specs.Prelude.{◌≡◌, ℕ, ◌≤◌, List, slice_get, sum_by, Some}
 use Rattle.std.specs.List.{All}
 use Rattle.slab.specs.Slab.{get, slab_len}
@@ -12,12 +12,11 @@ use Rattle.message_queues.specs.inside.Chains.{queues_at, ReadsBothWays, Kept}
 abbrev pub queues_of : Inside → Queues
 queues_of a = queues_at (get a.buffers) a.chains.items
 
--- how many buffers the chains have in all
+-- how many buffers all chains have
 abbrev pub total_of : List Chain → ℕ
 total_of chains = sum_by (λ (c : Chain). c.len) chains
 
--- No key stands in two chains or twice in one, and there are as many buffers as keys in the chains: so each key of the slab stands
--- in exactly one chain, once. There is room for all that the owners may use.
+-- No key occurs in two chains or twice in one, and there are as many buffers as keys in the chains. So each key of the slab occurs in exactly one chain, once. There is capacity for the shares of all owners.
 pub record IsKept (a : Inside) : Type 0 where
   pub linked : Kept (get a.buffers) a.chains.items
   pub held : slab_len a.buffers ≡ total_of a.chains.items

@@ -1,4 +1,4 @@
--- What the fields stand for, and what they keep.
+-- The abstract view of the fields, and their invariant.
 use Rattle.std.specs.Prelude.{◌≡◌}
 use Rattle.synic_regs.specs.Regs.{Regs, auto_vectors}
 use Rattle.synic_regs.specs.inside.Legal.{AreLegal}
@@ -10,5 +10,5 @@ regs_of a = record { control = a.control; sief = a.sief; sim = a.sim; sints = a.
 pub record IsKept (a : Inside) : Type 0 where
   -- a source with a vector below 16 is masked
   pub legal : AreLegal a.sints
-  -- the stored set is brought up to date at each write of a source
+  -- the cached set is recomputed at each write of a source
   pub auto : a.auto ≡ auto_vectors (regs_of a)

@@ -1,4 +1,4 @@
--- A count may go to another thread: it has no bytes, and what it says holds anywhere.
+-- A count is `Send`: it has no bytes, and its ghost value does not depend on the thread.
 use denote.Param.Send.{IsSend}
 use Rattle.counter.specs.contracts.Count.{the_row}
 

@@ -7,7 +7,7 @@ use Rattle.board_terms.specs.Sources.{source_number}
 use Rattle.message_queues.specs.Queues.{Queues, queue_of, with_queue, after_place}
 use Rattle.message_queues.proofs.queues.Queues.withdraw_all.Goals as goal
 
--- one more message is taken out
+-- one more message is removed
 taken : (qs now : Queues) (p i k : ℕ) (m : Message) → source_number p i < length qs → k < length (queue_of qs p i) → now ≡ with_queue qs p i (drop k (queue_of qs p i)) → Some m ≡ slice_get (queue_of now p i) 0 →
     (after_place now p i ≡ with_queue qs p i (drop (k + 1) (queue_of qs p i))) × (take (k + 1) (queue_of qs p i) ≡ take k (queue_of qs p i) ++ m ∷ [])
 taken qs now p i k m within less is head =
