@@ -1,4 +1,4 @@
-//! A board with the notices of its last event: what one caller holds.
+//! A board together with the notices of its last event, for one caller.
 #![tactic(auto)]
 
 ghost use Rattle.std.specs.Prelude.{◌≡◌, ◌↔◌, ◌≤◌, [], length, IfOk, IsErrOf};
@@ -11,19 +11,19 @@ use board_terms::{Notices, Ticket};
 use std::alloc::Global;
 use synic_board::{Board, Event, OpenFault, Reply};
 
-/// A board, and what its last event told beside its reply.
+/// A board and the notices of its last event.
 #[derive(Drop)]
 pub struct Desk {
     /// The board.
     pub board: Board,
-    /// The notices of the last event, in their order.
+    /// The notices of the last event, in order.
     pub notices: Notices,
 }
 
 impl Desk {
-    /// A board of that many processors and guest pages at moment 0, whose first accepted message takes
-    /// `first_ticket`, and no notice. `BadSize` unless there are 1 to 8 processors and 1 to 64 pages.
-    /// All memory that events need is taken here.
+    /// Opens a board of that many processors and guest pages at time 0, without notices. The first
+    /// message that it accepts gets the ticket `first_ticket`. `BadSize` unless there are 1 to 8
+    /// processors and 1 to 64 pages. Allocates all memory that events need.
     pub fn open(
         alloc: Global,
         processors: u8,
@@ -41,7 +41,7 @@ impl Desk {
         }
     }
 
-    /// Performs an event and keeps its notices, in place of those before. It takes no memory.
+    /// Performs an event and replaces the notices by its own. Never allocates.
     pub fn perform(&mut self, event: &Event) -> Reply
         ensures step { (self.new.board.state, result, self.new.notices) ≡ step self.old.board.state event.now }
         ensures few { length self.new.notices ≤ most_notices event.now }
@@ -50,7 +50,7 @@ impl Desk {
         self.board.perform(event, &mut self.notices)
     }
 
-    /// `perform` for a place in the code at which there is one kind of event.
+    /// `perform`, inlined: for callers that construct one kind of event.
     #[inline(always)]
     pub fn perform_inline(&mut self, event: &Event) -> Reply
         ensures step { (self.new.board.state, result, self.new.notices) ≡ step self.old.board.state event.now }
@@ -60,7 +60,7 @@ impl Desk {
         self.board.perform_inline(event, &mut self.notices)
     }
 
-    /// `perform` of a post whose payload, at most 240 bytes, is lent.
+    /// `perform` of a post, with a borrowed payload of at most 240 bytes.
     #[inline(always)]
     pub fn post(&mut self, port: u8, kind: u32, payload: &[u8]) -> Reply
         requires { length payload.now ≤ 240 }
@@ -70,8 +70,8 @@ impl Desk {
         self.board.post(port, kind, payload, &mut self.notices)
     }
 
-    /// `perform` of a store whose bytes are lent. Of 1 to 8 bytes it is that of `Event::Store`; more are
-    /// refused as none are, with `BadLength`.
+    /// `perform` of a store, with borrowed bytes. With 1 to 8 bytes it is the event `Event::Store`;
+    /// no bytes or more than 8 are refused with `BadLength`.
     #[inline(always)]
     pub fn store(&mut self, address: u64, bytes: &[u8]) -> Reply
         ensures step { (self.new.board.state, result, self.new.notices) ≡ step self.old.board.state (Store address (record { items = bytes.now })) }

@@ -1,4 +1,4 @@
--- A flag is told of exactly when a signal sets it.
+-- A FlagSet notice is emitted iff a signal sets the flag.
 use Rattle.std.proofs.Common.{◌≡◌, ℕ, ◌+◌, ◌*◌, ◌%◌, ◌^◌, ◌<◌, ◌&&◌, ◌||◌, get_or, set, max, Bool, true, false, not, nat_lt, List, [], ◌∷◌, ◌++◌, length, map, refl, sym, ap, subst, ◌∙◌, arith, Ok}
 use Rattle.std.specs.Prelude.{Option, None, Some, ◌==◌, bit_or}
 use Rattle.std.specs.Int.{bit_at}
@@ -35,7 +35,7 @@ use Rattle.board_laws.specs.Flags.{tells_of_flag, is_flag_told, is_place, signal
 use Rattle.synic_board.proofs.keeping.Requests.{either}
 use Rattle.board_laws.proofs.Throughout.{OfEffects, IsNoSignal, request_made, throughout}
 
--- notices that tell of no flag
+-- notices without a FlagSet
 abbrev TellNone : List Notice → Type 0
 TellNone notices = (p i flag : ℕ) → is_flag_told p i flag notices ≡ false
 
@@ -82,7 +82,7 @@ mute = record {
   expires = λ s t _. record { none = none-expired t (expiry_at s t).signal (expiry_at s t).skipped };
 }
 
--- an event tells of a flag exactly if it is a signal that found it clear, and then the flag is set
+-- an event emits FlagSet iff it is a signal that found the flag clear, and then the flag is set
 record IsFlagged (s : State) (event : Event) (outcome : Outcome) : Type 0 where
   pub told : (p i flag : ℕ) → is_flag_told p i flag outcome.2 ≡ found_clear s p i flag event outcome.1
   pub stands : (p i flag : ℕ) → IsSound s → p < processors s → i < 16 → flag < 2048 → is_flag_told p i flag outcome.2 ≡ true → is_flag_set (space_of outcome.0) p i flag ≡ true
@@ -140,7 +140,7 @@ repeats : (s : State) (port number q j lit : ℕ) → flag_place_of (ports_of s)
 repeats s port number q j lit place stands = silent s (Signal port number) (unchanged (with_flag s q j lit) replies.FlagWasSet) (λ _ _ _. refl) (λ p i flag.
     ap (λ r. is_place p i flag r && true && not (is_flag_set (space_of s) p i flag)) place ∙ repeated (p == q && i == j && flag == lit) (is_flag_set (space_of s) p i flag) (λ e. here s p i flag q j lit e ∙ stands))
 
--- a flag that is set stands
+-- a flag that was set is set afterwards
 flag-stands : (s : State) (p i flag : ℕ) → IsSound s → p < processors s → i < 16 → flag < 2048 → is_flag_set (space_of (with_flag s p i flag)) p i flag ≡ true
 flag-stands s p i flag h below inside few =
     let page : List ℕ = own_page (space_of s) p Sief in

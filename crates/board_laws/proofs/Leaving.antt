@@ -1,4 +1,4 @@
--- What a guest store leaves as it was.
+-- What a guest store leaves unchanged.
 use Rattle.std.proofs.Common.{◌≡◌, ◌≢◌, ◌⊎◌, inl, inr, ℕ, zero, suc, ◌/◌, ◌%◌, List, [], length, get_or, set, nat_lt, refl, ap, sym, ◌∙◌, subst, length-set}
 use Rattle.std.specs.Prelude.{Option, None, Some, map, if◌then◌else◌}
 use Rattle.std.specs.List.{range_with_len}
@@ -20,7 +20,7 @@ use Rattle.synic_board.specs.Step.{step}
 use Rattle.board_laws.specs.Leaving.{LeavesSummary, LeavesHidden}
 use Rattle.synic_board.proofs.keeping.Requests.{either}
 
--- slots alone differ
+-- only the slots' tickets differ
 record IsLike (s now : State) : Type 0 where
   summary : scratch now ≡ scratch s
   ticket : now.next_ticket ≡ s.next_ticket
@@ -52,7 +52,7 @@ like-in s (Sim p) = like-below s p 16
 like-in s (Sief p) = like-itself s
 like-in s Nothing = like-itself s
 
--- the bytes that are stored, where that overlay is visible or none
+-- the bytes after a store to that visible overlay, or to the guest page
 abbrev there : State → ℕ → List ℕ → Option ℕ → State
 there s page bytes o = option_map_or (λ overlay. record s { own = set s.own overlay bytes }) o (record s { pages = set s.pages page bytes })
 
@@ -63,7 +63,7 @@ shown-there s page bytes = seen (visible (space_of s) page)
     seen None = refl
     seen (Some k) = refl
 
--- the owners, from how many pages there are
+-- the owners, as a function of the number of pages
 abbrev owners_among : State → ℕ → List Owner
 owners_among s n = map (λ page. if nat_lt page n then option_map_or overlay_owner (visible (space_of s) page) Guest else Nothing) (range_with_len 0 n)
 
@@ -79,7 +79,7 @@ leaves-hidden-there s page bytes None is = record { overlays = λ k other. refl;
     apart other (inr some) = absurd (some is)
 leaves-hidden-there s page bytes (Some k) is = record { overlays = λ n other. get_or-set_other s.own k n bytes [] (λ same. other (is ∙ ap Some (sym same))); guest = λ other which. refl }
 
--- a store is refused, or its bytes lie there and messages were consumed
+-- a store is refused, or it writes its bytes and messages are consumed
 stored : (P : State → Type 0) (s : State) (address : ℕ) (bytes : List ℕ) → P s → ((now : State) → (new : List ℕ) → IsLike (there s (address / 4096) new (visible (space_of s) (address / 4096))) now → P now) → P (stored_bytes s address bytes).0
 stored P s address bytes same other = judged (refusal_of (space_of s) address (length bytes)) refl
   where

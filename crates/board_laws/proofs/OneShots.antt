@@ -1,4 +1,4 @@
--- A one-shot is told of at most once for each write that starts it.
+-- A one-shot expires at most once for each write that starts it.
 use Rattle.std.proofs.Common.{◌≡◌, ◌⊎◌, inl, inr, ℕ, ◌+◌, ◌-◌, ◌/◌, ◌%◌, ◌<◌, ◌≤◌, ◌&&◌, set, Bool, true, false, not, List, [], ◌∷◌, length, refl, sym, ap, ◌∙◌, arith}
 use Rattle.std.specs.Prelude.{Option, None, Some, ◌==◌, bit_and, is_some, if◌then◌else◌}
 use Rattle.std.specs.List.{All}
@@ -31,7 +31,7 @@ use Rattle.synic_board.proofs.keeping.Requests.{either}
 use Rattle.board_laws.proofs.Throughout.{expiry_made}
 use Rattle.board_laws.proofs.Timers.{expiries-joined, replaced, same-timer, replaced-here, due-some, expires-here, skipped-none, throughout-timer, same-number, config-writes, count-writes}
 
--- a one-shot stays one, and what is told of it was armed before
+-- a one-shot stays one, and its expiries were armed before
 record IsCounted (t : ℕ × ℕ) (s : State) (e : Effect) : Type 0 where
   pub one_shot : IsOneShot s t → IsOneShot e.0 t
   pub few : IsOneShot s t → expiries t e.1 + armed e.0 t ≤ armed s t
@@ -43,7 +43,7 @@ counted-after t s e f a b = record {
   few = λ h. omega (arith, expiries-joined t e.1 f.1, a.few h, b.few (a.one_shot h));
 }
 
--- what leaves it, and tells of no expiry of it
+-- an effect that leaves the timer unchanged and emits no expiry of it
 still : (t : ℕ × ℕ) (s : State) (e : Effect) → timer_in (bank_of e.0) t ≡ timer_in (bank_of s) t → expiries t e.1 ≡ 0 → IsCounted t s e
 still t s e same none = record {
   one_shot = λ h. ap (λ (x : Timer). is_periodic x.config) same ∙ h;
@@ -82,7 +82,7 @@ one-at-most : (b : Bool) → (if b then 1 else 0) ≤ 1
 one-at-most true = omega arith
 one-at-most false = omega arith
 
--- what an expiry tells of the timer
+-- the expiries of the timer in the notices of one expiry
 told-once : (t u : ℕ × ℕ) (signal : Option ℕ) (skipped : ℕ) → expiries t (expiry_notices u signal skipped) ≤ 1
 told-once t u signal skipped = omega (arith, expiries-joined t (expired_notices u signal) (skipped_notices u skipped), first signal, skipped-none t u skipped)
   where
@@ -90,7 +90,7 @@ told-once t u signal skipped = omega (arith, expiries-joined t (expired_notices 
     first None = omega arith
     first (Some d) = either (λ (n : ℕ). 0 + n ≤ 1) (number_of u == number_of t) 1 0 (λ _. omega arith) (λ _. omega arith)
 
--- a one-shot that expires is one still, and is due no more
+-- a one-shot that expires stays a one-shot and has no deadline
 expires-once : (x : Timer) (moment : ℕ) → is_periodic x.config ≡ false → (is_periodic (after_expiry x moment).0.config ≡ false) × (is_some (after_expiry x moment).0.due ≡ false)
 expires-once x moment h =
     let e : Expiring = expired x (unwrap_or x.due 0) moment in (
@@ -120,7 +120,7 @@ record IsCountedEvent (t : ℕ × ℕ) (s : State) (event : Event) (outcome : Ou
   pub one_shot : makes_periodic t event ≡ false → IsOneShot s t → IsOneShot outcome.0 t
   pub few : makes_periodic t event ≡ false → IsOneShot s t → expiries t outcome.2 + armed outcome.0 t ≤ armed s t + written t event
 
--- an effect behind a write of the timer
+-- an effect after a write of the timer
 writes-one : (t : ℕ × ℕ) (s : State) (event : Event) (reply : Reply) (u : ℕ × ℕ) (x : Timer) (e : Effect) → number_of u ≡ number_of t → writes_timer t event ≡ true
     → (makes_periodic t event ≡ false → is_periodic (timer_in (bank_of s) u).config ≡ false → is_periodic x.config ≡ false) → IsCounted t (replaced s u x) e → IsCountedEvent t s event (answered reply e)
 writes-one t s event reply u x e same writes keeps h = record {

@@ -1,4 +1,4 @@
--- Each period of a periodic timer that is not written is told of by one expiry, or skipped once.
+-- Each period of a periodic timer that is not written is accounted for by one expiry, or skipped once.
 use Rattle.std.proofs.Common.{◌≡◌, ℕ, ◌+◌, ◌*◌, ◌/◌, ◌≤◌, true, false, nat_le, List, [], ◌∷◌, ◌++◌, refl, sym, ap, subst, ◌∙◌, arith}
 use Rattle.std.specs.Prelude.{Option, None, Some, ◌==◌, if◌then◌else◌}
 use Rattle.std.specs.List.{All}
@@ -25,15 +25,15 @@ use Rattle.synic_board.proofs.keeping.Requests.{either}
 use Rattle.board_laws.proofs.Throughout.{expiry_made}
 use Rattle.board_laws.proofs.Timers.{expiries-joined, skips-joined, same-timer, expires-here, skipped-none, expired-none, throughout-timer, same-number, config-writes, count-writes}
 
--- the periods that are told of
+-- the periods that the notices account for
 abbrev periods : ℕ × ℕ → List Notice → ℕ
 periods t notices = expiries t notices + skips t notices
 
--- a periodic timer goes on by as many periods as are told of
+-- a periodic timer advances by as many periods as its notices account for
 abbrev GoesOn : ℕ × ℕ → State → Effect → Type 0
 GoesOn t s e = (due : ℕ) → IsPeriodic (timer_in (bank_of s) t) due → timer_in (bank_of e.0) t ≡ after_periods (timer_in (bank_of s) t) due (periods t e.1)
 
--- so many periods on, it is periodic still, and due then
+-- after that many periods it is still periodic, and due then
 still-periodic : (x y : Timer) (due count : ℕ) → IsPeriodic x due → y ≡ after_periods x due count → IsPeriodic y (due + x.count * count)
 still-periodic x y due count h e = record {
   periodic = ap (λ (z : Timer). is_periodic z.config) e ∙ h.periodic;
@@ -55,7 +55,7 @@ goes-after t s e f a b due h =
     sums : (d c m n l : ℕ) → l ≡ m + n → d + c * m + c * n ≡ d + c * l
     sums d c m n l e = rw e (grind arith)
 
--- what leaves it, and tells nothing of it
+-- an effect that leaves the timer unchanged and emits no notice of it
 goes-nowhere : (t : ℕ × ℕ) (s : State) (e : Effect) → timer_in (bank_of e.0) t ≡ timer_in (bank_of s) t → expiries t e.1 ≡ 0 → skips t e.1 ≡ 0 → GoesOn t s e
 goes-nowhere t s e same none without due h =
     let x : Timer = timer_in (bank_of s) t in
@@ -65,7 +65,7 @@ goes-nowhere t s e same none without due h =
     at : (d c n : ℕ) → n ≡ 0 → d ≡ d + c * n
     at d c n e = rw e (grind arith)
 
--- what its expiry tells of it
+-- the periods in the notices of its expiry
 told-of : (t u : ℕ × ℕ) (signal : Option ℕ) (skipped : ℕ) → number_of u ≡ number_of t → periods t (expiry_notices u signal skipped) ≡ signals signal + skipped
 told-of t u signal skipped same =
     omega (
@@ -87,7 +87,7 @@ told-of t u signal skipped same =
         either (λ ns. skips t ns ≡ skipped) (skipped == 0) [] (Skipped u.0 u.1 skipped ∷ []) (λ none. grind (arith, nat_tests))
         (λ _. let whole : (if number_of u == number_of t then skipped else 0) ≡ skipped = ap (λ b. if b then skipped else 0) (same-number (number_of u) (number_of t) same) in omega (arith, whole))
 
--- it is due at a moment that has come
+-- its deadline has been reached
 due-by : (x : Timer) (due moment : ℕ) → x.due ≡ Some due → is_due x moment ≡ true → due ≤ moment
 due-by x due moment is at =
     let le : nat_le due moment ≡ true = ap (λ (o : Option ℕ). option_map_or (λ d. nat_le d moment) o false) (sym is) ∙ at in

@@ -59,7 +59,7 @@ before (x ∷ xs) [] last h = absurd h
 before (x ∷ xs) (y ∷ ys) last (inl h) = inl (h.0, before xs ys last h.1)
 before (x ∷ xs) (y ∷ ys) last (inr h) = inr (before (x ∷ xs) ys last h)
 
--- those that pass a test
+-- those that satisfy a predicate
 kept : (test : Message → Bool) (q : List Message) → StandsAmong (map ticket_of (filter test q)) (map ticket_of q)
 kept test [] = tt
 kept test (m ∷ q) = either (λ (l : List Message). StandsAmong (map ticket_of l) (ticket_of m ∷ map ticket_of q)) (test m) (m ∷ filter test q) (filter test q) (λ _. inl (refl, kept test q)) (λ _. later (map ticket_of (filter test q)) (ticket_of m) (map ticket_of q) (kept test q))
@@ -77,7 +77,7 @@ joined p i s e f a b =
     (subst (λ l. StandsAmong l (queued_at s p i ++ accepted e.1 ++ accepted f.1)) (append_assoc (placed e.1) (queued_at e.0 p i) (accepted f.1)) second) in
     subst (λ l. StandsAmong l (queued_at s p i ++ accepted (e.1 ++ f.1))) (sym split) (subst (StandsAmong (placed e.1 ++ (placed f.1 ++ queued_at f.0 p i))) (sym joins) all)
 
--- what tells of none, and leaves the queues
+-- an effect that emits no such notice, and leaves the queues unchanged
 mute : (p i : ℕ) (s : State) (e : Effect) → e.0.queues ≡ s.queues → placed_at p i e.1 ≡ [] → accepted_at p i e.1 ≡ [] → KeepsOrder p i s e.0 e.1
 mute p i s e leaves none no_more = equal _ _ (ap (λ l. l ++ queued_at e.0 p i) none ∙ ap (λ (qs : Queues). map ticket_of (queue_of qs p i)) leaves ∙ sym (append-nil (queued_at s p i)) ∙ ap (λ l. queued_at s p i ++ l) (sym no_more))
 
@@ -112,7 +112,7 @@ moved p i q j s now next told is here away = by (cases_eq (source_number q j) (s
         let other : queued_at now p i ≡ queued_at s p i = ap (λ (qs : Queues). map ticket_of (queue_of qs p i)) is ∙ ap (map ticket_of) (get_or-set_other s.queues (source_number q j) (source_number p i) next [] (λ e. ne (sym e))) in
         equal _ _ (ap (λ l. l ++ queued_at now p i) (away ne).0 ∙ other ∙ sym (append-nil (queued_at s p i)) ∙ ap (λ l. queued_at s p i ++ l) (sym (away ne).1))
 
--- what one notice tells of
+-- the tickets in one notice
 one : (tells : Notice → Option ℕ) (n : Notice) (o : Option ℕ) → tells n ≡ o → filter_map tells (n ∷ []) ≡ filter_map (λ x. x) (o ∷ [])
 one tells n o e = ap (λ (x : Option ℕ). filter_map (λ x. x) (x ∷ [])) e
 
@@ -193,7 +193,7 @@ ordered p i = record {
   expires = λ s t _. mute p i s (expiry_made s t) refl (none-expired (placed_ticket p i) t (expiry_at s t).signal (expiry_at s t).skipped (λ _. refl) (λ _. refl)) (none-expired (accepted_ticket p i) t (expiry_at s t).signal (expiry_at s t).skipped (λ _. refl) (λ _. refl));
 }
 
--- of an event
+-- the property of an event
 record IsOrdered (p i : ℕ) (s : State) (event : Event) (outcome : Outcome) : Type 0 where
   pub keeps : KeepsOrder p i s outcome.0 outcome.2
 

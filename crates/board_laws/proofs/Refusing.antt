@@ -1,4 +1,4 @@
--- What is refused, or raises #GP, leaves no trace.
+-- An event that is refused, or raises #GP, changes nothing.
 use Rattle.std.proofs.Common.{◌≡◌, List, [], ◌∷◌, ◌++◌, refl, ap, ◌∙◌}
 use Rattle.board_terms.specs.declared.notices.Notice.{Notice}
 use Rattle.synic_board.specs.declared.event.Event.{Event}
@@ -10,15 +10,15 @@ use Rattle.synic_board.specs.Run.{run_of}
 use Rattle.board_laws.specs.Refusals.{IsRefusal, LeavesNoTrace, AnswersAlike}
 use Rattle.board_laws.proofs.Throughout.{Any, any, throughout}
 
--- an outcome that refuses leaves the state, and tells nothing
+-- an outcome that refuses leaves the state unchanged, and has no notices
 record IsQuiet (s : State) (event : Event) (outcome : Outcome) : Type 0 where
   pub kept : IsRefusal outcome.1 → (outcome.0 ≡ s) × (outcome.2 ≡ [])
 
--- what only answers does so, whatever it answers
+-- so does an outcome that only replies
 answers : (s : State) (event : Event) (reply : Reply) → IsQuiet s event (unchanged s reply)
 answers s event reply = record { kept = λ _. (refl, refl) }
 
--- what refuses nothing does so
+-- and one that refuses nothing
 acts : (s : State) (event : Event) (outcome : Outcome) → (IsRefusal outcome.1 → ⊥) → IsQuiet s event outcome
 acts s event outcome never = record { kept = λ refuses. absurd (never refuses) }
 

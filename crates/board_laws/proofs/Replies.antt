@@ -1,4 +1,4 @@
--- No reply of the machine has more than 8 bytes.
+-- No reply has more than 8 bytes.
 use Rattle.std.proofs.Common.{◌≡◌, ℕ, ◌+◌, ◌≤◌, List, length, take, drop, Option, None, Some, Ok, Err, refl, arith, cond, Bool, true, false, nat_lt, ◌/◌, ◌%◌, ◌==◌, ◌||◌, not}
 use Rattle.std.specs.Option.{option_map_or}
 use Rattle.std.proofs.lemmas.Bool.{ltb-false}

@@ -1,4 +1,4 @@
--- A vector is told of exactly when its request bit goes from clear to set.
+-- A Requested notice is emitted iff the vector's request bit goes from clear to set.
 use Rattle.std.proofs.Common.{zero, suc, ◌≡◌, ◌≢◌, ◌⊎◌, inl, inr, ℕ, ◌<◌, ◌&&◌, ◌||◌, get_or, set as set_list, List, [], ◌∷◌, ◌++◌, length, map, refl, sym, ap, subst, ◌∙◌, arith, nat_lt, not, Bool, true, false}
 use Rattle.std.specs.Prelude.{Option, None, Some, ◌==◌, if◌then◌else◌}
 use Rattle.std.specs.Option.{option_map_or}
@@ -35,7 +35,7 @@ use Rattle.board_laws.specs.Requests.{is_requested, tells_of, is_told, Takes}
 use Rattle.synic_board.proofs.keeping.Requests.{either}
 use Rattle.board_laws.proofs.Throughout.{OfEffects, throughout, request_made}
 
--- an effect requests what it tells of, tells of no vector that was requested, and ends no request
+-- an effect requests the vectors of its Requested notices, which were not requested, and clears no request
 record Tells (s : State) (e : Effect) : Type 0 where
   pub many : processors e.0 ≡ processors s
   pub joins : (p v : ℕ) → p < processors s → is_requested e.0 p v ≡ (is_requested s p v || is_told p v e.1)
@@ -57,7 +57,7 @@ told-joined : (p v : ℕ) (xs ys : List Notice) → is_told p v (xs ++ ys) ≡ (
 told-joined p v [] ys = refl
 told-joined p v (x ∷ xs) ys = ap (λ b. tells_of p v x || b) (told-joined p v xs ys) ∙ sym (or-assoc (tells_of p v x) (is_told p v xs) (is_told p v ys))
 
--- what leaves the APICs, and tells of no request
+-- an effect that leaves the APICs unchanged, and emits no Requested
 mute : (s : State) (e : Effect) → e.0.apics ≡ s.apics → ((p v : ℕ) → is_told p v e.1 ≡ false) → Tells s e
 mute s e same none = record {
   many = ap (λ (l : List Apic). length l) same;
@@ -130,7 +130,7 @@ told = record {
   expires = λ s t _. mute s _ refl (λ q v. told-expiry q v t (expiry_at s t).signal (expiry_at s t).skipped);
 }
 
--- what an outcome tells of is what came to be requested
+-- the Requested notices of an outcome are exactly the new requests
 record IsTold (s : State) (event : Event) (outcome : Outcome) : Type 0 where
   pub many : processors outcome.0 ≡ processors s
   pub told : (p v : ℕ) → p < processors s → is_told p v outcome.2 ≡ (not (is_requested s p v) && is_requested outcome.0 p v)
@@ -155,7 +155,7 @@ tells s t event reply e same h = record {
       came (is_requested s p v) (is_told p v e.1) (is_requested e.0 p v) (h.joins p v within ∙ ap (λ r. r || is_told p v e.1) was) (λ told. sym was ∙ h.fresh p v within told);
 }
 
--- what tells of nothing, and leaves no more requested
+-- an outcome without Requested, and without new requests
 quiet : (s t : State) (event : Event) (reply : Reply) → processors t ≡ processors s → ((p v : ℕ) → p < processors s → is_requested t p v ≡ true → is_requested s p v ≡ true) → IsTold s event (unchanged t reply)
 quiet s t event reply many fewer = record { many = many; told = λ p v on. stayed (is_requested s p v) (is_requested t p v) (fewer p v on) }
 
@@ -172,7 +172,7 @@ fewer s p apic less q v on is = by (cases_eq q p)
         ap (λ i. is_requested s i v) here ∙ less v (sym (ap (λ (a : Apic). set.contains a.requested v) stands) ∙ is)
     by (inr away) = sym (ap (λ (a : Apic). set.contains a.requested v) (get_or-set_other s.apics p q apic empty_apic away)) ∙ is
 
--- what is withdrawn tells of no request
+-- withdrawals emit no Requested
 none-emptied : (s : State) (p n q v : ℕ) → is_told q v (emptied_below s p n).1 ≡ false
 unfolding emptied_below
 none-emptied s p zero q v = refl
@@ -230,7 +230,7 @@ or-second : (a b : Bool) → b ≡ true → (a || b) ≡ true
 or-second true b h = refl
 or-second false b h = h
 
--- what comes to be requested over a run is told of
+-- every vector that becomes requested during a run has a notice
 told-over : (s : State) (events : List Event) (p v : ℕ) → p < processors s → is_requested s p v ≡ false → is_requested (run_of s events).0 p v ≡ true → is_told p v (run_of s events).2 ≡ true
 unfolding run_of
 told-over s [] p v on clear stands = absurd (cc)

@@ -1,4 +1,4 @@
--- Events one after another keep the state and conserve the messages.
+-- A run preserves soundness and conserves messages.
 use Rattle.std.proofs.Common.{ℕ, List, [], ◌∷◌, arith}
 use Rattle.std.specs.List.{All}
 use Rattle.std.proofs.lemmas.List.Elements.{All-head, All-tail}
@@ -20,7 +20,7 @@ keeps-run n s (e ∷ es) fit h =
     let first = keeps-step n s e (All-head PayloadFits e es fit) h in
     messages-after n s (now, (step s e).2) ((run_of now es).0, (run_of now es).2) first (keeps-run n now es (All-tail PayloadFits e es fit) first.kept)
 
--- every state that a board may come to is sound
+-- every reachable state is sound
 pub sound-run : (n pages first : ℕ) (es : List Event) → All PayloadFits es → IsSound (run_of (opened n pages first) es).0
 sound-run n pages first es fit =
     let s : State = opened n pages first in

@@ -1,4 +1,4 @@
--- After an end of message no message waits unseen.
+-- After an EOM no message is queued without MessagePending.
 use Rattle.std.proofs.Common.{◌≡◌, ◌≢◌, ◌⊎◌, inl, inr, ℕ, zero, suc, ◌+◌, ◌*◌, ◌<◌, ◌≤◌, Bool, true, false, ◌&&◌, List, [], ◌∷◌, length, get_or, refl, ap, sym, subst, ◌∙◌, arith, nat_lt}
 use Rattle.std.specs.Prelude.{None, Some, ◌==◌, slice_index_or, slice_set, bit_or}
 use Rattle.std.specs.Option.{option_map_or}
@@ -34,7 +34,7 @@ use Rattle.synic_board.proofs.keeping.Slots.{other_place}
 use Rattle.synic_board.proofs.keeping.Placements.{page_of, image_of, page-long, queue-good, tail-good, occupied}
 use Rattle.synic_board.proofs.keeping.Attempts.{marked-type, keeps-tried_below}
 
--- what is seen of a source stays
+-- what IsSeen depends on stays the same
 record IsAlike (s t : State) (p i : ℕ) : Type 0 where
   pub regs : t.regs ≡ s.regs
   pub queue : queue_of t.queues p i ≡ queue_of s.queues p i
@@ -171,7 +171,7 @@ regs-tried s p i =
     head [] = refl
     head (m ∷ rest) = refl
 
--- the sources below n are seen, and the registers are as they were
+-- IsSeen holds for the sources below n, and the registers are unchanged
 record AreSeen (s t : State) (p n : ℕ) : Type 0 where
   pub regs : t.regs ≡ s.regs
   pub each : (i : ℕ) → i < n → IsSeen t p i

@@ -1,4 +1,4 @@
--- One walk through all that the machine does: a property that holds of each part of its effects holds of every effect, and one that holds of each way to answer, of every event.
+-- Induction over the machine: a property of each part of the effects holds for every effect, and a property of each kind of outcome holds for every event.
 use Rattle.std.proofs.Common.{◌≡◌, ℕ, zero, suc, ◌+◌, ◌*◌, ◌/◌, ◌%◌, ◌<◌, ◌&&◌, List, [], ◌∷◌, length, refl, sym, ap, ◌∙◌, nat_lt, nat_le, not, Bool, true, false, cond, Result, Ok, Err}
 use Rattle.std.specs.Prelude.{Option, None, Some, ◌==◌}
 use Rattle.std.specs.Option.{option_map_or}
@@ -218,11 +218,11 @@ pub record OfAnswers (P : State → Effect → Type 0) (Q : State → Event → 
   pub repeats : (s : State) (port flag p i f : ℕ) → flag_place_of (ports_of s) port flag ≡ Ok (p, i, f) → is_flag_set (space_of s) p i f ≡ true → Q s (Signal port flag) (unchanged (with_flag s p i f) replies.FlagWasSet)
   pub signals : (s : State) (port flag p i f : ℕ) → flag_place_of (ports_of s) port flag ≡ Ok (p, i, f) → is_flag_set (space_of s) p i f ≡ false → P (with_flag s p i f) (raised (with_flag s p i f) p i)
       → Q s (Signal port flag) (answered replies.FlagWasClear (after (flagged s p i f) (raised (with_flag s p i f) p i)))
-  -- a processor is suspended or goes on, and one is reset
+  -- a processor is suspended or resumed, and one is reset
   pub pauses : (s : State) (event : Event) (p : ℕ) (mark : Bool) → IsAnswer event replies.Done → p < processors s → Q s event (unchanged (with_suspension s p mark) replies.Done)
   pub resets : (s : State) (p : ℕ) → p < processors s → P s (emptied s p) → Q s (Reset p) (reset s p)
 
--- of an event at a state
+-- a property of an event's outcome in a state
 on_board : (R : Outcome → Type 0) (s : State) (p : ℕ) (outcome : Outcome) → ((r : Refusal) → R (refused s r)) → R outcome → R (at_processor s p outcome)
 on_board R s p outcome refuses h = either R (nat_lt p (processors s)) outcome (refused s NoSuchProcessor) (λ _. h) (λ _. refuses NoSuchProcessor)
 

@@ -1,4 +1,4 @@
--- What becomes of one timer, and what is told of it: a property of what leaves it, of its expiry and of one effect after another holds of every effect, and with its writes of every event.
+-- Induction for one timer: a property of effects that leave it unchanged, of its expiry and of one effect after another holds for every effect, and with its writes for every event.
 use Rattle.std.proofs.Common.{◌≡◌, ◌≢◌, ◌⊎◌, inl, inr, ℕ, ◌+◌, ◌/◌, ◌<◌, ◌≤◌, ◌||◌, get_or, true, false, nat_lt, nat_le, List, [], ◌∷◌, ◌++◌, length, map, refl, sym, ap, ◌∙◌, arith}
 use Rattle.std.specs.Prelude.{Option, None, Some, ◌==◌, is_some, if◌then◌else◌}
 use Rattle.std.specs.Option.{option_map_or}
@@ -37,24 +37,24 @@ use Rattle.board_laws.specs.Periods.{skips_of, skips}
 use Rattle.synic_board.proofs.keeping.Requests.{either}
 use Rattle.board_laws.proofs.Throughout.{OfEffects, OfAnswers, throughout, request_made, expiry_made, placement, consumption}
 
--- how often one notice tells of it
+-- how many expiries of it one notice reports
 abbrev tells : ℕ × ℕ → Notice → ℕ
 tells t notice = if tells_expiry t notice then 1 else 0
 
--- notices behind others
+-- the expiries in two lists of notices
 pub expiries-joined : (t : ℕ × ℕ) (xs ys : List Notice) → expiries t (xs ++ ys) ≡ expiries t xs + expiries t ys
 expiries-joined t xs ys = sum_by-append (tells t) xs ys
 
--- and how many periods they tell to be skipped
+-- and the skipped periods
 pub skips-joined : (t : ℕ × ℕ) (xs ys : List Notice) → skips t (xs ++ ys) ≡ skips t xs + skips t ys
 skips-joined t xs ys = sum_by-append (skips_of t) xs ys
 
--- what is withdrawn tells of no timer
+-- withdrawals report no expiry
 none-withdrawn : (t : ℕ × ℕ) (q j : ℕ) (tickets : List ℕ) → expiries t (map (λ x. Withdrawn x q j) tickets) ≡ 0
 none-withdrawn t q j [] = refl
 none-withdrawn t q j (x ∷ tickets) = sum_by-cons (tells t) (Withdrawn x q j) (map (λ x. Withdrawn x q j) tickets) ∙ ap (λ n. 0 + n) (none-withdrawn t q j tickets)
 
--- and of none that was skipped
+-- and no skipped period
 none-skipped : (t : ℕ × ℕ) (q j : ℕ) (tickets : List ℕ) → skips t (map (λ x. Withdrawn x q j) tickets) ≡ 0
 none-skipped t q j [] = refl
 none-skipped t q j (x ∷ tickets) = sum_by-cons (skips_of t) (Withdrawn x q j) (map (λ x. Withdrawn x q j) tickets) ∙ ap (λ n. 0 + n) (none-skipped t q j tickets)
@@ -75,7 +75,7 @@ replaced-here s t u x e inside = same-timer (replaced s u x) t u e ∙ get_or-se
 replaced-other : (s : State) (t u : ℕ × ℕ) (x : Timer) → number_of u ≢ number_of t → timer_in (bank_of (replaced s u x)) t ≡ timer_in (bank_of s) t
 replaced-other s t u x ne = get_or-set_other s.timers (number_of u) (number_of t) x idle_timer (λ e. ne (sym e))
 
--- a timer that is due is armed
+-- a timer that is due has a deadline
 pub due-some : (x : Timer) (moment : ℕ) → is_due x moment ≡ true → is_some x.due ≡ true
 due-some x moment due = by x.due due
   where
@@ -97,16 +97,16 @@ due-inside s u due = by (cases_lt (number_of u) (length s.timers))
 pub expires-here : (s : State) (t u : ℕ × ℕ) → number_of u ≡ number_of t → is_due (timer_in (bank_of s) u) s.moment ≡ true → timer_in (bank_of (expired_state s u)) t ≡ (after_expiry (timer_in (bank_of s) u) s.moment).0
 expires-here s t u same due = replaced-here s t u (after_expiry (timer_in (bank_of s) u) s.moment).0 same (due-inside s u due)
 
--- a notice of skipped periods tells of no expiry
+-- a Skipped notice reports no expiry
 pub skipped-none : (t u : ℕ × ℕ) (skipped : ℕ) → expiries t (skipped_notices u skipped) ≡ 0
 skipped-none t u skipped = either (λ ns. expiries t ns ≡ 0) (skipped == 0) [] (Skipped u.0 u.1 skipped ∷ []) (λ _. refl) (λ _. refl)
 
--- and one of an expiry of no skipped period
+-- and an Expired notice no skipped period
 pub expired-none : (t u : ℕ × ℕ) (signal : Option ℕ) → skips t (expired_notices u signal) ≡ 0
 expired-none t u None = refl
 expired-none t u (Some d) = refl
 
--- an expiry tells of no other timer
+-- an expiry emits no Expired of another timer
 told-other : (t u : ℕ × ℕ) (signal : Option ℕ) (skipped : ℕ) → number_of u ≢ number_of t → expiries t (expiry_notices u signal skipped) ≡ 0
 told-other t u signal skipped ne = omega (arith, expiries-joined t (expired_notices u signal) (skipped_notices u skipped), first signal, skipped-none t u skipped)
   where
@@ -114,7 +114,7 @@ told-other t u signal skipped ne = omega (arith, expiries-joined t (expired_noti
     first None = refl
     first (Some d) = either (λ (n : ℕ). 0 + n ≡ 0) (number_of u == number_of t) 1 0 (λ e. absurd (ne (grind (arith, nat_tests)))) (λ _. refl)
 
--- and of none that another one skipped
+-- and no Skipped of another one
 skipped-other : (t u : ℕ × ℕ) (signal : Option ℕ) (skipped : ℕ) → number_of u ≢ number_of t → skips t (expiry_notices u signal skipped) ≡ 0
 skipped-other t u signal skipped ne = omega (arith, skips-joined t (expired_notices u signal) (skipped_notices u skipped), expired-none t u signal, second)
   where
@@ -123,7 +123,7 @@ skipped-other t u signal skipped ne = omega (arith, skips-joined t (expired_noti
         either (λ ns. skips t ns ≡ 0) (skipped == 0) [] (Skipped u.0 u.1 skipped ∷ []) (λ _. refl)
         (λ _. either (λ (n : ℕ). 0 + n ≡ 0) (number_of u == number_of t) skipped 0 (λ e. absurd (ne (grind (arith, nat_tests)))) (λ _. refl))
 
--- a property of effects on one timer: of what leaves it and tells nothing of it, of its expiry, and of one effect after another
+-- a property of effects on one timer: of those that leave it unchanged without a notice of it, of its expiry, and of one effect after another
 pub record OfTimer (t : ℕ × ℕ) (P : State → Effect → Type 0) : Type 0 where
   pub still : (s : State) (e : Effect) → timer_in (bank_of e.0) t ≡ timer_in (bank_of s) t → expiries t e.1 ≡ 0 → skips t e.1 ≡ 0 → P s e
   pub joins : (s : State) (e f : Effect) → P s e → P e.0 f → P s (after e f)
@@ -158,7 +158,7 @@ of-timer t P h = record {
             let skipped : ℕ = (expiry_at s u).skipped in
             h.still s (expiry_made s u) (replaced-other s t u (after_expiry (timer_in (bank_of s) u) s.moment).0 ne) (told-other t u signal skipped ne) (skipped-other t u signal skipped ne)
 
--- a property of the ways to answer an event: of an effect, and of one behind a write of the timer
+-- a property of outcomes: of an effect, and of one after a write of the timer
 pub record OfTimerAnswers (t : ℕ × ℕ) (P : State → Effect → Type 0) (Q : State → Event → Outcome → Type 0) : Type 0 where
   pub acts : (s : State) (event : Event) (reply : Reply) (e : Effect) → P s e → Q s event (answered reply e)
   pub configures : (s : State) (p n number value : ℕ) (e : Effect) → register_of number ≡ Some (TimerConfig n) → number_of (p, n) ≡ number_of t → P (with_bank s (with_config (bank_of s) (p, n) value s.moment)) e → Q s (Write p number value) (answered Done e)
@@ -198,7 +198,7 @@ of-timer-answers t P Q h k = record {
         let clears : Effect = (cleared e.0 p, []) in
         k.acts s (Reset p) Done (after e clears) (h.joins s e clears g (h.still e.0 clears (reset-other (bank_of e.0) p t other) refl refl))
 
-    -- an effect behind a write of a timer, of this one or another
+    -- an effect after a write of a timer, this one or another
     writes : (s : State) (event : Event) (u : ℕ × ℕ) (x : Timer) (e : Effect) → P (replaced s u x) e → (number_of u ≡ number_of t → Q s event (answered Done e)) → Q s event (answered Done e)
     writes s event u x e g here = by (cases_eq (number_of u) (number_of t))
       where

@@ -1,4 +1,4 @@
--- No timer is told of before its due moment.
+-- No Expired notice comes before its deadline.
 use Rattle.std.proofs.Common.{◌≡◌, ℕ, ◌+◌, ◌-◌, ◌*◌, ◌≤◌, List, [], ◌∷◌, ◌++◌, length, map, refl, sym, ap, subst, ◌∙◌, arith, nat_lt, nat_le, not, true, false}
 use Rattle.std.specs.Prelude.{Option, None, Some, ◌==◌}
 use Rattle.std.specs.Option.{option_map_or, unwrap_or}
@@ -26,7 +26,7 @@ use Rattle.board_laws.specs.Timely.{AreTimely}
 use Rattle.synic_board.proofs.keeping.Requests.{either}
 use Rattle.board_laws.proofs.Throughout.{OfEffects, throughout}
 
--- an effect keeps the moment, and tells of no timer before it is due
+-- an effect keeps the time, and its expiries were due
 record Timely (s : State) (e : Effect) : Type 0 where
   pub same : e.0.moment ≡ s.moment
   pub told : AreTimely s.moment e.1
@@ -42,7 +42,7 @@ timely-withdrawals : (m p i : ℕ) (tickets : List ℕ) → AreTimely m (map (λ
 timely-withdrawals m p i [] = tt
 timely-withdrawals m p i (t ∷ tickets) = (tt, timely-withdrawals m p i tickets)
 
--- what an expiry signals was due
+-- the deadline of an expiry has been reached
 abbrev IsBy : ℕ → Option ℕ → Type 0
 IsBy t None = Unit {0}
 IsBy t (Some d) = d ≤ t
@@ -95,7 +95,7 @@ timely = record {
   expires = λ s t due. record { same = refl; told = timely-expiry s.moment t (expiry_at s t).signal (expiry_at s t).skipped (signals-due (timer_in (bank_of s) t) s.moment due) };
 }
 
--- an outcome tells of no timer that is due later than its own moment
+-- the expiries of an outcome were due by its own time
 record IsOnTime (s : State) (event : Event) (outcome : Outcome) : Type 0 where
   pub told : AreTimely outcome.0.moment outcome.2
 

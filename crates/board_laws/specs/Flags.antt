@@ -1,4 +1,4 @@
--- Which event flags an event tells of (TLFS, "Event Flags").
+-- The FlagSet notices of an event (TLFS, "Event Flags").
 use Rattle.std.specs.Prelude.{ℕ, Bool, true, false, not, ◌==◌, ◌&&◌, List, Result, Ok, Err}
 use Rattle.std.specs.List.{list_any}
 use Rattle.board_terms.specs.declared.notices.Notice.{Notice}
@@ -16,11 +16,11 @@ abbrev pub tells_of_flag : ℕ → ℕ → ℕ → Notice → Bool
 tells_of_flag p i flag (FlagSet q j other) = p == q && i == j && flag == other
 tells_of_flag p i flag notice = false
 
--- one of the notices tells that the flag was set
+-- one of the notices is a FlagSet of that flag
 abbrev pub is_flag_told : ℕ → ℕ → ℕ → List Notice → Bool
 is_flag_told p i flag notices = list_any (tells_of_flag p i flag) notices
 
--- where a signal through a port leads
+-- the target of a signal is that flag
 abbrev pub is_place : ℕ → ℕ → ℕ → Result (ℕ × ℕ × ℕ) Refusal → Bool
 is_place p i flag (Ok (q, j, other)) = p == q && i == j && flag == other
 is_place p i flag (Err r) = false

@@ -1,4 +1,4 @@
--- How often a one-shot timer is told of (TLFS, "Synthetic Timers"). Timers are told apart by their numbers, which no two timers of a board share.
+-- The expiries of a one-shot timer (TLFS, "Synthetic Timers"). Timers are compared by their numbers, which are distinct on a board.
 use Rattle.std.specs.Prelude.{◌≡◌, ℕ, ◌==◌, ◌&&◌, ◌||◌, Bool, false, is_some, List, count_by, if◌then◌else◌}
 use Rattle.std.specs.Option.{option_map_or}
 use Rattle.board_terms.specs.Dues.{number_of}
@@ -13,7 +13,7 @@ use Rattle.synic_board.specs.declared.event.Event.{Event}
 use Rattle.synic_board.specs.declared.event.Event.TheVariants.{Write}
 use Rattle.synic_board.specs.State.{State, bank_of}
 
--- a notice tells that a timer expired
+-- the notice is an Expired of that timer
 abbrev pub tells_expiry : ℕ × ℕ → Notice → Bool
 tells_expiry t (Expired p i due) = number_of (p, i) == number_of t
 tells_expiry t notice = false
@@ -21,7 +21,7 @@ tells_expiry t notice = false
 abbrev pub expiries : ℕ × ℕ → List Notice → ℕ
 expiries t notices = count_by (tells_expiry t) notices
 
--- 1 where the timer is due some time
+-- 1 if the timer has a deadline, else 0
 abbrev pub armed : State → ℕ × ℕ → ℕ
 armed s t = if is_some (timer_in (bank_of s) t).due then 1 else 0
 

@@ -1,4 +1,4 @@
--- In which order the messages of a source are accepted, and reach its slot. Sources are told apart by where their queues stand, which no two sources of a board share.
+-- The order in which the messages of a source are accepted, and placed in its slot. Sources are compared by the indices of their queues, which are distinct on a board.
 use Rattle.std.specs.Prelude.{◌≡◌, ◌⊎◌, ℕ, ◌==◌, List, [], ◌∷◌, ◌++◌, map, Option, None, Some, if◌then◌else◌}
 use Rattle.std.specs.List.{filter_map}
 use Rattle.board_terms.specs.Messages.{ticket_of}
@@ -8,7 +8,7 @@ use Rattle.board_terms.specs.Sources.{source_number}
 use Rattle.message_queues.specs.Queues.{queue_of}
 use Rattle.synic_board.specs.State.{State}
 
--- the ticket that a notice tells of as accepted for a source, and as placed in its slot
+-- the ticket of a notice, if it is an Accepted of a source, or a Placed in its slot
 abbrev pub accepted_ticket : ℕ → ℕ → Notice → Option ℕ
 accepted_ticket p i (Accepted ticket q j) = if source_number q j == source_number p i then Some ticket else None
 accepted_ticket p i notice = None
@@ -17,7 +17,7 @@ abbrev pub placed_ticket : ℕ → ℕ → Notice → Option ℕ
 placed_ticket p i (Placed ticket q j) = if source_number q j == source_number p i then Some ticket else None
 placed_ticket p i notice = None
 
--- all that are told of, in order
+-- the tickets of all such notices, in order
 abbrev pub accepted_at : ℕ → ℕ → List Notice → List ℕ
 accepted_at p i notices = filter_map (accepted_ticket p i) notices
 
@@ -28,12 +28,12 @@ placed_at p i notices = filter_map (placed_ticket p i) notices
 abbrev pub queued_at : State → ℕ → ℕ → List ℕ
 queued_at s p i = map ticket_of (queue_of s.queues p i)
 
--- a list stands in order among others: it is what is left where some of them are taken out
+-- the first list is a subsequence of the second
 abbrev pub StandsAmong : List ℕ → List ℕ → Type 0
 StandsAmong [] ys = Unit {0}
 StandsAmong (x ∷ xs) [] = ⊥
 StandsAmong (x ∷ xs) (y ∷ ys) = ((x ≡ y) × StandsAmong xs ys) ⊎ StandsAmong (x ∷ xs) ys
 
--- what reached the slot of a source, and then what is queued, stands in order among what was queued and then what was accepted
+-- the tickets placed in the slot of a source, and then those queued, are a subsequence of the tickets queued at first and then those accepted
 abbrev pub KeepsOrder : ℕ → ℕ → State → State → List Notice → Type 0
 KeepsOrder p i s now told = StandsAmong (placed_at p i told ++ queued_at now p i) (queued_at s p i ++ accepted_at p i told)

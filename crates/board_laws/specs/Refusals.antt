@@ -12,12 +12,12 @@ IsRefusal (Refused r) = Unit {0}
 IsRefusal GeneralProtection = Unit {0}
 IsRefusal reply = ⊥
 
--- an event changes nothing, and tells nothing
+-- an event changes nothing, and emits nothing
 pub record LeavesNoTrace (s : State) (event : Event) : Type 0 where
   pub state : (step s event).0 ≡ s
   pub notices : (step s event).2 ≡ []
 
--- between others an event is answered, and they are answered as they are without it
+-- inserting an event between others inserts its reply, and changes no other reply, no notice and not the final state
 pub record AnswersAlike (s : State) (before : List Event) (event : Event) (behind : List Event) : Type 0 where
   pub state : (run_of s (before ++ event ∷ behind)).0 ≡ (run_of s (before ++ behind)).0
   pub replies : (run_of s (before ++ event ∷ behind)).1 ≡ insert (run_of s (before ++ behind)).1 (length before) (step (run_of s before).0 event).1

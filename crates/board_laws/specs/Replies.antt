@@ -1,4 +1,4 @@
--- How much a reply tells.
+-- The size of a reply.
 use Rattle.std.specs.Prelude.{◌≤◌, length}
 use Rattle.synic_board.specs.declared.event.Reply.{Reply}
 use Rattle.synic_board.specs.declared.event.Reply.TheVariants as replies

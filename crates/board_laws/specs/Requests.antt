@@ -1,4 +1,4 @@
--- Which requests of vectors an event tells of (SDM volume 3, "Interrupt Acceptance for Fixed Interrupts").
+-- The Requested notices of an event (SDM volume 3, "Interrupt Acceptance for Fixed Interrupts").
 use Rattle.std.specs.Prelude.{◌≡◌, ℕ, Bool, false, ◌==◌, ◌&&◌, List, Some}
 use Rattle.std.specs.List.{list_any}
 use Rattle.std.specs.FinSet as set
@@ -17,10 +17,10 @@ abbrev pub tells_of : ℕ → ℕ → Notice → Bool
 tells_of p v (Requested q w) = p == q && v == w
 tells_of p v notice = false
 
--- one of the notices tells of its request
+-- one of the notices is a Requested of that vector
 abbrev pub is_told : ℕ → ℕ → List Notice → Bool
 is_told p v notices = list_any (tells_of p v) notices
 
--- a processor that asks for its next vector takes v
+-- `take` of processor p takes v
 abbrev pub Takes : State → ℕ → ℕ → Type 0
 Takes s p v = (step s (Take p)).1 ≡ Taken (Some v)

@@ -1,9 +1,9 @@
--- When timers are told of (TLFS, "Synthetic Timers").
+-- When timers expire (TLFS, "Synthetic Timers").
 use Rattle.std.specs.Prelude.{ℕ, ◌≤◌, List, [], ◌∷◌}
 use Rattle.board_terms.specs.declared.notices.Notice.{Notice}
 use Rattle.board_terms.specs.declared.notices.Notice.TheVariants.{Expired}
 
--- an expiry that is told of at a moment was due then or before
+-- an expiry that is emitted at a time was due by then
 abbrev pub IsTimely : ℕ → Notice → Type 0
 IsTimely moment (Expired p i due) = due ≤ moment
 IsTimely moment notice = Unit {0}

@@ -1,5 +1,5 @@
-//! What a driver may rely on: laws of the written machine, over any state that it may be in and any event of
-//! any guest. Each is a function with no code, whose clause is the law.
+//! What a driver may rely on: theorems about the reference model, for any state that it may be in
+//! and any event of any guest. Each is a function with an empty body, whose clause is the theorem.
 #![tactic(auto)]
 
 ghost use Rattle.std.specs.Prelude.{◌≡◌, ℕ, ◌<◌, ◌≤◌, ◌+◌, ◌/◌, ◌&&◌, not, true, false, Some, List, length};
@@ -31,22 +31,22 @@ ghost use Rattle.board_laws.specs.Seen.{IsSeen};
 ghost use Rattle.board_laws.specs.Suspension.{HasOneSuspension};
 ghost use Rattle.board_laws.specs.Refusals.{IsRefusal, LeavesNoTrace, AnswersAlike};
 
-/// Whatever the events, from an opened board: each accepted message stands in one queue or slot, or
-/// was consumed or withdrawn once, and was given the next ticket; no other message appears. With
-/// `run`, whose board, replies and notices are those of `run_of`, and `Board::summary`, which is
-/// always the one computed from scratch, this says what a board is after any events.
+/// For any events from an opened board: each accepted message got the next ticket, and is in one
+/// queue or slot, or was consumed or withdrawn once; no other message appears. Together with `run`,
+/// whose board, replies and notices are those of `run_of`, and `Board::summary`, which always
+/// equals the summary computed from scratch, this describes a board after any events.
 pub fn each_ticket_is_accounted_for()
     ensures { (processors pages first : ℕ) (events : List Event) → All PayloadFits events → Accounts (opened processors pages first) (run_of (opened processors pages first) events) }
 {}
 
-/// Whatever the events, from an opened board: the state is sound. The laws below that are of a sound
-/// state hold of each state that a board comes to.
+/// For any events from an opened board: the state is sound. So the theorems below that assume a
+/// sound state hold in each reachable state.
 pub fn each_state_is_sound()
     ensures { (processors pages first : ℕ) (events : List Event) → All PayloadFits events → IsSound (run_of (opened processors pages first) events).0 }
 {}
 
-/// Whatever the events before it, from an opened board: a reset gives at most 276 notices, and no other
-/// event more than 192.
+/// After any events from an opened board: a reset emits at most 276 notices, and any other event at
+/// most 192.
 pub fn each_event_gives_few_notices()
     ensures { (processors pages first : ℕ) (events : List Event) (event : Event) → length (step (run_of (opened processors pages first) events).0 event).2 ≤ most_notices event }
 {}
@@ -57,84 +57,85 @@ pub fn a_processor_has_one_suspension()
     ensures { (processors pages first : ℕ) (events : List Event) → processors ≤ 8 → HasOneSuspension (run_of (opened processors pages first) events).0 }
 {}
 
-/// No reply has more than the 8 bytes that a guest may load at once.
+/// No reply has more than 8 bytes, the most that a guest may load at once.
 pub fn no_reply_has_more_than_eight_bytes()
     ensures { (s : State) (event : Event) → IsReply (step s event).1 }
 {}
 
-/// A guest store leaves all that a summary tells as it was, and the next ticket.
+/// A guest store leaves everything in a summary unchanged, and the next ticket.
 pub fn a_store_leaves_the_summary()
     ensures { (s : State) (address : ℕ) (bytes : ArrayVec ℕ) → LeavesSummary s (step s (Store address bytes)).0 }
 {}
 
-/// A guest store leaves each page as it was that is not the one which a guest sees at its address.
+/// A guest store leaves each page unchanged, except the one that the guest sees at its address.
 pub fn a_store_leaves_what_is_hidden()
     ensures { (s : State) (address : ℕ) (bytes : ArrayVec ℕ) → LeavesHidden s (step s (Store address bytes)).0 (address / 4096) }
 {}
 
-/// An event that is refused, or raises #GP, leaves the state as it was, and tells nothing.
+/// An event that is refused, or raises #GP, leaves the state unchanged and emits nothing.
 pub fn a_refusal_leaves_no_trace()
     ensures { (s : State) (event : Event) → IsRefusal (step s event).1 → LeavesNoTrace s event }
 {}
 
-/// A run without an event that is refused, or raises #GP, answers all others alike, tells the same, and
-/// leads to the same state.
+/// Removing an event that is refused, or raises #GP, from a run changes no other reply, no notice,
+/// and not the final state.
 pub fn without_a_refusal_all_is_alike()
     ensures { (s : State) (before : List Event) (event : Event) (behind : List Event)
         → IsRefusal (step (run_of s before).0 event).1 → AnswersAlike s before event behind }
 {}
 
-/// No event tells of a timer before the moment for which it was due.
+/// No event emits Expired for a timer before the deadline in the notice.
 pub fn no_timer_is_told_of_early()
     ensures { (s : State) (event : Event) → AreTimely (step s event).0.moment (step s event).2 }
 {}
 
-/// The request of a vector is told of exactly when it comes to stand: where it stood, or where it does
-/// not come to stand, nothing is told.
+/// An event emits Requested for a vector iff it sets the vector's request bit: the bit was clear
+/// before and is set after the event.
 pub fn a_request_is_told_of_when_it_comes()
     ensures { (s : State) (event : Event) (p v : ℕ) → p < processors s
         → is_told p v (step s event).2 ≡ (not (is_requested s p v) && is_requested (step s event).0 p v) }
 {}
 
-/// Between two takes of a vector by a processor, whatever the events between them, its request there
-/// is told of.
+/// Between two takes of a vector by a processor, whatever the events between them, a Requested
+/// notice of this vector at this processor is emitted.
 pub fn a_vector_is_told_of_between_its_takes()
     ensures { (s : State) (events : List Event) (p v : ℕ)
         → Takes s p v → Takes (run_of (step s (Take p)).0 events).0 p v → is_told p v (run_of (step s (Take p)).0 events).2 ≡ true }
 {}
 
-/// Whatever the events: the messages of a queue reach their slot in the order in which they were
-/// accepted. Those that were placed, and then those that are queued at the end, stand in order among
-/// those that were queued at first, and then those that were accepted.
+/// For any events: the messages of a queue are placed in their slot in the order in which they were
+/// accepted. The messages placed, and then those queued at the end, are a subsequence of the
+/// messages queued at first, and then those accepted.
 pub fn a_queue_keeps_its_order()
     ensures { (s : State) (events : List Event) (p i : ℕ) → KeepsOrder p i s (run_of s events).0 (run_of s events).2 }
 {}
 
-/// An event tells of a flag exactly if it is a signal of that flag, was not refused, and found it clear;
-/// and then the flag is set.
+/// An event emits FlagSet for a flag iff it is a signal of that flag, was not refused, and found it
+/// clear; and then the flag is set.
 pub fn a_flag_is_told_of_when_a_signal_sets_it()
     ensures told { (s : State) (event : Event) (p i flag : ℕ) → is_flag_told p i flag (step s event).2 ≡ found_clear s p i flag event (step s event).1 }
     ensures stands { (s : State) (event : Event) (p i flag : ℕ) → IsSound s → p < processors s → i < 16 → flag < 2048
         → is_flag_told p i flag (step s event).2 ≡ true → is_flag_set (space_of (step s event).0) p i flag ≡ true }
 {}
 
-/// A one-shot timer that no event makes periodic is told of at most once for each event that writes it,
-/// and once more if it was armed before; one of these is left while it is armed.
+/// A one-shot timer that no event makes periodic expires at most once for each event that writes
+/// it, and once more if it was armed before; and once less if it is armed at the end.
 pub fn a_one_shot_is_told_of_once_a_write()
     ensures { (s : State) (t : ℕ × ℕ) (events : List Event) → IsOneShot s t → All (λ event. makes_periodic t event ≡ false) events
         → expiries t (run_of s events).2 + armed (run_of s events).0 t ≤ armed s t + writes t events }
 {}
 
-/// A periodic timer that no event sets (by a write of its registers, or a reset of its processor) keeps
-/// its registers and its grid: from the moment for which it was due to the moment for which it is due at
-/// the end, each period was told of by one expiry, or is counted once in a notice of skipped ones.
+/// A periodic timer that no event sets (by a write of its registers, or a reset of its processor)
+/// keeps its registers and its grid: from its deadline at first to its deadline at the end, each
+/// period has one Expired notice, or is counted once in a Skipped notice.
 pub fn periods_are_accounted_for()
     ensures { (s : State) (t : ℕ × ℕ) (due : ℕ) (events : List Event) → IsPeriodic (timer_in (bank_of s) t) due → All (λ event. sets_timer t event ≡ false) events
         → timer_in (bank_of (run_of s events).0) t ≡ after_periods (timer_in (bank_of s) t) due (expiries t (run_of s events).2 + skips t (run_of s events).2) }
 {}
 
-/// An event that is no guest store, and no reset of that processor, leaves a slot that is occupied, as
-/// one that holds a ticket is: its ticket, and its bytes but for MessagePending.
+/// An event that is neither a guest store nor a reset of that processor leaves an occupied slot
+/// unchanged, and likewise one that holds a ticket: its ticket, and its bytes except
+/// MessagePending.
 pub fn an_occupied_slot_is_left_to_the_guest()
     ensures occupied { (s : State) (event : Event) (p i : ℕ) → IsSound s → PayloadFits event → IsApart p event → p < processors s → i < 16
         → is_slot_empty s p i ≡ false → LeavesSlot s (step s event).0 p i }
@@ -142,9 +143,10 @@ pub fn an_occupied_slot_is_left_to_the_guest()
         → slot_of s p i ≡ Some ticket → LeavesSlot s (step s event).0 p i }
 {}
 
-/// After a write of EOM no message of that processor waits unseen, while its SynIC and its message page
-/// are enabled: each of its sources has nothing queued, or an occupied slot with MessagePending set, so
-/// that the guest knows to write EOM again (TLFS, "Message Delivery").
+/// After a write of EOM, no message of that processor is queued without MessagePending, while its
+/// SynIC and its message page are enabled: the queue of each source is empty, or its slot is
+/// occupied and has MessagePending set, so that the guest knows to write EOM again (TLFS, "Message
+/// Delivery").
 pub fn no_message_waits_unseen_behind_its_end()
     ensures { (s : State) (p i value : ℕ) → IsSound s → p < processors s → i < 16 → delivers s p ≡ true
         → IsSeen (step s (Write p (number_of_register Eom) value)).0 p i }

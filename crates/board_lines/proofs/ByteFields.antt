@@ -1,4 +1,4 @@
--- Bytes that are written two digits each.
+-- Bytes that are written as two digits each.
 use Rattle.std.proofs.Common.{◌≡◌, ℕ, zero, suc, ◌<◌, ◌≤◌, List, [], ◌∷◌, length, Option, Some, None, refl, ap, ◌∙◌, cond, arith, Bool, true, false, nat_le, leb-true, le-leb, codes, ◌==◌}
 use Rattle.std.specs.Option.{option_map, option_and_then}
 use Rattle.std.specs.Str.{bytes_eq}
@@ -73,12 +73,12 @@ bytes_at-spelled most (b ∷ bytes) h =
     ∙ ap (option_and_then (some_bytes most)) (spelled_at-spelled (b ∷ bytes) h.0)
     ∙ ap (λ (t : Bool). cond t (Some (b ∷ bytes)) None) (le-leb (length (b ∷ bytes)) most h.1)
 
--- what is read where it stands so
+-- what is parsed from a text that spells these bytes
 pub read-bytes : (most : ℕ) (text bytes : List ℕ) → Spells text bytes → 0 < length bytes → length bytes ≤ most → bytes_at most text ≡ Some bytes
 read-bytes most text [] h some few = absurd (omega arith)
 read-bytes most text (b ∷ bytes) h some few = ap (bytes_at most) h.same ∙ bytes_at-spelled most (b ∷ bytes) (h.all, few)
 
--- no bytes are written so
+-- the text of no bytes
 pub read-none : (most : ℕ) (text : List ℕ) → bytes_eq text (codes "-") ≡ false → ((bytes : List ℕ) → AreBytes bytes → length bytes ≤ most → text ≡ spelled bytes → ⊥) → bytes_at most text ≡ None
 read-none most text dash never = go (bytes_at most text) refl
   where
@@ -87,7 +87,7 @@ read-none most text dash never = go (bytes_at most text) refl
     go (Some []) is = let h = bytes_at-only most text [] is in let same = (bytes_eq-Decides text (codes "-")).1 h.same in cc
     go (Some (b ∷ bytes)) is = let h = bytes_at-only most text (b ∷ bytes) is in absurd (never (b ∷ bytes) h.few.0 h.few.1 h.same)
 
--- the first field, and what is read of it
+-- the first field, and what is parsed from it
 pub taken-none : (most : ℕ) (old new : List (List ℕ)) (field : List ℕ) → old ≡ field ∷ new → bytes_at most field ≡ None → first_read (bytes_at most) old ≡ None
 taken-none most old new field at read = rw (at, read) refl
 

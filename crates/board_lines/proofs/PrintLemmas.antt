@@ -1,4 +1,4 @@
--- Lines that are written one after the other.
+-- Lines that are written one after another.
 use Rattle.std.proofs.Common.{◌≡◌, ◌≤◌, ◌<◌, ℕ, ◌+◌, get_or, List, [], ◌∷◌, ◌++◌, length, drop, refl, sym, ap, ◌∙◌, append_assoc, append-nil}
 use Rattle.std.proofs.lemmas.List.{drop_all, drop_more}
 use Rattle.board_text.specs.Fields.{line_of}
@@ -8,7 +8,7 @@ pub text_of-append : (xs ys : List (List (List ℕ))) → text_of (xs ++ ys) ≡
 text_of-append [] ys = refl
 text_of-append (fields ∷ xs) ys = ap (λ (rest : List ℕ). line_of fields ++ rest) (text_of-append xs ys) ∙ sym (append_assoc (line_of fields) (text_of xs) (text_of ys))
 
--- one line set more
+-- the lines of one more item
 pub numbered-step : {A : Type 0} (lines : ℕ → A → List (List (List ℕ))) (n : ℕ) (xs : List A) (d : A) (so_far next out : List ℕ) → n < length xs →
     next ≡ so_far ++ text_of (lines n (get_or xs n d)) → so_far ++ text_of (numbered lines n (drop n xs)) ≡ out → next ++ text_of (numbered lines (n + 1) (drop (n + 1) xs)) ≡ out
 numbered-step lines n xs d so_far next out h here all =

@@ -1,4 +1,4 @@
--- What is read of a line is what it means.
+-- Parsing a line gives the item that the line denotes, and only then.
 use Rattle.std.proofs.Common.{◌≡◌, ◌↔◌, ℕ, ◌-◌, ◌<◌, ◌^◌, List, [], ◌∷◌, Option, Some, None, refl, sym, ap, ◌∙◌, cond, arith, Bool, true, false, nat_le, leb-true, le-leb, decimal, codes}
 use Rattle.std.specs.Option.{option_map, option_and_then}
 use Rattle.std.specs.Str.{bytes_eq}
@@ -15,7 +15,7 @@ use Rattle.board_lines.specs.Items.{Item, Opening, Performs, Summary, item_field
 use Rattle.board_lines.specs.Reading.{Fields, take_then, none_left, u8_at, u16_at, bytes_at, u64_at, hex_u32_at, hex_u64_at, from_16, vector_at, messages_say, flags_say, shape_say, open_say, close_say, write_say, read_say, post_say, signal_say, assert_say, absorb_say, store_say, load_say, tick_say, processor_say, take_say, suspend_say, resume_say, reset_say, opening_say, event_say, item_say, item_at}
 use Rattle.board_lines.proofs.ByteFields.{bytes_at-only, bytes_at-spelled}
 
--- What was read tells what stood there.
+-- A parsed field determines the text before the rest.
 pub then-some : {A B : Type 0} (read : List ℕ → Option B) (next : B → Fields → Option A) (fields : Fields) (a : A) (P : Type 0) →
     ((field : List ℕ) (n : B) (rest : Fields) → fields ≡ field ∷ rest → read field ≡ Some n → next n rest ≡ Some a → P) → take_then read next fields ≡ Some a → P
 then-some read next [] a P k e = cc
@@ -29,7 +29,7 @@ pub ended-some : {A : Type 0} (a : A) (fields : Fields) (b : A) (P : Type 0) →
 ended-some a [] b P k e = k refl cc
 ended-some a (field ∷ fields) b P k e = cc
 
--- what is read only where the test says yes
+-- parsed only if the test holds
 pub yes : {A : Type 0} (t : Bool) (x y : Option A) (a : A) (P : Type 0) → (t ≡ true → x ≡ Some a → P) → (y ≡ Some a → P) → cond t x y ≡ Some a → P
 yes true x y a P h k e = h refl e
 yes false x y a P h k e = k e
@@ -222,7 +222,7 @@ event-says (word ∷ fs) event e =
     (yes (bytes_eq word (codes "resume")) (resume_say fs) _ event (Says (word ∷ fs) event) (λ is e. worded (λ w. Says (w ∷ fs) event) word (codes "resume") is (resume-says fs event e))
     (yes (bytes_eq word (codes "reset")) (reset_say fs) None event (Says (word ∷ fs) event) (λ is e. worded (λ w. Says (w ∷ fs) event) word (codes "reset") is (reset-says fs event e)) (λ e. cc))))))))))))))) e
 
--- What is written so is read so.
+-- Parsing what is printed gives it back.
 pub u8-spelled : (n : ℕ) → n < 256 → u8_at (decimal n) ≡ Some n
 u8-spelled n h = decimal_at-spelled 255 n (omega arith) (omega arith)
 

@@ -5,7 +5,7 @@ use Rattle.std.proofs.lemmas.Bool.Decides.{Decides-and}
 use Rattle.synic_board.specs.State.{AreSizes}
 use Rattle.board_lines.specs.Sizes.{are_sizes}
 
--- between two numbers, as a test and as two orders
+-- between two numbers, as a Boolean test and as two inequalities
 between : (low n high : ℕ) → Decides (nat_le low n && nat_le n high) ((low ≤ n) × (n ≤ high))
 between low n high = Decides-and _ _ (leb-true low n, le-leb low n) (leb-true n high, le-leb n high)
 

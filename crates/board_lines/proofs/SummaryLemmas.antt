@@ -1,4 +1,4 @@
--- The lines of a summary, one part behind another.
+-- The lines of a summary, one part after another.
 use Rattle.std.proofs.Common.{◌≡◌, ◌+◌, ℕ, List, [], ◌∷◌, ◌++◌, ◌||◌, map, cond, Bool, true, false, refl, sym, ap, ◌∙◌, append_assoc, append-nil, decimal, arith}
 use Rattle.std.specs.FinSet as set
 use Rattle.std.proofs.Math.Bool.{or-true, or-false}
@@ -45,7 +45,7 @@ auto-step p n vectors any now start so_far new before begun after written = rw (
       after ∙ or-false any ∙ begun ∙ ap is_some_vector (sym (append-nil found)),
     )
 
--- a line that was begun ends, and one that was not is left out
+-- a line that was begun is ended, and one that was not is left out
 pub auto-ended : (p : ℕ) (found start so_far new : List ℕ) → so_far ≡ start ++ auto_text p found → true ≡ is_some_vector found → new ≡ so_far ++ 10 ∷ [] → new ≡ start ++ text_of (auto_line p found)
 auto-ended p [] start so_far new before begun written = cc
 auto-ended p (v ∷ found) start so_far new before begun written =

@@ -1,4 +1,4 @@
--- Items as they are written.
+-- Items as they are printed.
 use Rattle.std.proofs.Common.{◌≡◌, ℕ, ◌+◌, ◌*◌, ◌<◌, ◌≤◌, List, [], ◌∷◌, length, Some, refl, arith, codes}
 use Rattle.board_text.specs.Fields.{spaced}
 use Rattle.board_text.proofs.PlainWords.{IsPlain, ArePlain, total, plain_by, digits-plain, digits-short, two_digits-plain, spelled-plain, spelled-length, IsWritten, written}
@@ -18,7 +18,7 @@ pub bytes-short : (bytes : List ℕ) → length (bytes_text bytes) ≤ 2 * lengt
 bytes-short [] = omega arith
 bytes-short (b ∷ bytes) = omega (arith, spelled-length (b ∷ bytes))
 
--- some fields of a line, with room for one more
+-- some fields of a line, with capacity for one more
 pub record FewPlain (fields : List (List ℕ)) : Type 0 where
   pub plain : ArePlain fields
   pub some : 0 < total fields

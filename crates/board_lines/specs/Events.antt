@@ -1,4 +1,4 @@
--- How events are written: the fields of each.
+-- The text form of events: the fields of each.
 use Rattle.std.specs.Prelude.{ℕ, ◌<◌, ◌≤◌, ◌^◌, List, [], ◌∷◌, length, codes, decimal}
 use Rattle.board_text.specs.Numbers.{hex, two_digits, spelled, AreBytes}
 use Rattle.board_terms.specs.declared.messages.PortShape.{PortShape}
@@ -6,7 +6,7 @@ use Rattle.board_terms.specs.declared.messages.PortShape.TheVariants.{Messages, 
 use Rattle.synic_board.specs.declared.event.Event.{Event}
 use Rattle.synic_board.specs.declared.event.Event.TheVariants.{OpenPort, ClosePort, Write, Read, Post, Signal, Assert, Absorb, Store, Load, Tick, Take, Suspend, Resume, Reset}
 
--- bytes, two digits each, or `-` for none
+-- bytes as two digits each, or `-` for none
 abbrev pub bytes_text : List ℕ → List ℕ
 bytes_text [] = codes "-"
 bytes_text (b ∷ bytes) = spelled (b ∷ bytes)
@@ -32,7 +32,7 @@ event_fields (Reset vp) = codes "reset" ∷ decimal vp ∷ []
 abbrev pub IsVector : ℕ → Type 0
 IsVector v = (16 ≤ v) × (v < 256)
 
--- bytes, so many at most
+-- at most that many bytes
 abbrev pub FewBytes : ℕ → List ℕ → Type 0
 FewBytes most bytes = AreBytes bytes × (length bytes ≤ most)
 

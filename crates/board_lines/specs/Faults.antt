@@ -1,4 +1,4 @@
--- Which lines of a script are skipped, what is wrong with others, and how that is written.
+-- Which lines of a script are skipped, the faults of lines, and their text form.
 use Rattle.std.specs.Prelude.{ℕ, List, [], ◌∷◌, ◌==◌, Bool, true, if◌then◌else◌, nat_lt, length, Option, None, Some, codes, decimal}
 use Rattle.board_text.specs.Fields.{line_of}
 use Rattle.board_lines.specs.declared.fault.ScriptFault.{ScriptFault}
@@ -9,7 +9,7 @@ abbrev pub is_skipped : List ℕ → Bool
 is_skipped [] = true
 is_skipped (b ∷ bytes) = b == 35
 
--- what is wrong with the bytes behind the last line feed
+-- the fault of the bytes after the last line feed
 abbrev pub rest_fault : Bool → List ℕ → Option ScriptFault
 rest_fault opened rest =
     if nat_lt 640 (length rest) then Some faults.Long

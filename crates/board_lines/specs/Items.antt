@@ -1,16 +1,16 @@
--- Which line means what: its fields, parted by single spaces, are these.
+-- The items that lines denote: a line denotes an item iff its fields, separated by single spaces, are the item's.
 use Rattle.std.specs.Prelude.{◌≡◌, ℕ, ◌<◌, ◌^◌, List, [], ◌∷◌, codes, decimal}
 use Rattle.board_text.specs.Fields.{fields_of}
 use Rattle.synic_board.specs.declared.event.Event.{Event}
 use Rattle.board_lines.specs.Events.{event_fields, IsEvent}
 
--- what a line asks for
+-- what a line of a script denotes
 pub data Item : Type 0 where
-  -- a board of so many processors and pages, whose first message takes this ticket
+  -- a board line: processors, pages, first ticket
   Opening : ℕ → ℕ → ℕ → Item
   -- an event
   Performs : Event → Item
-  -- the stored summary
+  -- a summary
   Summary : Item
 
 abbrev pub item_fields : Item → List (List ℕ)

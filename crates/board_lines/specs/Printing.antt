@@ -1,4 +1,4 @@
--- What is written: the fields of each line.
+-- The printed lines: the fields of each.
 use Rattle.std.specs.Prelude.{ℕ, ◌+◌, ◌==◌, ◌/◌, ◌%◌, List, [], ◌∷◌, ◌++◌, map, if◌then◌else◌, Option, None, Some, codes, decimal}
 use Rattle.std.specs.List.{filter, range_with_len}
 use Rattle.std.specs.FinSet as set
@@ -46,7 +46,7 @@ notice_fields (notices.Withdrawn ticket vp sint) = codes "." ∷ codes "withdraw
 notice_fields (notices.Expired vp index due) = codes "." ∷ codes "expired" ∷ decimal vp ∷ decimal index ∷ decimal due ∷ []
 notice_fields (notices.Skipped vp index count) = codes "." ∷ codes "skipped" ∷ decimal vp ∷ decimal index ∷ decimal count ∷ []
 
--- The stored summary. What stands behind one another is told by its number, from n on.
+-- A summary. Consecutive items are numbered from n on.
 abbrev pub numbered : {A : Type 0} → (ℕ → A → List (List (List ℕ))) → ℕ → List A → List (List (List ℕ))
 numbered lines n [] = []
 numbered lines n (a ∷ rest) = lines n a ++ numbered lines (n + 1) rest
@@ -54,7 +54,7 @@ numbered lines n (a ∷ rest) = lines n a ++ numbered lines (n + 1) rest
 abbrev pub next_lines : ℕ → Option ℕ → List (List (List ℕ))
 next_lines p next = (codes ":" ∷ codes "next" ∷ decimal p ∷ vector_or_none next ∷ []) ∷ []
 
--- the vectors of a set, rising: those of the first n from 16 on
+-- the vectors of a set in ascending order: those of the first n from 16 on
 abbrev pub below : ℕ → Vectors → List ℕ
 below n vectors = filter (λ (v : ℕ). set.contains vectors v) (map (λ (i : ℕ). 16 + i) (range_with_len 0 n))
 

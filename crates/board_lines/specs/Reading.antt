@@ -1,4 +1,4 @@
--- What is read of a line, field by field.
+-- Parsing a line, field by field.
 use Rattle.std.specs.Prelude.{◌≡◌, ℕ, ◌-◌, ◌^◌, List, [], ◌∷◌, length, if◌then◌else◌, nat_le, Option, None, Some, codes}
 use Rattle.std.specs.Option.{option_map, option_and_then}
 use Rattle.std.specs.Str.{bytes_eq}
@@ -9,26 +9,26 @@ use Rattle.synic_board.specs.declared.event.Event.TheVariants.{OpenPort, ClosePo
 use Rattle.board_terms.specs.declared.messages.PortShape.TheVariants.{Messages, Flags}
 use Rattle.board_lines.specs.Items.{Item, Opening, Performs, Summary}
 
--- the fields that are left to be read
+-- the fields that are not yet parsed
 abbrev pub Fields : Type 0
 Fields = List (List ℕ)
 
--- the first field, read in one way, and the fields behind it
+-- the first field, decoded by a function, and the fields after it
 abbrev pub first_read : {B : Type 0} → (List ℕ → Option B) → Fields → Option (B × Fields)
 first_read read [] = None
 first_read {B} read (field ∷ fields) = option_map (λ (b : B). (b, fields)) (read field)
 
--- the first field, and then what is read behind it
+-- the first field, and then what is parsed after it
 abbrev pub take_then : {A B : Type 0} → (List ℕ → Option B) → (B → Fields → Option A) → Fields → Option A
 take_then {A} {B} read next fields = option_and_then (λ (p : B × Fields). next p.0 p.1) (first_read read fields)
 
--- the bytes that are written so, two digits each
+-- the bytes that a text of two digits each denotes
 abbrev pub spelled_at : List ℕ → Option (List ℕ)
 spelled_at [] = Some []
 spelled_at (high ∷ []) = None
 spelled_at (high ∷ low ∷ text) = option_and_then (λ (b : ℕ). option_map (λ (bytes : List ℕ). b ∷ bytes) (spelled_at text)) (byte_at (high ∷ low ∷ []))
 
--- at least one byte, and no more than that
+-- at least one byte, and at most that many
 abbrev pub some_bytes : ℕ → List ℕ → Option (List ℕ)
 some_bytes most [] = None
 some_bytes most (b ∷ bytes) = if nat_le (length (b ∷ bytes)) most then Some (b ∷ bytes) else None
@@ -37,7 +37,7 @@ some_bytes most (b ∷ bytes) = if nat_le (length (b ∷ bytes)) most then Some 
 abbrev pub bytes_at : ℕ → List ℕ → Option (List ℕ)
 bytes_at most text = if bytes_eq text (codes "-") then Some [] else option_and_then (some_bytes most) (spelled_at text)
 
--- a call read the first field so, or there is none that reads so
+-- a call took the first field with this value, or the field does not decode
 abbrev pub TakesNumber : (List ℕ → Option ℕ) → Option ℕ → Fields → Fields → Type 0
 TakesNumber read None old new = first_read read old ≡ None
 TakesNumber read (Some n) old new = first_read read old ≡ Some (n, new)
@@ -69,7 +69,7 @@ from_16 n = if nat_le 16 n then Some n else None
 abbrev pub vector_at : List ℕ → Option ℕ
 vector_at text = option_and_then from_16 (byte_at text)
 
--- What stands behind the first word.
+-- The fields after the first word.
 abbrev pub messages_say : ℕ → Fields → Option Event
 messages_say port = take_then u8_at (λ vp. take_then u8_at (λ sint. take_then u8_at (λ buffers. none_left (OpenPort port vp sint (Messages buffers)))))
 
@@ -116,7 +116,7 @@ assert_say = take_then u8_at (λ vp. take_then vector_at (λ vector. none_left (
 abbrev pub absorb_say : Fields → Option Event
 absorb_say = take_then u8_at (λ vp. take_then u8_at (λ part. take_then hex_u64_at (λ bits. none_left (Absorb vp part bits))))
 
--- a processor and nothing else
+-- a processor and no further field
 abbrev pub processor_say : Fields → Option ℕ
 processor_say = take_then u8_at none_left
 
@@ -135,7 +135,7 @@ reset_say fields = option_map Reset (processor_say fields)
 abbrev pub opening_say : Fields → Option (ℕ × ℕ × ℕ)
 opening_say = take_then u8_at (λ processors. take_then u8_at (λ pages. take_then u64_at (λ ticket. none_left (processors, pages, ticket))))
 
--- the event that the fields name
+-- the event that the fields denote
 abbrev pub event_say : Fields → Option Event
 event_say [] = None
 event_say (word ∷ fields) =
@@ -156,11 +156,11 @@ event_say (word ∷ fields) =
     else if bytes_eq word (codes "reset") then reset_say fields
     else None
 
--- the item of a board line's fields
+-- the item that the fields of a board line denote
 abbrev pub opening_item : Fields → Option Item
 opening_item fields = option_map (λ (p : ℕ × ℕ × ℕ). Opening p.0 p.1 p.2) (opening_say fields)
 
--- the item that the fields name
+-- the item that the fields denote
 abbrev pub item_say : Fields → Option Item
 item_say [] = None
 item_say (word ∷ fields) =

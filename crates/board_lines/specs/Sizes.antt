@@ -1,4 +1,4 @@
--- The sizes of a board, as a test.
+-- The sizes of a board, as a Boolean test.
 use Rattle.std.specs.Prelude.{ℕ, ◌&&◌, Bool, nat_le}
 
 -- the sizes that a board may be opened with

@@ -1,4 +1,4 @@
-// The event that a line names.
+// Parses the event of a line.
 ghost use Rattle.std.specs.Prelude.{◌≡◌, ◌∷◌, if◌then◌else◌, Some, None};
 ghost use Rattle.board_lines.specs.Reading.{event_say, open_say, messages_say, flags_say, close_say, write_say, read_say, post_say, signal_say, assert_say, absorb_say, store_say, load_say, tick_say, processor_say, take_say, suspend_say, resume_say, reset_say};
 
@@ -10,7 +10,8 @@ use board_terms::PortShape;
 use board_text::{Fields, is_word};
 use synic_board::Event;
 
-/// The event of that first word, and of the fields behind it, which are all used.
+/// Parses the event with this first word. All remaining fields must be used; `None` if they denote
+/// no event.
 pub fn event_of(word: &[u8], fields: &mut Fields<'_>) -> Option<Event>
     ensures { result ≡ event_say (word.now ∷ fields.old) }
 {
@@ -22,8 +23,8 @@ pub fn event_of(word: &[u8], fields: &mut Fields<'_>) -> Option<Event>
     }
 }
 
-/// Puts the event of that first word, and of the fields behind it, which are all used, into `event`,
-/// and says whether there is one. If there is none, `event` is some event.
+/// Parses the event with this first word into `event`, and returns whether there is one. All
+/// remaining fields must be used. If there is none, `event` is some event.
 #[inline(always)]
 pub fn read_event(word: &[u8], fields: &mut Fields<'_>, event: &mut Event) -> bool
     ensures { (if result then Some event.new else None) ≡ event_say (word.now ∷ fields.old) }
@@ -328,7 +329,7 @@ fn absorb_of(fields: &mut Fields<'_>, event: &mut Event) -> bool
     true
 }
 
-/// The processor of an event that names one, and nothing else.
+/// Parses a processor that is the last field.
 #[inline(always)]
 fn processor_of(fields: &mut Fields<'_>) -> Option<u8>
     ensures { result ≡ processor_say fields.old }

@@ -1,28 +1,28 @@
-// What is wrong with a line of a script.
+// The faults of script lines.
 ghost use Rattle.std.specs.Prelude.{◌≡◌, ◌++◌, Some, OnOk};
 ghost use Rattle.board_lines.specs.Faults.{is_skipped, fault_word, fault_text};
 
 use board_text::put_decimal;
 use std::alloc::AllocError;
 
-/// What is wrong with a line of a script. They are judged in this order.
+/// What is wrong with a line of a script. The faults are checked in this order.
 #[derive(Clone, Copy, PartialEq, Eq, Debug)]
 pub enum ScriptFault {
-    /// It has more than 640 bytes.
+    /// The line has more than 640 bytes.
     Long,
-    /// The input ends inside it.
+    /// The input ends inside the line.
     Cut,
-    /// The first line that is not skipped is no board line.
+    /// The first line that is not skipped is not a board line.
     First,
     /// The board line has sizes outside the limits.
     Size,
-    /// It means nothing here.
+    /// The line denotes nothing at this place.
     Form,
-    /// It is one actor, one line or one step more than a crew has.
+    /// The line adds one actor, line or step more than a crew may have.
     Many,
 }
 
-/// Whether a line is empty or a comment, which a script skips.
+/// Whether a script skips a line: it is empty or a comment.
 pub fn skips(line: &[u8]) -> bool
     ensures { result ≡ is_skipped line.now }
 {
@@ -32,7 +32,7 @@ pub fn skips(line: &[u8]) -> bool
     }
 }
 
-/// Writes the line of a fault at the end of `out`.
+/// Appends the line of a fault to `out`. An error is an allocation failure.
 pub fn put_fault(out: &mut Vec<u8>, line: u64, fault: ScriptFault) -> Result<(), AllocError>
     ensures { OnOk result (out.new.items ≡ out.old.items ++ fault_text (Some (line, fault))) }
 {

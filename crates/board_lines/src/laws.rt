@@ -1,4 +1,4 @@
-//! Laws of the definitions.
+//! Theorems about the definitions.
 ghost use Rattle.std.specs.Prelude.{◌≡◌, ◌↔◌, ℕ, List, Some, IsTrue};
 ghost use Rattle.board_text.specs.Fields.{spaced};
 ghost use Rattle.synic_board.specs.State.{AreSizes};
@@ -8,12 +8,12 @@ ghost use Rattle.board_lines.specs.Items.{Item, Performs, item_fields, IsItem, M
 ghost use Rattle.board_lines.specs.Reading.{item_at};
 ghost use Rattle.board_lines.specs.Sizes.{are_sizes};
 
-/// What is read of a line is just what the line means.
+/// Parsing a line gives an item iff the line denotes it.
 pub fn reading_is_meaning()
     ensures { (line : List ℕ) (item : Item) → (item_at line ≡ Some item) ↔ Means line item }
 {}
 
-/// What an item means has one line.
+/// No two lines denote the same item.
 pub fn one_line()
     ensures { (a b : List ℕ) (item : Item) → Means a item → Means b item → a ≡ b }
 {}
@@ -23,17 +23,17 @@ pub fn some_line()
     ensures { (item : Item) → IsItem item → Means (spaced (item_fields item)) item }
 {}
 
-/// The line that is written of an event is read as that event.
+/// Parsing the printed line of an event gives that event.
 pub fn a_written_event_is_read()
     ensures { (event : Event) → IsEvent event → item_at (spaced (event_fields event)) ≡ Some (Performs event) }
 {}
 
-/// A line means one item at most.
+/// A line denotes at most one item.
 pub fn one_item()
     ensures { (line : List ℕ) (a b : Item) → Means line a → Means line b → a ≡ b }
 {}
 
-/// The sizes that the texts allow are those that a board may be opened with.
+/// The sizes that scripts and traces accept are those that a board can be opened with.
 pub fn sizes_are_those_of_open()
     ensures { (processors pages : ℕ) → IsTrue (are_sizes processors pages) ↔ AreSizes processors pages }
 {}

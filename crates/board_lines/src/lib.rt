@@ -1,4 +1,4 @@
-//! The lines of scripts and traces: what is read of one, and what is written.
+//! The lines of scripts and traces: parsing and printing.
 #![tactic(auto)]
 
 mod event;

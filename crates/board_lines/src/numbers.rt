@@ -1,4 +1,4 @@
-// The numbers of a line, read field by field.
+// The numbers of a line, parsed field by field.
 ghost use Rattle.std.specs.Prelude.{◌≡◌, [], if◌then◌else◌, Some, None};
 ghost use Rattle.board_lines.specs.Reading.{TakesNumber, u8_at, u16_at, u64_at, hex_u32_at, hex_u64_at, vector_at};
 ghost use Rattle.board_lines.specs.inside.Taking.{TakesBytes};
@@ -70,7 +70,7 @@ pub fn vector_of(fields: &mut Fields<'_>) -> Option<Vector>
     Vector::new(number)
 }
 
-/// At most so many bytes in two hexadecimal digits each, or `-` for none.
+/// At most `N` bytes as two hexadecimal digits each, or `-` for none.
 #[inline(always)]
 pub(crate) fn bytes_in<const N: usize>(fields: &mut Fields<'_>) -> Option<ArrayVec<u8, N>>
     ensures { TakesBytes N result fields.old fields.new }
@@ -83,8 +83,8 @@ pub(crate) fn bytes_in<const N: usize>(fields: &mut Fields<'_>) -> Option<ArrayV
     }
 }
 
-/// Puts at most so many bytes in two hexadecimal digits each, or `-` for none, into an empty `bytes`,
-/// and says whether the next field is such.
+/// Parses at most `N` bytes, as two hexadecimal digits each or `-` for none, into the empty
+/// `bytes`. Returns whether the next field is such.
 #[inline(always)]
 pub(crate) fn read_bytes<const N: usize>(
     fields: &mut Fields<'_>,

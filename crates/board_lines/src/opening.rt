@@ -1,4 +1,4 @@
-// The numbers of a board line.
+// Parses a board line.
 ghost use Rattle.std.specs.Prelude.{◌≡◌};
 ghost use Rattle.board_lines.specs.Reading.{opening_say};
 
@@ -6,7 +6,8 @@ use crate::numbers::{u8_of, u64_of};
 use board_terms::Ticket;
 use board_text::Fields;
 
-/// The processors, the pages and the first ticket of a board line, of the fields behind its first word.
+/// The processors, the pages and the first ticket of a board line, from the fields after its first
+/// word.
 pub fn opening_of(fields: &mut Fields<'_>) -> Option<(u8, u8, Ticket)>
     ensures { result ≡ opening_say fields.old }
 {

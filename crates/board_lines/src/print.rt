@@ -1,4 +1,4 @@
-// What is written.
+// Printing. Each function appends to `out`; an error is an allocation failure.
 mod event;
 mod notice;
 mod reply;
@@ -17,7 +17,7 @@ pub use reply::put_reply;
 use std::alloc::AllocError;
 pub use summary::put_summary;
 
-/// Writes a text at the end of `out`.
+/// Appends a text.
 #[inline(always)]
 fn put(out: &mut Vec<u8>, text: &[u8]) -> Result<(), AllocError>
     ensures { OnOk result (out.new.items ≡ out.old.items ++ text.now) }
@@ -25,7 +25,7 @@ fn put(out: &mut Vec<u8>, text: &[u8]) -> Result<(), AllocError>
     out.extend_from_slice(text)
 }
 
-/// Writes bytes at the end of `out`, two digits each, or `-` for none.
+/// Appends bytes as two digits each, or `-` for none.
 fn put_data(out: &mut Vec<u8>, bytes: &[u8]) -> Result<(), AllocError>
     ensures written { OnOk result (out.new.items ≡ out.old.items ++ bytes_text bytes.now) }
     ensures fits { AreBytes bytes.now }
@@ -36,7 +36,7 @@ fn put_data(out: &mut Vec<u8>, bytes: &[u8]) -> Result<(), AllocError>
     put_bytes(out, bytes)
 }
 
-/// Writes a vector, or that there is none, at the end of `out`.
+/// Appends a vector, or `none`.
 #[inline(always)]
 fn put_vector(out: &mut Vec<u8>, vector: Option<Vector>) -> Result<(), AllocError>
     ensures { OnOk result (out.new.items ≡ out.old.items ++ vector_or_none vector) }

@@ -1,4 +1,4 @@
--- Entries whose bytes stand one behind another.
+-- Entries whose bytes are stored one after another.
 use Rattle.std.proofs.Common.{◌≡◌, ℕ, ◌+◌, ◌<◌, ◌≤◌, List, [], ◌∷◌, ◌++◌, length, get_or, take, drop, refl, suc, sym, ap, ◌∙◌, add-one, arith}
 use Rattle.std.specs.List.{sum_by}
 use Rattle.std.proofs.Math.Seq.{drop-cons}
@@ -16,7 +16,7 @@ pub entries-length : (bytes : List ℕ) (es : List CompactEntry) → length (ent
 entries-length bytes [] = refl
 entries-length bytes (e ∷ es) = omega (arith, entries-length (drop (size e) bytes) es)
 
--- what stands behind its bytes is nothing to an entry
+-- an entry does not depend on the bytes after its own
 entry-front : (bytes more : List ℕ) (e : CompactEntry) → size e ≤ length bytes → entry_with (bytes ++ more) e ≡ entry_with bytes e
 entry-front bytes more e fits =
     let n = event_count e.event in
@@ -39,7 +39,7 @@ entries-push bytes own (x ∷ es) e whole =
     let rest = entries-push (drop (size x) bytes) own es e (omega (arith, length-drop (size x) bytes)) in
     λ i. entry-front bytes own x fits i ∷ (ap (λ (l : List ℕ). entries_in l (es ++ e ∷ [])) (drop-append-le (size x) bytes own fits) ∙ rest) i
 
--- the numbers and the bytes of an entry are that entry
+-- the numbers and the bytes of an entry determine it
 pub entry-whole : (actor : ℕ) (event : Event) (reply : Reply) (numbers : CompactEvent) (answer : CompactReply)
     → event_with (event_bytes event) numbers ≡ event → event_count numbers ≡ length (event_bytes event)
     → reply_with (reply_bytes reply) answer ≡ reply → reply_count answer ≡ length (reply_bytes reply)

@@ -1,4 +1,4 @@
-// What is kept of an entry beside its bytes.
+// The compact form of entries.
 ghost use Rattle.std.specs.Prelude.{◌≡◌, ◌≤◌, length};
 ghost use Rattle.entry_log.specs.inside.Compact.{event_bytes, reply_bytes, event_count, reply_count, event_most, Fits, size, event_with, reply_with, entry_with};
 
@@ -6,8 +6,8 @@ use arrayvec::ArrayVec;
 use board_terms::{Moment, PortShape, Refusal, Ticket, Vector};
 use synic_board::{Entry, Event, Reply};
 
-/// The numbers of an event, with the count of its bytes in place of them. The fields of a variant
-/// stand in such an order that none takes more than 16 bytes.
+/// The numbers of an event, with the number of its bytes instead of the bytes. The fields of each
+/// variant are ordered so that none takes more than 16 bytes.
 #[derive(Clone, Copy)]
 pub(crate) enum CompactEvent {
     OpenPort {
@@ -71,7 +71,7 @@ pub(crate) enum CompactEvent {
     },
 }
 
-/// The numbers of a reply, with the count of its bytes in place of them.
+/// The numbers of a reply, with the number of its bytes instead of the bytes.
 #[derive(Clone, Copy)]
 pub(crate) enum CompactReply {
     Done,
@@ -85,7 +85,7 @@ pub(crate) enum CompactReply {
     Refused(Refusal),
 }
 
-/// The numbers of an entry. Its bytes are those of the event, and behind them those of the reply.
+/// The numbers of an entry. Its bytes are those of the event, then those of the reply.
 #[derive(Clone, Copy)]
 pub(crate) struct CompactEntry {
     pub(crate) actor: u8,
@@ -93,7 +93,7 @@ pub(crate) struct CompactEntry {
     pub(crate) reply: CompactReply,
 }
 
-/// The bytes that an event holds.
+/// The bytes of an event.
 pub(crate) fn bytes_of_event(event: &Event) -> &[u8]
     ensures value { result.now ≡ event_bytes event.now }
     ensures few { length result.now ≤ 240 }
@@ -105,7 +105,7 @@ pub(crate) fn bytes_of_event(event: &Event) -> &[u8]
     }
 }
 
-/// The bytes that a reply holds.
+/// The bytes of a reply.
 pub(crate) fn bytes_of_reply(reply: &Reply) -> &[u8]
     ensures value { result.now ≡ reply_bytes reply.now }
     ensures few { length result.now ≤ 8 }
@@ -199,7 +199,7 @@ impl CompactEvent {
         }
     }
 
-    /// The event, with its bytes.
+    /// The event with these bytes.
     pub(crate) fn event(self, own: &[u8]) -> Event
         requires count { length own.now ≡ event_count self }
         requires few { event_count self ≤ event_most self }
@@ -282,7 +282,7 @@ impl CompactReply {
         }
     }
 
-    /// The reply, with its bytes.
+    /// The reply with these bytes.
     pub(crate) fn reply(self, own: &[u8]) -> Reply
         requires count { length own.now ≡ reply_count self }
         requires few { reply_count self ≤ 8 }
@@ -310,7 +310,7 @@ impl CompactEntry {
         self.event.count() + self.reply.count()
     }
 
-    /// The entry, whose bytes stand in front.
+    /// The entry whose bytes come first in `bytes`.
     pub(crate) fn entry(self, bytes: &[u8]) -> Entry
         requires there { size self ≤ length bytes.now }
         requires fits { Fits self }
@@ -325,7 +325,7 @@ impl CompactEntry {
     }
 }
 
-/// These bytes, in an array that has room for them.
+/// An array of these bytes, which must fit.
 fn array_of<const N: usize>(bytes: &[u8]) -> ArrayVec<u8, N>
     requires { length bytes.now ≤ N }
     ensures { result.items ≡ bytes.now }

@@ -1,5 +1,5 @@
-//! A list of entries that is kept small: the numbers of each entry lie in 40 bytes, and the bytes of
-//! payloads, stores and loads one behind another.
+//! A compact list of entries: the numbers of each entry take 40 bytes, and the bytes of payloads,
+//! stores and loads are stored one after another.
 #![tactic(auto)]
 
 mod compact;

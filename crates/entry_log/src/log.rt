@@ -1,4 +1,4 @@
-// The log.
+// The log of entries.
 ghost use Rattle.std.specs.Prelude.{◌≡◌, ◌+◌, ◌≤◌, true, [], ◌∷◌, ◌++◌, IfOk, OnOk, IsOk, length, vec_len, vec_capacity};
 ghost use Rattle.entry_log.specs.Log.{entry};
 
@@ -8,11 +8,11 @@ use std::marker::Model;
 use std::mem::size_of;
 use synic_board::{Entry, Event, Reply};
 
-/// How many bytes one entry has at most: 240 of its event, and 8 of its reply.
+/// The greatest number of bytes of an entry: 240 of its event, and 8 of its reply.
 const MOST_BYTES: usize = 248;
 
-/// A list of entries that is kept small. Contracts see the entries, and whether there is room for
-/// one more, of any kind.
+/// A compact list of entries. Its contract shows the entries, and whether there is capacity for one
+/// more, of any kind.
 #[derive(Drop)]
 pub struct EntryLog {
     compact: Vec<CompactEntry>,
@@ -32,10 +32,10 @@ impl Model for EntryLog {
 }
 
 impl EntryLog {
-    /// How many bytes the numbers of an entry take.
+    /// The size of the numbers of an entry, in bytes.
     pub const NUMBERS_SIZE: usize = size_of::<CompactEntry>();
 
-    /// An empty log. It takes no memory.
+    /// An empty log. Does not allocate.
     pub fn new(alloc: Global) -> EntryLog
         ensures { result.entries ≡ [] }
     {
@@ -45,15 +45,15 @@ impl EntryLog {
         }
     }
 
-    /// How many entries there are.
+    /// The number of entries.
     pub fn len(&self) -> usize
         ensures { result ≡ length self.now.entries }
     {
         self.compact.len()
     }
 
-    /// Makes room for one more entry, of any kind. Where there is room already, it takes no memory; the
-    /// room that it takes grows by doubling. After an error nothing is changed.
+    /// Ensures capacity for one more entry, of any kind. Does not allocate if there is capacity
+    /// already; otherwise the capacity doubles. Changes nothing on an error.
     pub fn reserve(&mut self) -> Result<(), AllocError>
         ensures entries { self.new.entries ≡ self.old.entries }
         ensures room { OnOk result (self.new.has_room ≡ true) }
@@ -63,8 +63,7 @@ impl EntryLog {
         self.bytes.reserve(MOST_BYTES)
     }
 
-    /// Enters an event, the reply to it, and the number of the actor that had it performed, behind all
-    /// others. It takes no memory.
+    /// Appends an event, its reply, and the number of the actor that performed it. Never allocates.
     pub fn push(&mut self, actor: u8, event: &Event, reply: &Reply)
         requires { self.old.has_room ≡ true }
         ensures { self.new.entries ≡ self.old.entries ++ entry actor event.now reply.now ∷ [] }
@@ -78,7 +77,7 @@ impl EntryLog {
         });
     }
 
-    /// The entries, each with its own bytes in place.
+    /// A copy of the entries, each with its own bytes.
     pub fn to_entries(&self, alloc: Global) -> Result<Vec<Entry>, AllocError>
         ensures { IfOk result (λ v. v.items ≡ self.now.entries) }
     {
@@ -92,7 +91,7 @@ impl EntryLog {
     }
 }
 
-/// Appends bytes, for which there is room.
+/// Appends bytes within the capacity.
 fn append(to: &mut Vec<u8>, bytes: &[u8])
     requires { vec_len to.old + length bytes.now ≤ vec_capacity to.old }
     ensures items { to.new.items ≡ to.old.items ++ bytes.now }

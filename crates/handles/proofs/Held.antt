@@ -1,4 +1,4 @@
--- The machine value of a handle, and the two cases of what it owns. Assumes `Logic`.
+-- The machine value of a handle, and the two cases of its ownership. Assumes `Logic`.
 use Rattle.handles.proofs.Steps.{◌≡◌, Bool, true, false, List, ◌∷◌, refl, lit<, Ura, T, Val, vbool, vstruct, vcons, vnil, has_ty, WT, never_e, ftrue, given, learn, Logic, Item, Goal, Seq, ‵, ◌$◌, drop, use1, RattleType, layout, block_ptr, null_ptr, Ptr, ptr_val}
 use Rattle.std.specs.Prelude.{Option, None, Some}
 use Rattle.std.specs.Box.Ownership.{box_owns}
@@ -18,7 +18,7 @@ word_good (block_ptr b o) is_open = (tt, (tt, (tt, tt)))
 word_good null_ptr is_open = (tt, (record { fits = lit< tt }, (tt, tt)))
 
 module _ {M : Type 1} {𝓤 : Ura M} {𝓛 : Logic 𝓤} {K : Type 0} {Γ : List (Item 𝓤)} {G : Goal 𝓤 𝓛.H} (R : RattleType) where
-  -- an open handle holds something, and the other holds nothing
+  -- an open handle owns a value, and a closed one owns none
   pub held_cases : K → (is_open : Bool) (at : Ptr) (x : Option R.Denot)
       → (is_open ≡ false → x ≡ None → Seq K 𝓛 Γ G)
       → ((d : R.Denot) → is_open ≡ true → x ≡ Some d → Seq K 𝓛 (‵ (box_owns (ghosts.dealloc_token heap) R at d) ∷ Γ) G)

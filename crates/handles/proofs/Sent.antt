@@ -1,4 +1,4 @@
--- What a handle owns says the same to each thread, where what it holds does.
+-- What a handle owns is `Send` if the value in its box is.
 use Rattle.handles.proofs.Steps.{Bool, true, false, bare, RattleType, Ptr, block_ptr, null_ptr, full_share}
 use Rattle.std.specs.Prelude.{Option, None, Some}
 pub use Rattle.std.specs.Prelude.{◌∷◌}

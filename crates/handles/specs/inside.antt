@@ -1,2 +1,2 @@
--- What a handle keeps: nothing that a caller reads.
+-- The ownership of a handle. Callers do not need it.
 pub mod Held

@@ -1,4 +1,4 @@
-// A desk as a C program holds it.
+// A C handle of a desk.
 ghost use Rattle.std.specs.Prelude.{◌≡◌, Option, None, Some, IfSome, IfNone};
 ghost use Rattle.board_desk.specs.contracts.Desk.{the_row as desk_row};
 ghost use Rattle.board_desk.specs.declared.Desk.{Desk as DeskValue};
@@ -12,7 +12,7 @@ use std::marker::Model;
 use std::mem::replace;
 use std::ptr;
 
-/// A desk as a C program holds it: where it lies, if it is open.
+/// A C handle that owns an optional desk: its address, if it is open.
 #[repr(C)]
 pub struct DeskHandle {
     at: *mut u8,
@@ -24,11 +24,11 @@ impl Model for DeskHandle {
     ghost also_owns = { λ h. held desk_row h.is_open h.at h.desk };
 }
 
-// Another thread may have it, as it may have a desk.
+// It owns at most a `Box<Desk>`, which is `Send`.
 unsafe impl Send for DeskHandle {}
 
 impl DeskHandle {
-    /// A handle of no desk.
+    /// A closed handle.
     pub fn closed() -> DeskHandle
         ensures { result.desk ≡ None }
     {
@@ -38,7 +38,7 @@ impl DeskHandle {
         }
     }
 
-    /// The handle of a desk.
+    /// A handle that owns this desk.
     pub fn holding(desk: Box<Desk>) -> DeskHandle
         ensures { result.desk ≡ Some desk.value }
     {
@@ -49,7 +49,7 @@ impl DeskHandle {
         }
     }
 
-    /// The desk of a handle.
+    /// The desk of the handle, if it is open.
     pub fn into_desk(self, alloc: Global) -> Option<Box<Desk>>
         ensures found { IfSome result (λ b. self.desk ≡ Some b.value) }
         ensures none { IfNone result (self.desk ≡ None) }
@@ -62,7 +62,7 @@ impl DeskHandle {
         Some(desk)
     }
 
-    /// Takes the desk out, and leaves the handle closed.
+    /// Removes the desk and closes the handle.
     pub fn take(&mut self, alloc: Global) -> Option<Box<Desk>>
         ensures found { IfSome result (λ b. self.old.desk ≡ Some b.value) }
         ensures none { IfNone result (self.old.desk ≡ None) }
@@ -71,7 +71,7 @@ impl DeskHandle {
         replace(self, DeskHandle::closed()).into_desk(alloc)
     }
 
-    /// Puts a desk in, and takes out the one that was there.
+    /// Stores a desk, and returns the previous one.
     pub fn put(&mut self, alloc: Global, desk: Box<Desk>) -> Option<Box<Desk>>
         ensures found { IfSome result (λ b. self.old.desk ≡ Some b.value) }
         ensures none { IfNone result (self.old.desk ≡ None) }

@@ -1,4 +1,4 @@
-//! What a C program holds: a desk, or a line.
+//! C handles: each owns an optional desk or an optional line.
 #![tactic(auto)]
 
 mod desk;

@@ -1,4 +1,4 @@
-// A line as a C program holds it.
+// A C handle of a line.
 ghost use Rattle.std.specs.Prelude.{◌≡◌, Option, None, Some, IfSome, IfNone};
 ghost use Rattle.held_line.specs.contracts.HeldLine.{the_row as line_row};
 ghost use Rattle.held_line.specs.Lines.{Held};
@@ -12,7 +12,7 @@ use std::marker::Model;
 use std::mem::replace;
 use std::ptr;
 
-/// A line as a C program holds it: where it lies, if it is open.
+/// A C handle that owns an optional line: its address, if it is open.
 #[repr(C)]
 pub struct LineHandle {
     at: *mut u8,
@@ -24,11 +24,11 @@ impl Model for LineHandle {
     ghost also_owns = { λ h. held line_row h.is_open h.at h.line };
 }
 
-// Another thread may have it, as it may have a line.
+// It owns at most a `Box<HeldLine>`, which is `Send`.
 unsafe impl Send for LineHandle {}
 
 impl LineHandle {
-    /// A handle of no line.
+    /// A closed handle.
     pub fn closed() -> LineHandle
         ensures { result.line ≡ None }
     {
@@ -38,7 +38,7 @@ impl LineHandle {
         }
     }
 
-    /// The handle of a line.
+    /// A handle that owns this line.
     pub fn holding(line: Box<HeldLine>) -> LineHandle
         ensures { result.line ≡ Some line.value }
     {
@@ -49,7 +49,7 @@ impl LineHandle {
         }
     }
 
-    /// The line of a handle.
+    /// The line of the handle, if it is open.
     pub fn into_line(self, alloc: Global) -> Option<Box<HeldLine>>
         ensures found { IfSome result (λ b. self.line ≡ Some b.value) }
         ensures none { IfNone result (self.line ≡ None) }
@@ -62,7 +62,7 @@ impl LineHandle {
         Some(line)
     }
 
-    /// Takes the line out, and leaves the handle closed.
+    /// Removes the line and closes the handle.
     pub fn take(&mut self, alloc: Global) -> Option<Box<HeldLine>>
         ensures found { IfSome result (λ b. self.old.line ≡ Some b.value) }
         ensures none { IfNone result (self.old.line ≡ None) }
@@ -71,7 +71,7 @@ impl LineHandle {
         replace(self, LineHandle::closed()).into_line(alloc)
     }
 
-    /// Puts a line in, and takes out the one that was there.
+    /// Stores a line, and returns the previous one.
     pub fn put(&mut self, alloc: Global, line: Box<HeldLine>) -> Option<Box<HeldLine>>
         ensures found { IfSome result (λ b. self.old.line ≡ Some b.value) }
         ensures none { IfNone result (self.old.line ≡ None) }

@@ -1,4 +1,4 @@
--- The event that plain numbers mean.
+-- The event that a plain struct encodes.
 use Rattle.std.specs.Prelude.{◌≡◌, ℕ, ◌==◌, nat_lt, ◌||◌, List, length, take, Option, Some, None, if◌then◌else◌}
 use Rattle.std.specs.Option.{option_map}
 use Rattle.arrayvec.specs.ArrayVec.{ArrayVec}
@@ -10,15 +10,15 @@ use Rattle.synic_board.specs.Effects.{Outcome}
 use Rattle.synic_board.specs.Step.{step}
 use Rattle.plain_terms.specs.declared.event.PlainEvent.{PlainEvent}
 
--- the first so many bytes, if there are so many and no more than fit
+-- the first `count` bytes, if there are that many and they fit
 abbrev pub bytes_meant : ℕ → List ℕ → ℕ → Option (ArrayVec ℕ)
 bytes_meant most bytes count = if nat_lt most count || nat_lt (length bytes) count then None else Some (record { items = take count bytes })
 
--- a vector is 16 or above
+-- a vector, if the number is at least 16
 abbrev pub vector_meant : ℕ → Option ℕ
 vector_meant number = if nat_lt number 16 then None else Some number
 
--- by the kind; no other number is a kind
+-- by the kind; an unknown kind encodes no event
 abbrev pub event_meant : PlainEvent → Option Event
 event_meant e =
     if e.kind == 1 then Some (OpenPort e.port e.vp e.sint (Messages e.buffers))
@@ -39,7 +39,7 @@ event_meant e =
     else if e.kind == 16 then Some (Reset e.vp)
     else None
 
--- there is an event, and this is what it comes to
+-- there is an event, and this is its outcome
 abbrev pub ComesTo : Option Event → State → Outcome → Type 0
 ComesTo None s outcome = ⊥
 ComesTo (Some event) s outcome = outcome ≡ step s event

@@ -1,4 +1,4 @@
--- The plain numbers that a notice is told in.
+-- The plain struct that encodes a notice.
 use Rattle.std.specs.Prelude.{ℕ}
 use Rattle.board_terms.specs.declared.notices.Notice.{Notice}
 use Rattle.board_terms.specs.declared.notices.Notice.TheVariants.{Accepted, Placed, Pending, Requested, FlagSet, Consumed, Withdrawn, Expired, Skipped}

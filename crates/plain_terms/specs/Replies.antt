@@ -1,4 +1,4 @@
--- The plain numbers that a reply is told in, and the reply that they mean.
+-- The plain struct that encodes a reply, and its inverse.
 use Rattle.std.specs.Prelude.{ℕ, ◌≤◌, ◌-◌, ◌==◌, List, ◌++◌, length, replicate, Option, Some, None, if◌then◌else◌}
 use Rattle.std.specs.Option.{option_map}
 use Rattle.board_terms.specs.Numbers.{refusal_number}
@@ -15,7 +15,7 @@ use Rattle.plain_terms.specs.Events.{bytes_meant, vector_meant}
 abbrev pub silent : ℕ → ℕ → PlainReply
 silent kind notices = record { kind = kind; fault = 0; refusal = 0; vector = 0; length = 0; notices = notices; value = 0; ticket = 0; bytes = replicate 8 0 }
 
--- eight bytes, zeros behind those that are there
+-- the bytes, padded with zeros to eight
 abbrev pub padded : List ℕ → List ℕ
 padded bytes = bytes ++ replicate (8 - length bytes) 0
 
@@ -24,7 +24,7 @@ fault_told Closed = record (silent 0 0) { fault = 1 }
 fault_told NoEvent = record (silent 0 0) { fault = 2 }
 fault_told NoLine = record (silent 0 0) { fault = 3 }
 
--- a reply, beside so many notices
+-- the encoding of a reply, with a number of notices
 abbrev pub reply_told : Reply → ℕ → PlainReply
 reply_told Done n = silent 1 n
 reply_told (Value value) n = record (silent 2 n) { value = value }
@@ -63,7 +63,7 @@ refusal_meant number =
     else if number == 16 then Some NotSuspended
     else None
 
--- by the kind, and nothing where nothing was performed; what the kind does not use is not looked at
+-- the decoded reply, by the kind; none if no event was performed. Fields that the kind does not use are ignored.
 abbrev pub reply_meant : PlainReply → Option Reply
 reply_meant r =
     if r.kind == 1 then Some Done

@@ -1,4 +1,4 @@
-// An event in plain numbers.
+// Events as plain structs.
 ghost use Rattle.std.specs.Prelude.{◌≡◌, ◌≤◌, [], length, None, Some, IfSome, IfNone};
 ghost use Rattle.plain_terms.specs.Events.{event_meant, bytes_meant, ComesTo};
 
@@ -6,52 +6,50 @@ use arrayvec::ArrayVec;
 use board_terms::{Bytes8, Notices, PayloadBytes, PortShape, Vector};
 use synic_board::{Board, Event, Reply};
 
-/// How many bytes a store has at most.
+/// The greatest number of bytes of a store.
 const MOST_STORED: u8 = 8;
 
-/// An event in plain numbers. `kind` says which, and which fields are looked at.
+/// An event as a plain struct. `kind` says which event it is, and which fields are used.
 #[repr(C)]
 #[derive(Clone, Copy)]
 pub struct PlainEvent {
-    /// 1 to 16: a port for messages or for event flags is opened, a port is closed, a register is
-    /// written or read, a message is posted, a flag is signalled, a vector is asserted, posted vectors
-    /// are absorbed, bytes are stored or loaded, the clock goes on, an interrupt is taken, a processor
-    /// is suspended, goes on, or is reset.
+    /// 1 to 16: open a message port, open a flag port, close a port, write a register, read a
+    /// register, post, signal, assert, absorb, store, load, tick, take, suspend, resume, reset.
     pub kind: u8,
     /// The processor.
     pub vp: u8,
-    /// The source of a port that is opened.
+    /// The source of a port to open.
     pub sint: u8,
     /// The port.
     pub port: u8,
-    /// The buffers of a port for messages.
+    /// The buffers of a message port.
     pub buffers: u8,
-    /// The vector that is asserted, 16 to 255.
+    /// The vector to assert, 16 to 255.
     pub vector: u8,
-    /// Which 64 vectors are absorbed, 0 to 3.
+    /// Which group of 64 vectors to absorb, 0 to 3.
     pub part: u8,
-    /// How many of `bytes` are posted, up to 240, or stored, up to 8, or how many are loaded.
+    /// How many of `bytes` to post, up to 240, or to store, up to 8, or how many bytes to load.
     pub length: u8,
-    /// The flag that is signalled, or the first flag of a port for event flags.
+    /// The flag to signal, or the base of a flag port.
     pub flag: u16,
     /// How many flags a port has.
     pub count: u16,
-    /// The number of the register that is written or read.
+    /// The number of the register to write or read.
     pub register: u32,
     /// The type of a message.
     pub message_type: u32,
-    /// What is written, or which vectors of a part are absorbed.
+    /// The value to write, or the bits to absorb.
     pub value: u64,
     /// The guest physical address of a store or a load.
     pub address: u64,
-    /// The moment that the clock goes on to, in units of 100 ns.
+    /// The new time of a tick, in units of 100 ns.
     pub moment: u64,
-    /// The payload of a message, or the bytes that are stored.
+    /// The payload of a message, or the bytes to store.
     pub bytes: [u8; 240],
 }
 
-/// Does something with the event that plain numbers mean, or answers `None` where they mean none. It is
-/// written out for each kind, so that it is known there which event it is.
+/// Applies code to the event that a plain struct encodes, or returns `None` if it encodes none. It
+/// is expanded for each kind, so that the kind is known there at compile time.
 macro_rules! with_event {
     ($kind:expr, $plain:ident, $event:ident, $done:expr) => {
         match $kind {
@@ -131,16 +129,16 @@ macro_rules! with_event {
     };
 }
 
-/// The event that plain numbers mean; `None` where there is no such kind, where a vector is below 16,
-/// or where there are more bytes than the event takes.
+/// Decodes an event; `None` if the kind is unknown, a vector is below 16, or there are more bytes
+/// than the event takes.
 pub fn event_of(plain: &PlainEvent) -> Option<Event>
     ensures { result ≡ event_meant plain.now }
 {
     with_event!(plain.kind, plain, event, Some(event))
 }
 
-/// Performs the event that plain numbers mean, with its notices in place of those before; `None` where they
-/// mean none, and then nothing is changed.
+/// Performs the event that a plain struct encodes, and replaces the notices by its own. `None` if
+/// it encodes none; then nothing changes.
 pub fn perform_plain(board: &mut Board, notices: &mut Notices, plain: &PlainEvent) -> Option<Reply>
     ensures step { IfSome result (λ r. ComesTo (event_meant plain.now) board.old.state (board.new.state, r, notices.new)) }
     ensures few { IfSome result (λ _. length notices.new ≤ 276) }
@@ -154,7 +152,7 @@ pub fn perform_plain(board: &mut Board, notices: &mut Notices, plain: &PlainEven
         3 => perform_kind::<3>(board, notices, plain),
         4 => perform_kind::<4>(board, notices, plain),
         5 => perform_kind::<5>(board, notices, plain),
-        // what is posted or stored is lent from where it lies
+        // a post and a store borrow their bytes from the struct
         6 => {
             let payload = plain.bytes.get(..plain.length as usize)?;
             Some(board.post(plain.port, plain.message_type, payload, notices))
@@ -176,8 +174,8 @@ pub fn perform_plain(board: &mut Board, notices: &mut Notices, plain: &PlainEven
     }
 }
 
-/// The same for one kind. A function of its own has no place but for the event of that kind, and of this one
-/// it needs no more than the numbers.
+/// The same for one kind. As a function of its own, it has stack space only for events of that
+/// kind.
 fn perform_kind<const KIND: u8>(
     board: &mut Board,
     notices: &mut Notices,
@@ -198,7 +196,7 @@ fn perform_kind<const KIND: u8>(
     )
 }
 
-/// Puts the first bytes into a place that is empty, if there are so many and they fit.
+/// Copies the first `length` bytes to an empty array, if there are that many and they fit.
 pub(crate) fn put_first<const N: usize>(
     place: &mut ArrayVec<u8, N>,
     bytes: &[u8],
@@ -212,7 +210,7 @@ pub(crate) fn put_first<const N: usize>(
     place.try_extend_from_slice(first).ok()
 }
 
-/// The first bytes, if there are so many and they fit.
+/// The first `length` bytes, if there are that many and they fit.
 pub(crate) fn bytes_of<const N: usize>(bytes: &[u8], length: u8) -> Option<ArrayVec<u8, N>>
     ensures { result ≡ bytes_meant N bytes.now length }
 {

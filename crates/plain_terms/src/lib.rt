@@ -1,4 +1,4 @@
-//! Events, replies and notices as plain structs, for callers in C.
+//! Events, replies and notices as plain structs, for C callers.
 #![tactic(auto)]
 
 mod event;

@@ -1,16 +1,17 @@
-// A notice in plain numbers.
+// Notices as plain structs.
 ghost use Rattle.std.specs.Prelude.{◌≡◌, map};
 ghost use Rattle.plain_terms.specs.Notices.{notice_told, mute};
 ghost use Rattle.plain_terms.specs.Rooms.{Fronts};
 
 use board_terms::Notice;
 
-/// A notice in plain numbers. `kind` says which, and which fields are used; the others are 0.
+/// A notice as a plain struct. `kind` says which notice it is, and which fields are used; the
+/// others are 0.
 #[repr(C)]
 #[derive(Clone, Copy)]
 pub struct PlainNotice {
-    /// 1 to 9: a message was accepted or placed, MessagePending was set, a vector was requested, a
-    /// flag was set, a message was consumed or withdrawn, a timer expired or skipped.
+    /// 1 to 9: accepted, placed, pending, requested, flag set, consumed, withdrawn, expired,
+    /// skipped.
     pub kind: u8,
     /// The processor.
     pub vp: u8,
@@ -24,13 +25,13 @@ pub struct PlainNotice {
     pub flag: u16,
     /// The ticket of the message.
     pub ticket: u64,
-    /// The moment for which the timer expired, in units of 100 ns.
+    /// The deadline at which the timer was due, in units of 100 ns.
     pub due: u64,
-    /// How many of its moments the timer skipped.
+    /// How many deadlines the timer skipped.
     pub count: u64,
 }
 
-/// A notice of this kind, with no field used but the processor.
+/// A notice of this kind that uses only the processor.
 fn of_kind(kind: u8, vp: u8) -> PlainNotice
     ensures { result ≡ mute kind vp }
 {
@@ -47,7 +48,7 @@ fn of_kind(kind: u8, vp: u8) -> PlainNotice
     }
 }
 
-/// A notice in plain numbers.
+/// Encodes a notice.
 pub fn plain_notice(notice: &Notice) -> PlainNotice
     ensures { result ≡ notice_told notice.now }
 {
@@ -98,7 +99,7 @@ pub fn plain_notice(notice: &Notice) -> PlainNotice
     }
 }
 
-/// Notices in plain numbers at the front of a room, as many as fit.
+/// Copies encoded notices to the front of a buffer, as many as fit.
 pub fn put_plain(notices: &[Notice], room: &mut [PlainNotice])
     ensures { Fronts (map notice_told notices.now) room.old room.new }
 {

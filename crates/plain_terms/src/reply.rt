@@ -1,4 +1,4 @@
-// A reply in plain numbers.
+// Replies as plain structs.
 ghost use Rattle.std.specs.Prelude.{◌≡◌, length};
 ghost use Rattle.plain_terms.specs.Replies.{reply_told, fault_told, silent, padded, refusal_meant, reply_meant};
 
@@ -6,14 +6,15 @@ use crate::event::bytes_of;
 use board_terms::{Bytes8, Refusal, Vector};
 use synic_board::Reply;
 
-/// A reply in plain numbers. `kind` says which, and which fields are used; the others are 0.
+/// A reply as a plain struct. `kind` says which reply it is, and which fields are used; the others
+/// are 0.
 #[repr(C)]
 #[derive(Clone, Copy)]
 pub struct PlainReply {
-    /// 0 where nothing was performed, else 1 to 10: done, a value, bytes, a vector was taken, none was
-    /// to be taken, a post was accepted, a flag was clear or was set, #GP, refused.
+    /// 0 if no event was performed, else 1 to 10: done, value, bytes, taken, none taken, accepted,
+    /// flag was clear, flag was set, #GP, refused.
     pub kind: u8,
-    /// Why nothing was performed.
+    /// Why no event was performed.
     pub fault: u8,
     /// Why the event was refused.
     pub refusal: u8,
@@ -21,28 +22,28 @@ pub struct PlainReply {
     pub vector: u8,
     /// How many of `bytes` were loaded.
     pub length: u8,
-    /// How many notices the event gave.
+    /// How many notices the event emitted.
     pub notices: u16,
-    /// What the register reads.
+    /// The value of the register.
     pub value: u64,
     /// The ticket of the message.
     pub ticket: u64,
-    /// What the guest loads, with zeros behind it.
+    /// The bytes of a load, padded with zeros.
     pub bytes: [u8; 8],
 }
 
-/// Why nothing was performed.
+/// Why no event was performed.
 #[derive(Clone, Copy, PartialEq, Eq, Debug)]
 pub enum Fault {
-    /// No board is open here.
+    /// The handle of the board is closed.
     Closed = 1,
-    /// The numbers mean no event.
+    /// The struct encodes no event.
     NoEvent = 2,
-    /// No line is open here.
+    /// The handle of the line is closed.
     NoLine = 3,
 }
 
-/// A reply of this kind beside so many notices, with no other field used.
+/// A reply of this kind with a number of notices, which uses no other field.
 fn of_kind(kind: u8, notices: u16) -> PlainReply
     ensures { result ≡ silent kind notices }
 {
@@ -59,7 +60,7 @@ fn of_kind(kind: u8, notices: u16) -> PlainReply
     }
 }
 
-/// The reply where nothing was performed.
+/// The reply if no event was performed.
 pub fn plain_fault(fault: Fault) -> PlainReply
     ensures { result ≡ fault_told fault }
 {
@@ -69,7 +70,7 @@ pub fn plain_fault(fault: Fault) -> PlainReply
     }
 }
 
-/// A reply in plain numbers, beside so many notices.
+/// Encodes a reply, with a number of notices.
 pub fn plain_reply(reply: &Reply, notices: u16) -> PlainReply
     ensures { result ≡ reply_told reply.now notices }
 {
@@ -103,7 +104,7 @@ pub fn plain_reply(reply: &Reply, notices: u16) -> PlainReply
     }
 }
 
-/// Eight bytes, zeros behind those that are there.
+/// The bytes, padded with zeros to eight.
 fn padded(bytes: &Bytes8) -> [u8; 8]
     ensures { result ≡ padded bytes.now.items }
 {
@@ -112,8 +113,8 @@ fn padded(bytes: &Bytes8) -> [u8; 8]
     eight
 }
 
-/// The reply that plain numbers tell; `None` where they tell that nothing was performed, where there is
-/// no such kind or refusal, where a vector is below 16, or where there are more than 8 bytes.
+/// Decodes a reply; `None` if no event was performed, the kind or the refusal is unknown, a vector
+/// is below 16, or there are more than 8 bytes.
 pub fn reply_of(plain: &PlainReply) -> Option<Reply>
     ensures { result ≡ reply_meant plain.now }
 {
@@ -132,7 +133,7 @@ pub fn reply_of(plain: &PlainReply) -> Option<Reply>
     }
 }
 
-/// The refusal of that number.
+/// The refusal with this number.
 fn refusal_of(number: u8) -> Option<Refusal>
     ensures { result ≡ refusal_meant number }
 {

@@ -1,7 +1,7 @@
-// Bytes for a caller's room.
+// Copying bytes to a caller's buffer.
 ghost use Rattle.plain_terms.specs.Rooms.{Fronts};
 
-/// Bytes at the front of a room, as many as fit.
+/// Copies bytes to the front of a buffer, as many as fit.
 pub fn put_bytes(bytes: &[u8], room: &mut [u8])
     ensures { Fronts bytes.now room.old room.new }
 {

@@ -1,4 +1,4 @@
-// The line of an event.
+// Prints events.
 ghost use Rattle.std.specs.Prelude.{◌≡◌, ◌++◌, ◌∷◌, [], OnOk, decimal};
 ghost use Rattle.board_text.specs.Numbers.{hex};
 ghost use Rattle.board_text.specs.Fields.{spaced};
@@ -11,7 +11,7 @@ use board_text::{put_byte, put_decimal, put_hex};
 use std::alloc::AllocError;
 use synic_board::Event;
 
-/// Writes an event at the end of `out`, without a line feed.
+/// Appends an event to `out`, without a line feed.
 pub fn put_event(out: &mut Vec<u8>, event: &Event) -> Result<(), AllocError>
     ensures written { OnOk result (out.new.items ≡ out.old.items ++ spaced (event_fields event.now)) }
     ensures fits { IsEvent event.now }
@@ -48,7 +48,7 @@ pub fn put_event(out: &mut Vec<u8>, event: &Event) -> Result<(), AllocError>
     }
 }
 
-/// Writes one more field, a decimal number.
+/// Appends a field: a decimal number.
 fn put_decimal_field(out: &mut Vec<u8>, number: u64) -> Result<(), AllocError>
     ensures { OnOk result (out.new.items ≡ out.old.items ++ 32 ∷ decimal number) }
 {
@@ -56,7 +56,7 @@ fn put_decimal_field(out: &mut Vec<u8>, number: u64) -> Result<(), AllocError>
     put_decimal(out, number)
 }
 
-/// Writes one more field, a hexadecimal number.
+/// Appends a field: a hexadecimal number.
 fn put_hex_field(out: &mut Vec<u8>, number: u64) -> Result<(), AllocError>
     ensures { OnOk result (out.new.items ≡ out.old.items ++ 32 ∷ hex number) }
 {
@@ -64,7 +64,7 @@ fn put_hex_field(out: &mut Vec<u8>, number: u64) -> Result<(), AllocError>
     put_hex(out, number)
 }
 
-/// Writes a word and a number.
+/// Appends a word and a number.
 fn put_named(out: &mut Vec<u8>, word: &[u8], number: u64) -> Result<(), AllocError>
     ensures { OnOk result (out.new.items ≡ out.old.items ++ spaced (word.now ∷ decimal number ∷ [])) }
 {
@@ -72,7 +72,7 @@ fn put_named(out: &mut Vec<u8>, word: &[u8], number: u64) -> Result<(), AllocErr
     put_decimal_field(out, number)
 }
 
-/// Writes that a port is opened.
+/// Appends the opening of a port.
 fn put_open(
     out: &mut Vec<u8>,
     port: u8,
@@ -99,7 +99,7 @@ fn put_open(
     }
 }
 
-/// Writes two more fields, a processor and a source.
+/// Appends two fields: a processor and a source.
 fn put_place(out: &mut Vec<u8>, vp: u8, sint: u8) -> Result<(), AllocError>
     ensures { OnOk result (out.new.items ≡ out.old.items ++ 32 ∷ spaced (decimal vp ∷ decimal sint ∷ [])) }
 {
@@ -107,7 +107,7 @@ fn put_place(out: &mut Vec<u8>, vp: u8, sint: u8) -> Result<(), AllocError>
     put_decimal_field(out, u64::from(sint))
 }
 
-/// Writes that a register is written.
+/// Appends a register write.
 fn put_write(out: &mut Vec<u8>, vp: u8, register: u32, value: u64) -> Result<(), AllocError>
     ensures { OnOk result (out.new.items ≡ out.old.items ++ spaced (event_fields (Write vp register value))) }
 {
@@ -116,7 +116,7 @@ fn put_write(out: &mut Vec<u8>, vp: u8, register: u32, value: u64) -> Result<(),
     put_hex_field(out, value)
 }
 
-/// Writes that a register is read.
+/// Appends a register read.
 fn put_read(out: &mut Vec<u8>, vp: u8, register: u32) -> Result<(), AllocError>
     ensures { OnOk result (out.new.items ≡ out.old.items ++ spaced (event_fields (Read vp register))) }
 {
@@ -124,7 +124,7 @@ fn put_read(out: &mut Vec<u8>, vp: u8, register: u32) -> Result<(), AllocError>
     put_hex_field(out, u64::from(register))
 }
 
-/// Writes that a message is posted.
+/// Appends a post.
 fn put_post(
     out: &mut Vec<u8>,
     port: u8,
@@ -141,7 +141,7 @@ fn put_post(
     put_data(out, bytes)
 }
 
-/// Writes that a flag is signalled.
+/// Appends a signal.
 fn put_signal(out: &mut Vec<u8>, port: u8, flag: u16) -> Result<(), AllocError>
     ensures { OnOk result (out.new.items ≡ out.old.items ++ spaced (event_fields (Signal port flag))) }
 {
@@ -149,7 +149,7 @@ fn put_signal(out: &mut Vec<u8>, port: u8, flag: u16) -> Result<(), AllocError>
     put_decimal_field(out, u64::from(flag))
 }
 
-/// Writes that a vector is asserted.
+/// Appends an assert.
 fn put_assert(out: &mut Vec<u8>, vp: u8, vector: u8) -> Result<(), AllocError>
     ensures { OnOk result (out.new.items ≡ out.old.items ++ spaced (event_fields (Assert vp vector))) }
 {
@@ -158,7 +158,7 @@ fn put_assert(out: &mut Vec<u8>, vp: u8, vector: u8) -> Result<(), AllocError>
     put_byte(out, vector)
 }
 
-/// Writes that posted vectors are taken in.
+/// Appends an absorb.
 fn put_absorb(out: &mut Vec<u8>, vp: u8, part: u8, bits: u64) -> Result<(), AllocError>
     ensures { OnOk result (out.new.items ≡ out.old.items ++ spaced (event_fields (Absorb vp part bits))) }
 {
@@ -167,7 +167,7 @@ fn put_absorb(out: &mut Vec<u8>, vp: u8, part: u8, bits: u64) -> Result<(), Allo
     put_hex_field(out, bits)
 }
 
-/// Writes that bytes are stored.
+/// Appends a store.
 fn put_store(out: &mut Vec<u8>, address: u64, bytes: &Bytes8) -> Result<(), AllocError>
     ensures written { OnOk result (out.new.items ≡ out.old.items ++ spaced (event_fields (Store address bytes.now))) }
     ensures fits { FewBytes 8 bytes.now.items }
@@ -179,7 +179,7 @@ fn put_store(out: &mut Vec<u8>, address: u64, bytes: &Bytes8) -> Result<(), Allo
     put_data(out, bytes)
 }
 
-/// Writes that bytes are loaded.
+/// Appends a load.
 fn put_load(out: &mut Vec<u8>, address: u64, length: u8) -> Result<(), AllocError>
     ensures { OnOk result (out.new.items ≡ out.old.items ++ spaced (event_fields (Load address length))) }
 {

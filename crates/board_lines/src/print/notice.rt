@@ -1,4 +1,4 @@
-// The lines of notices.
+// Prints notices.
 ghost use Rattle.std.specs.Prelude.{◌≡◌, ◌≤◌, ◌++◌, ◌∷◌, [], OnOk, map, decimal};
 ghost use Rattle.board_text.specs.Fields.{line_of};
 ghost use Rattle.board_text.specs.Numbers.{two_digits};
@@ -8,7 +8,7 @@ use board_terms::{Notice, Sint, Ticket, Vp};
 use board_text::{ROOM, byte_before, decimal_before, text_before};
 use std::alloc::AllocError;
 
-/// Writes a line for each notice at the end of `out`.
+/// Appends a line for each notice to `out`.
 #[inline(always)]
 pub fn put_notices(out: &mut Vec<u8>, notices: &[Notice]) -> Result<(), AllocError>
     ensures { OnOk result (out.new.items ≡ out.old.items ++ text_of (map notice_fields notices.now)) }
@@ -19,7 +19,7 @@ pub fn put_notices(out: &mut Vec<u8>, notices: &[Notice]) -> Result<(), AllocErr
     Ok(())
 }
 
-/// Writes the line of a notice at the end of `out`.
+/// Appends the line of a notice.
 #[inline(always)]
 fn put_notice(out: &mut Vec<u8>, notice: &Notice) -> Result<(), AllocError>
     ensures { OnOk result (out.new.items ≡ out.old.items ++ line_of (notice_fields notice.now)) }
@@ -57,7 +57,7 @@ fn put_notice(out: &mut Vec<u8>, notice: &Notice) -> Result<(), AllocError>
     }
 }
 
-/// Writes the line of a notice of a ticket, its processor and its source.
+/// Appends the line of a notice with a ticket, a processor and a source.
 #[inline(always)]
 fn put_message<const N: usize>(
     out: &mut Vec<u8>,
@@ -78,7 +78,7 @@ fn put_message<const N: usize>(
     )
 }
 
-/// Writes a line that ends in three numbers.
+/// Appends a line that ends in three numbers.
 #[inline(always)]
 fn put_numbers<const N: usize>(
     out: &mut Vec<u8>,
@@ -101,7 +101,7 @@ fn put_numbers<const N: usize>(
     out.extend_from_slice(&room[at..])
 }
 
-/// Writes the line of a notice of a processor and a source.
+/// Appends the line of a notice with a processor and a source.
 #[inline(always)]
 fn put_source<const N: usize>(
     out: &mut Vec<u8>,
@@ -121,7 +121,7 @@ fn put_source<const N: usize>(
     out.extend_from_slice(&room[at..])
 }
 
-/// Writes the line of a notice of a processor and a vector.
+/// Appends the line of a notice with a processor and a vector.
 #[inline(always)]
 fn put_request<const N: usize>(
     out: &mut Vec<u8>,

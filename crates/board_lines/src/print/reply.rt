@@ -1,4 +1,4 @@
-// The line of a reply.
+// Prints replies.
 ghost use Rattle.std.specs.Prelude.{◌≡◌, ◌++◌, OnOk};
 ghost use Rattle.board_text.specs.Fields.{spaced};
 ghost use Rattle.board_lines.specs.Printing.{reply_fields};
@@ -8,7 +8,7 @@ use board_text::{put_decimal, put_hex};
 use std::alloc::AllocError;
 use synic_board::Reply;
 
-/// Writes a reply at the end of `out`, without a line feed.
+/// Appends a reply to `out`, without a line feed.
 pub fn put_reply(out: &mut Vec<u8>, reply: &Reply) -> Result<(), AllocError>
     ensures { OnOk result (out.new.items ≡ out.old.items ++ spaced (reply_fields reply.now)) }
 {

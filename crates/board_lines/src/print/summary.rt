@@ -1,4 +1,4 @@
-// The lines of the stored summary.
+// Prints summaries.
 ghost use Rattle.std.specs.Prelude.{◌≡◌, ◌<◌, ◌≤◌, ◌++◌, [], ◌∷◌, ◌||◌, if◌then◌else◌, length, IfOk, OnOk, None, slice_index_or, codes, decimal};
 ghost use Rattle.std.specs.FinSet as set;
 ghost use Rattle.board_text.specs.Fields.{line_of};
@@ -12,7 +12,7 @@ use board_text::{put_byte, put_decimal};
 use std::alloc::AllocError;
 use synic_board::Summary;
 
-/// Writes the summary of a board of so many processors and pages at the end of `out`.
+/// Appends the summary of a board of that many processors and pages to `out`.
 pub fn put_summary(
     out: &mut Vec<u8>,
     summary: &Summary,
@@ -30,7 +30,7 @@ pub fn put_summary(
     put_queues(out, summary, 16 * processors)
 }
 
-/// Writes the next vector of each processor.
+/// Appends the next vector of each processor.
 fn put_nexts(out: &mut Vec<u8>, summary: &Summary, processors: u8) -> Result<(), AllocError>
     requires count { processors ≡ length summary.now.values.nexts }
     requires few { processors ≤ 8 }
@@ -54,7 +54,7 @@ fn put_next(out: &mut Vec<u8>, summary: &Summary, vp: Vp) -> Result<(), AllocErr
     put(out, b"\n")
 }
 
-/// Writes the auto-EOI vectors of each processor that has some.
+/// Appends the auto-EOI vectors of each processor that has any.
 fn put_autos(out: &mut Vec<u8>, summary: &Summary, processors: u8) -> Result<(), AllocError>
     requires count { processors ≡ length summary.now.values.autos }
     requires few { processors ≤ 8 }
@@ -89,7 +89,7 @@ fn put_auto_line(out: &mut Vec<u8>, summary: &Summary, vp: Vp) -> Result<(), All
     Ok(())
 }
 
-/// Writes a vector if it is an auto-EOI vector, and says whether the line was begun.
+/// Appends a vector if it is auto-EOI, and returns whether the line is begun.
 fn put_if_auto(
     out: &mut Vec<u8>,
     summary: &Summary,
@@ -110,7 +110,7 @@ fn put_if_auto(
     }
 }
 
-/// Writes one of the auto-EOI vectors, the first behind the head of the line.
+/// Appends an auto-EOI vector; the first one follows the head of the line.
 fn put_auto_vector(out: &mut Vec<u8>, vp: Vp, vector: Vector, any: bool) -> Result<(), AllocError>
     ensures { OnOk result (out.new.items ≡ out.old.items ++ auto_part vp vector any) }
 {
@@ -122,7 +122,7 @@ fn put_auto_vector(out: &mut Vec<u8>, vp: Vp, vector: Vector, any: bool) -> Resu
     put_byte(out, vector.number())
 }
 
-/// Writes the timer that is due first.
+/// Appends the earliest timer.
 fn put_earliest(out: &mut Vec<u8>, earliest: Option<(u128, TimerId)>) -> Result<(), AllocError>
     ensures { OnOk result (out.new.items ≡ out.old.items ++ line_of (timer_line earliest)) }
 {
@@ -138,7 +138,7 @@ fn put_earliest(out: &mut Vec<u8>, earliest: Option<(u128, TimerId)>) -> Result<
     put(out, b"\n")
 }
 
-/// Writes each page above which an overlay lies.
+/// Appends each page that an overlay obscures.
 fn put_pages(out: &mut Vec<u8>, summary: &Summary, pages: u8) -> Result<(), AllocError>
     requires { pages ≡ length summary.now.values.owners }
     ensures { OnOk result (out.new.items ≡ out.old.items ++ text_of (numbered page_lines 0 summary.now.values.owners)) }
@@ -171,7 +171,7 @@ fn put_overlay(out: &mut Vec<u8>, page: u8, kind: &[u8], vp: Vp) -> Result<(), A
     put(out, b"\n")
 }
 
-/// Writes the length of each queue that is not empty.
+/// Appends the length of each queue that is not empty.
 fn put_queues(out: &mut Vec<u8>, summary: &Summary, sources: u8) -> Result<(), AllocError>
     requires count { sources ≡ length summary.now.values.queued }
     requires few { sources ≤ 128 }

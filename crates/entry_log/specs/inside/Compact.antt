@@ -1,4 +1,4 @@
--- What is kept of an entry: its numbers, and beside them its bytes.
+-- The compact form of an entry: its numbers, and separately its bytes.
 use Rattle.std.specs.Prelude.{ℕ, ◌+◌, ◌≤◌, List, [], ◌∷◌, take, drop}
 use Rattle.synic_board.specs.declared.event.Event.{Event}
 use Rattle.synic_board.specs.declared.event.Event.TheVariants.{OpenPort, ClosePort, Write, Read, Post, Signal, Assert, Absorb, Store, Load, Tick, Take, Suspend, Resume, Reset}
@@ -11,7 +11,7 @@ use Rattle.entry_log.specs.declared.compact.CompactReply.{CompactReply}
 use Rattle.entry_log.specs.declared.compact.CompactReply.TheVariants as reply
 use Rattle.entry_log.specs.declared.compact.CompactEntry.{CompactEntry}
 
--- the bytes that an event holds, and a reply
+-- the bytes of an event, and of a reply
 abbrev pub event_bytes : Event → List ℕ
 event_bytes (Post port kind payload) = payload.items
 event_bytes (Store address bytes) = bytes.items
@@ -21,7 +21,7 @@ abbrev pub reply_bytes : Reply → List ℕ
 reply_bytes (Bytes bytes) = bytes.items
 reply_bytes _ = []
 
--- how many there are, by the numbers
+-- how many bytes the numbers say there are
 abbrev pub event_count : CompactEvent → ℕ
 event_count (event.Post port count kind) = count
 event_count (event.Store count address) = count
@@ -31,13 +31,13 @@ abbrev pub reply_count : CompactReply → ℕ
 reply_count (reply.Bytes count) = count
 reply_count _ = 0
 
--- how many an event has at most; a reply has at most 8
+-- the greatest number of bytes of an event; a reply has at most 8
 abbrev pub event_most : CompactEvent → ℕ
 event_most (event.Post port count kind) = 240
 event_most (event.Store count address) = 8
 event_most _ = 0
 
--- the event and the reply that have these numbers, and these bytes
+-- the event and the reply with these numbers and these bytes
 abbrev pub event_with : List ℕ → CompactEvent → Event
 event_with own (event.OpenPort port p i shape) = OpenPort port p i shape
 event_with own (event.ClosePort port) = ClosePort port
@@ -66,7 +66,7 @@ reply_with own reply.FlagWasSet = FlagWasSet
 reply_with own reply.GeneralProtection = GeneralProtection
 reply_with own (reply.Refused refusal) = Refused refusal
 
--- an entry's bytes fit into what it is made of
+-- the bytes of an entry fit their arrays
 pub record Fits (e : CompactEntry) : Type 0 where
   pub event : event_count e.event ≤ event_most e.event
   pub reply : reply_count e.reply ≤ 8
@@ -74,7 +74,7 @@ pub record Fits (e : CompactEntry) : Type 0 where
 abbrev pub size : CompactEntry → ℕ
 size e = event_count e.event + reply_count e.reply
 
--- the entry whose bytes stand in front of these: those of its event, and behind them those of its reply
+-- the entry whose bytes come first here: those of its event, then those of its reply
 abbrev pub entry_with : List ℕ → CompactEntry → Entry
 entry_with bytes e =
     record {
@@ -83,7 +83,7 @@ entry_with bytes e =
       reply = reply_with (take (reply_count e.reply) (drop (event_count e.event) bytes)) e.reply;
     }
 
--- the entries whose bytes stand one behind another
+-- the entries whose bytes are stored one after another
 abbrev pub entries_in : List ℕ → List CompactEntry → List Entry
 entries_in bytes [] = []
 entries_in bytes (e ∷ es) = entry_with bytes e ∷ entries_in (drop (size e) bytes) es

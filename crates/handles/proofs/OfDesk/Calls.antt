@@ -47,7 +47,7 @@ B-laws = boxed_laws.the_row_laws desk.the_row heap.the_row ghosts desk_laws.the_
 abbrev pub desk_drops : Dict
 desk_drops = impl (desk_drop.symbol ∷ []) tnil dnil
 
--- what the desk's destructor tells, under which it is what `Box` asks
+-- the postcondition of the desk's destructor, in the form that `Box` requires
 abbrev dropped : Ended
 dropped = ended_of 0 desk_kinds.ps desk_kinds.r
 

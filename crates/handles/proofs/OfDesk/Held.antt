@@ -1,4 +1,4 @@
--- What a handle of a desk owns: into the context and out of it. Assumes `Logic`.
+-- Moving what a handle of a desk owns to the context and back. Assumes `Logic`.
 use Rattle.handles.proofs.Steps.{List, [], ◌∷◌, refl, Ura, Val, vbool, Logic, Item, Goal, Step, step, ‵, ◌$◌, drop, fsplit, fjoin, fpack, feq_i, bool, Valss, Is, RawPtr, ptr_val, nothing, within, shape}
 use denote.Laws.{Tells}
 use Rattle.handles.specs.inside.Held.{held}

@@ -47,7 +47,7 @@ B-laws = boxed_laws.the_row_laws line.the_row heap.the_row ghosts line_laws.the_
 abbrev pub line_drops : Dict
 line_drops = impl (line_drop.symbol ∷ []) tnil dnil
 
--- what the line's destructor tells, under which it is what `Box` asks
+-- the postcondition of the line's destructor, in the form that `Box` requires
 abbrev dropped : Ended
 dropped = ended_of 0 line_kinds.ps line_kinds.r
 

@@ -8,15 +8,15 @@ use Rattle.std.specs.Box.Ownership.{box_owns}
 use Rattle.std.specs.declared.alloc.Global.{Global}
 use Rattle.std.specs.contracts.impls.GlobalAllocator.TheImpl.{ghosts}
 
--- the allocator, of which there is one
+-- the allocator, a singleton
 abbrev pub heap : Global
 heap = record { memory = record { seal = tt } }
 
--- how the logic keeps what a handle of such a thing holds
+-- the encoding of an optional value in the logic
 abbrev pub code_of : (R : RattleType) → Coded (Option R.Denot)
 code_of R = coded_option R.coded
 
--- an open handle owns what it holds, and the right to free its block
+-- an open handle owns its value, and the right to free its block; a closed one owns nothing
 abbrev pub held : (R : RattleType) → Bool → Ptr → Option R.Denot → Fml
 held R true at (Some x) = box_owns (ghosts.dealloc_token heap) R at x
 held R true at None = ffalse

@@ -1,4 +1,4 @@
-// The desk of a handle, lent.
+// Borrowing the desk of a handle.
 ghost use Rattle.std.specs.Prelude.{◌≡◌, None, Some, MatchOption};
 ghost use Rattle.std.specs.Borrow.{sem, LendsSo};
 ghost use Rattle.board_desk.specs.contracts.Desk.{the_row as desk_row};
@@ -8,7 +8,8 @@ use super::DeskHandle;
 use board_desk::Desk;
 
 impl DeskHandle {
-    /// The desk, lent where it lies. The handle has then what was last written.
+    /// A mutable reference to the desk, if the handle is open. After the borrow the handle owns the
+    /// desk's final value.
     pub fn desk_mut(&mut self) -> Option<&mut Desk>
         ensures* writes_back { sem 𝓛 (LendsSo handle_row desk_row self.entry result (λ after desk. after.desk ≡ Some desk) (λ after. after.desk ≡ None)) }
         ensures found { MatchOption result (self.old.desk ≡ None) (λ desk. self.old.desk ≡ Some desk.now) }

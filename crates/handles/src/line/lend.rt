@@ -1,4 +1,4 @@
-// The line of a handle, lent.
+// Borrowing the line of a handle.
 ghost use Rattle.std.specs.Prelude.{◌≡◌, None, Some, MatchOption};
 ghost use Rattle.std.specs.Borrow.{sem, LendsSo};
 ghost use Rattle.held_line.specs.contracts.HeldLine.{the_row as line_row};
@@ -8,8 +8,8 @@ use super::LineHandle;
 use held_line::HeldLine;
 
 impl LineHandle {
-    /// The line, lent where it lies. The handle has then what was last written; its own bytes are not
-    /// written.
+    /// A mutable reference to the line, if the handle is open. After the borrow the handle owns the
+    /// line's final value. The handle's own bytes are not written.
     pub fn line_mut(&mut self) -> Option<&mut HeldLine>
         ensures* writes_back { sem 𝓛 (LendsSo handle_row line_row self.entry result (λ after line. after.line ≡ Some line) (λ after. after.line ≡ None)) }
         ensures found { MatchOption result (self.old.line ≡ None) (λ line. self.old.line ≡ Some line.now) }

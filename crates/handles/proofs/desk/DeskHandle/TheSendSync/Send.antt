@@ -1,4 +1,4 @@
--- A handle goes to another thread as its desk does.
+-- A handle is `Send` because its desk is.
 use Rattle.handles.proofs.Sent.{IsSend, AllSend, owning_send, struct_send, sendable, quiet, held_keyless, exits_of, shape, fields, to}
 use Rattle.board_desk.specs.contracts.Desk as desk
 use Rattle.board_desk.proofs.Desk.TheSendSync.{the_send as desk_send}

@@ -1,4 +1,4 @@
--- A handle goes to another thread as its line does.
+-- A handle is `Send` because its line is.
 use Rattle.handles.proofs.Sent.{IsSend, AllSend, owning_send, struct_send, sendable, quiet, held_keyless, exits_of, shape, fields, to}
 use Rattle.held_line.specs.contracts.HeldLine as line
 use Rattle.held_line.proofs.HeldLine.TheSendSync.{the_send as line_send}

@@ -1,4 +1,4 @@
--- A handle of no line owns nothing.
+-- A closed handle owns nothing.
 use Rattle.handles.proofs.Steps.{false, [], ◌⊛◌, ◌∷◌, refl, lit<, emp, ftrue, Val, ‵, raw, ◌$◌, ◌∵◌, !, qed, by, keep, use0, enter, lit, false_lit, no_more, and_then, returns, alloc_all, pass_all, free_all, look_at, sets, agg, fact, fact_i, Stays, walk_of, nothing, proved_at, leaves, ◌≡◌, null_ptr}
 use Rattle.std.specs.Prelude.{None}
 use Rattle.handles.specs.declared.line.LineHandle.{LineHandle}

@@ -1,4 +1,4 @@
--- What `into_raw` gives is what an open handle owns.
+-- The result of `into_raw` is what an open handle owns.
 use Rattle.handles.proofs.Steps.{◌≡◌, true, List, [], ◌∷◌, ◌++◌, refl, sym, ap, subst, Val, SProp, ent, emp, id⊢, WpFn, ftrue, flft, fact, fact_i, ‵, raw, ◌⊛◌, some, later, ◌$◌, ◌∵◌, !, qed, by, move, keep, drop, use0, use1, split, join, fsplit, fjoin, feq_l, pick, await, rewrite, suffices, enter, of_opd, true_lit, no_more, and_then, returns, alloc_all, pass_all, free_all, look_at, get, sets, lands_as, agg, lft_new, ◌⊑◌, tables, yes, Is, shows, layout, owns, types_at, Ptr, RawPtr, plain, nothing, only, peeks, calls_at, Lasts, lasts, triple_of, framed, Stays, walk_of, stay_dropped, Goes-dropped, proved_at, leaves, full_share, rawptr_Lawful}
 use Rattle.held_line.specs.contracts.HeldLine as line
 use Rattle.std.specs.Prelude.{Some}

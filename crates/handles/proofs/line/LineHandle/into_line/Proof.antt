@@ -1,4 +1,4 @@
--- What an open handle owns is what `from_raw` asks.
+-- What an open handle owns is what `from_raw` requires.
 use Rattle.handles.proofs.Steps.{has_ty, WT, and_tt, ap, ◌∙◌, heard, Ura, Logic, Item, Goal, Step, step, ◌≡◌, Bool, List, [], ◌∷◌, refl, sym, subst, not, lit<, T, Val, vcons, vnil, emp, id⊢, ftrue, flft, fact, fact_i, ‵, raw, ◌⊛◌, some, later, at_ret, ◌$◌, ◌∵◌, !, qed, by, move, keep, drop, use0, use1, split, split3, join, fjoin, feq_i, pick, await, enter, of_opd, un, lit, fld, stop, no_more, and_then, first, blocks, branches, skips, exec, returns, returns_within, alloc_all, pass_all, free_all, look_at, get, get_in, sets, lands_last, env, agg, sub, whole, live, lft_new, ◌⊑◌, tables, yes, RattleType, Is, shows, layout, ptr_val, plain, nothing, peeks, calls_at_last, Lasts, lasts, triple_of, framed, Stays, walk_of, stay_dropped, Goes-dropped, proved, leaves, full_share, rawptr_Lawful}
 use Rattle.std.proofs.alloc.Global.TheLaws as heap_laws
 use Rattle.held_line.specs.contracts.HeldLine as line

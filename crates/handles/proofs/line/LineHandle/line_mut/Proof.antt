@@ -1,4 +1,4 @@
--- The line leaves for the length of the borrow, and the handle follows it.
+-- The line leaves the handle for the duration of the borrow, and the handle gets its final value.
 use Rattle.handles.proofs.Steps.{fres, GName, Fml, fst∗, never, sep, named, fsplit3, group, load, addr, through, sets_last, look_in, part_at, mem, cell_at, MutRef, mut_vals, mut_Tells, MutBor, mut_ref_to, opens, closes, in_a_block, Goes-spent_ref, follows, lends_Part, ◌≡◌, ℕ, Bool, true, false, List, [], ◌∷◌, refl, sym, subst, not, lit<, T, Ura, Val, vptr, vcons, vnil, ent, emp, ftrue, fsep, flft, full_share, Logic, sem, fact, fact_i, bare, Item, ‵, raw, ◌⊛◌, some, later, at_ret, ◌$◌, ◌∵◌, !, qed, by, done, move, keep, drop, use0, use1, split, split3, join, fsplit, fjoin, fpack, pick, await, rewrite, enter, of_opd, un, lit, fld, stop, no_more, and_then, first, blocks, branches, skips, exec, returns, returns_within, alloc_all, pass_all, free_all, look_at, get, sets, env, agg, sub, whole, live, tables, no, RattleType, Is, shows, layout, Ptr, block_ptr, null_ptr, plain, nothing, peeks, Stays, walk_of, stay_dropped, proved, leaves, rawptr_Lawful}
 use mathlib.Core.Option as maybe
 use denote.Memory.{part_of}
@@ -36,7 +36,7 @@ with_line h d = record { at = h.at; is_open = h.is_open; line = Some d }
 abbrev shut : LineHandle
 shut = record { at = null_ptr; is_open = false; line = None }
 
--- what the handle ends as, by the last line, or where none is lent
+-- the final value of the handle: with the last line, or unchanged if there is no borrow
 abbrev Such : Type 0
 Such = (s : (Held → LineHandle) × LineHandle) × ((d : Held) → (s.0 d).line ≡ Some d) × ((s.1).line ≡ None)
 
@@ -79,7 +79,7 @@ line_mut_spec {M} 𝓤 𝓛 𝓜 𝓡 wired =
     nothing ! $ rewrite ! 0 (λ (x : Option Held). ‵ (held line.the_row false h.at x)) (sym none) refl $ rewrite ! 0 (λ (y : Bool). ‵ (held line.the_row y h.at h.line)) (sym e) refl $ handle_in ! h $
     move ! (1 ∷ []) $ closes ! tt H h (w ∷ []) b o $
     returns_within ! (W.post z) refl (look_at ! 0 refl) $ free_all ! refl $ keep ! (0 ∷ 2 ∷ []) $
-    -- [what the lender sees; the token]
+    -- [the observation of the borrow; the token]
     use1 𝓛 (‵ (fres γ (H.coded.code h))) (𝓛.names.obs-res γ (H.coded.code h)) $
     fpack ! Such (λ s. follows_by LineHandle Held H.coded.code D.coded.code γ maybe.none s.0.0 s.0.1) ((with_line h, h), (λ _. refl), none) $
     use0 𝓛 (raw (fact 𝓤 (h.line ≡ None))) (fact_i 𝓤 (h.line ≡ None) (emp 𝓤) none) $ move ! (1 ∷ 0 ∷ []) $ join ! $
