@@ -1,4 +1,4 @@
-//! The command line of a program that measures: which workload, and how often.
+//! The command line of a benchmark: which workload, and how many operations.
 #![tactic(auto)]
 
 use clap::error::ErrorKind;
@@ -8,10 +8,10 @@ use std::process::ExitCode;
 use std::{env, io};
 use thiserror::Error;
 
-/// The status that a program ends with where its command line is wrong.
+/// The exit status for a wrong command line.
 pub const USAGE_FAULT: u8 = 2;
 
-/// A program that measures, as its help says it.
+/// A benchmark, as its help describes it.
 #[derive(Drop)]
 pub struct Program<'a> {
     /// Its name.
@@ -20,26 +20,27 @@ pub struct Program<'a> {
     pub about: &'a str,
     /// The names of its workloads.
     pub workloads: &'a [&'a str],
-    /// What it counts.
+    /// The unit that it counts.
     pub unit: &'a str,
-    /// How many it counts, with what it does where nobody says.
+    /// The help for the number of operations, which names the default.
     pub unit_help: &'a str,
-    /// How many it counts where nobody says.
+    /// The default number of operations.
     pub few: u32,
     /// What it writes.
     pub output: &'a str,
 }
 
-/// What a command line asks for.
+/// The result of reading a command line.
 #[derive(Drop)]
 pub enum Asked {
-    /// The workload of that place among the names, or all of them, so many times.
+    /// The workload with that index among the names, or all of them, with that many operations
+    /// each.
     Measurements(Option<usize>, u32),
-    /// Nothing more: help was shown, or what is wrong was said.
+    /// Nothing to do: help or an error message was printed.
     Nothing(ExitCode),
 }
 
-/// Why a command line was not read, or not answered.
+/// Why a command line could not be read or answered.
 #[derive(Clone, Copy, PartialEq, Eq, Debug, Drop, Error)]
 pub enum LineFault {
     #[error("an argument is not UTF-8")]
@@ -67,7 +68,7 @@ impl From<io::Error> for LineFault {
 }
 
 impl Program<'_> {
-    /// Reads the command line. Help, and what is wrong, are said here.
+    /// Reads the command line. Prints help and error messages.
     pub fn asked(&self, rt: &HostRuntime) -> Result<Asked, LineFault> {
         let words = match env::args(rt) {
             Ok(words) => words.collect::<Vec<String>>(rt.alloc())?,
@@ -104,7 +105,7 @@ impl Program<'_> {
     }
 }
 
-/// Says what the parser of the command line says: help, or what is wrong.
+/// Prints the message of the parser: help, or an error.
 fn say(rt: &HostRuntime, error: Error) -> Result<Asked, LineFault> {
     if error.kind() == ErrorKind::OutOfMemory {
         return Err(LineFault::Memory);

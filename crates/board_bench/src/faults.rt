@@ -1,4 +1,4 @@
-// Why nothing, or not all, was measured.
+// Why a measurement failed.
 use bench_line::{LineFault, USAGE_FAULT};
 use std::alloc::AllocError;
 use std::io;
@@ -9,7 +9,7 @@ const NO_MEMORY: u8 = 4;
 
 const STREAM_FAULT: u8 = 5;
 
-/// Why nothing, or not all, was measured.
+/// Why a measurement failed or is incomplete.
 #[derive(Clone, Copy, PartialEq, Eq, Debug, Drop, Error)]
 pub(crate) enum Fault {
     #[error("{0}")]
@@ -19,7 +19,7 @@ pub(crate) enum Fault {
 }
 
 impl Fault {
-    /// The status that the program ends with.
+    /// The exit status.
     pub(crate) fn status(&self) -> u8 {
         match self {
             Fault::Line(LineFault::NotText) => USAGE_FAULT,

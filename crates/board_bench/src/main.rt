@@ -1,4 +1,4 @@
-//! `board_bench`: what an event of the board costs, inside one process.
+//! `board_bench`: measures the cost of an event of the board, inside one process.
 #![tactic(auto)]
 
 mod events;
@@ -22,14 +22,14 @@ fn main(rt: HostRuntime) -> ExitCode {
     match run(&rt) {
         Ok(code) => code,
         Err(fault) => {
-            // That the message may fail too changes no status.
+            // A failure to print the message changes no status.
             let _ = eprintln!(rt; "board_bench: {fault}");
             ExitCode::from(fault.status())
         }
     }
 }
 
-/// Does what the command line asks for.
+/// Runs what the command line selects.
 fn run(rt: &HostRuntime) -> Result<ExitCode, Fault> {
     let names = Workload::ALL.map(|workload| workload.name());
     let program = Program {
@@ -53,8 +53,8 @@ fn run(rt: &HostRuntime) -> Result<ExitCode, Fault> {
     Ok(ExitCode::SUCCESS)
 }
 
-/// Measures a workload and shows it: what is the same each time on standard output, the time on
-/// standard error.
+/// Measures a workload and prints the result: what is the same in each run to standard output, the
+/// time to standard error.
 fn show(rt: &HostRuntime, workload: Workload, events: u32) -> Result<(), Fault> {
     let name = workload.name();
     let measured = measure(rt, workload, events)?;

@@ -1,4 +1,4 @@
-// A workload that is performed, and timed.
+// Running and timing a workload.
 use crate::events::put_off;
 use crate::faults::Fault;
 use crate::scene::Scene;
@@ -11,7 +11,7 @@ use synic_board::{Board, Event};
 /// How many events are in the digest, which is not timed.
 const DIGESTED: u32 = 2000;
 
-/// What a workload gave, and how long it took.
+/// The totals of a workload, and its time.
 #[derive(Clone, Copy)]
 pub(crate) struct Measured {
     pub(crate) totals: Totals,
@@ -21,7 +21,7 @@ pub(crate) struct Measured {
 }
 
 impl Measured {
-    /// Nanoseconds an event, and tenths of them.
+    /// Nanoseconds per event, and tenths of them.
     pub(crate) fn time_per_event(&self) -> (u64, u64) {
         let tenths = self.nanoseconds.saturating_mul(10);
         let tenths = tenths.checked_div(self.events as u64).unwrap_or(0);
@@ -29,7 +29,7 @@ impl Measured {
     }
 }
 
-/// Performs that many events of a workload, and some on a board of their own for the digest.
+/// Performs that many events of a workload, and some on a separate board for the digest.
 pub(crate) fn measure(
     rt: &HostRuntime,
     workload: Workload,
@@ -46,7 +46,7 @@ pub(crate) fn measure(
     })
 }
 
-/// The totals of the events of a workload, and how many nanoseconds these took.
+/// The totals of the events of a workload, and their time in nanoseconds.
 fn totals_of(
     rt: &HostRuntime,
     workload: Workload,
@@ -58,7 +58,7 @@ fn totals_of(
     timed(rt, &mut board, notices, &mut scene, events)
 }
 
-/// The same, on a board and in a scene that are lent, so that they are let go of at one place.
+/// The same, on a borrowed board and scene, so that one owner drops them.
 fn timed(
     rt: &HostRuntime,
     board: &mut Board,
@@ -74,7 +74,7 @@ fn timed(
     Ok((totals, nanoseconds))
 }
 
-/// What is timed.
+/// The timed part.
 #[inline(never)]
 fn total(board: &mut Board, notices: &mut Notices, scene: &mut Scene, events: u32) -> Totals {
     let mut totals = Totals::default();
@@ -82,7 +82,7 @@ fn total(board: &mut Board, notices: &mut Notices, scene: &mut Scene, events: u3
     totals
 }
 
-/// The digest of the first events of a workload, and of the summary behind them.
+/// The digest of the first events of a workload, and of the summary after them.
 fn digest_of(
     rt: &HostRuntime,
     workload: Workload,
@@ -97,7 +97,7 @@ fn digest_of(
     Ok(digest.value())
 }
 
-/// Performs the round of a scene over and over, until that many events were performed.
+/// Repeats the round of a scene until that many events were performed.
 fn perform_all<T: Tally>(
     board: &mut Board,
     notices: &mut Notices,
@@ -118,7 +118,7 @@ fn perform_all<T: Tally>(
     perform(board, notices, &mut round[..events % length], span, tally);
 }
 
-/// Performs events once, and puts their ticks off for the next time.
+/// Performs events once, and moves their ticks later for the next round.
 fn perform<T: Tally>(
     board: &mut Board,
     notices: &mut Notices,

@@ -1,4 +1,4 @@
-// The board of a workload, what is done on it first, and what is then done over and over.
+// The board of a workload, its setup, and the events that are repeated.
 ghost use Rattle.std.specs.Prelude.{◌<◌};
 
 use crate::events::{
@@ -19,10 +19,10 @@ const PORTS: u8 = 16;
 /// How many timers a processor has.
 const TIMERS: u8 = 4;
 
-/// How many guest pages there are where overlays move.
+/// The number of guest pages for overlays that move.
 const PAGES: u8 = 64;
 
-/// How many guest pages there are where one overlay stays.
+/// The number of guest pages for one overlay that stays.
 const FEW_PAGES: u8 = 4;
 
 /// The page of an overlay that stays.
@@ -46,10 +46,10 @@ const SOURCE_VECTOR: u8 = 0x50;
 /// The vector of the first source or timer, below those of the others.
 const FIRST_VECTOR: u8 = 0x40;
 
-/// The period of the first timer, below those of the others.
+/// The period of the first timer, less than those of the others.
 const SHORTEST_PERIOD: u64 = 1000;
 
-/// By how much the periods of one processor's timers differ from those of the next.
+/// The difference between the periods of one processor's timers and the next processor's.
 const PERIOD_STEP: u64 = 10;
 
 /// The bits of a timer's configuration: enabled and periodic.
@@ -58,17 +58,17 @@ const PERIODIC: u64 = 0x3;
 /// The bit of a timer's configuration for direct mode.
 const DIRECT: u64 = 0x1000;
 
-/// Where the vector and the source stand in a timer's configuration, as factors.
+/// The positions of the vector and the source in a timer's configuration, as factors.
 const VECTOR_PLACE: u64 = 1 << 4;
 
 const SOURCE_PLACE: u64 = 1 << 16;
 
-/// How many ticks are in a round of dense ticks, and how far apart they are.
+/// The number of ticks in a round of dense ticks, and their distance.
 const DENSE_TICKS: u64 = 64;
 
 const DENSE_STEP: Moment = 50;
 
-/// How far apart ticks are where messages are consumed: a round is the shortest period.
+/// The distance of ticks for timer messages: a round is the shortest period.
 const MESSAGE_STEP: Moment = 125;
 
 /// The bytes that a guest stores into moving pages.
@@ -77,15 +77,15 @@ const STORED: [u8; 8] = [1, 2, 3, 4, 5, 6, 7, 8];
 /// How many of them it loads: all.
 const LOADED: u8 = 8;
 
-/// A board's sizes, the events before the time runs, and those that are timed.
+/// A board's sizes, the untimed events, and the timed ones.
 #[derive(Drop)]
 pub(crate) struct Scene {
     processors: u8,
     pages: u8,
     setup: Vec<Event>,
-    /// What is done over and over.
+    /// The events that are repeated.
     pub(crate) round: Vec<Event>,
-    /// By how much ticks are put off from one round to the next.
+    /// How much later the ticks are in each next round.
     pub(crate) span: Moment,
 }
 
@@ -103,7 +103,7 @@ impl Scene {
         }
     }
 
-    /// A board on which all was done that comes before the time runs.
+    /// A board after the untimed events.
     pub(crate) fn open(&self, alloc: Global, notices: &mut Notices) -> Result<Board, Fault> {
         let mut board = Board::open(alloc, self.processors, self.pages, 0)?;
         for event in &self.setup {
@@ -219,7 +219,8 @@ fn timers(alloc: Global) -> Result<Scene, AllocError> {
     })
 }
 
-/// All timers of a processor post to one source, as a guest has them: three of four messages wait.
+/// All timers of a processor send messages to one source, as guests configure them: three of four
+/// messages wait.
 fn timer_messages(alloc: Global) -> Result<Scene, AllocError> {
     let mut setup = Vec::new(alloc);
     let mut round = Vec::new(alloc);
@@ -246,8 +247,8 @@ fn timer_messages(alloc: Global) -> Result<Scene, AllocError> {
     })
 }
 
-/// Each processor has a page of messages, one of event flags that moves to and fro, a message port, an
-/// event port, a timer in direct mode and one that posts.
+/// Each processor has a message page, an event flags page that moves back and forth, a message
+/// port, an event port, a timer in direct mode and one that sends messages.
 fn mixed(alloc: Global) -> Result<Scene, AllocError> {
     let mut setup = Vec::new(alloc);
     let mut round = Vec::new(alloc);
@@ -290,7 +291,7 @@ fn set_up_mixed(vp: u8, setup: &mut Vec<Event>) -> Result<(), AllocError>
     Ok(())
 }
 
-/// The clock goes on, a device interrupts, a message is posted, and a flag is signalled; behind each
+/// The clock moves, a device interrupts, a message is posted, and a flag is signalled; after each,
 /// a vector is taken and ended.
 fn interrupt_mixed(vp: u8, round: &mut Vec<Event>) -> Result<(), AllocError>
     requires { vp < 8 }
@@ -306,7 +307,7 @@ fn interrupt_mixed(vp: u8, round: &mut Vec<Event>) -> Result<(), AllocError>
     Ok(())
 }
 
-/// The messages are consumed, the flag is cleared, and the page of event flags moves away and back.
+/// Consumes the messages, clears the flag, and moves the event flags page away and back.
 fn store_mixed(vp: u8, round: &mut Vec<Event>) -> Result<(), AllocError>
     requires { vp < 8 }
 {
@@ -325,12 +326,12 @@ fn store_mixed(vp: u8, round: &mut Vec<Event>) -> Result<(), AllocError>
     Ok(())
 }
 
-/// The value of SIMP or SIEFP with which an overlay lies at a page.
+/// The value of SIMP or SIEFP that enables an overlay at a page.
 fn overlay_at(page: u8) -> u64 {
     page as u64 * PAGE + ENABLE
 }
 
-/// The period of a timer, another one for each.
+/// The period of a timer, different for each.
 fn period(vp: u8, index: u8) -> u64 {
     SHORTEST_PERIOD + PERIOD_STEP * vp as u64 + index as u64
 }

@@ -1,4 +1,4 @@
-// What is kept of what events gave.
+// What a run accumulates.
 use board_terms::{Notice, Owner, Sint, TimerId, Vp};
 use synic_board::{Board, Reply};
 
@@ -11,13 +11,13 @@ const START: u64 = 0xcbf2_9ce4_8422_2325;
 /// How many sources a processor has.
 const SOURCES: u8 = 16;
 
-/// What is kept of what events gave.
+/// Accumulates the replies and notices of events.
 pub(crate) trait Tally {
-    /// An event gave a reply and notices.
+    /// Adds the reply and the notices of an event.
     fn add(&mut self, reply: &Reply, notices: &[Notice]);
 }
 
-/// The number of the notices and the sum of the replies: little work beside that of an event.
+/// The number of notices and the sum of the replies: little work compared with an event.
 #[derive(Clone, Copy, Default)]
 pub(crate) struct Totals {
     pub(crate) notices: u64,
@@ -45,7 +45,7 @@ impl Tally for Digest {
 }
 
 impl Digest {
-    /// The digest of nothing.
+    /// The digest of an empty sequence.
     pub(crate) fn new() -> Digest {
         Digest(START)
     }
@@ -87,7 +87,7 @@ impl Digest {
         self.add_all(&[kind, ticket, number(vp), sint.number() as u64]);
     }
 
-    /// Adds what the summary of a board says.
+    /// Adds the summary of a board.
     pub(crate) fn add_summary(&mut self, board: &Board) {
         let summary = board.summary();
         for vp in (0..board.processors()).filter_map(|vp| Vp::new(vp)) {
@@ -127,7 +127,7 @@ fn number(vp: Vp) -> u64 {
     vp.number() as u64
 }
 
-/// Which reply it is.
+/// The kind of a reply, as a number.
 fn kind_of(reply: &Reply) -> u64 {
     match reply {
         Reply::Done => 1,
@@ -142,7 +142,7 @@ fn kind_of(reply: &Reply) -> u64 {
     }
 }
 
-/// The number that a reply carries. A flag that was set counts as one, and bytes as their sum.
+/// The number in a reply. A flag that was set counts as one, and bytes as their sum.
 fn value_of(reply: &Reply) -> u64 {
     match reply {
         Reply::Value(value) | Reply::Accepted(value) => *value,

@@ -1,6 +1,6 @@
-// The workloads by their names.
+// The names of the workloads.
 
-/// What is done over and over.
+/// The events that are repeated.
 #[derive(Clone, Copy, PartialEq, Eq, Debug)]
 pub(crate) enum Workload {
     /// Assert, take and end on eight processors.
@@ -31,7 +31,7 @@ impl Workload {
         Workload::Mixed,
     ];
 
-    /// The name, as the command line has it.
+    /// The name on the command line.
     pub(crate) fn name(self) -> &'static str {
         match self {
             Workload::Interrupts => "interrupts",

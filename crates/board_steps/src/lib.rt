@@ -16,7 +16,7 @@ pub fn write(vp: u8, register: u32, value: u64) -> Event {
     }
 }
 
-/// A port is opened to SINT2 of processor `vp`.
+/// Opens a port to SINT2 of processor `vp`.
 pub fn open(port: u8, vp: u8, shape: PortShape) -> Event {
     Event::OpenPort {
         port,
@@ -26,12 +26,12 @@ pub fn open(port: u8, vp: u8, shape: PortShape) -> Event {
     }
 }
 
-/// A port for messages is opened to SINT2 of processor `vp`.
+/// Opens a message port to SINT2 of processor `vp`.
 pub fn open_messages(port: u8, vp: u8, buffers: u8) -> Event {
     open(port, vp, PortShape::Messages { buffers })
 }
 
-/// A message of type 1 is posted.
+/// Posts a message of type 1.
 pub fn post(port: u8, payload: &[u8]) -> Event {
     let mut bytes = PayloadBytes::new();
     for byte in payload {
@@ -55,7 +55,7 @@ pub fn load(address: u64, length: u8) -> Event {
     Event::Load { address, length }
 }
 
-/// As many of the bytes as there is room for.
+/// As many of the bytes as fit.
 pub fn bytes(values: &[u8]) -> Bytes8 {
     let mut all = Bytes8::new();
     for value in values {
@@ -74,7 +74,7 @@ pub fn start_timer(vp: u8, index: u8, config: u64, count: u64) -> [Event; 2]
     ]
 }
 
-/// Performs events in order. Whether each was done.
+/// Performs events in order, and returns whether each was done.
 pub fn are_done(board: &mut Board, notices: &mut Notices, events: &[Event]) -> bool {
     for event in events {
         if board.perform(event, notices) != Reply::Done {

@@ -1,5 +1,5 @@
-//! Tests of calls round a board that no script makes: openings, lists of events, and logs of entries. There is
-//! nothing else here; what scripts show stands in `cases`.
+//! Tests of calls on a board that scripts do not make: openings, lists of events, and logs of
+//! entries. Scripts are tested in `cases`.
 #![tactic(auto)]
 
 #[cfg(test)]

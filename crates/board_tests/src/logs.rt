@@ -6,7 +6,7 @@ use std::alloc::{AllocError, Global};
 use std::test::Fail;
 use synic_board::{Entry, Event, Reply};
 
-/// So many bytes: 255, 254 and so on.
+/// `count` bytes: 255, 254 and so on.
 fn falling<const N: usize>(count: u8) -> ArrayVec<u8, N> {
     let mut array = ArrayVec::new();
     for number in 0..count {
@@ -99,7 +99,7 @@ fn calls_of_a_guest() -> [(Event, Reply); 9] {
     ]
 }
 
-/// Among them calls that no board answers so: a log keeps what it is handed.
+/// Some of these replies do not fit their events: a log stores whatever is pushed.
 fn calls_of_a_processor() -> [(Event, Reply); 9] {
     let (least, greatest) = (Vector::new(16).unwrap(), Vector::new(255).unwrap());
     [
@@ -135,7 +135,7 @@ fn calls_of_all(alloc: Global) -> Result<Vec<(Event, Reply)>, AllocError> {
     Ok(calls)
 }
 
-/// Enters calls, by actors that are numbered downwards.
+/// Pushes calls, by actors with descending numbers.
 fn enter(log: &mut EntryLog, calls: &[(Event, Reply)]) -> Result<(), AllocError> {
     let mut actor = 255u8;
     for (event, reply) in calls {
@@ -146,7 +146,7 @@ fn enter(log: &mut EntryLog, calls: &[(Event, Reply)]) -> Result<(), AllocError>
     Ok(())
 }
 
-/// How many entries are these calls, each in its place.
+/// How many entries equal the call at the same index.
 fn count_alike(entries: &[Entry], calls: &[(Event, Reply)]) -> usize {
     let (mut alike, mut actor) = (0usize, 255u8);
     for (entry, (event, reply)) in entries.iter().zip(calls.iter()) {

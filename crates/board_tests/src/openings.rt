@@ -2,7 +2,7 @@
 use std::alloc::Global;
 use synic_board::{Board, OpenFault};
 
-/// Processors, pages, and whether a board has so many.
+/// Processors, pages, and the result of opening such a board.
 const SIZES: [(u8, u8, Result<(u8, u8), OpenFault>); 7] = [
     (1, 1, Ok((1, 1))),
     (8, 64, Ok((8, 64))),
@@ -13,7 +13,7 @@ const SIZES: [(u8, u8, Result<(u8, u8), OpenFault>); 7] = [
     (255, 255, Err(OpenFault::BadSize)),
 ];
 
-/// The processors and pages of a board that is opened with so many.
+/// The processors and pages of a board that is opened with these sizes.
 fn open(alloc: Global, processors: u8, pages: u8) -> Result<(u8, u8), OpenFault> {
     let board = Board::open(alloc, processors, pages, 0)?;
     Ok((board.processors(), board.pages()))

@@ -4,7 +4,7 @@ use std::alloc::Global;
 use std::test::Fail;
 use synic_board::{Board, Event, Reply, run};
 
-/// A board with one processor, and what all runs on it told.
+/// A board with one processor, and the notices of all its runs.
 #[derive(Drop)]
 struct Scene {
     board: Board,
@@ -13,17 +13,18 @@ struct Scene {
 
 #[derive(Clone, Copy)]
 enum List {
-    /// Vector 0x50 is asserted and the next one taken, and then one is taken at a processor that is not there.
+    /// Asserts vector 0x50, takes the next vector, and then takes one at a processor that does not
+    /// exist.
     AssertAndTake,
-    /// Ticks to moments 0, 1 and so on.
+    /// Ticks to times 0, 1 and so on.
     Ticks(u64),
 }
 
 #[derive(Clone, Copy, PartialEq, Eq, Debug)]
 enum Answer {
-    /// What was taken of an `AssertAndTake`, and how many requests all runs told of.
+    /// The vector taken by an `AssertAndTake`, and how many Requested notices all runs emitted.
     Taken(Option<Vector>, usize),
-    /// How many replies there are, and the moment of the board.
+    /// The number of replies, and the time of the board.
     Ticked(usize, u64),
     Otherwise,
 }
@@ -33,7 +34,7 @@ fn vector_50() -> Vector {
 }
 
 impl Scene {
-    /// `None` where there is no memory.
+    /// `None` if an allocation fails.
     fn open(alloc: Global) -> Option<Scene> {
         let board = Board::open(alloc, 1, 1, 0).ok()?;
         let notices = Vec::new(alloc);
@@ -81,7 +82,7 @@ impl Scene {
     }
 }
 
-/// How many notices there are, if all tell that vector 0x50 was requested.
+/// The number of notices, if all of them are Requested for vector 0x50.
 fn count_requests(notices: &[Notice]) -> usize {
     let (vp, vector) = (Vp::new(0).unwrap(), vector_50());
     let requested = Notice::Requested { vp, vector };
@@ -99,7 +100,8 @@ fn count_requests(notices: &[Notice]) -> usize {
 #[test]
 fn runs_answer_in_order_and_append_what_they_tell(rt: HostRuntime) -> Result<(), Fail> {
     let mut scene = Scene::open(rt.alloc()).ok_or("memory")?;
-    // The first is taken and stays in service; the second stands, and the third merges with it.
+    // The first is taken and stays in service; the second stays requested, and the third merges
+    // with it.
     for (list, expected) in [
         (List::AssertAndTake, Answer::Taken(Some(vector_50()), 1)),
         (List::AssertAndTake, Answer::Taken(None, 2)),

@@ -1,10 +1,10 @@
-// A batch that ends early, and the least room that is enough.
+// Batches that stop early, and the least capacity that suffices.
 use board_desk::Desk;
 use desk_batch::{Batch, BatchEnd, perform_all};
 use plain_terms::{PlainEvent, PlainNotice, PlainReply};
 use std::alloc::Global;
 
-/// An event of this kind of processor 1 and port 4.
+/// An event of this kind, for processor 1 and port 4.
 fn event(kind: u8) -> PlainEvent {
     PlainEvent {
         kind,
@@ -26,7 +26,7 @@ fn event(kind: u8) -> PlainEvent {
     }
 }
 
-/// What a room holds before: a reply of no kind.
+/// The initial element of a reply buffer: no valid kind.
 fn no_reply() -> PlainReply {
     PlainReply {
         kind: 200,
@@ -41,7 +41,7 @@ fn no_reply() -> PlainReply {
     }
 }
 
-/// What a room holds before: a notice of no kind.
+/// The initial element of a notice buffer: no valid kind.
 fn no_notice() -> PlainNotice {
     PlainNotice {
         kind: 200,
@@ -68,7 +68,7 @@ const TICK: u8 = 12;
 
 const NONE: u8 = 17;
 
-/// How a batch ends, and the moment of its board then.
+/// The result of a batch, and the time of its board.
 #[derive(Clone, Copy, PartialEq, Eq, Debug)]
 struct Ended {
     end: BatchEnd,
@@ -77,7 +77,7 @@ struct Ended {
     moment: u64,
 }
 
-/// A batch of the events from `first` to before `last`, with room for so much.
+/// A batch of the events from `first` up to `last`, with buffers of these capacities.
 #[derive(Clone, Copy)]
 struct Asked {
     first: usize,
@@ -86,7 +86,7 @@ struct Asked {
     notices: usize,
 }
 
-/// All events, with more than enough room.
+/// All events, with more than enough capacity.
 const ALL: Asked = Asked {
     first: 0,
     last: 7,
@@ -94,7 +94,7 @@ const ALL: Asked = Asked {
     notices: 300,
 };
 
-/// A tick alone, with just enough room.
+/// A tick alone, with just enough capacity.
 const TICK_ALONE: Asked = Asked {
     first: 6,
     last: 7,
@@ -102,7 +102,7 @@ const TICK_ALONE: Asked = Asked {
     notices: 276,
 };
 
-/// How a batch ends of which nothing is performed.
+/// The result of a batch that performs nothing.
 const NOTHING: Ended = Ended {
     end: BatchEnd::NoRoom,
     done: 0,
@@ -111,7 +111,7 @@ const NOTHING: Ended = Ended {
 };
 
 const BATCHES: [(Asked, Ended); 7] = [
-    // Two messages are queued and withdrawn, and the clock does not go on.
+    // Two messages are queued and withdrawn, and the clock does not move.
     (
         ALL,
         Ended {
@@ -175,8 +175,8 @@ const BATCHES: [(Asked, Ended); 7] = [
     ),
 ];
 
-/// The SynIC of processor 1 is switched on, and its page of messages is not. The event before the tick
-/// means none.
+/// Enables the SynIC of processor 1, but not its message page. The event before the tick is
+/// invalid.
 fn events() -> [PlainEvent; 7] {
     [
         event(WRITE),
@@ -189,7 +189,7 @@ fn events() -> [PlainEvent; 7] {
     ]
 }
 
-/// How a batch ends on a board of two processors whose first ticket is 7.
+/// The result of a batch on a board of two processors whose first ticket is 7.
 fn end_of(alloc: Global, asked: Asked) -> Option<Ended> {
     let (events, mut replies, mut notices) = (events(), [no_reply(); 7], [no_notice(); 300]);
     let events = events.get(asked.first..asked.last)?;

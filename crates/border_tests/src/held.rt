@@ -1,5 +1,5 @@
-// Handles of what is there, and of nothing. That a handle may go to another thread is asked of the prover,
-// at `crosses`: a closure for a thread would have to be dropped, which a handle cannot be.
+// Open and closed handles. That a handle is `Send` is checked by the prover, at `crosses`: a
+// closure for a thread would have to be dropped, which a handle does not allow.
 use board_desk::Desk;
 use handles::{DeskHandle, LineHandle};
 use held_line::HeldLine;
@@ -9,7 +9,7 @@ fn crosses<T: Send>(value: T) -> T {
     value
 }
 
-/// How many processors the desk behind a handle has, lent and then taken out.
+/// The number of processors of the desk that a handle owns: borrowed, and then taken out.
 fn processors_behind(mut handle: DeskHandle, alloc: Global) -> (Option<u8>, Option<u8>) {
     let lent = match handle.desk_mut() {
         Some(desk) => Some(desk.board.processors()),
@@ -22,7 +22,7 @@ fn processors_behind(mut handle: DeskHandle, alloc: Global) -> (Option<u8>, Opti
     (lent, taken)
 }
 
-/// The handle of a desk, or a closed one where there is no memory.
+/// The handle of a desk, or a closed one if an allocation fails.
 fn desk_handle(alloc: Global, processors: u8) -> DeskHandle {
     match Desk::open(alloc, processors, 1, 0) {
         Ok(desk) => match Box::new(alloc, desk) {
@@ -42,7 +42,7 @@ fn a_desk_crosses_with_its_handle(rt: HostRuntime) {
     assert_eq!(rt; processors_behind(closed, alloc), (None, None));
 }
 
-/// The handle of a line, or a closed one where there is no memory.
+/// The handle of a line, or a closed one if an allocation fails.
 fn line_handle(alloc: Global, processors: u8) -> LineHandle {
     match HeldLine::open(alloc, processors) {
         Ok(line) => match Box::new(alloc, line) {
@@ -53,8 +53,8 @@ fn line_handle(alloc: Global, processors: u8) -> LineHandle {
     }
 }
 
-/// Whether the line behind a handle raises a vector of a processor, taken out first; and whether there is
-/// a line behind the handle then.
+/// Whether the line of a handle, once taken out, raises a vector of a processor; and whether the
+/// handle has a line afterwards.
 fn raises_behind(mut handle: LineHandle, alloc: Global, vp: u8) -> (Option<bool>, bool) {
     let raises = match handle.take(alloc) {
         Some(mut line) => Some(line.raise(vp, 0x60).is_some()),

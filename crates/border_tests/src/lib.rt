@@ -1,4 +1,4 @@
-//! Tests of what the library for C is made of, a file for each crate. There is nothing else here.
+//! Tests of the parts of the C library, one file per crate.
 #![tactic(auto)]
 
 #[cfg(test)]

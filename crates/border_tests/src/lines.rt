@@ -55,7 +55,7 @@ const CALLS: [(Which, Call, Answer); 19] = [
     (Which::First, SWEEP, Answer::Swept(Some(0))),
     (Which::First, RAISE, FRESH),
     (Which::Second, SWEEP, Answer::Swept(Some(1 << 32))),
-    // The first line has lines left to give away, and the other has none.
+    // The first line can split off others, and the second cannot.
     (Which::First, Call::Split, Answer::Split(Ok(()))),
     (
         Which::Second,
@@ -68,7 +68,7 @@ const CALLS: [(Which, Call, Answer); 19] = [
         Call::Sweep { vp: 1, part: 3 },
         Answer::Swept(Some(1 << 63)),
     ),
-    // What is not there is neither raised nor swept.
+    // A processor or part out of range is neither raised nor swept.
     (
         Which::Apart,
         Call::Raise { vp: 2, vector: 16 },
@@ -110,7 +110,7 @@ const CALLS: [(Which, Call, Answer); 19] = [
 ];
 
 impl Lines {
-    /// `None` where there is no memory.
+    /// `None` if an allocation fails.
     fn open(alloc: Global) -> Option<Lines> {
         let mut first = HeldLine::open(alloc, 2).ok()?;
         let second = first.split(alloc).ok()?;

@@ -1,4 +1,4 @@
-// The text of an entry, and which fault is told.
+// The text of an entry, and which fault is reported.
 use plain_terms::{PlainEvent, PlainReply};
 use plain_trace::{Untold, lines_of};
 use std::alloc::Global;
@@ -58,7 +58,7 @@ fn an_entry_has_two_lines(rt: HostRuntime) -> Result<(), Fail> {
     Ok(())
 }
 
-/// What is wrong with an entry of an assert and a vector that was taken, of these vectors.
+/// The fault of an entry of an assert of one vector and a reply that another was taken.
 fn fault_of(alloc: Global, asserted: u8, taken: u8) -> Option<Untold> {
     lines_of(alloc, 0, &event(ASSERT, asserted), &reply(TAKEN, taken)).err()
 }

@@ -1,9 +1,9 @@
-// Timers that are due, few of them and all 32.
+// A heap with a few timers and with all 32.
 use crate::steps::{Part, first_other};
 use board_terms::{TimerId, Vp};
 use timer_heap::TimerHeap;
 
-/// A call of the heap. Timers go by their numbers.
+/// A call of the heap. Timers are named by their numbers.
 #[derive(Clone, Copy)]
 pub(crate) enum Call {
     Set(u8, u128),
@@ -15,7 +15,7 @@ pub(crate) enum Call {
     DueBy(u128),
 }
 
-/// How many comparisons a call made, beside the most that it may make.
+/// How many comparisons a call made, and the most that it may make.
 #[derive(Clone, Copy, PartialEq, Debug)]
 pub(crate) enum Made {
     No,
@@ -29,7 +29,7 @@ pub(crate) enum Answer {
     Due(u128),
     First(u128, u8),
     Never,
-    /// A bit for each timer that is due.
+    /// A bit for each timer that has a deadline.
     Marks(u32),
 }
 
@@ -46,8 +46,8 @@ fn judged(comparisons: u8, most: u8) -> Answer {
     })
 }
 
-/// Each timer gets ten times its number, the last timer first, so that each goes to the front. The answer is the
-/// most comparisons that one of the calls made.
+/// Sets each timer to ten times its number, the last timer first, so that each moves to the front.
+/// Returns the greatest number of comparisons of a call.
 fn set_all(heap: &mut TimerHeap) -> u8 {
     let mut most = 0;
     for timer in (0..32u8).rev().filter_map(TimerId::from_number) {
@@ -84,7 +84,7 @@ const NO: Answer = Comparisons(Made::No);
 
 const FEW: Answer = Comparisons(Made::Few);
 
-/// It is compared with nothing, the last timer of all with a due moment beyond 64 bits too.
+/// A single entry needs no comparison, even the last timer with a deadline beyond 64 bits.
 const AN_ENTRY_ALONE: [(Call, Answer); 16] = [
     (Least, Never),
     (Clear(31), NO),
@@ -104,7 +104,7 @@ const AN_ENTRY_ALONE: [(Call, Answer); 16] = [
     (DueBy(u128::MAX), Marks(0)),
 ];
 
-/// The one with the least number comes first.
+/// Of equal deadlines the least number comes first.
 const EQUALS: [(Call, Answer); 12] = [
     (Set(9, 5), NO),
     (Set(7, 5), FEW),

@@ -4,7 +4,7 @@ ghost use Rattle.std.specs.Prelude.{◌≤◌, length};
 use board_terms::{Message, PayloadBytes, Sint, TimerId, Vp};
 use message_queues::{header, image, slot_type};
 
-/// Timer 1, expired for the moment 20 and placed at 30, with more messages behind it.
+/// Timer 1, which was due at 20 and whose message is placed at 30, with more messages queued.
 const IMAGE_OF_A_TIMER: [u8; 40] = [
     0x10, 0, 0, 0x80, 0x18, 1, 0, 0, 0, 0, 0, 0, 0, 0, 0, 0, 1, 0, 0, 0, 0, 0, 0, 0, 0x14, 0, 0, 0,
     0, 0, 0, 0, 0x1e, 0, 0, 0, 0, 0, 0, 0,
@@ -13,7 +13,7 @@ const IMAGE_OF_A_TIMER: [u8; 40] = [
 /// A post of type 1 and one byte from port 3.
 const IMAGE_OF_A_POST: [u8; 17] = [1, 0, 0, 0, 1, 0, 0, 0, 3, 0, 0, 0, 0, 0, 0, 0, 0x0a];
 
-/// Zeros behind the first bytes of an image.
+/// The first bytes of an image, padded with zeros.
 fn padded(bytes: &[u8]) -> [u8; 256]
     requires { length bytes.now ≤ 256 }
 {

@@ -1,4 +1,4 @@
-// What is requested, taken and ended, and what comes next.
+// Requests, takes and EOIs, and the next vector.
 use crate::steps::{Part, first_other};
 use board_terms::Vector;
 use lapic_core::{Lapic, VectorSet};
@@ -13,7 +13,7 @@ pub(crate) enum SetCall {
     GreatestOfCopy,
 }
 
-/// A call of the state of a processor.
+/// A call of a `Lapic`.
 #[derive(Clone, Copy)]
 pub(crate) enum Call {
     Request(u8),
@@ -102,7 +102,7 @@ impl Part for Lapic {
     }
 }
 
-/// Vectors at the ends of the words that keep them.
+/// Vectors at the ends of the words of a set.
 const MEMBERS: [(SetCall, Answer); 36] = [
     (Greatest, NoVector),
     (GreatestOfCopy, NoVector),
@@ -183,7 +183,7 @@ const PRIORITIES: [(Call, Answer); 28] = [
     (End, NoVector),
 ];
 
-/// The least vector and the greatest, and the task priorities that hold them back.
+/// The least and the greatest vector, and the task priorities that block them.
 const EDGES: [(Call, Answer); 14] = [
     (Request(0x10), Is(true)),
     (Next, Answer::Vector(0x10)),
@@ -201,7 +201,7 @@ const EDGES: [(Call, Answer); 14] = [
     (TAKE, Answer::Vector(0xff)),
 ];
 
-/// A vector that ends by itself is not in service once it is taken.
+/// An auto-EOI vector is not in service after it is taken.
 const AUTO: [(Call, Answer); 9] = [
     (Request(0x50), Is(true)),
     (TAKE_AUTO, Answer::Vector(0x50)),
@@ -214,7 +214,8 @@ const AUTO: [(Call, Answer); 9] = [
     (TAKE_AUTO, NoVector),
 ];
 
-/// Requests join while the processor is suspended, and a vector in service ends, but none is next.
+/// While the processor is suspended, requests are recorded and vectors in service end, but none is
+/// next.
 const SUSPENDED: [(Call, Answer); 22] = [
     (IsSuspended, Is(false)),
     (Request(0x30), Is(true)),

@@ -1,4 +1,4 @@
-//! Tests of the parts of a board, and of posted words, a file for each. There is nothing else here.
+//! Tests of the parts of a board and of posted words, one file each.
 #![tactic(auto)]
 
 #[cfg(test)]

@@ -12,19 +12,19 @@ use std::alloc::{AllocError, Global};
 pub(crate) enum Call {
     SetOverlay(u8, Kind, u64),
     Owner(u64),
-    /// A load of that many bytes, which gives the first.
+    /// A load of that many bytes; the answer is the first.
     Load(u64, u8),
     LoadEight(u64),
     Store(u64, u8),
-    /// A store of that many bytes, up to nine, which are all 1.
+    /// A store of that many bytes, up to nine, all of them 1.
     StoreSome(u64, usize),
     SimByte(u8, usize),
     SiefByte(u8, usize),
     OwnByte(u8, Kind, usize),
     GuestByte(u64, usize),
-    /// All bytes of the slot are the same.
+    /// Writes a slot whose bytes are all the same.
     WriteSlot(u8, u8, u8),
-    /// A payload of one byte.
+    /// Writes a message with a payload of one byte.
     WriteMessage(u8, u8, u8),
     SetPending(u8, u8),
     SetFlag(u8, u8, u16),
@@ -120,7 +120,7 @@ impl Scene {
         Some(Is(self.space.set_flag(vp, sint, flag)))
     }
 
-    /// A call of the hypervisor's own, at the pages of a processor.
+    /// A call of the hypervisor, on the pages of a processor.
     fn ask_hypervisor(&mut self, call: Call) -> Option<Answer> {
         match call {
             WriteSlot(vp, sint, byte) => {
@@ -171,12 +171,13 @@ impl Part for Scene {
     }
 }
 
-/// The first step at which a new scene answers otherwise.
+/// The first step at which a new scene gives another answer.
 fn other(alloc: Global, steps: &[(Call, Answer)]) -> Result<Option<Other<Answer>>, AllocError> {
     Ok(first_other(&mut Scene::open(alloc)?, steps))
 }
 
-/// An overlay hides what is below, and the first of several hides the others. What is hidden stays.
+/// An overlay obscures the page below, and the first of several obscures the others. Obscured bytes
+/// stay.
 const OVERLAYS: [(Call, Answer); 20] = [
     (Store(0x2200, 5), Guest),
     (SetOverlay(1, Kind::Sim, 0x2001), Done),
@@ -200,7 +201,7 @@ const OVERLAYS: [(Call, Answer); 20] = [
     (Call::Owner(4), Nothing),
 ];
 
-/// The length is judged first, then the page of the first byte, then that of the last.
+/// The checks are in this order: the length, the page of the first byte, the page of the last byte.
 const REFUSALS: [(Call, Answer); 13] = [
     (Load(0x4000, 1), Refused(Refusal::OutsideSpace)),
     (Load(0x3fff, 2), Refused(Refusal::CrossesPage)),
@@ -220,7 +221,7 @@ const REFUSALS: [(Call, Answer); 13] = [
 /// The first bytes of a message of type 1 from port 3, of one byte.
 const HEADER: [u8; 16] = [1, 0, 0, 0, 1, 0, 0, 0, 3, 0, 0, 0, 0, 0, 0, 0];
 
-/// The page of messages lies outside the space at first, and that of event flags is disabled.
+/// The message page is outside the space at first, and the event flags page is disabled.
 const HIDDEN_PAGES: [(Call, Answer); 24] = [
     (SetOverlay(0, Kind::Sim, 0x40001), Done),
     (WriteSlot(0, 2, 0x0a), Done),

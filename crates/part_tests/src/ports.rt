@@ -1,4 +1,4 @@
-// Ports that are opened and closed, and flags at the edges of their ranges.
+// Opening and closing ports, and flags at the limits of their ranges.
 use crate::steps::{Part, first_other};
 use board_terms::{PortShape, Refusal};
 use event_ports::{Port, Ports};
@@ -13,7 +13,8 @@ pub(crate) enum Call {
     Close(u8),
 }
 
-/// What a call gives: a port by its processor, source and shape, a flag by processor, source and place.
+/// The answer of a call: a port by its processor, source and shape; a flag by processor, source and
+/// number.
 #[derive(Clone, Copy, PartialEq, Debug)]
 pub(crate) enum Answer {
     Opened,

@@ -1,4 +1,4 @@
-// Messages that are queued, placed and withdrawn.
+// Queueing, placing and withdrawing messages.
 ghost use Rattle.std.specs.Prelude.{◌≡◌, ◌<◌, [], length, IfSome};
 ghost use Rattle.board_terms.specs.declared.messages.Message.TheVariants.{FromPort, FromTimer};
 
@@ -10,7 +10,7 @@ use std::alloc::{AllocError, Global};
 /// The processor and the source of a queue.
 type Queue = (u8, u8);
 
-/// A call of the queues. Timers go by their numbers.
+/// A call of the queues. Timers are named by their numbers.
 #[derive(Clone, Copy)]
 pub(crate) enum Call {
     Post(Queue, Ticket, u8),
@@ -35,7 +35,7 @@ pub(crate) enum Answer {
     Used(u8),
     Message(Ticket),
     NoMessage,
-    /// How many there are, and the first five of them, with zeros where there are fewer.
+    /// The number of tickets, and the first five of them, padded with zeros.
     Tickets(usize, [Ticket; 5]),
 }
 
@@ -101,7 +101,7 @@ impl Scene {
         Ok(Scene { queues })
     }
 
-    /// Posts to a port, if it has a buffer left.
+    /// Queues a post of a port, if it has a free buffer.
     fn post(&mut self, queue: Queue, ticket: Ticket, port: u8) -> Option<Answer> {
         let (vp, sint) = (on_board(queue.0)?, Sint::new(queue.1)?);
         if port > 15 || self.queues.port_used(port) > 15 {
@@ -118,7 +118,7 @@ impl Scene {
         Some(Done)
     }
 
-    /// A timer expires, if its buffer is free.
+    /// Queues the message of a timer, if its buffer is free.
     fn expire(&mut self, queue: Queue, ticket: Ticket, number: u8) -> Option<Answer> {
         let (vp, sint) = (on_board(queue.0)?, Sint::new(queue.1)?);
         let timer = TimerId::from_number(number)?;
@@ -185,7 +185,7 @@ impl Part for Scene {
     }
 }
 
-/// The first step at which a new scene answers otherwise.
+/// The first step at which a new scene gives another answer.
 fn other(alloc: Global, steps: &[(Call, Answer)]) -> Result<Option<Other<Answer>>, AllocError> {
     Ok(first_other(&mut Scene::open(alloc)?, steps))
 }
@@ -199,8 +199,8 @@ const SIXTEEN: Answer = Tickets(16, [0, 1, 2, 3, 4]);
 
 const NO_TICKETS: Answer = Tickets(0, [0; 5]);
 
-/// A queued message has a buffer, and gives it back when it leaves: two posts to port 3 with the message of timer 6
-/// between them, and behind them a post to port 4.
+/// A queued message occupies a buffer, and frees it when it leaves: two posts to port 3, with the
+/// message of timer 6 between them, and a post to port 4 after them.
 const BUFFERS: [(Call, Answer); 20] = [
     (Post(QUEUE, 7, 3), Done),
     (TimerIsFree(6), Is(true)),
@@ -237,7 +237,8 @@ const SIXTEEN_OF_ONE_PORT: [(Call, Answer); 10] = [
     (Place(QUEUE), NoMessage),
 ];
 
-/// All 288 buffers: sixteen of each port, and one of each timer between the first port and the others.
+/// All 288 buffers: sixteen of each port, and one of each timer, queued between the first port and
+/// the others.
 const ALL_BUFFERS: [(Call, Answer); 38] = [
     (PostSixteen(QUEUE, 0), Done),
     (ExpireAll(QUEUE), Done),
@@ -279,8 +280,9 @@ const ALL_BUFFERS: [(Call, Answer); 38] = [
     (WithdrawAll(OTHER), SIXTEEN),
 ];
 
-/// A withdrawal from front, middle and end, from a queue of one and from one that has none: the others stay in their
-/// order, one more is queued behind them, and another queue is as it was.
+/// Withdrawals from the front, the middle and the end, from a queue of one and from one without
+/// such messages: the others stay in order, one more is queued after them, and another queue is
+/// unchanged.
 const WITHDRAWALS: [(Call, Answer); 38] = [
     (Post(OTHER, 20, 4), Done),
     (Post(QUEUE, 0, 3), Done),

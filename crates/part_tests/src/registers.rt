@@ -39,7 +39,7 @@ fn numbers_of_the_registers(rt: HostRuntime) {
     }
 }
 
-/// A call of the registers, which go by their numbers.
+/// A call of the registers, which are named by their numbers.
 #[derive(Clone, Copy)]
 pub(crate) enum Call {
     Write(u32, u64),
@@ -49,7 +49,7 @@ pub(crate) enum Call {
     SiefIsEnabled,
     Raises(u8),
     IsAuto(u8),
-    /// Whether the set of those that end by themselves has a vector.
+    /// Whether the auto-EOI set contains a vector.
     AutoSetHas(u8),
 }
 

@@ -1,20 +1,20 @@
-// What a part is asked in turn, and what it is to answer.
+// Tests as tables: the calls of a part in order, each with its expected answer.
 
-/// A part of a board that is asked by calls that are data. Its answers promise nothing, so that the proof of a
-/// test stays small however many they are.
+/// A part of a board whose calls are data. The answers have no postcondition, so that the proof of
+/// a test stays small for any number of steps.
 pub(crate) trait Part {
     type Call: Copy;
 
     type Answer: Copy + PartialEq;
 
-    /// What a call answers, `None` where it may not be made.
+    /// The answer of a call; `None` if its precondition does not hold.
     fn ask(&mut self, call: Self::Call) -> Option<Self::Answer>;
 }
 
-/// A step and what a part answers there.
+/// A step, and the actual answer.
 pub(crate) type Other<A> = (usize, Option<A>);
 
-/// The first step at which a part answers otherwise than it is to.
+/// The first step at which a part gives another answer than expected.
 pub(crate) fn first_other<P: Part>(
     part: &mut P,
     steps: &[(P::Call, P::Answer)],

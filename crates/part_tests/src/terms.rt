@@ -1,4 +1,4 @@
-// The numbers at the edges of their ranges, the words of refusals, and notices in their order.
+// Numbers at the limits of their ranges, the texts of refusals, and the order of notices.
 use board_terms::{
     Message, Notice, Notices, PayloadBytes, Refusal, Sint, TimerId, Vector, Vp, source_number,
 };
@@ -18,7 +18,8 @@ fn a_number_outside_its_range_is_none(rt: HostRuntime) {
     }
 }
 
-/// The numbers of the last processor, source and vector, and of the last source and timer of all.
+/// The numbers of the last processor, source and vector, and of the last source and timer of a
+/// board.
 fn numbers_of_the_last() -> [usize; 5] {
     let (vp, sint) = (Vp::new(7).unwrap(), Sint::new(15).unwrap());
     [
@@ -30,7 +31,7 @@ fn numbers_of_the_last() -> [usize; 5] {
     ]
 }
 
-/// The processor and the index of the last timer, and whether there is one more.
+/// The processor and the index of the last timer, and whether there is another one.
 fn last_timer() -> (u8, u8, bool) {
     let timer = TimerId::from_number(31).unwrap();
     let another = TimerId::new(timer.vp(), 4).is_some();

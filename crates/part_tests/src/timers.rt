@@ -1,9 +1,9 @@
-// Timers that are written, suspended and reset, and how they expire.
+// Writing, suspending and resetting timers, and their expiries.
 use crate::steps::{Part, first_other};
 use board_terms::{Moment, TimerId, Vp};
 use stimer_bank::{Mode, TimerBank};
 
-/// A call of the bank. Timers go by their numbers.
+/// A call of the bank. Timers are named by their numbers.
 #[derive(Clone, Copy)]
 pub(crate) enum Call {
     Config(u8, u64, Moment),
@@ -14,7 +14,7 @@ pub(crate) enum Call {
     Mode(u8, Moment),
     Expire(u8, Moment),
     Earliest,
-    /// The timer at a place of the list of those that are due at a moment.
+    /// The timer at an index of the list of those that are due at a time.
     Due(usize, Moment),
     Suspend(u8),
     Resume(u8),
@@ -38,7 +38,7 @@ pub(crate) enum Answer {
 use Answer::{Done, Expired, First, Is, Nothing, Source, Timer, Vector, Word};
 use Call::{Config, Count, Due, Earliest, Expire, IsDue, ReadConfig, ReadCount};
 
-/// What a timer tells when it expires, and how many periods it skips.
+/// The signals of an expiry, and how many periods it skips.
 fn expired(bank: &mut TimerBank, timer: TimerId, moment: Moment) -> Answer {
     if !bank.is_due(timer, moment) {
         return Nothing;
@@ -47,7 +47,7 @@ fn expired(bank: &mut TimerBank, timer: TimerId, moment: Moment) -> Answer {
     Expired(expiry.signal, expiry.skipped)
 }
 
-/// The vector or the source that a timer tells which is due.
+/// The vector or the source that a due timer signals.
 fn told(bank: &TimerBank, timer: TimerId, moment: Moment) -> Answer {
     if !bank.is_due(timer, moment) {
         return Nothing;
@@ -72,7 +72,7 @@ fn due_at(bank: &TimerBank, place: usize, moment: Moment) -> Answer {
     }
 }
 
-/// A call that changes a processor, or asks for it.
+/// A call that changes or queries a processor.
 fn ask_processor(bank: &mut TimerBank, call: Call) -> Option<Answer> {
     match call {
         Call::Suspend(vp) => bank.suspend(Vp::new(vp)?),
@@ -111,7 +111,7 @@ impl Part for TimerBank {
     }
 }
 
-/// Of period 10, with vector 64, started at moment 100. Up to eight periods are made up, and no more.
+/// A timer with period 10 and vector 64, started at 100. At most eight periods are made up.
 const A_LATE_PERIODIC_TIMER: [(Call, Answer); 17] = [
     (Count(0, 10, 100), Done),
     (Config(0, 0x1403, 100), Done),
@@ -132,7 +132,7 @@ const A_LATE_PERIODIC_TIMER: [(Call, Answer); 17] = [
     (ReadCount(0), Word(10)),
 ];
 
-/// The same timer, but lazy: it tells of the latest period, or of none where the next is near.
+/// The same timer, but lazy: it signals the latest period, or none if the next one is near.
 const A_LAZY_TIMER: [(Call, Answer); 7] = [
     (Count(0, 10, 100), Done),
     (Config(0, 0x1407, 100), Done),
@@ -143,8 +143,8 @@ const A_LAZY_TIMER: [(Call, Answer); 7] = [
     (Earliest, First(240, 0)),
 ];
 
-/// AutoEnable sets Enabled with a count, and a count of 0 clears it. A direct vector below 16 is not enabled, nor
-/// is source 0.
+/// AutoEnable sets Enabled when a count is written, and a count of 0 clears it. A direct vector
+/// below 16 cannot be enabled, nor can source 0.
 const REGISTERS: [(Call, Answer); 14] = [
     (Config(0, 0x1408, 0), Done),
     (Earliest, Nothing),
@@ -162,7 +162,8 @@ const REGISTERS: [(Call, Answer); 14] = [
     (ReadConfig(31), Word(0)),
 ];
 
-/// The largest count from the largest moment, and those that are due at a moment, first by when and then by number.
+/// The greatest count from the greatest time; and the timers due at a time, by deadline and then by
+/// number.
 const ORDER: [(Call, Answer); 18] = [
     (Count(31, u64::MAX, u64::MAX), Done),
     (Config(31, 0x1403, u64::MAX), Done),
@@ -184,7 +185,8 @@ const ORDER: [(Call, Answer); 18] = [
     (Earliest, First(6, 31)),
 ];
 
-/// A timer in direct mode tells a vector, and any other a source. One that expired once is disabled.
+/// A timer in direct mode signals a vector, any other a source. A one-shot that has expired is
+/// disabled.
 const WHOM_A_TIMER_TELLS: [(Call, Answer); 10] = [
     (Count(0, 7, 0), Done),
     (Config(0, 0x1401, 0), Done),
@@ -198,7 +200,8 @@ const WHOM_A_TIMER_TELLS: [(Call, Answer); 10] = [
     (Earliest, Nothing),
 ];
 
-/// Timers 4 and 7 of processor 1, and timer 8 of processor 2. One that is written meanwhile is kept, and hidden.
+/// Timers 4 and 7 of processor 1, and timer 8 of processor 2. A timer that is written during the
+/// suspension is stored, but hidden.
 const A_SUSPENDED_PROCESSOR: [(Call, Answer); 25] = [
     (Count(4, 7, 0), Done),
     (Config(4, 0x1401, 0), Done),

@@ -1,4 +1,4 @@
-// Calls of the words at concrete values, by one thread and by several.
+// Calls of posted words with concrete values, in one thread and in several.
 ghost use Rattle.std.specs.Prelude.{◌≡◌, ◌*◌, ◌<◌, ◌≤◌, All, IfSome, length};
 ghost use Rattle.posted_words.specs.Words.{IsOf};
 
@@ -25,7 +25,7 @@ fn opened(
     }
 }
 
-/// A token of some words, out of others.
+/// Takes a token of some words out of a list.
 fn take(words: &PostedWords, tokens: &mut Vec<Line>) -> Option<Line>
     requires { All (IsOf words.now.name) tokens.old.items }
     ensures taken { IfSome result (IsOf words.now.name) }
@@ -34,7 +34,7 @@ fn take(words: &PostedWords, tokens: &mut Vec<Line>) -> Option<Line>
     tokens.pop()
 }
 
-/// The token is back among the others.
+/// Puts the token back into the list.
 fn put(words: &PostedWords, tokens: &mut Vec<Line>, token: Line) -> Result<(), AllocError>
     requires others { All (IsOf words.now.name) tokens.old.items }
     requires token { IsOf words.now.name token }
@@ -44,7 +44,7 @@ fn put(words: &PostedWords, tokens: &mut Vec<Line>, token: Line) -> Result<(), A
     Ok(())
 }
 
-/// Raises each vector of each processor, and tells how many were fresh.
+/// Raises each vector of each processor, and returns how many were fresh.
 fn raise_all(words: &PostedWords, mut line: Line) -> (Line, u64)
     requires { IsOf words.now.name line }
     ensures { IsOf words.now.name result.0 }
@@ -61,7 +61,7 @@ fn raise_all(words: &PostedWords, mut line: Line) -> (Line, u64)
     (line, fresh)
 }
 
-/// Sweeps each word of each processor some times over, and tells how many bits it took.
+/// Sweeps each word of each processor `times` times, and returns how many bits it took.
 fn sweep_all(words: &PostedWords, mut sweeper: Sweeper, times: u32) -> (Sweeper, u64)
     requires { IsOf words.now.name sweeper }
     ensures { IsOf words.now.name result.0 }
@@ -78,7 +78,7 @@ fn sweep_all(words: &PostedWords, mut sweeper: Sweeper, times: u32) -> (Sweeper,
     (sweeper, taken)
 }
 
-/// How many bits stand.
+/// How many bits are set.
 fn count_standing(standing: &Standing, processors: u8) -> u64
     requires words { length standing.now ≡ 4 * processors }
     requires few { processors ≤ 8 }
@@ -115,8 +115,8 @@ fn a_vector_is_fresh_until_it_is_swept(rt: HostRuntime) -> Result<(), Fail> {
     Ok(())
 }
 
-/// Whether a raise of a vector of processor 1 is fresh, and sweeps of all words then take its bit
-/// alone.
+/// Whether a raise of a vector of processor 1 is fresh, and sweeps of all words then take exactly
+/// its bit.
 fn lands_alone(words: &PostedWords, line: &mut Line, sweeper: &mut Sweeper, vector: Vector) -> bool
     requires line { IsOf words.now.name line.old }
     requires sweeper { IsOf words.now.name sweeper.old }
@@ -139,7 +139,7 @@ fn lands_alone(words: &PostedWords, line: &mut Line, sweeper: &mut Sweeper, vect
     alone
 }
 
-/// The first vector that does not land alone.
+/// The first vector for which this does not hold.
 fn strays(words: &PostedWords, line: &mut Line, sweeper: &mut Sweeper) -> Option<Vector>
     requires line { IsOf words.now.name line.old }
     requires sweeper { IsOf words.now.name sweeper.old }
@@ -231,7 +231,7 @@ fn what_threads_raise_is_taken_or_stands(rt: HostRuntime) -> Result<(), Fail> {
     put(&words, &mut lines, third.0)?;
     put(&words, &mut sweepers, swept.0)?;
     let fresh = first.1.saturating_add(second.1).saturating_add(third.1);
-    // Each vector of each processor was fresh once at least.
+    // Each vector of each processor was fresh at least once.
     assert!(rt; fresh >= 8 * 240);
     match words.gather(sweepers, lines) {
         Ok(standing) => {
@@ -278,7 +278,7 @@ fn each_word_that_stands_is_read(rt: HostRuntime) -> Result<(), Fail> {
     Ok(())
 }
 
-/// Lets go of all tokens but that many.
+/// Drops all but that many tokens.
 fn keep(words: &PostedWords, tokens: &mut Vec<Line>, count: usize)
     requires { All (IsOf words.now.name) tokens.old.items }
     ensures { All (IsOf words.now.name) tokens.new.items }
@@ -307,7 +307,7 @@ fn a_missing_token_is_told(rt: HostRuntime) {
     }
 }
 
-/// Sizes, and whether words of these sizes are opened.
+/// Sizes, and whether words of these sizes can be opened.
 const SIZES: [(u8, u8, u8, bool); 8] = [
     (0, 1, 1, false),
     (9, 1, 1, false),
@@ -319,7 +319,7 @@ const SIZES: [(u8, u8, u8, bool); 8] = [
     (8, 16, 16, true),
 ];
 
-/// The processors that words are for, and how many sweepers and lines they are opened with.
+/// The processors of the words, and the numbers of sweepers and lines.
 fn sizes(
     alloc: Global,
     processors: u8,

@@ -16,7 +16,7 @@ pub(crate) fn notices(alloc: Global) -> Result<bool, Stopped> {
     ended(Notices::open(alloc)?.as_slice().is_empty())
 }
 
-/// Vector 0x60 is asserted, taken and asserted twice again, which is one request; then time goes by.
+/// Asserts, takes, and asserts twice vector 0x60, which is one request; then the clock moves.
 fn nine_events(vector: Vector) -> [Event; 9] {
     [
         Event::Assert { vp: 0, vector },
@@ -53,7 +53,7 @@ fn notices_of_them(vector: Vector) -> [Notice; 2] {
     ]
 }
 
-/// A run of the events, and whether it stopped for want of memory: then the rest was run.
+/// A run of the events, and whether it stopped at an allocation failure; then the rest is run.
 fn all_replies(
     alloc: Global,
     board: &mut Board,
@@ -76,12 +76,12 @@ fn all_replies(
     }
 }
 
-/// Whether these are the replies to the events and the notices of them.
+/// Whether these are the replies and the notices of the events.
 fn are_theirs(replies: &[Reply], notices: &[Notice], vector: Vector) -> bool {
     replies == replies_to_them(vector).as_slice() && notices == notices_of_them(vector).as_slice()
 }
 
-/// A run goes on where it stopped.
+/// A run continues where it stopped.
 pub(crate) fn ran(alloc: Global) -> Result<bool, Stopped> {
     let vector = Vector::new(0x60).unwrap();
     let mut board = Board::open(alloc, 1, 1, 0)?;

@@ -1,4 +1,4 @@
-// Events of all kinds: none of them takes memory.
+// Events of all kinds: none allocates.
 use crate::stopped::{Stopped, ended};
 use board_steps::{
     EOM, SCONTROL, SIEFP, SIMP, SINT2, are_done, bytes, load, open, open_messages, post,
@@ -8,7 +8,7 @@ use board_terms::{Notices, PortShape, Vector};
 use std::alloc::Global;
 use synic_board::{Board, Event, Reply};
 
-/// The SynIC and its pages are enabled, and a port of each kind is opened.
+/// Enables the SynIC and its pages, and opens a port of each shape.
 fn prepared() -> [Event; 6] {
     let flags = PortShape::Flags { base: 0, count: 8 };
     [
@@ -21,7 +21,7 @@ fn prepared() -> [Event; 6] {
     ]
 }
 
-/// Of each kind of event one or more.
+/// At least one event of each kind.
 fn events() -> [Event; 19] {
     let vector = Vector::new(0x61).unwrap();
     [
@@ -78,7 +78,7 @@ fn replies_to_them() -> [Reply; 19] {
     ]
 }
 
-/// Whether each event is answered by the reply at its place.
+/// Whether each event has the reply at the same index.
 fn are_answered(
     board: &mut Board,
     notices: &mut Notices,
@@ -93,7 +93,7 @@ fn are_answered(
     true
 }
 
-/// What performs events takes no memory: in no run may such a request be refused.
+/// Performing events never allocates, so no run may refuse an allocation here.
 pub(crate) fn performed(alloc: Global) -> Result<bool, Stopped> {
     let mut board = Board::open(alloc, 1, 4, 0)?;
     let mut notices = Notices::open(alloc)?;

@@ -1,6 +1,6 @@
-//! Calls that take memory, each where a request for it is refused. `cases/refused` refuses one request
-//! in each run, and each in turn. So a call that wanted memory is made again, and then it must answer
-//! as it does where memory is there. There is nothing else here.
+//! Calls that allocate, each with a failing allocation. `cases/refused` refuses one allocation in
+//! each run, and each in turn. A call that fails so is repeated, and must then return what it
+//! returns without a failure.
 #![tactic(auto)]
 
 #[cfg(test)]

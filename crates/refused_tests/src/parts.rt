@@ -1,4 +1,4 @@
-// The parts of a board that take memory themselves.
+// The parts of a board that allocate.
 use crate::stopped::{Stopped, ended};
 use board_terms::{Owner, Sint, Vp};
 use gpa_space::Space;

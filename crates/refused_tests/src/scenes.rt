@@ -1,4 +1,4 @@
-// The scenes in turn.
+// Runs the scenes in turn.
 use crate::stopped::Stopped;
 use crate::{boards, crews, events, parts, shared, texts, words};
 use std::alloc::Global;
@@ -45,8 +45,8 @@ const SCENES: [Scene; 16] = [
     Scene::CrewScript,
 ];
 
-/// Plays a scene, in which all calls are to answer as they do where memory is there. Whether memory was
-/// wanting in one that the scene itself made again or left out.
+/// Plays a scene, in which all calls must return what they return without a failure. Returns
+/// whether an allocation failed in a call that the scene itself repeated or left out.
 fn play<R: Threads + Wait + Sync>(rt: &R, alloc: Global, scene: Scene) -> Result<bool, Stopped> {
     match scene {
         Scene::Space => parts::space(alloc),
@@ -68,10 +68,10 @@ fn play<R: Threads + Wait + Sync>(rt: &R, alloc: Global, scene: Scene) -> Result
     }
 }
 
-/// Plays a scene, and once more where it wanted memory. Whether it did.
+/// Plays a scene, and again if an allocation failed. Returns whether one failed.
 fn played<R: Threads + Wait + Sync>(rt: &R, alloc: Global, scene: Scene) -> Result<bool, Stopped> {
     match play(rt, alloc, scene) {
-        // A thread that got no memory is not started.
+        // A thread whose allocation fails is not started.
         Err(Stopped::Memory | Stopped::NoThread) => match play(rt, alloc, scene)? {
             false => Ok(true),
             true => Err(Stopped::Otherwise),

@@ -15,7 +15,7 @@ pub(crate) fn opened(alloc: Global) -> Result<bool, Stopped> {
     ended(board.processors() == 8 && (actors.len(), lines.len()) == (16, 16))
 }
 
-/// A board of many actors and lines that did nothing is settled.
+/// Settles a board of many actors and lines that did nothing.
 pub(crate) fn settled(alloc: Global) -> Result<bool, Stopped> {
     let (board, actors, lines) = SharedBoard::open(alloc, 8, 1, 7, 16, 16)?;
     let settled = board.settle(actors, lines)?;
@@ -26,7 +26,8 @@ pub(crate) fn settled(alloc: Global) -> Result<bool, Stopped> {
     )
 }
 
-/// Performs a tick, and once more where memory was wanting and `again` says so. How often it was.
+/// Performs a tick, and again if an allocation failed and `again` is set. Returns how often one
+/// failed.
 fn tick<R: Wait>(
     rt: &R,
     board: &SharedBoard,
@@ -70,8 +71,8 @@ fn absorb<R: Wait>(
     }
 }
 
-/// Raises vectors 0x40 to 0x49 one by one, and after each the actor ticks and absorbs. How often
-/// memory was wanting.
+/// Raises vectors 0x40 to 0x49 one by one; after each the actor ticks and absorbs. Returns how
+/// often an allocation failed.
 fn take_turns<R: Wait>(
     rt: &R,
     board: &SharedBoard,
@@ -98,7 +99,7 @@ fn take_turns<R: Wait>(
     Ok(wanted)
 }
 
-/// What ten turns come to, and how often memory was wanting in them.
+/// The result of settling ten turns, and how often an allocation failed in them.
 fn settled_turns<R: Wait>(rt: &R, alloc: Global, again: bool) -> Result<(Ended, usize), Stopped>
     ensures { IfOk result (λ r. length r.0.standing ≡ 4) }
 {
@@ -113,7 +114,7 @@ fn settled_turns<R: Wait>(rt: &R, alloc: Global, again: bool) -> Result<(Ended, 
     Ok((board.settle(actors, lines)?, wanted))
 }
 
-/// The sum of all bits that were absorbed.
+/// The sum of all absorbed bits.
 fn absorbed_bits(history: &[Entry]) -> u64 {
     let mut all = 0u64;
     for entry in history {
@@ -124,8 +125,8 @@ fn absorbed_bits(history: &[Entry]) -> u64 {
     all
 }
 
-/// Whether each pair of entries is a tick and an absorb of the one vector that was raised before, and
-/// both were done.
+/// Whether each pair of entries is a tick and an absorb of the one vector that was raised before,
+/// and both are done.
 fn are_turns(history: &[Entry]) -> bool {
     let mut turn = 0u8;
     for pair in history.chunks(2) {
@@ -151,7 +152,8 @@ fn are_turns(history: &[Entry]) -> bool {
     true
 }
 
-/// Whether twenty calls but so many stand in the history, and each bit that was raised was absorbed or stands.
+/// Whether the history has twenty calls except `left_out`, and each raised bit was absorbed or is
+/// set.
 fn is_whole(settled: &Ended, left_out: usize) -> bool
     requires { length settled.now.standing ≡ 4 }
 {
@@ -162,7 +164,7 @@ fn is_whole(settled: &Ended, left_out: usize) -> bool
         && absorbed_bits(history).wrapping_add(standing) == 0x3ff
 }
 
-/// Calls go on where memory was wanting: such a one is made again, or left out.
+/// After an allocation failure the calls continue: the failed call is repeated, or left out.
 pub(crate) fn called<R: Wait>(rt: &R, alloc: Global, again: bool) -> Result<bool, Stopped> {
     let (settled, wanted) = settled_turns(rt, alloc, again)?;
     let left_out = if again { 0 } else { wanted };

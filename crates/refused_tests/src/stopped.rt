@@ -14,7 +14,7 @@ pub(crate) enum Stopped {
     Otherwise,
 }
 
-/// A scene came to its end, and its calls answered as they are to. Memory was wanting in none of them.
+/// A scene ran to its end, and its calls returned what they must. No allocation failed in them.
 pub(crate) fn ended(as_they_are_to: bool) -> Result<bool, Stopped> {
     if as_they_are_to {
         Ok(false)

@@ -1,4 +1,4 @@
-// A script, a crew script and a trace from a reader to a writer that takes no memory.
+// A script, a crew script and a trace, with a reader and a writer that do not allocate.
 use crate::stopped::{Stopped, ended};
 use board_script::{CheckEnd, CrewRun, ReplayEnd, check_trace, crew, replay};
 use board_threads::OpenGate;
@@ -7,19 +7,19 @@ use std::io::Cursor;
 use std::sync::Wait;
 use std::thread::Threads;
 
-/// What was written, and its length.
+/// The output and its length.
 type Written = Cursor<[u8; 256]>;
 
 fn nothing() -> Written {
     Cursor::new([0; 256])
 }
 
-/// Whether this was written, and nothing else.
+/// Whether the output is this text.
 fn has(written: &Written, text: &[u8]) -> bool {
     written.position() == text.len() as u64 && written.get_ref().starts_with(text)
 }
 
-/// Whether what was written begins this text.
+/// Whether the output is a prefix of this text.
 fn begins(written: &Written, text: &[u8]) -> bool {
     match written.get_ref().get(..written.position() as usize) {
         Some(begun) => text.starts_with(begun),
@@ -27,7 +27,7 @@ fn begins(written: &Written, text: &[u8]) -> bool {
     }
 }
 
-/// What a call that ended answers: memory was wanting, with a beginning of the text written.
+/// The result of a call with an allocation failure: the output is a prefix of the text.
 fn wanted(written: &Written, text: &[u8]) -> Result<bool, Stopped> {
     if begins(written, text) {
         Err(Stopped::Memory)

@@ -1,4 +1,4 @@
-// Words that lines raise at.
+// Posted words and a line that raises.
 use crate::stopped::{Stopped, ended};
 use board_terms::{Vector, Vp};
 use posted_words::PostedWords;
@@ -9,7 +9,7 @@ pub(crate) fn opened(alloc: Global) -> Result<bool, Stopped> {
     ended(words.processors() == 8 && (sweepers.len(), lines.len()) == (16, 16))
 }
 
-/// A line raises vector 0x60, and then the words are gathered.
+/// A line raises vector 0x60, and then the tokens are gathered.
 pub(crate) fn gathered(alloc: Global) -> Result<bool, Stopped> {
     let (words, sweepers, mut lines) = PostedWords::open(alloc, 8, 1, 1)?;
     let Some(mut line) = lines.pop() else {

@@ -1,4 +1,4 @@
-// Crews of which one worker is held up until the others have done what they do.
+// Crews with one worker that is held until the others have made their calls.
 use crate::gates::Hold;
 use board_script::{CrewRun, crew};
 use board_threads::Worker;
@@ -15,7 +15,7 @@ const POSTS: &str = concat!(
     "open 3 message 0 2 2\nactor\npost 3 1 0a\nactor\npost 3 1 0b\n"
 );
 
-/// What is written of it where the first actor is held up.
+/// The trace if the first actor is held.
 const SECOND_FIRST: &str = concat!(
     "trace 2\nboard 1 4 0\n0 write 0 40000080 1\n= done\n0 write 0 40000083 2001\n= done\n",
     "0 write 0 40000092 50\n= done\n0 open 3 message 0 2 2\n= done\n",
@@ -24,7 +24,7 @@ const SECOND_FIRST: &str = concat!(
     "0 absorb 0 2 0\n= done\n0 absorb 0 3 0\n= done\nend 10 2\n"
 );
 
-/// And where the second one is.
+/// The trace if the second actor is held.
 const FIRST_FIRST: &str = concat!(
     "trace 2\nboard 1 4 0\n0 write 0 40000080 1\n= done\n0 write 0 40000083 2001\n= done\n",
     "0 write 0 40000092 50\n= done\n0 open 3 message 0 2 2\n= done\n",
@@ -40,8 +40,8 @@ const STEPS: &str = concat!(
     "line\nraise 0 60\nraise 0 61\nline\nraise 0 60\nraise 0 61\n"
 );
 
-/// What is written of a crew one of whose workers is held up until so many calls of the others have left.
-/// `None` if it waited in vain, or the crew came to another end.
+/// The trace of a crew with one worker that is held until the others have finished that many calls.
+/// `None` if it waited too long, or the crew had another result.
 fn written<R: Threads + Wait + Sync>(
     rt: &R,
     alloc: Global,
@@ -60,7 +60,7 @@ fn written<R: Threads + Wait + Sync>(
     }
 }
 
-/// Whether this trace is written where an actor is held up until the other one has posted.
+/// Whether this trace is written if an actor is held until the other one has posted.
 fn posts_so<R: Threads + Wait + Sync>(rt: &R, alloc: Global, held: u8, trace: &str) -> bool {
     match written(rt, alloc, POSTS, Worker::Acts(held), 1) {
         Some(written) => {
@@ -77,7 +77,7 @@ fn actors_run_at_the_same_time(rt: HostRuntime) {
     assert!(rt; posts_so(&rt, rt.alloc(), 2, FIRST_FIRST));
 }
 
-/// The verdict on what is written where a worker is held up until the others have taken all their steps.
+/// The verdict on the trace if a worker is held until the others have made all their steps.
 fn judged<R: Threads + Wait + Sync>(rt: &R, alloc: Global, held: Worker) -> Option<CheckEnd> {
     let written = written(rt, alloc, STEPS, held, 6)?;
     let mut trace = written.get_ref().get(..written.position() as usize)?;

@@ -1,4 +1,4 @@
-// Jobs whose reader or writer gives and takes one byte at a time, and fails at each place in turn.
+// Jobs whose reader and writer transfer one byte at a time, and fail at each place in turn.
 use crate::jobs::{End, Job, read_by, run, written_by};
 use crate::peers::{Refuses, gives, takes};
 use std::alloc::Global;
@@ -22,8 +22,8 @@ const KINDS: [Failing; 5] = [
     Failing::Flush,
 ];
 
-/// How many places there are at which it can fail. The last read is the one that finds the end. There is a
-/// flush before each read, and one behind all that is written.
+/// How many places can fail. The last read finds the end. There is a flush before each read, and
+/// one after all output.
 fn places(job: Job, failing: Failing) -> usize {
     let bytes = read_by(job).len();
     match failing {
@@ -34,7 +34,7 @@ fn places(job: Job, failing: Failing) -> usize {
     }
 }
 
-/// Whether a job that fails at this place ends so, with what it has written until then.
+/// Whether a job that fails at this place ends so, with the output up to there.
 fn ends_there<H: Threads + Wait + Sync>(
     rt: &H,
     alloc: Global,

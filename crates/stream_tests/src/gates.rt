@@ -1,12 +1,12 @@
-// A gate that holds a worker up.
+// A gate that holds a worker.
 use board_threads::{Gate, Worker};
 use std::sync::{Mutex, Wait};
 use std::thread::yield_now;
 
-/// How often a held worker looks before it goes on.
+/// How often a held worker polls before it gives up.
 const TURNS: u32 = 50_000_000;
 
-/// Holds the first call of one worker until so many calls of the others have left.
+/// Holds the first call of one worker until the others have finished that many calls.
 #[derive(Drop)]
 pub(crate) struct Hold {
     held: Worker,
@@ -25,7 +25,7 @@ impl Hold {
         }
     }
 
-    /// Whether the worker went on while the others had not left.
+    /// Whether the worker gave up before the others had finished.
     pub(crate) fn has_given_up<R: Wait>(&self, rt: &R) -> bool {
         *self.given_up.lock(rt)
     }

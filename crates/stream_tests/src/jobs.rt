@@ -1,4 +1,4 @@
-// What reads a text and writes another: one worked text for each.
+// Jobs that read a text and write another, with a worked text for each.
 use crate::peers::{Text, append};
 use board_script::{CrewRun, ReplayEnd, crew, replay};
 use board_threads::OpenGate;
@@ -15,7 +15,7 @@ pub(crate) enum Job {
     Crew,
 }
 
-/// How it ended.
+/// The result of a job.
 #[derive(Clone, Copy, PartialEq, Debug)]
 pub(crate) enum End {
     Done,
@@ -24,7 +24,7 @@ pub(crate) enum End {
     Otherwise,
 }
 
-/// Each line of a script, and what it writes.
+/// Each line of a script, and its output.
 const WORKED: [(&[u8], &[u8]); 10] = [
     (b"board 1 1 0\n", b""),
     (b"write 0 40000072 50\n", b"= done\n"),
@@ -38,28 +38,28 @@ const WORKED: [(&[u8], &[u8]); 10] = [
     (b"summary\n", b": next 0 5f\n: timer none\n"),
 ];
 
-/// A processor takes the vector that was asserted.
+/// A processor takes the asserted vector.
 pub(crate) const TRACE: &[u8] =
     b"trace 1\nboard 1 1 0\n0 assert 0 60\n= done\n0 take 0\n= taken 60\nend 2\n";
 
 /// One actor that takes, and a line that raises nothing.
 const TAKE: &[u8] = b"board 1 1 0\nassert 0 60\nactor\ntake 0\nline\n";
 
-/// The only trace of it.
+/// The only trace of that crew script.
 const TAKEN: &str = concat!(
     "trace 2\nboard 1 1 0\n0 assert 0 60\n= done\n1 take 0\n= taken 60\n",
     "0 absorb 0 0 0\n= done\n0 absorb 0 1 0\n= done\n",
     "0 absorb 0 2 0\n= done\n0 absorb 0 3 0\n= done\nend 6 0\n"
 );
 
-/// The text of these bytes.
+/// A text of these bytes.
 fn text(bytes: &[u8]) -> Text {
     let mut text = Text::new();
     append(&mut text, bytes);
     text
 }
 
-/// What a job reads.
+/// The input of a job.
 pub(crate) fn read_by(job: Job) -> Text {
     match job {
         Job::Replay => {
@@ -74,8 +74,8 @@ pub(crate) fn read_by(job: Job) -> Text {
     }
 }
 
-/// What a job has written once it has read that many bytes: a replay answers each whole line, and the others
-/// write when they have found the end, which takes one read more.
+/// The output of a job after it has read that many bytes: a replay answers each whole line, and the
+/// others write after they have found the end, which takes one more read.
 pub(crate) fn written_by(job: Job, bytes: usize) -> Text {
     match job {
         Job::Replay => {

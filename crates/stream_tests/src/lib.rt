@@ -1,5 +1,4 @@
-//! Tests of texts and their streams: numbers, lines of a reader, scripts, crews and traces. There is
-//! nothing else here.
+//! Tests of texts and their streams: numbers, lines of a reader, scripts, crews and traces.
 #![tactic(auto)]
 
 #[cfg(test)]

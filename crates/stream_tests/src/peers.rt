@@ -1,4 +1,4 @@
-// Readers and writers that give or take little, or fail.
+// Readers and writers that transfer little at a time, or fail.
 use arrayvec::ArrayVec;
 use std::cell::Cell;
 use std::io;
@@ -14,8 +14,8 @@ pub(crate) fn append(text: &mut Text, bytes: &[u8]) {
     }
 }
 
-/// Gives one byte a read. One read fails, and whoever reads again gets the byte; each read fails while
-/// the writer holds something back.
+/// Returns one byte per read. One read fails, and a retry would return the byte; every read fails
+/// while the writer has unflushed output.
 #[derive(Drop)]
 pub(crate) struct Trickle<'a> {
     pub(crate) bytes: &'a [u8],
@@ -24,7 +24,7 @@ pub(crate) struct Trickle<'a> {
     pub(crate) held_back: &'a Cell<usize>,
 }
 
-/// One that gives all of these bytes.
+/// A reader of these bytes that never fails.
 pub(crate) fn gives<'a>(bytes: &'a [u8], held_back: &'a Cell<usize>) -> Trickle<'a> {
     Trickle {
         bytes,
@@ -52,7 +52,7 @@ impl Read for Trickle<'_> {
     }
 }
 
-/// Gives some bytes, and then the same bytes again and again.
+/// Returns some bytes, and then the same bytes repeatedly.
 #[derive(Drop)]
 pub(crate) struct Endless<'a> {
     pub(crate) first: &'a [u8],
@@ -71,7 +71,7 @@ impl Read for Endless<'_> {
     }
 }
 
-/// How a writer refuses.
+/// How a writer fails.
 #[derive(Clone, Copy, PartialEq, Debug)]
 pub(crate) enum Refuses {
     Writes,
@@ -79,8 +79,7 @@ pub(crate) enum Refuses {
     Flushes,
 }
 
-/// Takes one byte a write, and holds it back until it is flushed. It refuses one call, and goes on
-/// behind it.
+/// Accepts one byte per write, and holds it until a flush. One call fails, and later ones succeed.
 #[derive(Drop)]
 pub(crate) struct Narrow<'a> {
     pub(crate) text: Text,
@@ -90,7 +89,7 @@ pub(crate) struct Narrow<'a> {
     pub(crate) refuses: Refuses,
 }
 
-/// One that refuses nothing.
+/// A writer that never fails.
 pub(crate) fn takes(held_back: &Cell<usize>) -> Narrow<'_> {
     Narrow {
         text: Text::new(),
@@ -102,7 +101,7 @@ pub(crate) fn takes(held_back: &Cell<usize>) -> Narrow<'_> {
 }
 
 impl Narrow<'_> {
-    /// Whether these bytes came, and were flushed.
+    /// Whether these bytes were written and flushed.
     pub(crate) fn has(&self, bytes: &[u8]) -> bool {
         self.text.as_slice() == bytes && self.held_back.get() == 0
     }

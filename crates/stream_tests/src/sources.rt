@@ -1,19 +1,19 @@
-// The lines of a reader, and sending.
+// The lines of a reader, and writing.
 use crate::peers::{Refuses, gives, takes};
 use board_text::{NextLine, Source, send};
 use std::alloc::{AllocError, Global};
 use std::cell::Cell;
 use std::io;
 
-/// How each line of a reader that gives one byte a read ends, the line, and how many flushes there were. Each
-/// read has its flush before it, the one that finds the end too.
+/// For each line of a reader that returns one byte per read: how it ends, the line, and the number
+/// of flushes. Each read has a flush before it, including the one that finds the end.
 const LINES: [(NextLine, &[u8], usize); 3] = [
     (NextLine::Whole, b"ab", 3),
     (NextLine::Whole, b"", 4),
     (NextLine::Last, b"c", 6),
 ];
 
-/// The first of the lines that is another.
+/// The first line that differs.
 fn first_other(alloc: Global) -> Result<Option<usize>, AllocError> {
     let held_back = Cell::new(0);
     let mut reader = gives(b"ab\n\nc", &held_back);
@@ -34,7 +34,7 @@ fn finds_lines_byte_by_byte(rt: HostRuntime) -> Result<(), AllocError> {
     Ok(())
 }
 
-/// How the first line of two bytes ends, and the second, where the writer refuses that flush.
+/// The results for the first line, of two bytes, and the second, if the writer fails at that flush.
 fn flushed(alloc: Global, room: usize) -> Result<(NextLine, NextLine), AllocError> {
     let held_back = Cell::new(0);
     let mut reader = gives(b"ab\ncd\n", &held_back);
@@ -46,7 +46,7 @@ fn flushed(alloc: Global, room: usize) -> Result<(NextLine, NextLine), AllocErro
     Ok((first, source.next_line(&mut reader, &mut writer)))
 }
 
-/// And where the reader fails at that read.
+/// The same if the reader fails at that read.
 fn read(alloc: Global, fails_at: usize) -> Result<(NextLine, NextLine), AllocError> {
     let held_back = Cell::new(0);
     let mut reader = gives(b"ab\ncd\n", &held_back);
@@ -57,7 +57,7 @@ fn read(alloc: Global, fails_at: usize) -> Result<(NextLine, NextLine), AllocErr
     Ok((first, source.next_line(&mut reader, &mut writer)))
 }
 
-/// Whether the call that reads or flushes at this place, and no earlier one, answers that it failed.
+/// Whether exactly the call that reads or flushes at this place reports the failure.
 fn fails_at(alloc: Global, place: usize) -> Result<bool, AllocError> {
     let (first, second) = read(alloc, place)?;
     let reads = if place < 3 { first } else { second };
@@ -80,7 +80,7 @@ fn a_failed_read_or_flush_is_no_line(rt: HostRuntime) -> Result<(), AllocError> 
     Ok(())
 }
 
-/// How a line of so many bytes ends, with its line feed or without.
+/// How a line of that many bytes ends, with its line feed or without.
 fn line_of(alloc: Global, length: usize, feed: bool) -> Result<NextLine, AllocError> {
     let mut text = vec![in alloc; b'#'; length]?;
     if feed {
@@ -103,7 +103,8 @@ fn a_line_is_long_at_its_641st_byte(rt: HostRuntime) -> Result<(), AllocError> {
     Ok(())
 }
 
-/// Whether sending three bytes to a writer that refuses at this place answers so, with those before it written.
+/// Whether sending three bytes to a writer that fails at this place reports it, after the bytes
+/// before it were written.
 fn sends(refuses: Refuses, room: usize) -> bool {
     let text = b"abc";
     let held_back = Cell::new(0);

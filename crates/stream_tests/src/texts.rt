@@ -5,7 +5,7 @@ use board_text::{
 };
 use std::alloc::AllocError;
 
-/// What is read, and the most that it may be.
+/// The number to parse, and its greatest value.
 #[derive(Clone, Copy)]
 enum Number {
     Decimal(u64),
@@ -64,7 +64,7 @@ fn reads_numbers(rt: HostRuntime) {
     }
 }
 
-/// Texts, and the bytes that they are read as where they are bytes.
+/// Texts, and the bytes that they decode to, if any.
 const BYTES: [(&[u8], Option<&[u8]>); 6] = [
     (b"0aff", Some(&[0x0a, 0xff])),
     (b"", Some(&[])),
@@ -74,7 +74,7 @@ const BYTES: [(&[u8], Option<&[u8]>); 6] = [
     (b"-", None),
 ];
 
-/// Whether a text is read as these bytes, or not at all, whatever there was before.
+/// Whether a text decodes to these bytes, or not at all, whatever the buffer held before.
 fn is_read_as(text: &[u8], expected: Option<&[u8]>) -> bool {
     let mut bytes = ArrayVec::<u8, 2>::new();
     let _ = bytes.try_push(7);
@@ -92,7 +92,7 @@ fn reads_bytes(rt: HostRuntime) {
     }
 }
 
-/// Puts numbers and bytes.
+/// Prints numbers and bytes.
 fn put(out: &mut Vec<u8>) -> Result<(), AllocError> {
     put_decimal(out, 0u64)?;
     put_decimal(out, 36_893_488_147_419_103_230u128)?;
@@ -114,7 +114,7 @@ fn writes_numbers_and_bytes(rt: HostRuntime) -> Result<(), AllocError> {
     Ok(())
 }
 
-/// The fields of a line, each with whether none is behind it.
+/// The fields of a line, each with whether it is the last.
 const FIELDS: [(&[u8], bool); 4] = [(b"take", false), (b"", false), (b"0", false), (b"", true)];
 
 #[test]

@@ -5,7 +5,8 @@ use board_trace::{CheckEnd, check_trace};
 use std::alloc::Global;
 use std::cell::Cell;
 
-/// What comes first, what comes again and again behind it, and the first wrong line, which is of one digit.
+/// The first bytes, the bytes that repeat after them, and the number of the first wrong line, a
+/// single digit.
 const READERS: [(&[u8], &[u8], u8); 5] = [
     (b"", b"# no trace has comments\n", 1),
     (b"", b"\n", 1),

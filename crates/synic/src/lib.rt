@@ -1,6 +1,6 @@
 //! The interrupt side of a Hyper-V-like partition: one `use` for a program in Rattle.
 //!
-//! A board is handed events, and answers each with a reply and its notices:
+//! A board performs events, and returns a reply to each, with its notices:
 //!
 //! ```rust
 //! let mut board = Board::open(rt.alloc(), 1, 4, 0)?;
@@ -11,7 +11,7 @@
 //! assert_eq!(rt; board.perform(&Event::Take { vp: 0 }, &mut notices), Reply::Taken(Some(vector)));
 //! ```
 //!
-//! A script has its text, and a trace its verdict:
+//! `replay` writes the output of a script, and `check_trace` the verdict on a trace:
 //!
 //! ```rust
 //! let mut script: &[u8] = b"board 1 4 0\nread 0 40000081\n";

@@ -1,4 +1,4 @@
-// What a user meets first, by one `use`.
+// What a user needs first, with a single `use`.
 use crate::{
     Board, CheckEnd, Event, Notice, Notices, PayloadBytes, PortShape, ReplayEnd, Reply, Sint,
     Vector, Vp, check_trace, msr, replay,
@@ -19,7 +19,8 @@ fn a_vector_is_asserted_and_taken(rt: HostRuntime) -> Result<(), Fail> {
     Ok(())
 }
 
-/// Whether processor 0 has its SynIC and its page of messages enabled, and a port to source 2.
+/// Enables the SynIC and the message page of processor 0, and opens a port to source 2. Returns
+/// whether all were done.
 fn is_prepared(board: &mut Board, notices: &mut Notices) -> bool {
     let (vp, sint) = (0, 2);
     let shape = PortShape::Messages { buffers: 2 };

@@ -1,5 +1,5 @@
-//! `synicboard`: a script of events in, the board's answers out; a script of actors and lines in, the
-//! trace of what happened out; or a trace in, and whether it is legal.
+//! `synicboard`: reads a script of events and writes the board's replies; or reads a script of
+//! actors and lines and writes the trace of a run; or reads a trace and writes whether it is legal.
 #![tactic(auto)]
 
 use board_script::{CheckEnd, CrewRun, OpenGate, ReplayEnd, check_trace, crew, replay};
@@ -22,14 +22,14 @@ const NO_MEMORY: u8 = 4;
 
 const STREAM_FAULT: u8 = 5;
 
-/// What the command line asks for.
+/// The result of reading the command line.
 enum Asked {
     Replay,
     Crew,
     Check,
-    /// Nothing more: it asked for help, which was shown, or it was wrong, which was said.
+    /// Nothing to do: help or an error message was printed.
     Nothing(ExitCode),
-    /// It could not be read for want of memory.
+    /// The command line could not be read: an allocation failed.
     Memory,
 }
 
@@ -66,7 +66,7 @@ fn command<'a>(alloc: Global) -> Result<Command<'a>, AllocError> {
 const EXAMPLE: &str =
     "Example:\n  printf 'board 1 1 0\\nassert 0 60\\ntake 0\\n' | synicboard replay";
 
-/// Judges the command line. Help goes to standard output, and what is wrong to standard error.
+/// Parses the command line. Help goes to standard output, and errors to standard error.
 fn judge_command_line(rt: &HostRuntime) -> Asked {
     let words = match env::args(rt) {
         Ok(words) => words,
@@ -88,7 +88,7 @@ fn judge_command_line(rt: &HostRuntime) -> Asked {
     }
 }
 
-/// Why the words of the command line were not read.
+/// Reports why the arguments could not be read.
 fn unreadable(rt: &HostRuntime, error: io::Error) -> Asked {
     if error.kind() == io::ErrorKind::OutOfMemory {
         Asked::Memory
@@ -97,7 +97,7 @@ fn unreadable(rt: &HostRuntime, error: io::Error) -> Asked {
     }
 }
 
-/// Shows what the parser of the command line says: help, or what is wrong.
+/// Prints the message of the parser: help, or an error.
 fn show(rt: &HostRuntime, error: Error) -> Asked {
     if error.kind() == ErrorKind::OutOfMemory {
         return Asked::Memory;
@@ -160,7 +160,7 @@ fn check_input(rt: &HostRuntime) -> ExitCode {
     }
 }
 
-/// Says on standard error what failed. That it may fail too changes no status.
+/// Prints to standard error what failed. A failure to print changes no status.
 fn fail(rt: &HostRuntime, what: &str, status: u8) -> ExitCode {
     let _ = eprintln!(rt; "synicboard: {what}");
     ExitCode::from(status)

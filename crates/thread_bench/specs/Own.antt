@@ -1,4 +1,4 @@
--- What belongs to a board.
+-- Ownership by a board.
 use Rattle.std.specs.Prelude.{◌≡◌, true}
 use Rattle.board_threads.specs.Sharing.{Sharing, Acting}
 use Rattle.board_threads.specs.Settling.{only_raises}
@@ -9,7 +9,7 @@ use Rattle.thread_bench.specs.declared.worker.Worker.{Worker}
 abbrev pub IsOwnActor : Sharing → Acting → Type 0
 IsOwnActor board a = a.of ≡ board.words.name
 
--- a line of this board, which has swept nothing
+-- a line of this board that has swept nothing
 abbrev pub IsOwnLine : Sharing → Token → Type 0
 IsOwnLine board l = (l.of ≡ board.words.name) × (only_raises l.did ≡ true)
 

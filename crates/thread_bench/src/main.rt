@@ -1,4 +1,4 @@
-//! `thread_bench`: what a call of a shared board costs, inside one process.
+//! `thread_bench`: measures the cost of a call of a shared board, inside one process.
 #![tactic(auto)]
 
 mod faults;
@@ -25,14 +25,14 @@ fn main(rt: HostRuntime) -> ExitCode {
     match run(&rt, &rt) {
         Ok(code) => code,
         Err(fault) => {
-            // That the message may fail too changes no status.
+            // A failure to print the message changes no status.
             let _ = eprintln!(rt; "thread_bench: {fault}");
             ExitCode::from(fault.status())
         }
     }
 }
 
-/// Does what the command line asks for.
+/// Runs what the command line selects.
 fn run<R: Threads + Wait + Sync>(rt: &HostRuntime, threads: &R) -> Result<ExitCode, Fault> {
     let names = Workload::ALL.map(|workload| workload.name());
     let program = Program {
@@ -56,8 +56,8 @@ fn run<R: Threads + Wait + Sync>(rt: &HostRuntime, threads: &R) -> Result<ExitCo
     Ok(ExitCode::SUCCESS)
 }
 
-/// Measures a workload and shows it: what is the same each time on standard output, the time on
-/// standard error.
+/// Measures a workload and prints the result: what is the same in each run to standard output, the
+/// time to standard error.
 fn show<R: Threads + Wait + Sync>(
     rt: &HostRuntime,
     threads: &R,

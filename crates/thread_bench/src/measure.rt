@@ -1,4 +1,4 @@
-// A workload that is run, and timed.
+// Running and timing a workload.
 use crate::faults::Fault;
 use crate::workers::{open, run, split};
 use crate::workload::Workload;
@@ -6,7 +6,7 @@ use std::sync::Wait;
 use std::thread::Threads;
 use std::time::Instant;
 
-/// What a workload gave, and how long it took.
+/// The totals of a workload, and its time.
 #[derive(Clone, Copy)]
 pub(crate) struct Measured {
     /// The raises that were fresh, or the interrupts that were taken.
@@ -16,7 +16,7 @@ pub(crate) struct Measured {
 }
 
 impl Measured {
-    /// Nanoseconds a call of one thread, and tenths of them.
+    /// Nanoseconds per call of one thread, and tenths of them.
     pub(crate) fn time_per_call(&self) -> (u64, u64) {
         let tenths = self.nanoseconds.saturating_mul(10);
         let tenths = tenths.checked_div(self.calls as u64).unwrap_or(0);
@@ -24,7 +24,7 @@ impl Measured {
     }
 }
 
-/// Has each thread of a workload make that many calls, on one board after the other.
+/// Has each thread of a workload make that many calls, on one board after another.
 pub(crate) fn measure<R: Threads + Wait + Sync>(
     rt: &HostRuntime,
     threads: &R,
@@ -44,7 +44,8 @@ pub(crate) fn measure<R: Threads + Wait + Sync>(
     Ok(measured)
 }
 
-/// Has each thread make so many calls on one board, and settles it. The threads' work is timed.
+/// Has each thread make that many calls on one board, and settles it. Only the threads' work is
+/// timed.
 fn measure_board<R: Threads + Wait + Sync>(
     rt: &HostRuntime,
     threads: &R,

@@ -1,4 +1,4 @@
-// What a thread has, and what it does.
+// What a thread owns, and what it does.
 ghost use Rattle.std.specs.Prelude.{◌≡◌, ◌≤◌, IfOk};
 ghost use Rattle.thread_bench.specs.Own.{IsOwn};
 
@@ -12,13 +12,13 @@ use synic_board::{Event, Reply};
 /// How many processors a board has.
 pub(crate) const PROCESSORS: u8 = 8;
 
-/// The vector that is asserted.
+/// The asserted vector.
 const ASSERTED: u8 = 0x60;
 
-/// After so many raises a thread absorbs one word.
+/// A thread absorbs one word after this many raises.
 const RAISES: u32 = 1024;
 
-/// The actor and the line of a thread, and how many of its calls had an effect that is counted.
+/// The actor and the line of a thread, and how many of its calls had the counted effect.
 #[derive(Drop)]
 pub(crate) struct Worker {
     pub(crate) actor: Actor,
@@ -45,7 +45,7 @@ pub(crate) fn work<R: Wait>(
     }
 }
 
-/// Raises vectors, 32 over all words before the next 32, and absorbs one word after the next.
+/// Raises vectors, 32 over all words before the next 32, and absorbs the words in turn.
 #[inline(never)]
 fn raise_all<R: Wait>(
     rt: &R,
@@ -121,7 +121,7 @@ fn perform_all<R: Wait>(
     })
 }
 
-/// The event of a turn: on one processor after the next an assert, a take, an end and a tick.
+/// The event of a turn: an assert, a take, an EOI and a tick, on one processor after another.
 fn event_at(turn: u32) -> Event {
     let vp = (turn / 4 % 8) as u8;
     match turn % 4 {

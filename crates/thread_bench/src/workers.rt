@@ -14,7 +14,7 @@ use std::thread::{Threads, join};
 /// How many guest pages a board has.
 const PAGES: u8 = 4;
 
-/// What the workers of a board were taken apart into, and what they counted together.
+/// The workers of a board, taken apart, and the sum of their counts.
 #[derive(Drop)]
 pub(crate) struct Parts {
     pub(crate) actors: Vec<Actor>,
@@ -22,7 +22,7 @@ pub(crate) struct Parts {
     pub(crate) counted: u64,
 }
 
-/// A board with so many workers.
+/// A board with that many workers.
 pub(crate) fn open(alloc: Global, count: u8) -> Result<(SharedBoard, Vec<Worker>), Fault>
     ensures eight { IfOk result (λ r. r.0.words.processors ≡ 8) }
     ensures own { IfOk result (λ r. All (IsOwn r.0) r.1.items) }
@@ -32,7 +32,7 @@ pub(crate) fn open(alloc: Global, count: u8) -> Result<(SharedBoard, Vec<Worker>
     Ok((board, workers))
 }
 
-/// A board with so many actors and lines.
+/// A board with that many actors and lines.
 fn open_parts(alloc: Global, count: u8) -> Result<(SharedBoard, Vec<Actor>, Vec<Line>), OpenFault>
     ensures eight { IfOk result (λ r. r.0.words.processors ≡ 8) }
     ensures actors { IfOk result (λ r. All (IsOwnActor r.0) r.1.items) }
@@ -68,7 +68,7 @@ fn pair(
     Ok(workers)
 }
 
-/// Each worker does a job in a thread of its own, by halves.
+/// Runs the job of each worker in a thread of its own, started by halves.
 pub(crate) fn run<R: Threads + Wait + Sync>(
     rt: &R,
     board: &SharedBoard,

@@ -1,29 +1,30 @@
-// The workloads by their names.
+// The names of the workloads.
 ghost use Rattle.std.specs.Prelude.{◌≤◌};
 
-/// How many events are performed on one board at most: a history has room for 65,536 entries.
+/// The greatest number of events on one board: a history holds 65,536 entries.
 const MOST_EVENTS: u32 = 60_000;
 
-/// How many vectors each thread raises on one board at most: each 1024th turn enters an absorb.
+/// The greatest number of raises of each thread on one board: each 1024th turn adds an absorb to
+/// the history.
 const MOST_RAISES: u32 = 8_000_000;
 
-/// What each thread does over and over.
+/// What each thread repeats.
 #[derive(Clone, Copy, PartialEq, Eq, Debug)]
 pub(crate) enum Job {
-    /// Its line raises vectors over all processors, and its actor absorbs a word now and then.
+    /// Its line raises vectors over all processors, and its actor occasionally absorbs a word.
     Raise,
     /// Its actor performs events without payload.
     Perform,
 }
 
-/// How many threads there are.
+/// The number of threads.
 #[derive(Clone, Copy, PartialEq, Eq, Debug)]
 pub(crate) enum ThreadCount {
     One,
     Four,
 }
 
-/// What is measured.
+/// A measurement.
 #[derive(Clone, Copy, PartialEq, Eq, Debug)]
 pub(crate) struct Workload {
     pub(crate) job: Job,
@@ -64,7 +65,7 @@ impl Workload {
         },
     ];
 
-    /// The name, as the command line has it.
+    /// The name on the command line.
     pub(crate) fn name(self) -> &'static str {
         match (self.job, self.threads) {
             (Job::Raise, ThreadCount::One) => "raise-1",
@@ -74,7 +75,7 @@ impl Workload {
         }
     }
 
-    /// How many calls each thread makes on one board at most.
+    /// The greatest number of calls of each thread on one board.
     pub(crate) fn most(self) -> u32
         ensures { 1 ≤ result }
     {

@@ -1,4 +1,4 @@
-// Crews, and what is judged of them before a thread is started.
+// Crews, and the faults that prevent them from being started.
 ghost use Rattle.std.specs.Prelude.{◌≡◌, IfOk, length};
 
 use crate::ends::{End, NEW, end_of};
@@ -12,24 +12,24 @@ use std::test::Fail;
 use std::thread::Threads;
 use synic_board::Event;
 
-/// A step that no crew makes.
+/// A step that no crew may have.
 #[derive(Clone, Copy)]
 enum Flaw {
     None,
     /// The setup ends with an absorb.
     InSetup,
-    /// So does the script of an actor more.
+    /// The script of an additional actor does.
     InActor,
-    /// A line more raises at this processor.
+    /// An additional line raises at this processor.
     InLine(u8),
 }
 
-/// How large a crew is. Each of its actors and lines has one step.
+/// The size of a crew. Each of its actors and lines has one step.
 #[derive(Clone, Copy)]
 struct Crew {
     processors: u8,
     pages: u8,
-    /// The events of its setup.
+    /// The number of events in its setup.
     ticks: usize,
     actors: usize,
     lines: usize,
@@ -45,7 +45,7 @@ const SMALL: Crew = Crew {
     flaw: Flaw::None,
 };
 
-/// As large as crews are.
+/// The greatest crew.
 const LARGE: Crew = Crew {
     processors: 8,
     pages: 64,
@@ -59,9 +59,9 @@ const BAD_SIZE: Result<usize, CrewFault> = Err(CrewFault::BadSize);
 
 const BAD_STEP: Result<usize, CrewFault> = Err(CrewFault::BadStep);
 
-/// Crews, how many entries their histories have, and how many calls pass the gate.
+/// Crews, the number of entries of their histories, and the number of calls that pass the gate.
 const CREWS: [(Crew, Result<usize, CrewFault>, u64); 25] = [
-    // With the ticks and the actors' steps there are four absorbs for each processor.
+    // In addition to the ticks and the actors' steps, there are four absorbs for each processor.
     (SMALL, Ok(11), 4),
     (LARGE, Ok(65_536), 31),
     (
@@ -117,7 +117,7 @@ const CREWS: [(Crew, Result<usize, CrewFault>, u64); 25] = [
         BAD_SIZE,
         0,
     ),
-    // A bad step makes no difference then.
+    // An invalid step makes no difference then.
     (
         Crew {
             processors: 0,
@@ -292,7 +292,7 @@ fn lines_of(alloc: Global, crew: &Crew) -> Result<Vec<Vec<(Vp, Vector)>>, AllocE
     Ok(lines)
 }
 
-/// How many entries the history of a crew has.
+/// The number of entries in the history of a crew.
 fn ran<R: Threads + Wait + Sync>(
     rt: &R,
     alloc: Global,
@@ -335,7 +335,7 @@ fn worked<R: Threads + Wait + Sync>(rt: &R, alloc: Global, gate: &Watch) -> Resu
     }
 }
 
-/// What the lines were answered.
+/// The results of the lines' raises.
 fn answers_of(raised: &[Vec<Raised>]) -> Option<[Raised; 3]> {
     let [first, second] = raised else {
         return None;
@@ -360,7 +360,7 @@ fn each_call_of_a_worker_passes_the_gate_once(rt: HostRuntime) -> Result<(), Fai
         End {
             entries: 10,
             calls: [8, 1, 1],
-            // The last absorbs leave nothing, and the greatest vector is the next.
+            // After the last absorbs no bit is set, and the greatest vector is the next.
             absorbed: 0x3_0000_0000,
             next: Some(0x61),
             next_ticket: 2,

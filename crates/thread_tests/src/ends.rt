@@ -1,18 +1,18 @@
-// What a shared board with one processor comes to.
+// The result of settling a shared board with one processor.
 ghost use Rattle.std.specs.Prelude.{◌≡◌, length};
 
 use board_terms::{Ticket, Vp};
 use board_threads::{ActorCalls, Ended, Standing};
 use synic_board::{Entry, Event};
 
-/// What a board comes to when it is settled.
+/// The result of settling a board.
 #[derive(Clone, Copy, PartialEq, Eq, Debug)]
 pub(crate) struct End {
-    /// How many entries its history has.
+    /// The number of entries in its history.
     pub(crate) entries: usize,
-    /// How many calls actors 0, 1 and 2 made.
+    /// The number of calls of actors 0, 1 and 2.
     pub(crate) calls: [usize; 3],
-    /// What all absorbs of the history took.
+    /// The bits taken by all absorbs of the history.
     pub(crate) absorbed: u64,
     /// The next vector of its processor.
     pub(crate) next: Option<u8>,
@@ -20,7 +20,7 @@ pub(crate) struct End {
     pub(crate) standing: [u64; 4],
 }
 
-/// What a board comes to on which nothing was done.
+/// The result for a board on which nothing was done.
 pub(crate) const NEW: End = End {
     entries: 0,
     calls: [0; 3],

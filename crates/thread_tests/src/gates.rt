@@ -4,7 +4,7 @@ ghost use Rattle.std.specs.Prelude.{◌<◌};
 use board_threads::{Gate, Worker};
 use std::sync::{Mutex, Wait};
 
-/// What a gate has seen. Actors stand at their numbers, lines at 16 and more.
+/// What a gate has observed. Actors are indexed by their numbers, lines from 16 on.
 #[derive(Clone, Copy)]
 struct Seen {
     entered: [u64; 32],
@@ -12,7 +12,7 @@ struct Seen {
     out_of_turn: bool,
 }
 
-/// Looks that each worker's calls come one by one and are numbered from 0, and counts them.
+/// Checks that each worker's calls are sequential and numbered from 0, and counts them.
 #[derive(Drop)]
 pub(crate) struct Watch {
     seen: Mutex<Seen>,
@@ -29,12 +29,12 @@ impl Watch {
         }
     }
 
-    /// How many calls of a worker have left.
+    /// How many calls of a worker have left the gate.
     pub(crate) fn count<R: Wait>(&self, rt: &R, who: Worker) -> u64 {
         self.seen.lock(rt).left[place_of(who)]
     }
 
-    /// How many calls of all workers have entered.
+    /// How many calls of all workers have entered it.
     pub(crate) fn count_all<R: Wait>(&self, rt: &R) -> u64 {
         let mut all = 0u64;
         for count in self.seen.lock(rt).entered {
@@ -43,7 +43,7 @@ impl Watch {
         all
     }
 
-    /// Whether a call came out of its turn.
+    /// Whether a call was out of order.
     pub(crate) fn is_out_of_turn<R: Wait>(&self, rt: &R) -> bool {
         self.seen.lock(rt).out_of_turn
     }

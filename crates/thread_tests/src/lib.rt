@@ -1,4 +1,4 @@
-//! Tests of boards that threads share, and of crews. There is nothing else here.
+//! Tests of shared boards and of crews.
 #![tactic(auto)]
 
 #[cfg(test)]

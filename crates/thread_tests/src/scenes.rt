@@ -1,4 +1,4 @@
-// A shared board with two actors and a line that are its own, so that a scene asks nothing of who calls it.
+// A shared board that owns two actors and a line, so that a scene has no precondition.
 ghost use Rattle.std.specs.Prelude.{◌≡◌, true, IfOk, length};
 ghost use Rattle.board_threads.specs.Settling.{only_raises};
 
@@ -25,7 +25,8 @@ pub(crate) struct Scene {
     ghost raises: { only_raises line.did ≡ true },
 }
 
-/// What one thread does at a scene. All but the raises are calls of the first actor, if they say no other.
+/// A call of one thread in a scene. All except the raises are calls of the first actor, unless
+/// noted.
 #[derive(Clone, Copy)]
 pub(crate) enum Call {
     /// The line raises a vector of processor 0.
@@ -33,23 +34,23 @@ pub(crate) enum Call {
     Absorb { vp: u8, part: u8 },
     /// The second actor absorbs part 1 of processor 0.
     AbsorbAsOther,
-    /// An absorb of bit 32 of part 1 is performed as an event.
+    /// Performs an absorb of bit 32 of part 1 as an event.
     PerformAbsorb,
     Take { vp: u8 },
-    /// So many ticks to moment 0.
+    /// That many ticks to time 0.
     Ticks(u32),
-    /// A tick on another board, which is settled then.
+    /// A tick on another board, which is settled afterwards.
     TickElsewhere,
 }
 
-/// What a call was answered.
+/// The result of a call.
 #[derive(Clone, Copy, PartialEq, Eq, Debug)]
 pub(crate) enum Answer {
     Raised(Raised),
     /// The entry has these bits.
     Absorbed(u64),
     Taken(Option<u8>),
-    /// So many ticks were done.
+    /// That many ticks were done.
     Ticked(u32),
     Refused(Refusal),
     Failed(CallFault),
@@ -57,7 +58,7 @@ pub(crate) enum Answer {
     Otherwise,
 }
 
-/// How many actors and lines come back to be settled.
+/// How many actors and lines are returned when the board is settled.
 #[derive(Clone, Copy)]
 pub(crate) struct Back {
     pub(crate) actors: usize,
@@ -70,7 +71,7 @@ pub(crate) const ALL: Back = Back {
 };
 
 impl Scene {
-    /// `None` where there is no memory.
+    /// `None` if an allocation fails.
     pub(crate) fn open(alloc: Global) -> Option<Scene> {
         let (board, mut actors, mut lines) = opened(alloc, 1, 2, 1)?;
         match (
@@ -149,7 +150,7 @@ impl Scene {
         }
     }
 
-    /// Those that are left come back, and the board is settled.
+    /// Returns the remaining actors and lines, and settles the board.
     pub(crate) fn settle(self, alloc: Global, back: Back) -> Result<Ended, SettleFault>
         ensures { IfOk result (λ e. length e.standing ≡ 4) }
     {
@@ -181,7 +182,7 @@ fn answer_to(performed: Result<Reply, CallFault>) -> Answer {
     }
 }
 
-/// The bits of an absorb stand in the last call of its actor.
+/// The bits of an absorb are in the last call of its actor.
 fn answer_to_absorb(absorbed: Result<Reply, CallFault>, calls: &[(Event, Reply)]) -> Answer {
     match (absorbed, calls.last()) {
         (Ok(Reply::Done), Some((Event::Absorb { bits, .. }, _))) => Answer::Absorbed(*bits),

@@ -24,7 +24,7 @@ pub(crate) fn with_port(alloc: Global) -> Result<Setup, AllocError>
     })
 }
 
-/// A message with one byte is posted to port 3.
+/// A post of one byte to port 3.
 pub(crate) fn say(byte: u8) -> Step {
     Step::Act(post(3, &[byte]))
 }
@@ -38,7 +38,7 @@ fn raise_61(vp: Vp) -> (Vp, Vector) {
     (vp, Vector::new(0x61).unwrap())
 }
 
-/// Two actors that post a message each, and two lines, one of which raises its vector twice.
+/// Two actors that each post a message, and two lines, one of which raises its vector twice.
 pub(crate) fn posts_and_raises(alloc: Global) -> Result<Scripts, AllocError> {
     let one = Vec::from_array(alloc, [say(0x0a)])?;
     let other = Vec::from_array(alloc, [say(0x0b)])?;

@@ -10,7 +10,7 @@ struct Sizes {
     lines: u8,
 }
 
-/// What is opened.
+/// The sizes of an opened board.
 #[derive(Clone, Copy, PartialEq, Eq, Debug)]
 struct Opened {
     processors: u8,

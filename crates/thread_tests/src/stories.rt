@@ -1,4 +1,4 @@
-// What one thread does on a shared board, and what the board comes to then.
+// Sequences of calls of one thread on a shared board, and the result of settling it.
 use crate::ends::{End, NEW, end_of};
 use crate::scenes::{ALL, Answer, Back, Call, Scene};
 use board_terms::Refusal;
@@ -40,7 +40,7 @@ const STORIES: [Story; 12] = [
             (Call::Raise(0x60), Answer::Raised(Raised::Already)),
         ],
         back: ALL,
-        // What was absorbed is the next vector, and what was raised again stands.
+        // The absorbed vector is the next one, and the vector raised again is still set.
         end: Ok(End {
             entries: 1,
             calls: [1, 0, 0],
@@ -119,7 +119,7 @@ const STORIES: [Story; 12] = [
             (Call::Absorb { vp: 0, part: 1 }, FULL),
             (Call::Absorb { vp: 1, part: 1 }, FULL),
             (Call::AbsorbAsOther, FULL),
-            // That an absorb is no event is judged first.
+            // An absorb performed as an event is reported first.
             (Call::PerformAbsorb, Answer::Failed(CallFault::AbsorbEvent)),
         ],
         back: ALL,
@@ -131,7 +131,8 @@ const STORIES: [Story; 12] = [
         }),
     },
     Story {
-        // The one board lacks the call in its history, and the other has one that none of its actors made.
+        // The history of the one board lacks the call, and that of the other has one that none of
+        // its actors made.
         name: "a call on another board is a mismatch of both",
         calls: &[(
             Call::TickElsewhere,

@@ -1,8 +1,8 @@
-//! Laws of the definitions.
+//! Theorems about the definitions.
 ghost use Rattle.std.specs.Prelude.{◌≡◌, [], codes, replicate};
 ghost use Rattle.board_script.specs.Output.{text};
 
-/// What is written for some small scripts.
+/// The outputs of some small scripts.
 pub fn worked_texts()
     ensures empty { text [] ≡ codes "! 1 first\n" }
     ensures comment { text (codes "#\n") ≡ codes "! 2 first\n" }

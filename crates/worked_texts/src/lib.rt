@@ -1,5 +1,5 @@
-//! What is written for some small scripts, byte for byte, by the definitions alone. It stands apart from
-//! the texts of scripts, since the prover performs these scripts each time that it reads this crate.
+//! The outputs of some small scripts, byte for byte, by the definitions alone. This is a crate of
+//! its own because the prover evaluates these scripts each time that it checks the crate.
 #![tactic(auto)]
 
 pub mod laws;
