@@ -62,7 +62,7 @@ impl Notices {
         Ok(Notices { items })
     }
 
-    /// Appends a notice. Never allocates.
+    /// Appends a notice. Never allocates. Requires fewer than 320 notices in the list.
     pub fn push(&mut self, notice: Notice)
         requires { length self.old < 320 }
         ensures { self.new ≡ self.old ++ notice ∷ [] }

@@ -8,7 +8,7 @@ use crate::numbers::glyph_of;
 /// The capacity of the buffer.
 pub const ROOM: usize = 96;
 
-/// Writes a text that ends before `at`, and returns where it begins.
+/// Writes a text that ends before `at`, and returns where it begins. Requires that it fits.
 #[inline(always)]
 pub fn text_before<const N: usize>(room: &mut [u8; ROOM], at: usize, text: &[u8; N]) -> usize
     requires place { at ≤ 96 }
@@ -21,7 +21,8 @@ pub fn text_before<const N: usize>(room: &mut [u8; ROOM], at: usize, text: &[u8;
     start
 }
 
-/// Writes a decimal number that ends before `at`, and returns where it begins.
+/// Writes a decimal number that ends before `at`, and returns where it begins. Requires 20 bytes
+/// before `at`.
 #[inline(always)]
 pub fn decimal_before(room: &mut [u8; ROOM], at: usize, n: u64) -> usize
     requires place { at ≤ 96 }
@@ -43,6 +44,7 @@ pub fn decimal_before(room: &mut [u8; ROOM], at: usize, n: u64) -> usize
 }
 
 /// Writes a byte as two hexadecimal digits that end before `at`, and returns where it begins.
+/// Requires two bytes before `at`.
 #[inline(always)]
 pub fn byte_before(room: &mut [u8; ROOM], at: usize, byte: u8) -> usize
     requires place { at ≤ 96 }

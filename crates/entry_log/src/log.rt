@@ -64,6 +64,7 @@ impl EntryLog {
     }
 
     /// Appends an event, its reply, and the number of the actor that performed it. Never allocates.
+    /// Requires capacity, which `reserve` ensures.
     pub fn push(&mut self, actor: u8, event: &Event, reply: &Reply)
         requires { self.old.has_room ≡ true }
         ensures { self.new.entries ≡ self.old.entries ++ entry actor event.now reply.now ∷ [] }

@@ -50,7 +50,7 @@ fn fits(shape: PortShape) -> bool
 }
 
 impl Ports {
-    /// All ports closed, on a board with that many processors.
+    /// All ports closed, on a board with that many processors, 1 to 8.
     pub fn new(processors: u8) -> Ports
         requires some { 1 ≤ processors }
         requires few { processors ≤ 8 }

@@ -52,7 +52,7 @@ appended qs p i m = with_queue qs p i (queue_of qs p i ++ m ∷ [])
 abbrev pub after_place : Queues → Processor → Source → Queues
 after_place qs p i = with_queue qs p i (drop 1 (queue_of qs p i))
 
--- removes the messages of a port from a queue: returns their tickets, front first, and the rest in order
+-- the tickets of a port's messages in a queue, front first; and the other messages, in order
 abbrev pub withdrawn_of : PortNumber → List Message → List Ticket
 withdrawn_of port q = map ticket_of (filter (is_from_port port) q)
 

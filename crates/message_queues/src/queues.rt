@@ -43,8 +43,8 @@ impl Model for Queues {
 }
 
 impl Queues {
-    /// Empty queues for that many processors, with capacity for 288 messages. The only call here
-    /// that allocates.
+    /// Empty queues for that many processors, 1 to 8, with capacity for 288 messages. The only call
+    /// here that allocates.
     pub fn open(alloc: Global, processors: u8) -> Result<Queues, AllocError>
         requires some { 1 ≤ processors }
         requires few { processors ≤ 8 }
@@ -67,7 +67,8 @@ impl Queues {
         })
     }
 
-    /// Appends a message to a queue. Never allocates.
+    /// Appends a message to a queue. Never allocates. Requires that the processor has queues here,
+    /// and that the message has a free buffer (`port_used`, `timer_buffer_free`).
     #[inline]
     pub fn append(&mut self, vp: Vp, sint: Sint, message: Message)
         requires on_the_board { source_number vp sint < length self.old }
@@ -80,7 +81,8 @@ impl Queues {
         let _ = push(&mut self.buffers, chain, message);
     }
 
-    /// Removes and returns the head of a queue, if there is one.
+    /// Removes and returns the head of a queue, if there is one. Requires that the processor has
+    /// queues here.
     #[inline]
     #[inline(always)]
     pub fn place(&mut self, vp: Vp, sint: Sint) -> Option<Message>

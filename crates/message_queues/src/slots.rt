@@ -97,7 +97,7 @@ fn timer_payload(index: u8, expiration: Moment, delivery: Moment) -> [u8; 24]
     payload
 }
 
-/// The type of the message in a slot of a SIM page. The slot is empty iff it is 0.
+/// The type of the message in a slot of a SIM page of 4096 bytes. The slot is empty iff it is 0.
 #[inline]
 pub fn slot_type(page: &[u8], sint: Sint) -> u32
     requires { length page.now ≡ 4096 }

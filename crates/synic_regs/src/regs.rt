@@ -63,7 +63,7 @@ impl SynicRegs {
     }
 
     /// Writes SCONTROL, SIEFP, SIMP or a source. A source whose vector is below 16 must be masked,
-    /// or the write is refused (profile). A write to any other register stores nothing here.
+    /// or the write raises #GP (profile). Requires one of these registers.
     pub fn write(&mut self, register: Register, value: u64) -> Outcome
         requires { IsTrue (stores register) }
         ensures outcome { result ≡ outcome_of register value }
@@ -91,7 +91,7 @@ impl SynicRegs {
         Outcome::Stored
     }
 
-    /// The value of SCONTROL, SIEFP, SIMP or a source.
+    /// The value of SCONTROL, SIEFP, SIMP or a source. Requires one of these registers.
     pub fn read(&self, register: Register) -> u64
         requires { IsTrue (stores register) }
         ensures { result ≡ value_of self.now register }

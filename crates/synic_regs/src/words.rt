@@ -121,7 +121,7 @@ impl SintWord {
         self.contains(SintWord::MASKED) || self.contains(SintWord::POLLING)
     }
 
-    /// The vector that the source raises.
+    /// The vector that the source raises. Requires a legal value.
     pub fn raised(self) -> Option<Vector>
         requires { IsTrue (is_legal self.0) }
         ensures { result ≡ raised_by_word self.0 }
@@ -134,7 +134,7 @@ impl SintWord {
     }
 
     /// The vector that the source makes auto-EOI: the one that it raises, if it has the AutoEOI
-    /// bit.
+    /// bit. Requires a legal value.
     pub fn auto_eoi(self) -> Option<Vector>
         requires { IsTrue (is_legal self.0) }
         ensures { result ≡ (if has self.0 auto_eoi then raised_by_word self.0 else None) }
