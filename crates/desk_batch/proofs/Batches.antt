@@ -1,4 +1,4 @@
--- A batch goes on by one event.
+-- A batch continues by one event.
 use Rattle.std.proofs.Common.{◌≡◌, ℕ, ◌+◌, ◌<◌, ◌≤◌, List, [], ◌∷◌, ◌++◌, ap, sym, subst, ◌∙◌, refl, arith, length, take, map, drop, set, slice_get, get_or, None, Some, Option, append_assoc, append-nil}
 use Rattle.std.proofs.lemmas.List.{take_more, map-append, length-map, length_push, length-take-le, length-append}
 use Rattle.std.proofs.lemmas.Option.{slice_get-get_or}
@@ -16,11 +16,11 @@ use Rattle.synic_board.specs.Step.{step}
 use Rattle.desk_batch.specs.Batches.{Performed, Behind, batch, empty, followed_by, MeansNone}
 use Rattle.desk_batch.proofs.Rooms.{fronts_none, fronts_push, fronts_more}
 
--- a batch, and one outcome behind it
+-- a batch, and then one more outcome
 abbrev pub and_then : Performed → Outcome → Performed
 and_then b o = record { desk = (o.0, o.2); replies = b.replies ++ reply_told o.1 (length o.2) ∷ []; notices = b.notices ++ o.2 }
 
--- where the first event means one, and where it means none
+-- the first event is valid, or it is not
 goes : (d : Behind) (e : PlainEvent) (es : List PlainEvent) (event : Event) → event_meant e ≡ Some event → batch d (e ∷ es) ≡ followed_by (step d.0 event) (batch ((step d.0 event).0, (step d.0 event).2) es)
 unfolding batch
 goes d e es event means = rw means
@@ -29,7 +29,7 @@ stops : (d : Behind) (e : PlainEvent) (es : List PlainEvent) → event_meant e �
 unfolding batch
 stops d e es means = rw means
 
--- events that each mean one, and one more
+-- valid events, and one more
 pub batch_push : (d : Behind) (es : List PlainEvent) (e : PlainEvent) (event : Event) → length (batch d es).replies ≡ length es → event_meant e ≡ Some event →
     batch d (es ++ e ∷ []) ≡ and_then (batch d es) (step (batch d es).desk.0 event)
 unfolding batch
@@ -50,11 +50,11 @@ batch_push d (x ∷ es) e event all means =
           ∙ sym (ap (λ (c : Performed). and_then c (step c.desk.0 event)) now)
     ] refl
 
--- the next event means none
+-- the next event is invalid
 pub next_none : (es : List PlainEvent) (n : ℕ) (x : PlainEvent) → n < length es → event_meant (get_or es n x) ≡ None → MeansNone (slice_get es n)
 next_none es n x lt means = rw (slice_get-get_or es n x lt) means
 
--- a batch was performed: the desk and the rooms are as it says, and there was room for all of it
+-- the result of a batch: the desk and the buffers are as defined, and everything fitted
 pub record IsDone (b : Performed) (d : Behind) (n m : ℕ) (rs rs' : List PlainReply) (ns ns' : List PlainNotice) : Type 0 where
   pub desk : d ≡ b.desk
   pub replies : Fronts b.replies rs rs'
@@ -67,12 +67,12 @@ pub done_none : (d : Behind) (rs : List PlainReply) (ns : List PlainNotice) → 
 unfolding batch
 done_none d rs ns = record { desk = refl; replies = fronts_none rs; notices = fronts_none ns; done = refl; told = refl; fits = (omega arith, omega arith) }
 
--- what comes to something means an event
+-- an event with an outcome is valid
 means_one : (meant : Option Event) (s : State) (o : Outcome) → ComesTo meant s o → (event : Event) × (meant ≡ Some event) × (o ≡ step s event)
 means_one None s o none = absurd none
 means_one (Some event) s o is = (event, refl, is)
 
--- the next event means one, is performed, and what it tells is put behind the rest
+-- the next event is valid, is performed, and its reply and notices are appended
 pub done_more : (d : Behind) (es : List PlainEvent) (x : PlainEvent) (now : Behind) (o : Outcome) (n m : ℕ) (rs rs' : List PlainReply) (ns ns' rest : List PlainNotice) →
     IsDone (batch d (take n es)) now n m rs rs' ns ns' → n < length es → ComesTo (event_meant (get_or es n x)) now.0 o → n < length rs → m + length o.2 ≤ length ns → Fronts (map notice_told o.2) (drop m ns') rest →
     IsDone (batch d (take (n + 1) es)) (o.0, o.2) (n + 1) (m + length o.2) rs (set rs' n (reply_told o.1 (length o.2))) ns (take m ns' ++ rest)

@@ -1,4 +1,4 @@
--- What events in plain numbers come to, one after another.
+-- The outcome of several plain events, one after another.
 use Rattle.std.specs.Prelude.{◌≡◌, List, [], ◌∷◌, ◌++◌, length, Option, Some, None}
 use Rattle.std.specs.Option.{option_map_or}
 use Rattle.board_desk.specs.declared.Desk.{Desk}
@@ -18,7 +18,7 @@ Behind = State × List Notice
 abbrev pub behind : Desk → Behind
 behind desk = (desk.board.state, desk.notices)
 
--- what a batch leaves behind, each reply with the number of its notices, and the notices of all
+-- the board after a batch, each reply with the number of its notices, and all notices
 pub record Performed : Type 0 where
   pub desk : Behind
   pub replies : List PlainReply
@@ -28,16 +28,16 @@ pub record Performed : Type 0 where
 abbrev pub empty : Behind → Performed
 empty d = record { desk = d; replies = []; notices = [] }
 
--- an event, and a batch from where it leaves off
+-- an event, and then a batch
 abbrev pub followed_by : Outcome → Performed → Performed
 followed_by o b = record { desk = b.desk; replies = reply_told o.1 (length o.2) ∷ b.replies; notices = o.2 ++ b.notices }
 
--- events one after another, as far as each means one
+-- events one after another, up to the first that is invalid
 unfoldable pub batch : Behind → List PlainEvent → Performed
 batch d [] = empty d
 batch d (e ∷ es) = option_map_or (λ event. let o = step d.0 event in followed_by o (batch (o.0, o.2) es)) (event_meant e) (empty d)
 
--- a plain event that is there, and means none
+-- there is a next event, and it is invalid
 abbrev pub MeansNone : Option PlainEvent → Type 0
 MeansNone (Some e) = event_meant e ≡ None
 MeansNone None = ⊥

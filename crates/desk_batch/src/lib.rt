@@ -1,4 +1,4 @@
-//! Events in plain numbers, one after another.
+//! Batches of plain events.
 #![tactic(auto)]
 
 ghost use Rattle.std.specs.Prelude.{◌≡◌, ◌≤◌, ◌<◌, ◌+◌, ◌⊎◌, length, take, map, slice_get};
@@ -9,33 +9,33 @@ ghost use Rattle.desk_batch.specs.Batches.{behind, batch, MeansNone};
 use board_desk::Desk;
 use plain_terms::{PlainEvent, PlainNotice, PlainReply, perform_plain, plain_reply, put_plain};
 
-/// No event gives more notices.
+/// The greatest number of notices of an event.
 const MOST_NOTICES: usize = 276;
 
-/// Why a batch went no further.
+/// Why a batch stopped.
 #[derive(Clone, Copy, PartialEq, Eq, Debug)]
 pub enum BatchEnd {
     /// Each event was performed.
     All = 0,
-    /// The next one means no event.
+    /// The next event is invalid.
     NoEvent = 2,
-    /// There is no room for one more reply, or for 276 more notices.
+    /// One more reply, or 276 more notices, might not fit.
     NoRoom = 3,
 }
 
-/// How far a batch came.
+/// The result of a batch.
 #[derive(Clone, Copy)]
 pub struct Batch {
-    /// Why it went no further.
+    /// Why it stopped.
     pub end: BatchEnd,
-    /// How many events were performed.
+    /// How many events it performed.
     pub done: usize,
-    /// How many notices they gave.
+    /// How many notices they emitted.
     pub told: usize,
 }
 
-/// Performs events in order, as long as each means one and there is room for what it tells: its reply,
-/// and 276 notices. The notices of all stand one behind another; each reply says how many are its.
+/// Performs events in order. Stops before an event that is invalid, or if no reply fits, or fewer
+/// than 276 notices fit. The notices of all events follow one another; each reply counts its own.
 pub fn perform_all(
     desk: &mut Desk,
     events: &[PlainEvent],

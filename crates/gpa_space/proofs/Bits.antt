@@ -8,7 +8,7 @@ use Rattle.std.proofs.lemmas.Nat.Bits.{and_pow, bit_at-lt}
 mask_of : (k : ℕ) → k < 8 → 1 * 2 ^ k % 256 ≡ 2 ^ k
 mask_of k h = search rules
 
--- the test of a mask
+-- a test with a mask
 pub bit_is_clear : (byte k : ℕ) → k < 8 → (bit_and byte (1 * 2 ^ k % 256) == 0) ≡ not (bit_at byte k == 1)
 bit_is_clear byte k h =
     let masked = ap (λ m. bit_and byte m == 0) (mask_of k h) in

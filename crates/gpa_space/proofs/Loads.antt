@@ -8,7 +8,7 @@ use Rattle.gpa_space.specs.Page.{overwritten}
 use Rattle.gpa_space.specs.Space.{Space, lies_at, visible, shown, with_shown, refusal_of, loaded}
 use Rattle.gpa_space.specs.Laws.{IsWhole, StoredBytesAreLoaded}
 
--- the bytes that were put at a place stand there
+-- the bytes that were written at an offset are there
 put_there : (page bytes : List ℕ) (at : ℕ) → at ≤ length page → take (length bytes) (drop at (overwritten page at bytes)) ≡ bytes
 put_there page bytes at h =
     let rest : List ℕ = drop (at + length bytes) page in
@@ -16,18 +16,18 @@ put_there page bytes at h =
     let seam = rw (length-take-le at page h) at (drop-append_seam (take at page) (bytes ++ rest)) in
     ap (take (length bytes)) (joined ∙ seam) ∙ take-append_seam bytes rest
 
--- where nothing is refused, the first byte lies in a page
+-- if the access is not refused, its first byte is in a page
 inside : (s : Space) (address count : ℕ) → refusal_of s address count ≡ None → address / 4096 < length s.pages
 inside s address count none = grind (arith, nat_tests)
 
 abbrev Loads : Space → ℕ → List ℕ → Type 0
 Loads t address bytes = loaded t address (length bytes) ≡ Ok (record { items = bytes })
 
--- what is loaded of a page whose bytes were replaced
+-- what is loaded from a page whose bytes were replaced
 loads : (t : Space) (address : ℕ) (page bytes : List ℕ) → refusal_of t address (length bytes) ≡ None → shown t (address / 4096) ≡ overwritten page (address % 4096) bytes → length page ≡ 4096 → Loads t address bytes
 loads t address page bytes none is len = rw (none, is, put_there page bytes (address % 4096) (omega arith)) refl
 
--- a store to the guest page itself
+-- a store to the guest page
 below : (s : Space) (address : ℕ) (bytes : List ℕ) → IsWhole s → refusal_of s address (length bytes) ≡ None → visible s (address / 4096) ≡ None → Loads (with_shown s (address / 4096) (overwritten (shown s (address / 4096)) (address % 4096) bytes)) address bytes
 below s address bytes whole none e =
     let g : ℕ = address / 4096 in

@@ -1,10 +1,10 @@
--- Bytes that are replaced one part after another.
+-- Replacing adjacent parts of the bytes one after another.
 use Rattle.std.proofs.Common.{◌≡◌, ℕ, ◌+◌, ◌-◌, ◌*◌, ◌<◌, ◌≤◌, List, ◌++◌, length, take, drop, replicate, sym, ap, ◌∙◌, subst, arith}
 use Rattle.std.proofs.lemmas.List.{append_assoc, drop-drop, length-append, length-replicate, length-take-le}
 use Rattle.std.proofs.Math.Seq.{take-append_seam, drop-append_seam}
 use Rattle.gpa_space.specs.Page.{overwritten, with_slot, message_bytes}
 
--- one part, and then the one behind it
+-- one part, and then the next one
 pub both : (page x y : List ℕ) (at : ℕ) → at + length x ≤ length page → overwritten (overwritten page at x) (at + length x) y ≡ overwritten page at (x ++ y)
 both page x y at within =
     let rest : List ℕ = drop (at + length x) page in
@@ -18,7 +18,7 @@ both page x y at within =
     ap (λ l. l ++ y ++ drop (at + length x + length y) (front ++ rest)) kept ∙ ap (λ l. front ++ y ++ l) behind
     ∙ ap (λ l. l ++ drop (at + length (x ++ y)) page) (append_assoc (take at page) x y)
 
--- a header, a payload and zeros are a slot's bytes
+-- a header, a payload and zeros are the bytes of a slot
 pub message-written : (page header payload : List ℕ) (sint : ℕ) → length page ≡ 4096 → sint < 16 → length header ≡ 16 → length payload ≤ 240
     → overwritten (overwritten (overwritten page (256 * sint) header) (256 * sint + 16) payload) (256 * sint + (16 + length payload)) (replicate (256 - (16 + length payload)) 0)
     ≡ with_slot page sint (message_bytes header payload)

@@ -1,4 +1,4 @@
--- At which pages overlays lie, when a register is written, and which of them is visible.
+-- Where overlays are mapped after a register write, and which of them is visible.
 use Rattle.std.proofs.Common.{◌≡◌, ◌≢◌, ℕ, ◌/◌, ◌<◌, ◌≤◌, true, false, ◌==◌, List, length, get_or, set, position, bit_and, Option, None, Some, ◌⊎◌, inl, inr, ⊎_elim, sym, ap, ◌∙◌, subst, arith}
 use Rattle.std.specs.List.{position_or_len}
 use Rattle.std.specs.Int.{bit_at}
@@ -9,7 +9,7 @@ use Rattle.std.proofs.lemmas.List.Sums.{position_or_len_is}
 use Rattle.gpa_space.specs.Space.{lies_at}
 use Rattle.gpa_space.specs.inside.Lying.{AreLying, IsLowest, Marks}
 
--- the overlay whose bit is the lowest is visible, and none where no bit is 1
+-- the overlay with the lowest bit set is visible, and none if no bit is set
 pub lowest-lies : (registers words : List ℕ) (page : ℕ) (first : Option ℕ) → AreLying registers words → page < length words → length registers ≤ 16 → IsLowest (get_or words page 0) first → first ≡ position (lies_at page) registers
 lowest-lies registers words page None are within few none =
     let first : position_or_len (lies_at page) registers ≡ length registers =
@@ -22,14 +22,14 @@ lowest-lies registers words page (Some k) are within few low =
     position_or_len_is (lies_at page) registers k 0 (omega arith) (λ i below. sym (are page i within (omega (arith, low.0))) ∙ ap (λ b. b == 1) (low.2 i below)) (λ _. lies) in
     grind (arith, nat_tests)
 
--- an overlay lies at no other page than its register names
+-- an overlay is mapped only at the page that its register names
 elsewhere : (page register : ℕ) → page ≢ register / 4096 → lies_at page register ≡ false
 elsewhere page register other = grind (arith, nat_tests)
 
 there : (page register : ℕ) → page ≡ register / 4096 → lies_at page register ≡ (bit_and register 1 == 1)
 there page register same = grind (arith, nat_tests)
 
--- the overlay left the page that its register named, and came to the one that it names now
+-- the overlay left the page that its register named, and is mapped at the one that it names now
 pub keeps : (xs words once twice : List ℕ) (o y : ℕ) → o < length xs → AreLying xs words
     → Marks words once (get_or xs o 0 / 4096) o false → Marks once twice (y / 4096) o (bit_and y 1 == 1)
     → AreLying (set xs o y) twice

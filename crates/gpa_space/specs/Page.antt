@@ -6,11 +6,11 @@ use Rattle.std.specs.Int.{bit_at}
 abbrev pub zero_page : List ℕ
 zero_page = replicate 4096 0
 
--- the bytes from a place on are replaced
+-- the bytes from an offset on are replaced
 abbrev pub overwritten : List ℕ → ℕ → List ℕ → List ℕ
 overwritten page at bytes = take at page ++ bytes ++ drop (at + length bytes) page
 
--- where the slot or the flags of a source begin
+-- the offset of the slot or the flags of a source
 abbrev pub slot_place : ℕ → ℕ
 slot_place s = 256 * s
 
@@ -18,7 +18,7 @@ slot_place s = 256 * s
 abbrev pub with_slot : List ℕ → ℕ → List ℕ → List ℕ
 with_slot page s slot = take (slot_place s) page ++ slot ++ drop (slot_place s + 256) page
 
--- the 256 bytes of a message: a header of 16, a payload, and zeros behind it
+-- the 256 bytes of a message: a header of 16, a payload, and zeros
 abbrev pub message_bytes : List ℕ → List ℕ → List ℕ
 message_bytes header payload = header ++ payload ++ replicate (240 - length payload) 0
 
@@ -33,6 +33,6 @@ with_bit page at bit = slice_set page at (bit_or (slice_index_or page at 0) (2 ^
 abbrev pub pending_place : ℕ → ℕ
 pending_place s = slot_place s + 5
 
--- where a flag of a source stands
+-- the byte and the bit of a flag of a source
 abbrev pub flag_place : ℕ → ℕ → ℕ
 flag_place s flag = slot_place s + flag / 8

@@ -1,4 +1,4 @@
--- Guest pages, and the overlay pages above them (TLFS, "GPA Overlay Pages").
+-- Guest pages, and the overlay pages that may obscure them (TLFS, "GPA Overlay Pages").
 use Rattle.std.specs.Prelude.{ℕ, Bool, ◌+◌, ◌*◌, ◌/◌, ◌%◌, ◌==◌, ◌&&◌, ◌||◌, not, nat_lt, List, [], Option, None, Some, Result, Ok, Err, position, slice_index_or, slice_set, take, drop, length, replicate, if◌then◌else◌, bit_and}
 use Rattle.std.specs.Option.{option_map_or}
 use Rattle.board_terms.specs.Quantities.{Processor, Source, Flag, PageNumber, Address}
@@ -11,8 +11,7 @@ use Rattle.board_terms.specs.declared.pages.Owner.{Owner}
 use Rattle.board_terms.specs.declared.pages.Owner.TheVariants.{Guest, Sim, Sief, Nothing}
 use Rattle.gpa_space.specs.Page.{zero_page, overwritten, with_slot, is_set, with_bit, pending_place, flag_place}
 
--- the guest pages; the overlays' registers and their own pages, both in the order in which overlays
--- are visible: processor 0 SIM, processor 0 SIEF, processor 1 SIM, and so on (profile)
+-- the guest pages; the overlays' registers and their own pages, both in the order of visibility: processor 0 SIM, processor 0 SIEF, processor 1 SIM, and so on (profile)
 pub record Space : Type 0 where
   pub pages : List (List ℕ)
   pub registers : List ℕ
@@ -34,25 +33,25 @@ overlay_of vp kind.Sief = 2 * vp + 1
 abbrev pub with_register : Space → Processor → Kind → ℕ → Space
 with_register s vp k register = record s { registers = slice_set s.registers (overlay_of vp k) register }
 
--- the word of an overlay's register: bit 0 enables it, and bits 63:12 are a page number
+-- the value of an overlay's register: bit 0 enables it, and bits 63:12 are a page number
 abbrev pub is_enabled : ℕ → Bool
 is_enabled word = bit_and word 1 == 1
 
 abbrev pub page_of : ℕ → PageNumber
 page_of word = word / 4096
 
--- an overlay that is enabled lies at its page number
+-- an enabled overlay is mapped at its page number
 abbrev pub lies_at : PageNumber → ℕ → Bool
 lies_at page word = is_enabled word && (page_of word == page)
 
--- the overlay that is visible at a page: the first that lies there
+-- the overlay that is visible at a page: the first that is mapped there
 abbrev pub visible : Space → PageNumber → Option ℕ
 visible s page = position (lies_at page) s.registers
 
 abbrev pub overlay_owner : ℕ → Owner
 overlay_owner overlay = if overlay % 2 == 0 then Sim (overlay / 2) else Sief (overlay / 2)
 
--- whose page a guest sees
+-- which page a guest sees
 abbrev pub owner_of : Space → PageNumber → Owner
 owner_of s page = if nat_lt page (length s.pages) then option_map_or overlay_owner (visible s page) Guest else Nothing
 
@@ -60,11 +59,11 @@ owner_of s page = if nat_lt page (length s.pages) then option_map_or overlay_own
 abbrev pub shown : Space → PageNumber → List ℕ
 shown s page = option_map_or (λ overlay. slice_index_or s.own overlay []) (visible s page) (slice_index_or s.pages page [])
 
--- other bytes there: what is hidden below stays
+-- other bytes there: obscured bytes stay
 abbrev pub with_shown : Space → PageNumber → List ℕ → Space
 with_shown s page bytes = option_map_or (λ overlay. record s { own = slice_set s.own overlay bytes }) (visible s page) (record s { pages = slice_set s.pages page bytes })
 
--- why a load or a store is refused, in the order in which it is judged
+-- why a load or a store is refused; the checks are in this order
 abbrev pub refusal_of : Space → Address → ℕ → Option Refusal
 refusal_of s address count =
     if (count == 0) || nat_lt 8 count then Some BadLength
@@ -76,7 +75,7 @@ refusal_of s address count =
 abbrev pub loaded : Space → Address → ℕ → Result (ArrayVec ℕ) Refusal
 loaded s address count = option_map_or (λ r. Err r) (refusal_of s address count) (Ok (record { items = take count (drop (address % 4096) (shown s (address / 4096))) }))
 
--- the owner whose page a guest's store touches, and the space after it
+-- the owner of the page that a guest's store writes to, and the space after it
 abbrev pub store_answer : Space → Address → List ℕ → Result Owner Refusal
 store_answer s address bytes = option_map_or (λ r. Err r) (refusal_of s address (length bytes)) (Ok (owner_of s (address / 4096)))
 
@@ -108,6 +107,6 @@ is_flag_set s vp sint flag = is_set (own_page s vp kind.Sief) (flag_place sint f
 abbrev pub after_flag : Space → Processor → Source → Flag → Space
 after_flag s vp sint flag = with_own_page s vp kind.Sief (with_bit (own_page s vp kind.Sief) (flag_place sint flag) (flag % 8))
 
--- both own pages of a processor become zeros
+-- both own pages of a processor are set to zero
 abbrev pub after_clearing : Space → Processor → Space
 after_clearing s vp = with_own_page (with_own_page s vp kind.Sim zero_page) vp kind.Sief zero_page

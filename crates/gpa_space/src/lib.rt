@@ -1,5 +1,5 @@
-//! Guest pages and the overlay pages above them (TLFS, "GPA Overlay Pages"): what a guest sees at a
-//! page, and what the hypervisor writes to the pages of messages and of event flags.
+//! Guest pages and overlay pages (TLFS, "GPA Overlay Pages"): what a guest sees at a page, and what
+//! the hypervisor writes to the message and event flags pages.
 #![tactic(auto)]
 
 mod laws;

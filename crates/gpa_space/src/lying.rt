@@ -1,18 +1,18 @@
-// Which overlays lie at each guest page.
+// Which overlays are mapped at each guest page.
 ghost use Rattle.std.specs.Prelude.{◌≡◌, ◌≢◌, ◌==◌, ℕ, ◌<◌, length, replicate, IfOk, slice_index_or};
 ghost use Rattle.std.specs.Int.{bit_at};
 ghost use Rattle.gpa_space.specs.inside.Lying.{IsLowest, Marks};
 
 use std::alloc::{AllocError, Global};
 
-/// For each guest page a word: bit i is 1 where overlay i lies at the page.
+/// A word for each guest page: bit i is set iff overlay i is mapped at the page.
 #[derive(Drop)]
 pub(crate) struct Lying {
     words: Vec<u16>,
 }
 
 impl Lying {
-    /// No overlay lies at any page.
+    /// No overlay is mapped at any page.
     pub(crate) fn open(alloc: Global, pages: u8) -> Result<Lying, AllocError>
         ensures { IfOk result (λ lying. lying.words.items ≡ replicate pages 0) }
     {
@@ -20,7 +20,7 @@ impl Lying {
         Ok(Lying { words })
     }
 
-    /// The first overlay in the order of visibility that lies at a page.
+    /// The first overlay in the order of visibility that is mapped at a page.
     #[inline]
     pub(crate) fn first(&self, page: usize) -> Option<usize>
         requires { page < length self.now.words.items }
@@ -33,7 +33,7 @@ impl Lying {
         Some(word.trailing_zeros() as usize)
     }
 
-    /// An overlay comes to a page, or leaves it, if the page is one of the space.
+    /// Records that an overlay is mapped at a page or no longer is, if the page is in the space.
     pub(crate) fn mark(&mut self, page: u64, overlay: usize, lies: bool)
         requires { overlay < 16 }
         ensures { Marks self.old.words.items self.new.words.items page overlay lies }
@@ -45,7 +45,7 @@ impl Lying {
     }
 }
 
-/// A word with a bit that tells whether an overlay lies there; its other bits stay.
+/// A word with the bit of an overlay set or cleared; its other bits stay.
 fn with_overlay(word: u16, overlay: usize, lies: bool) -> u16
     requires { overlay < 16 }
     ensures here { (bit_at result overlay == 1) ≡ lies }

@@ -1,13 +1,13 @@
-// The word of an overlay's register.
+// The value of an overlay's register.
 ghost use Rattle.std.specs.Prelude.{◌≡◌};
 ghost use Rattle.gpa_space.specs.Space.{is_enabled, page_of};
 
 use bitflags::{Flag, Flags, bitflag_items};
 
-/// The page number stands in bits 12 to 63.
+/// The page number is in bits 12 to 63.
 const PAGE: u32 = 12;
 
-/// The word of SIMP or SIEFP (TLFS, "SIMP Register" and "SIEFP Register").
+/// The value of SIMP or SIEFP (TLFS, "SIMP Register" and "SIEFP Register").
 #[derive(Clone, Copy, PartialEq, Eq, Debug)]
 pub(crate) struct OverlayWord(u64);
 
@@ -42,7 +42,7 @@ impl Flags for OverlayWord {
 }
 
 impl OverlayWord {
-    /// The word of these bits.
+    /// The value with these bits.
     pub(crate) fn new(bits: u64) -> OverlayWord
         ensures { result.0 ≡ bits }
     {
@@ -56,7 +56,7 @@ impl OverlayWord {
         self.contains(OverlayWord::ENABLED)
     }
 
-    /// The page number at which it lies, if it is enabled.
+    /// The page number at which it is mapped if it is enabled.
     pub(crate) fn page(self) -> u64
         ensures { result ≡ page_of self.0 }
     {

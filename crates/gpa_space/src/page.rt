@@ -16,7 +16,7 @@ pub const SLOT_SIZE: usize = 256;
 /// The number of bytes of a message before its payload (TLFS, "SynIC Message").
 pub const HEADER_SIZE: usize = 16;
 
-/// Where the message flags stand in a slot; bit 0 of them is the pending bit (TLFS, "SynIC Message
+/// The offset of the message flags in a slot; their bit 0 is MessagePending (TLFS, "SynIC Message
 /// Flags").
 pub const MESSAGE_FLAGS: usize = 5;
 
@@ -45,7 +45,7 @@ impl Page {
         Ok(Page { bytes })
     }
 
-    /// The bytes.
+    /// All 4096 bytes.
     pub fn as_slice(&self) -> &[u8]
         ensures value { result.now ≡ self.now }
         ensures len { length result.now ≡ 4096 }
@@ -53,7 +53,7 @@ impl Page {
         self.bytes.as_slice()
     }
 
-    /// Some of the bytes.
+    /// `count` bytes, at most 8, from the offset `at` on. They must be within the page.
     pub fn load(&self, at: usize, count: u8) -> Bytes8
         requires few { count ≤ 8 }
         requires inside { at + count ≤ 4096 }
@@ -65,7 +65,7 @@ impl Page {
         bytes
     }
 
-    /// Replaces some of the bytes.
+    /// Replaces the bytes from the offset `at` on. They must be within the page.
     pub fn store(&mut self, at: usize, bytes: &[u8])
         requires { at + length bytes.now ≤ 4096 }
         ensures after { self.new ≡ overwritten self.old at bytes.now }
@@ -74,7 +74,7 @@ impl Page {
         self.bytes[at..at + bytes.len()].copy_from_slice(bytes);
     }
 
-    /// Replaces a slot.
+    /// Replaces the slot of a source.
     pub fn write_slot(&mut self, sint: Sint, slot: &[u8; 256])
         ensures { self.new ≡ with_slot self.old sint slot.now }
     {
@@ -82,7 +82,7 @@ impl Page {
         self.bytes[at..at + SLOT_SIZE].copy_from_slice(slot);
     }
 
-    /// Some of the bytes become zeros.
+    /// Sets some of the bytes to zero.
     fn clear(&mut self, at: usize, count: usize)
         requires { at + count ≤ 4096 }
         ensures { self.new ≡ overwritten self.old at (replicate count 0) }
@@ -90,14 +90,14 @@ impl Page {
         self.bytes[at..at + count].fill(0);
     }
 
-    /// All bytes become zeros.
+    /// Sets all bytes to zero.
     pub fn erase(&mut self)
         ensures { self.new ≡ zero_page }
     {
         self.bytes.fill(0);
     }
 
-    /// Replaces a slot by a message of a header and a payload, with zeros behind it.
+    /// Replaces the slot of a source by a header, a payload of at most 240 bytes, and zeros.
     pub fn write_message(&mut self, sint: Sint, header: &[u8; HEADER_SIZE], payload: &[u8])
         requires { length payload.now ≤ 240 }
         ensures { self.new ≡ with_slot self.old sint (message_bytes header.now payload.now) }
@@ -109,7 +109,7 @@ impl Page {
         self.clear(at + size, SLOT_SIZE - size);
     }
 
-    /// Sets a bit of a byte, and tells whether it was clear.
+    /// Sets a bit, 0 to 7, of the byte at `at`, and returns whether it was clear.
     #[tactic(auto, using(crate::proofs::Bits::bit_is_clear))]
     pub fn set_bit(&mut self, at: usize, bit: u8) -> bool
         requires inside { at < 4096 }

@@ -1,4 +1,4 @@
-// Guest pages, and the overlay pages above them.
+// Guest pages, and the overlay pages that may obscure them.
 ghost use Rattle.std.specs.Prelude.{◌≡◌, ◌<◌, ◌≤◌, ◌*◌, length, not, IfOk, IfSome, replicate, slice_get};
 ghost use Rattle.std.specs.Option.{option_copied};
 ghost use Rattle.board_terms.specs.declared.pages.Kind.TheVariants as kind;
@@ -12,17 +12,18 @@ use board_terms::{Bytes8, Kind, Owner, Refusal, Sint, Vp};
 use std::alloc::{AllocError, Global};
 use std::marker::Model;
 
-/// Guest pages, shared by all processors, and for each processor two overlay pages that may lie
-/// above them: the page of messages (SIM) and that of event flags (SIEF). An overlay page has bytes
-/// of its own, which last while it is disabled, hidden or moved.
+/// Guest pages, shared by all processors, and two overlay pages for each processor: the message
+/// page (SIM) and the event flags page (SIEF). An overlay page has bytes of its own, which stay
+/// while it is disabled, obscured or moved. The calls with a processor require that it is on the
+/// board.
 #[derive(Drop)]
 pub struct Space {
     pages: Vec<Page>,
-    // The registers of the overlays and their own pages, in the order of visibility.
+    // The registers and the own pages of the overlays, in the order of visibility.
     registers: Vec<u64>,
     own: Vec<Page>,
-    // The overlays at each guest page, as their registers say it. `set_overlay` alone writes
-    // registers, and keeps it so.
+    // Cache: the overlays at each guest page, by their registers. Only `set_overlay` writes
+    // registers, and it updates the cache.
     lying: Lying,
 }
 
@@ -43,7 +44,7 @@ impl Model for Space {
 
 impl Space {
     /// A space for 1 to 8 processors with 1 to 64 guest pages: all bytes are zero and all overlays
-    /// are disabled. The only call here that may want memory.
+    /// are disabled. The only call here that allocates.
     pub fn open(alloc: Global, processors: u8, pages: u8) -> Result<Space, AllocError>
         requires some_processor { 1 ≤ processors }
         requires few_processors { processors ≤ 8 }
@@ -65,7 +66,7 @@ impl Space {
     }
 
     /// Writes the register of an overlay, SIMP or SIEFP: bit 0 enables it, and bits 63:12 are the
-    /// page number at which it lies.
+    /// page number at which it is mapped.
     pub fn set_overlay(&mut self, vp: Vp, kind: Kind, register: u64)
         requires { vp < processors_of self.old }
         ensures { self.new ≡ with_register self.old vp kind register }
@@ -74,7 +75,7 @@ impl Space {
         let before = OverlayWord::new(self.registers[overlay]);
         let word = OverlayWord::new(register);
         self.registers[overlay] = register;
-        // At any other page it lies no more than before.
+        // It was mapped at no other page.
         self.lying.mark(before.page(), overlay, false);
         self.lying.mark(word.page(), overlay, word.is_enabled());
     }
@@ -87,7 +88,7 @@ impl Space {
         self.lying.first(page as usize)
     }
 
-    /// Whose page a guest sees at a page number.
+    /// Which page a guest sees at a page number.
     pub fn owner(&self, page: u64) -> Owner
         ensures { result ≡ owner_of self.now page }
     {
@@ -100,7 +101,7 @@ impl Space {
         }
     }
 
-    /// Why a load or a store of some bytes is refused.
+    /// Why a load or a store of that many bytes is refused.
     fn judge(&self, address: u64, length: usize) -> Option<Refusal>
         ensures { result ≡ refusal_of self.now address length }
     {
@@ -115,9 +116,9 @@ impl Space {
         }
     }
 
-    /// The bytes that a guest sees at an address. It is refused with `BadLength` unless there are 1
-    /// to 8, then with `OutsideSpace` if the first lies in no page, then with `CrossesPage` if the
-    /// last lies in another page.
+    /// The bytes that a guest sees at an address. Refused, in this order: `BadLength` unless there
+    /// are 1 to 8 bytes; `OutsideSpace` if the first is in no page; `CrossesPage` if the last is in
+    /// another page.
     pub fn load(&self, address: u64, length: u8) -> Result<Bytes8, Refusal>
         ensures { result ≡ loaded self.now address length }
     {
@@ -165,7 +166,7 @@ impl Space {
         }
     }
 
-    /// The page of messages of a processor, 4096 bytes.
+    /// The message page of a processor, 4096 bytes.
     pub fn sim(&self, vp: Vp) -> &[u8]
         requires { vp < processors_of self.now }
         ensures value { result.now ≡ own_page self.now vp kind.Sim }
@@ -174,7 +175,7 @@ impl Space {
         self.own[overlay_of(vp, Kind::Sim)].as_slice()
     }
 
-    /// The page of event flags of a processor, 4096 bytes.
+    /// The event flags page of a processor, 4096 bytes.
     pub fn sief(&self, vp: Vp) -> &[u8]
         requires { vp < processors_of self.now }
         ensures value { result.now ≡ own_page self.now vp kind.Sief }
@@ -183,7 +184,8 @@ impl Space {
         self.own[overlay_of(vp, Kind::Sief)].as_slice()
     }
 
-    /// An overlay's own page, 4096 bytes, visible or not; `None` for a processor that is not there.
+    /// An overlay's own page, 4096 bytes, visible or not; `None` if the processor is not on the
+    /// board.
     pub fn own_page(&self, vp: Vp, kind: Kind) -> Option<&[u8]>
         ensures value { option_copied result ≡ slice_get self.now.own (overlay_of vp kind) }
         ensures len { IfSome result (λ page. length page.now ≡ 4096) }
@@ -194,7 +196,8 @@ impl Space {
         }
     }
 
-    /// A guest page, 4096 bytes, without what lies above it; `None` where there is no such page.
+    /// A guest page, 4096 bytes, without the overlays that obscure it; `None` if there is no such
+    /// page.
     pub fn guest_page(&self, number: u64) -> Option<&[u8]>
         ensures value { option_copied result ≡ slice_get self.now.pages number }
         ensures len { IfSome result (λ page. length page.now ≡ 4096) }
@@ -205,7 +208,7 @@ impl Space {
         }
     }
 
-    /// Writes the slot of a source in the page of messages, visible or not.
+    /// Writes the slot of a source in the message page, visible or not.
     pub fn write_slot(&mut self, vp: Vp, sint: Sint, slot: &[u8; 256])
         requires { vp < processors_of self.old }
         ensures { self.new ≡ after_slot self.old vp sint slot.now }
@@ -213,8 +216,8 @@ impl Space {
         self.own[overlay_of(vp, Kind::Sim)].write_slot(sint, slot);
     }
 
-    /// Writes a message of a header and a payload into the slot of a source in the page of messages,
-    /// visible or not, with zeros behind the payload.
+    /// Writes a header, a payload of at most 240 bytes, and zeros to the slot of a source in the
+    /// message page, visible or not.
     pub fn write_message(&mut self, vp: Vp, sint: Sint, header: &[u8; HEADER_SIZE], payload: &[u8])
         requires on_board { vp < processors_of self.old }
         requires fits { length payload.now ≤ 240 }
@@ -223,8 +226,8 @@ impl Space {
         self.own[overlay_of(vp, Kind::Sim)].write_message(sint, header, payload);
     }
 
-    /// Sets the pending bit of a slot, bit 0 of its byte 5, in the page of messages, visible or not,
-    /// and tells whether it was clear.
+    /// Sets MessagePending, bit 0 of byte 5 of the slot, in the message page, visible or not.
+    /// Returns whether it was clear.
     pub fn set_pending(&mut self, vp: Vp, sint: Sint) -> bool
         requires { vp < processors_of self.old }
         ensures fresh { result ≡ not (is_pending self.old vp sint) }
@@ -234,8 +237,8 @@ impl Space {
         self.own[overlay_of(vp, Kind::Sim)].set_bit(at, 0)
     }
 
-    /// Sets a flag of a source, 0 to 2047, in the page of event flags, visible or not, and tells
-    /// whether it was clear.
+    /// Sets a flag of a source, 0 to 2047, in the event flags page, visible or not. Returns whether
+    /// it was clear.
     pub fn set_flag(&mut self, vp: Vp, sint: Sint, flag: u16) -> bool
         requires on_board { vp < processors_of self.old }
         requires flag { flag < 2048 }
@@ -246,8 +249,8 @@ impl Space {
         self.own[overlay_of(vp, Kind::Sief)].set_bit(at, (flag % 8) as u8)
     }
 
-    /// The page of messages and the page of event flags of a processor become zeros, visible or not.
-    /// They stay where they lie.
+    /// Sets the message page and the event flags page of a processor to zero, visible or not. They
+    /// stay mapped where they are.
     pub fn clear_pages(&mut self, vp: Vp)
         requires { vp < processors_of self.old }
         ensures { self.new ≡ after_clearing self.old vp }

@@ -1,4 +1,4 @@
-//! A line together with the words that it is of: what one thread holds.
+//! A line that owns a share of its words, for one thread.
 #![tactic(auto)]
 
 ghost use Rattle.std.specs.Prelude.{◌≡◌, ◌<◌, ◌≤◌, ◌↔◌, [], IfOk, OnErr, IfSome, IfNone, IsErrOf, IsSome, replicate, vec_len};
@@ -14,7 +14,7 @@ use std::marker::Model;
 use std::sync::Arc;
 use thiserror::Error;
 
-/// Why a line gave none away.
+/// Why no line was split off.
 #[derive(Clone, Copy, PartialEq, Eq, Debug, Drop, Error)]
 pub enum SplitFault {
     #[error("all lines are given away")]
@@ -23,8 +23,8 @@ pub enum SplitFault {
     Memory = 2,
 }
 
-/// A line, the words that it is of, and the lines that it may still give away. Contracts see which
-/// words these are, what the line did, and how many lines are left.
+/// A line with a share of its words, and the lines that it may still split off. Its contract shows
+/// the words, the steps of the line, and how many lines are left.
 #[derive(Drop)]
 pub struct HeldLine {
     words: Arc<PostedWords>,
@@ -46,9 +46,9 @@ impl Model for HeldLine {
 }
 
 impl HeldLine {
-    /// The first line of words for that many processors, all zero, which did nothing and may give 31
-    /// lines away. `BadSize` unless there are 1 to 8 processors, which is judged first; `Memory` where
-    /// memory is refused.
+    /// The first line of new words for that many processors, with all bits clear. It has no steps
+    /// and may split off 31 lines. `BadSize` unless there are 1 to 8 processors, which is checked
+    /// first; `Memory` if an allocation fails.
     pub fn open(alloc: Global, processors: u8) -> Result<HeldLine, PostedFault>
         ensures size { IsErrOf result PostedFault.BadSize ↔ (¬ AreWordSizes processors 16 16) }
         ensures line { IfOk result (λ l. l ≡ held (shared_words l.words.name processors 16 16) [] 31) }
@@ -66,9 +66,9 @@ impl HeldLine {
         }
     }
 
-    /// Gives away a line of the same words, which did nothing. `NoMore` where none is left, which is
-    /// judged first; `Memory` where memory is refused, or the words have as many lines as can be
-    /// counted.
+    /// Splits off a line of the same words, without steps. `NoMore` if none is left, which is
+    /// checked first; `Memory` if an allocation fails, or the reference count of the words is at
+    /// its limit.
     pub fn split(&mut self, alloc: Global) -> Result<Box<HeldLine>, SplitFault>
         ensures more { IsErrOf result SplitFault.NoMore ↔ (self.old.spare ≡ 0) }
         ensures given { IfOk result (λ line. line.value ≡ new_line self.old.words) }
@@ -92,9 +92,9 @@ impl HeldLine {
         }
     }
 
-    /// Raises a vector, 16 to 255, of a processor that the words are for, and never waits: `None`, and
-    /// nothing is done, where there is no such vector or processor. `Fresh` tells that this raise and no
-    /// other made the vector pending, so its thread has to kick the processor.
+    /// Raises a vector, 16 to 255, of a processor of the words. Never blocks. `None`, and no
+    /// effect, if there is no such vector or processor. `Fresh` means that the bit was clear, so
+    /// the thread must kick the processor; `PostedWords::raise` says what is proved of this.
     pub fn raise(&mut self, vp: u8, vector: u8) -> Option<Raised>
         ensures there { IsSome result ↔ ((vp < self.old.words.processors) × (16 ≤ vector)) }
         ensures raised { IfSome result (λ r. self.new ≡ stepped self.old (raise_of vp vector (is_fresh r))) }
@@ -105,9 +105,8 @@ impl HeldLine {
         Some(self.words.raise(&mut self.line, vp, vector))
     }
 
-    /// Takes the bits of a part, 0 to 3, of a processor that the words are for, and never waits: bit
-    /// `n` of part `p` stands for vector `64 * p + n`. `None`, and nothing is done, where there is no
-    /// such part or processor.
+    /// Takes the bits of a part, 0 to 3, of a processor of the words. Never blocks. Bit `n` of part
+    /// `p` is vector `64 * p + n`. `None`, and no effect, if there is no such part or processor.
     pub fn sweep(&mut self, vp: u8, part: u8) -> Option<u64>
         ensures there { IsSome result ↔ ((vp < self.old.words.processors) × (part < 4)) }
         ensures swept { IfSome result (λ bits. self.new ≡ stepped self.old (sweep_of vp part bits)) }
@@ -121,7 +120,7 @@ impl HeldLine {
         }
     }
 
-    /// The processor of that number, if the words are for it.
+    /// The processor with this number, if the words have it.
     fn processor(&self, number: u8) -> Option<Vp>
         ensures there { IsSome result ↔ (number < self.now.words.processors) }
         ensures value { IfSome result (λ vp. vp ≡ number) }

@@ -1,4 +1,4 @@
--- How far a drive has come.
+-- The progress of a drive.
 use Rattle.std.proofs.Common.{◌≡◌, ℕ, ◌+◌, ◌<◌, ◌≤◌, zero, suc, List, [], ◌∷◌, ◌++◌, length, length-append, take, append_assoc, append-nil, Option, refl, sym, ap, subst, ◌∙◌, arith}
 use Rattle.std.proofs.Math.Seq.{take-append_seam}
 use Rattle.std.specs.Io.KnownBytes.{Consumes, Appends, IsAtEnd}
@@ -21,7 +21,7 @@ follows-snoc : {J : Type 0} (good : J → List ℕ → List ℕ → J → Type 0
 follows-snoc {J} good old now next [] sent line answer h short is = (answer, [], next, short, subst (λ (s : J). good s line answer next) h.1 is, (refl, refl), ap (λ (x : List ℕ). x ++ answer) h.0 ∙ sym (append-nil answer))
 follows-snoc good old now next (l ∷ lines) sent line answer h short is = (h.0, h.1 ++ answer, h.2, h.3, h.4, follows-snoc good h.2 now next lines h.1 line answer h.5 short is, ap (λ (x : List ℕ). x ++ answer) h.6 ∙ append_assoc h.0 h.1 answer)
 
--- So many lines were taken and answered, and what waits comes next.
+-- That many lines were taken and answered, and the buffered bytes come next.
 pub record Progress {J : Type 0} (good : J → List ℕ → List ℕ → J → Type 0) (r0 r : Option (List ℕ)) (source : Buffered) (old now : J) (number : ℕ) (answers : List ℕ) : Type 0 where
   pub lines : List (List ℕ)
   pub each : AreLines lines
@@ -30,7 +30,7 @@ pub record Progress {J : Type 0} (good : J → List ℕ → List ℕ → J → T
   pub follows : Follows good old lines answers now
   pub spent : length (joined lines) + (length source.waiting + source.budget) ≡ 1073741824
 
--- and what was answered was sent
+-- and the answers were sent
 pub record Standing {J : Type 0} (ready : ℕ → J → Type 0) (good : J → List ℕ → List ℕ → J → Type 0) (r0 r w0 w : Option (List ℕ)) (source : Buffered) (old now : J) (number : ℕ) : Type 0 where
   pub answers : List ℕ
   pub progress : Progress good r0 r source old now number answers
@@ -45,7 +45,7 @@ standing-start ready good r w judge can = record {
   can = can;
 }
 
--- Fewer lines were taken than bytes are read at most.
+-- Fewer lines were taken than bytes may be read.
 pub few-lines : {J : Type 0} {good : J → List ℕ → List ℕ → J → Type 0} {r0 r : Option (List ℕ)} {source : Buffered} {old now : J} {number : ℕ} {answers : List ℕ} → Progress good r0 r source old now number answers → number + (length source.waiting + source.budget) ≤ 1073741824
 few-lines h = omega (arith, h.counted, h.spent, joined-length h.lines)
 
@@ -75,7 +75,7 @@ within {source = source} r1 came most h reads few =
 stops : {J F : Type 0} (good : J → List ℕ → List ℕ → J → Type 0) (wrong : J → List ℕ → F → Type 0) (end : End F) (old now new : J) (lines : List (List ℕ)) (answers more : List ℕ) → AreLines lines → Follows good old lines answers now → Ends wrong end (length lines + 1) now new (lines_of more) (rest_of more) → Stops good wrong end old new answers (joined lines ++ more)
 stops good wrong end old now new lines answers more each follows is = record { lines = lines; left = lines_of more; state = now; split = lines_of-joined lines more each; follows = follows; ends = subst (λ (x : List ℕ). Ends wrong end (length lines + 1) now new (lines_of more) x) (sym (rest_of-joined lines more each)) is }
 
--- However the input goes on.
+-- For every continuation of the input.
 pub drives-on : {J F : Type 0} {good : J → List ℕ → List ℕ → J → Type 0} {wrong : J → List ℕ → F → Type 0} {end : End F} {r0 r r1 w0 w1 : Option (List ℕ)} {source : Buffered} {old now new : J} {number : ℕ} {answers : List ℕ} (came sent : List ℕ) → Progress good r0 r source old now number answers → Consumes r r1 came → Appends w0 w1 sent → Sends end answers sent →
     ((ys : List ℕ) → Ends wrong end (number + 1) now new (lines_of ((source.waiting ++ came) ++ ys)) (rest_of ((source.waiting ++ came) ++ ys))) → Drives good wrong end old new r0 r1 w0 w1
 drives-on {good = good} {wrong = wrong} {end = end} {r0 = r0} {r1 = r1} {source = source} {old = old} {now = now} {new = new} {answers = answers} came sent h reads writes sends on =
@@ -96,7 +96,7 @@ drives-on {good = good} {wrong = wrong} {end = end} {r0 = r0} {r1 = r1} {source 
       whole = on-input r0 r1 taken (Stops good wrong end old new answers) all each;
     }
 
--- Since there is no more of it.
+-- The input is at its end.
 pub drives-end : {J F : Type 0} {good : J → List ℕ → List ℕ → J → Type 0} {wrong : J → List ℕ → F → Type 0} {end : End F} {r0 r r1 w0 w1 : Option (List ℕ)} {source : Buffered} {old now new : J} {number : ℕ} {answers : List ℕ} (came sent : List ℕ) → Progress good r0 r source old now number answers → Consumes r r1 came → IsAtEnd r1 → Appends w0 w1 sent → Sends end answers sent →
     Ends wrong end (number + 1) now new (lines_of (source.waiting ++ came)) (rest_of (source.waiting ++ came)) → Drives good wrong end old new r0 r1 w0 w1
 drives-end {good = good} {wrong = wrong} {end = end} {r0 = r0} {r1 = r1} {source = source} {old = old} {now = now} {new = new} {answers = answers} came sent h reads at_end writes sends is =
@@ -136,7 +136,7 @@ take-more zero lines = omega arith
 take-more (suc n) [] = omega arith
 take-more (suc n) (l ∷ lines) = let h = take-more n lines in omega (arith, h, length-append l (10 ∷ joined (take n lines)), length-append l (10 ∷ joined (take (suc n) lines)))
 
--- Of a line that is not whole, or too long, only what waits was read.
+-- If a line is incomplete or too long, only the buffered bytes were read.
 pub stops-in : {J : Type 0} {good : J → List ℕ → List ℕ → J → Type 0} {r0 r : Option (List ℕ)} {source : Buffered} {old now : J} {number : ℕ} {answers : List ℕ} (r1 : Option (List ℕ)) (came : List ℕ) → Progress good r0 r source old now number answers → Consumes r r1 came → length (source.waiting ++ came) ≤ 65536 → ReadsNear (number + 1) r0 r1
 stops-in {source = source} {number = number} r1 came h reads few =
     let front = source.waiting ++ came in
@@ -154,7 +154,7 @@ stops-in {source = source} {number = number} r1 came h reads few =
       behind_part = omega (arith, few, long, length-append (joined h.lines) front);
     }
 
--- Behind the wrong line only what waits was read.
+-- After the wrong line, only the buffered bytes were read.
 pub stops-behind : {J : Type 0} {good : J → List ℕ → List ℕ → J → Type 0} {r0 r : Option (List ℕ)} {source : Buffered} {old now : J} {number : ℕ} {answers : List ℕ} (r1 : Option (List ℕ)) (left : Buffered) (came : List ℕ) → Progress good r0 r source old now number answers → Consumes r r1 came → source.waiting ++ came ≡ left.line ++ 10 ∷ left.waiting → IsOneLine left.line → length left.line ≤ 640 → length left.waiting ≤ 65536 → ReadsNear (number + 1) r0 r1
 stops-behind {source = source} {number = number} r1 left came h reads split one short few =
     let front = source.waiting ++ came in

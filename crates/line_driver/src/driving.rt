@@ -1,4 +1,4 @@
-// The drive over the lines of a reader.
+// Driving a judge over the lines of a reader.
 ghost use Rattle.line_driver.specs.Driving.{Drives, most_of, StopsNear};
 ghost use Rattle.board_text.specs.Streams.{ReadsUpTo};
 
@@ -10,8 +10,8 @@ use std::io::{Read, Write};
 /// How a drive ends. Lines are counted from 1.
 #[derive(Clone, Copy)]
 pub enum End<F> {
-    /// Each line of the input was good, and nothing stands behind the last line feed. The number is
-    /// that of the line that is not there.
+    /// Each line of the input was good, and nothing follows the last line feed. `line` is the
+    /// number of lines plus one.
     Last { line: u64 },
     /// This line is wrong.
     Wrong { line: u64, fault: F },
@@ -19,18 +19,18 @@ pub enum End<F> {
     Long { line: u64 },
     /// The input ends inside this line.
     Cut { line: u64 },
-    /// There was no memory.
+    /// An allocation failed.
     Memory,
     /// A read failed, or the input has more than 1,073,741,824 bytes.
     Reading,
-    /// A write or a flush failed, or a write took nothing.
+    /// A write or a flush failed, or a write returned 0.
     Writing,
 }
 
-/// Has each line of the reader judged in turn, up to the first that is not good. What the judge puts
-/// in `out` for a good line is sent before the next line is asked for; at the end `out` holds some
-/// bytes. The writer is flushed before each read, and not at the end. The memory that this takes
-/// does not depend on the input's length.
+/// Has the judge take each line of the reader in turn, up to the first that is not good. For a good
+/// line, what the judge puts in `out` is sent before the next line is read. The writer is flushed
+/// before each read, and not at the end. `out` holds some bytes afterwards. The memory that this
+/// allocates does not depend on the length of the input.
 pub fn drive<R: Read, W: Write, J: Judge>(
     alloc: Global,
     reader: &mut R,
@@ -42,7 +42,7 @@ pub fn drive<R: Read, W: Write, J: Judge>(
     ensures lines { Drives J.good J.wrong result judge.old judge.new
         (R.remaining reader.old) (R.remaining reader.new) (W.contents writer.old) (W.contents writer.new) }
 
-    // One byte more than the limit shows that there is one.
+    // One byte beyond the limit shows that the input exceeds it.
     ensures limit { ReadsUpTo (most_of result) (R.remaining reader.old) (R.remaining reader.new) }
     ensures near { StopsNear result (R.remaining reader.old) (R.remaining reader.new) }
 {

@@ -1,34 +1,34 @@
-// The judge of a text's lines.
+// Judges, which validate the lines of a text.
 ghost use Rattle.std.specs.Prelude.{◌≡◌, ℕ, ◌<◌, ◌≤◌, List, [], length};
 ghost use Rattle.line_driver.specs.Judging.{Judges, GoesOn};
 
-/// What came of a line.
+/// The result of taking a line.
 #[derive(Clone, Copy)]
 pub enum Taken<F> {
-    /// It is good, and what is to be sent for it is ready.
+    /// The line is good, and its answer is ready.
     Good,
-    /// It is wrong.
+    /// The line is wrong.
     Wrong(F),
-    /// There was no memory.
+    /// An allocation failed.
     Memory,
 }
 
-/// What judges a text line by line. A good line leads it from one state to the next.
+/// Validates a text line by line. A good line leads from one state to the next.
 pub trait Judge {
     /// What is wrong with a line.
     type Fault;
 
-    // After so many good lines the judge may take one more.
+    // The judge may take one more line after that many good ones.
     ghost ready: { ℕ → Self → Type 0 } = { λ _ _. Unit {0} };
 
-    // In a state a line is good, this is sent for it, and it leads to a state.
+    // In a state, a line is good, this is its answer, and it leads to another state.
     ghost good: { Self → List ℕ → List ℕ → Self → Type 0 };
 
-    // In a state a line has a fault.
+    // In a state, a line has this fault.
     ghost wrong: { Self → List ℕ → Self.Fault → Type 0 };
 
-    /// Takes a line, which has no line feed, and writes into `out` what is to be sent for it. Nothing
-    /// is sent for a line that is not good.
+    /// Takes a line, without its line feed, and writes its answer to `out`. Nothing is sent for a
+    /// line that is not good.
     fn take(&mut self, line: &[u8], out: &mut Vec<u8>) -> Taken<Self::Fault>
         requires short { length line.now ≤ 640 }
         requires empty { out.old.items ≡ [] }

@@ -1,4 +1,5 @@
-//! The lines of a reader, judged one by one, and what is sent for each before the next is asked for.
+//! Validates the lines of a reader one by one, and sends the answer to each before it reads the
+//! next.
 #![tactic(auto)]
 
 mod closing;

@@ -1,4 +1,4 @@
-//! Traces of what is asked and answered in plain numbers.
+//! Trace entries of plain events and replies.
 #![tactic(auto)]
 
 ghost use Rattle.std.specs.Prelude.{◌≡◌, ◌≢◌, ◌↔◌, Some, None, IfOk, IsErrOf};
@@ -12,7 +12,7 @@ use std::alloc::Global;
 use synic_board::Entry;
 use thiserror::Error;
 
-/// Why nothing was told.
+/// Why no entry was formatted.
 #[derive(Clone, Copy, PartialEq, Eq, Debug, Drop, Error)]
 pub enum Untold {
     #[error("the numbers mean no event")]
@@ -23,9 +23,9 @@ pub enum Untold {
     Memory = 3,
 }
 
-/// The two lines of a trace that tell what an actor asked and what was answered. Faults are judged in
-/// this order: `NoEvent` where the numbers mean no event, `NoReply` where they tell no reply of a
-/// board's, `Memory`.
+/// The two lines of a trace entry for an actor's event and its reply. The faults are checked in
+/// this order: `NoEvent` if `event` encodes no event, `NoReply` if `reply` encodes no reply of a
+/// board, `Memory`.
 pub fn lines_of(
     alloc: Global,
     actor: u8,

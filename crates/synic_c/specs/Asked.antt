@@ -1,4 +1,4 @@
--- What a call does to the desk behind a handle, and what it answers.
+-- What a call does to the desk that a handle owns, and what it returns.
 use Rattle.std.specs.Prelude.{◌≡◌, ℕ, nat_lt, Option, Some, None, List, length, if◌then◌else◌}
 use Rattle.board_terms.specs.declared.notices.Notice.{Notice}
 use Rattle.board_desk.specs.declared.Desk.{Desk}
@@ -11,7 +11,7 @@ use Rattle.synic_board.specs.State.{State}
 use Rattle.synic_board.specs.Effects.{Outcome}
 use Rattle.synic_board.specs.Step.{step}
 
--- what an event comes to, with its reply in plain numbers
+-- an outcome, with its reply as a plain struct
 abbrev pub told : Outcome → State × PlainReply × List Notice
 told (s, reply, notices) = (s, reply_told reply (length notices), notices)
 
@@ -20,13 +20,13 @@ abbrev pub IsOutcome : State × PlainReply × List Notice → Option Desk → Pl
 IsOutcome outcome (Some desk) reply = (desk.board.state, reply, desk.notices) ≡ outcome
 IsOutcome outcome None reply = ⊥
 
--- an event is asked of the desk behind a handle: without a board, or without an event, nothing changes
+-- a call performs an event on the desk of a handle: without a desk, or without an event, nothing changes
 abbrev pub IsAsked : Option Event → Option Desk → Option Desk → PlainReply → Type 0
 IsAsked event None after reply = (after ≡ None) × (reply ≡ fault_told Closed)
 IsAsked None (Some desk) after reply = (after ≡ Some desk) × (reply ≡ fault_told NoEvent)
 IsAsked (Some event) (Some desk) after reply = IsOutcome (told (step desk.board.state event)) after reply
 
--- a message has up to 240 bytes, a store up to 8, and a vector is 16 or above; else no event is meant
+-- a message has at most 240 bytes, a store at most 8, and a vector is at least 16; else there is no event
 abbrev pub message_meant : ℕ → ℕ → List ℕ → Option Event
 message_meant port message_type payload = if nat_lt 240 (length payload) then None else Some (Post port message_type (record { items = payload }))
 

@@ -1,11 +1,11 @@
--- What is told of a script or a trace in a buffer, and of an event and its reply.
+-- The results of the calls on scripts, traces, and trace entries.
 use Rattle.std.specs.Prelude.{◌≡◌, ℕ, List, length, Option, Some, None, ◌⊎◌}
 use Rattle.board_lines.specs.declared.fault.ScriptFault.{ScriptFault}
 use Rattle.board_script.specs.Output.{fault_of, text}
 use Rattle.plain_terms.specs.Rooms.{Fronts}
 use Rattle.synic_c.specs.declared.texts.PlainEnd.{PlainEnd}
 
--- the line of a script's fault, 0 where it has none
+-- the line of a script's fault, or 0
 abbrev pub line_of_fault : Option (ℕ × ScriptFault) → ℕ
 line_of_fault None = 0
 line_of_fault (Some (line, fault)) = line
@@ -14,21 +14,21 @@ abbrev pub kind_of_fault : Option (ℕ × ScriptFault) → ℕ
 kind_of_fault None = 0
 kind_of_fault (Some fault) = 1
 
--- the text of a script was told: how it ends, how long it is, and as much of it as fits
+-- the output of a script: how it ends, its length, and as much of it as fits
 pub record IsText (script room_before room_after : List ℕ) (end : PlainEnd) : Type 0 where
   pub kind : end.kind ≡ kind_of_fault (fault_of script)
   pub line : end.line ≡ line_of_fault (fault_of script)
   pub length : end.length ≡ length (text script)
   pub room : Fronts (text script) room_before room_after
 
--- nothing was told, for want of memory or for too long a script
+-- no output: an allocation failed, or the script is too long
 pub record IsUntold (room_before room_after : List ℕ) (end : PlainEnd) : Type 0 where
   pub kind : (end.kind ≡ 2) ⊎ (end.kind ≡ 3)
   pub line : end.line ≡ 0
   pub length : end.length ≡ 0
   pub room : room_after ≡ room_before
 
--- lines that there are were told: how long they are, and as much of them as fits
+-- the lines of an entry: their length, and as much of them as fits
 abbrev pub AreLines : Option (List ℕ) → List ℕ → List ℕ → ℕ → Type 0
 AreLines (Some lines) room_before room_after count = (count ≡ length lines) × Fronts lines room_before room_after
 AreLines None room_before room_after count = ⊥

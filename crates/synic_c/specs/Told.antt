@@ -1,4 +1,4 @@
--- What is told of a desk.
+-- The results of queries.
 use Rattle.std.specs.Prelude.{ℕ, ◌/◌, ◌%◌, ◌^◌, nat_lt, ◌&&◌, not, Bool, true, false, Option, Some, None, is_some, List, [], map, slice_get, slice_index_or, if◌then◌else◌}
 use Rattle.std.specs.Option.{option_map_or}
 use Rattle.std.specs.FinSet as set
@@ -19,7 +19,7 @@ abbrev pub notices_told : Option Desk → List PlainNotice
 notices_told None = []
 notices_told (Some desk) = map notice_told desk.notices
 
--- what is read off the summary of a desk, where there is one
+-- a value of the summary of a desk, if there is one
 abbrev pub summary_or : {A : Type 0} → A → (Values → A) → Option Desk → A
 summary_or otherwise read None = otherwise
 summary_or otherwise read (Some desk) = read (scratch desk.board.state)
@@ -32,11 +32,11 @@ vector_or_0 next = option_map_or (λ vector. vector) next 0
 abbrev pub next_told : Option Desk → ℕ → ℕ
 next_told desk vp = if nat_lt vp 8 then summary_or 0 (λ values. vector_or_0 (slice_index_or values.nexts vp None)) desk else 0
 
--- whether a vector ends by itself
+-- whether a vector is auto-EOI
 abbrev pub is_auto_told : Option Desk → ℕ → ℕ → Bool
 is_auto_told desk vp vector = if nat_lt vp 8 && not (nat_lt vector 16) then summary_or false (λ values. set.contains (slice_index_or values.autos vp set.empty) vector) desk else false
 
--- whose page a guest sees
+-- which page a guest sees
 abbrev pub plain_owner : Owner → PlainOwner
 plain_owner Nothing = record { kind = 0; vp = 0 }
 plain_owner Guest = record { kind = 1; vp = 0 }
@@ -46,11 +46,11 @@ plain_owner (Sief vp) = record { kind = 3; vp = vp }
 abbrev pub owner_told : Option Desk → ℕ → PlainOwner
 owner_told desk page = plain_owner (summary_or Nothing (λ values. slice_index_or values.owners page Nothing) desk)
 
--- how much is queued for a source
+-- how many messages are queued for a source
 abbrev pub queued_told : Option Desk → ℕ → ℕ → ℕ
 queued_told desk vp sint = if nat_lt vp 8 && nat_lt sint 16 then summary_or 0 (λ values. slice_index_or values.queued (source_number vp sint) 0) desk else 0
 
--- the timer that is due first, its moment in two halves
+-- the earliest timer, with its deadline in two halves
 abbrev pub plain_due : Option (ℕ × (ℕ × ℕ)) → PlainDue
 plain_due None = record { is_due = false; vp = 0; timer = 0; low = 0; high = 0 }
 plain_due (Some (due, (vp, index))) = record { is_due = true; vp = vp; timer = index; low = due % 2 ^ 64; high = due / 2 ^ 64 }
@@ -66,7 +66,7 @@ abbrev pub ticket_told : Option Desk → ℕ
 ticket_told None = 0
 ticket_told (Some desk) = desk.board.state.next_ticket
 
--- whether a processor has an own page, and whether there is a guest page
+-- whether a processor has an own page of a kind, and whether there is a guest page
 abbrev pub has_own_page : Option Desk → ℕ → Kind → Bool
 has_own_page None vp kind = false
 has_own_page (Some desk) vp kind = nat_lt vp 8 && is_some (slice_get desk.board.state.own (overlay_of vp kind))

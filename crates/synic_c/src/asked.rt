@@ -1,4 +1,4 @@
-// An event for the desk behind a handle.
+// Performing an event on the desk of a handle.
 ghost use Rattle.std.specs.Prelude.{None, Some};
 ghost use Rattle.synic_c.specs.Asked.{IsAsked};
 
@@ -6,8 +6,8 @@ use handles::DeskHandle;
 use plain_terms::{Fault, PlainReply, plain_fault, plain_reply};
 use synic_board::Event;
 
-/// Performs an event on the board behind a handle, if there is one. It is formed in each call, which has
-/// one kind of event.
+/// Performs an event on the board of a handle, if it is open. Inlined in each call, where the kind
+/// of the event is a constant.
 #[inline(always)]
 pub(crate) fn asked(handle: &mut DeskHandle, event: &Event) -> PlainReply
     ensures { IsAsked (Some event.now) handle.old.desk handle.new.desk result }
@@ -21,7 +21,7 @@ pub(crate) fn asked(handle: &mut DeskHandle, event: &Event) -> PlainReply
     }
 }
 
-/// What is answered where the numbers of a call mean no event.
+/// The reply of a call whose arguments encode no event.
 pub(crate) fn asked_nothing(handle: &mut DeskHandle) -> PlainReply
     ensures { IsAsked None handle.old.desk handle.new.desk result }
 {

@@ -1,4 +1,4 @@
-// Events in plain numbers, one after another.
+// Batches of plain events.
 ghost use Rattle.std.specs.Prelude.{◌≡◌, ◌≤◌, ◌<◌, ◌+◌, ◌⊎◌, ◌↔◌, None, length, take, slice_get};
 ghost use Rattle.desk_batch.specs.Batches.{MeansNone};
 ghost use Rattle.synic_c.specs.Batched.{IsBatch};
@@ -7,21 +7,21 @@ use desk_batch::perform_all;
 use handles::DeskHandle;
 use plain_terms::{PlainEvent, PlainNotice, PlainReply};
 
-/// How far a batch came.
+/// The result of a batch.
 #[repr(C)]
 #[derive(Clone, Copy)]
 pub struct PlainBatch {
-    /// 0 where each event was performed, 1 where no board is open, 2 where the next one means no event, 3
-    /// where there is no room for one more reply, or for 276 more notices.
+    /// 0 if each event was performed; 1 if the handle is closed; 2 if the next event is invalid; 3
+    /// if one more reply, or 276 more notices, might not fit.
     pub end: u8,
     /// How many events were performed.
     pub done: usize,
-    /// How many notices they gave.
+    /// How many notices they emitted.
     pub told: usize,
 }
 
-/// Performs events in order, as long as each means one and there is room for its reply and for 276
-/// notices. The notices of all stand one behind another; each reply says how many are its.
+/// Performs events in order. Stops before an event that is invalid, or if no reply fits, or fewer
+/// than 276 notices fit. The notices of all events follow one another; each reply counts its own.
 #[unsafe(no_mangle)]
 pub extern "C" fn synicboard_perform_all(
     handle: &mut DeskHandle,

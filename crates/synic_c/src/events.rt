@@ -1,4 +1,4 @@
-// A call for each event.
+// One call for each kind of event.
 ghost use Rattle.std.specs.Prelude.{Some};
 ghost use Rattle.plain_terms.specs.Events.{event_meant};
 ghost use Rattle.synic_c.specs.Asked.{IsAsked, message_meant, stored_meant, asserted_meant};
@@ -11,13 +11,13 @@ use handles::DeskHandle;
 use plain_terms::{Fault, PlainEvent, PlainReply, perform_plain, plain_fault, plain_reply};
 use synic_board::Event;
 
-/// How many bytes a message has at most.
+/// The greatest number of bytes of a payload.
 const MOST_PAYLOAD: usize = 240;
 
-/// How many bytes a store has at most.
+/// The greatest number of bytes of a store.
 const MOST_STORED: usize = 8;
 
-/// A port for messages is opened to source `sint` of processor `vp`, with 1 to 16 buffers.
+/// Opens a port for messages to source `sint` of processor `vp`, with 1 to 16 buffers.
 #[unsafe(no_mangle)]
 pub extern "C" fn synicboard_open_message_port(
     handle: &mut DeskHandle,
@@ -39,7 +39,7 @@ pub extern "C" fn synicboard_open_message_port(
     )
 }
 
-/// A port for `count` event flags from `base` on is opened to source `sint` of processor `vp`.
+/// Opens a port for the `count` event flags from `base` on, at source `sint` of processor `vp`.
 #[unsafe(no_mangle)]
 pub extern "C" fn synicboard_open_event_port(
     handle: &mut DeskHandle,
@@ -62,7 +62,7 @@ pub extern "C" fn synicboard_open_event_port(
     )
 }
 
-/// A port is closed.
+/// Closes a port.
 #[unsafe(no_mangle)]
 pub extern "C" fn synicboard_close_port(handle: &mut DeskHandle, port: u8) -> PlainReply
     ensures { IsAsked (Some (event.ClosePort port)) handle.old.desk handle.new.desk result }
@@ -98,7 +98,7 @@ pub extern "C" fn synicboard_read(handle: &mut DeskHandle, vp: u8, register: u32
     asked(handle, &Event::Read { vp, register })
 }
 
-/// A message with a payload of up to 240 bytes is posted to a port.
+/// Posts a message with a payload of up to 240 bytes to a port.
 #[unsafe(no_mangle)]
 pub extern "C" fn synicboard_post(
     handle: &mut DeskHandle,
@@ -120,7 +120,7 @@ pub extern "C" fn synicboard_post(
     }
 }
 
-/// An event flag of a port is signalled.
+/// Signals an event flag of a port.
 #[unsafe(no_mangle)]
 pub extern "C" fn synicboard_signal(handle: &mut DeskHandle, port: u8, flag: u16) -> PlainReply
     ensures { IsAsked (Some (event.Signal port flag)) handle.old.desk handle.new.desk result }
@@ -128,7 +128,7 @@ pub extern "C" fn synicboard_signal(handle: &mut DeskHandle, port: u8, flag: u16
     asked(handle, &Event::Signal { port, flag })
 }
 
-/// A device asserts a vector, 16 to 255, at the local APIC of processor `vp`.
+/// A device requests a vector, 16 to 255, at the local APIC of processor `vp`.
 #[unsafe(no_mangle)]
 pub extern "C" fn synicboard_assert(handle: &mut DeskHandle, vp: u8, vector: u8) -> PlainReply
     ensures { IsAsked (asserted_meant vp vector) handle.old.desk handle.new.desk result }
@@ -139,7 +139,7 @@ pub extern "C" fn synicboard_assert(handle: &mut DeskHandle, vp: u8, vector: u8)
     }
 }
 
-/// Posted vectors are taken in: bit i of `bits` is vector 64 * `part` + i.
+/// Requests posted vectors: bit i of `bits` is vector 64 * `part` + i.
 #[unsafe(no_mangle)]
 pub extern "C" fn synicboard_absorb(
     handle: &mut DeskHandle,
@@ -173,7 +173,7 @@ pub extern "C" fn synicboard_store(
     }
 }
 
-/// A guest loads so many bytes from a guest physical address.
+/// A guest loads `length` bytes from a guest physical address.
 #[unsafe(no_mangle)]
 pub extern "C" fn synicboard_load(handle: &mut DeskHandle, address: u64, length: u8) -> PlainReply
     ensures { IsAsked (Some (event.Load address length)) handle.old.desk handle.new.desk result }
@@ -181,7 +181,7 @@ pub extern "C" fn synicboard_load(handle: &mut DeskHandle, address: u64, length:
     asked(handle, &Event::Load { address, length })
 }
 
-/// The clock goes on to a moment, in units of 100 ns.
+/// Moves the clock to a time in units of 100 ns.
 #[unsafe(no_mangle)]
 pub extern "C" fn synicboard_tick(handle: &mut DeskHandle, moment: u64) -> PlainReply
     ensures { IsAsked (Some (event.Tick moment)) handle.old.desk handle.new.desk result }
@@ -189,7 +189,7 @@ pub extern "C" fn synicboard_tick(handle: &mut DeskHandle, moment: u64) -> Plain
     asked(handle, &Event::Tick { moment })
 }
 
-/// Processor `vp` takes its next interrupt.
+/// Processor `vp` takes its next vector.
 #[unsafe(no_mangle)]
 pub extern "C" fn synicboard_take(handle: &mut DeskHandle, vp: u8) -> PlainReply
     ensures { IsAsked (Some (event.Take vp)) handle.old.desk handle.new.desk result }
@@ -197,7 +197,7 @@ pub extern "C" fn synicboard_take(handle: &mut DeskHandle, vp: u8) -> PlainReply
     asked(handle, &Event::Take { vp })
 }
 
-/// Processor `vp` is suspended.
+/// Suspends processor `vp`.
 #[unsafe(no_mangle)]
 pub extern "C" fn synicboard_suspend(handle: &mut DeskHandle, vp: u8) -> PlainReply
     ensures { IsAsked (Some (event.Suspend vp)) handle.old.desk handle.new.desk result }
@@ -205,7 +205,7 @@ pub extern "C" fn synicboard_suspend(handle: &mut DeskHandle, vp: u8) -> PlainRe
     asked(handle, &Event::Suspend { vp })
 }
 
-/// Processor `vp` goes on.
+/// Resumes processor `vp`.
 #[unsafe(no_mangle)]
 pub extern "C" fn synicboard_resume(handle: &mut DeskHandle, vp: u8) -> PlainReply
     ensures { IsAsked (Some (event.Resume vp)) handle.old.desk handle.new.desk result }
@@ -213,7 +213,7 @@ pub extern "C" fn synicboard_resume(handle: &mut DeskHandle, vp: u8) -> PlainRep
     asked(handle, &Event::Resume { vp })
 }
 
-/// Processor `vp` is reset.
+/// Resets processor `vp`.
 #[unsafe(no_mangle)]
 pub extern "C" fn synicboard_reset(handle: &mut DeskHandle, vp: u8) -> PlainReply
     ensures { IsAsked (Some (event.Reset vp)) handle.old.desk handle.new.desk result }
@@ -221,7 +221,7 @@ pub extern "C" fn synicboard_reset(handle: &mut DeskHandle, vp: u8) -> PlainRepl
     asked(handle, &Event::Reset { vp })
 }
 
-/// An event in plain numbers.
+/// Performs an event that is given as a struct.
 #[unsafe(no_mangle)]
 pub extern "C" fn synicboard_perform(handle: &mut DeskHandle, plain: &PlainEvent) -> PlainReply
     ensures { IsAsked (event_meant plain.now) handle.old.desk handle.new.desk result }

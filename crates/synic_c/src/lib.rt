@@ -1,5 +1,5 @@
-//! The board for C (`include/synicboard.h`). Each call says in its contract what the desk behind the
-//! handle is afterwards.
+//! The C API of the board (`include/synicboard.h`). The contract of each call says what its handle
+//! owns afterwards, and what the call returns.
 #![tactic(auto)]
 
 mod asked;

@@ -1,4 +1,4 @@
-// Lines: what raises vectors outside a lock, and takes them in inside it.
+// Lines, which raise vectors without the lock, and absorb them under it.
 ghost use Rattle.std.specs.Prelude.{◌≡◌, ◌≢◌, ◌<◌, ◌↔◌, true, nat_eq, IsSome, None};
 ghost use Rattle.posted_words.specs.Words.{AreWordSizes};
 ghost use Rattle.synic_c.specs.Lines.{IsFirstLine, gives_none, IsSplit, has_bit, IsRaised, IsAbsorbed};
@@ -10,9 +10,9 @@ use posted_words::{PostedFault, Raised};
 use std::alloc::Global;
 use synic_board::Event;
 
-/// Opens words for that many processors, a bit for each vector, all clear, and puts their first line
-/// behind a closed handle. 0, or why not: 1 unless there are 1 to 8 processors, 2 for want of memory, 3
-/// where a line is open behind the handle already.
+/// Opens words for that many processors, with all bits clear, and their first line, in a closed
+/// handle. Returns 0; or 1 unless there are 1 to 8 processors, 2 if an allocation fails, 3 if the
+/// handle is open.
 #[unsafe(no_mangle)]
 pub extern "C" fn synicboard_open_line(alloc: Global, line: &mut LineHandle, processors: u8) -> u8
     ensures answers { result < 4 }
@@ -39,9 +39,9 @@ pub extern "C" fn synicboard_open_line(alloc: Global, line: &mut LineHandle, pro
     }
 }
 
-/// Puts another line of the same words, for another thread, behind a closed handle. The first line of
-/// some words gives 31 away, and no other gives any. 0, or why not: 2 for want of memory, 3 where a line
-/// is open behind the other handle, 4 where none is open behind the first, 5 where it has none left.
+/// Opens another line of the same words, for another thread, in a closed handle. Only the first
+/// line of the words splits off others, 31 in all. Returns 0; or 2 if an allocation fails, 3 if the
+/// other handle is open, 4 if the first handle is closed, 5 if its line has none left.
 #[unsafe(no_mangle)]
 pub extern "C" fn synicboard_split_line(
     alloc: Global,
@@ -76,7 +76,7 @@ pub extern "C" fn synicboard_split_line(
     }
 }
 
-/// Closes the line behind a handle, if one is open. The words are given back with their last line.
+/// Closes a line. The words are freed with their last line.
 #[unsafe(no_mangle)]
 pub extern "C" fn synicboard_close_line(alloc: Global, line: &mut LineHandle)
     ensures { line.new.line ≡ None }
@@ -84,8 +84,8 @@ pub extern "C" fn synicboard_close_line(alloc: Global, line: &mut LineHandle)
     let _ = line.take(alloc);
 }
 
-/// Raises a vector, 16 to 255, of processor `vp`, by one atomic step, and waits for nobody. 1 where its
-/// bit was clear, 2 where it was set already; 0, and nothing is done, where no line is open or its words
+/// Raises a vector, 16 to 255, of processor `vp`, by one atomic step. Never blocks. Returns 1 if
+/// its bit was clear, and 2 if it was set; 0, with no effect, if the handle is closed or the words
 /// have no such bit.
 #[unsafe(no_mangle)]
 pub extern "C" fn synicboard_raise(line: &mut LineHandle, vp: u8, vector: u8) -> u8
@@ -104,9 +104,9 @@ pub extern "C" fn synicboard_raise(line: &mut LineHandle, vp: u8, vector: u8) ->
     }
 }
 
-/// Takes the bits of a part, 0 to 3, of processor `vp` out of the line's words, by one atomic step, and
-/// has the board absorb them; `value` of the reply are these bits. Where the board would refuse, nothing
-/// is taken.
+/// Takes the bits of a part, 0 to 3, of processor `vp` from the line's words, by one atomic step,
+/// and has the board absorb them; `value` of the reply is these bits. If the board would refuse,
+/// takes nothing.
 #[unsafe(no_mangle)]
 pub extern "C" fn synicboard_absorb_line(
     handle: &mut DeskHandle,

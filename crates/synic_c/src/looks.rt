@@ -1,4 +1,4 @@
-// What is read off the board, and changes nothing.
+// Queries, which change nothing.
 ghost use Rattle.std.specs.Prelude.{◌≡◌, None};
 ghost use Rattle.std.specs.FinSet as set;
 ghost use Rattle.board_terms.specs.declared.pages.Owner.TheVariants as owner;
@@ -7,8 +7,8 @@ ghost use Rattle.synic_c.specs.Told.{next_told, is_auto_told, owner_told, queued
 use board_terms::{Owner, Sint, Vector, Vp};
 use handles::DeskHandle;
 
-/// Whose page a guest sees. `kind` is 0 where there is no such page, or no board, 1 for the guest's
-/// own, and 2 or 3 for the page of messages or of event flags of processor `vp`, which is else 0.
+/// Which page a guest sees. `kind` is 0 if there is no such page or no board, 1 for the guest page,
+/// and 2 or 3 for the message or the event flags page of processor `vp`. For other kinds `vp` is 0.
 #[repr(C)]
 #[derive(Clone, Copy)]
 pub struct PlainOwner {
@@ -16,8 +16,8 @@ pub struct PlainOwner {
     pub vp: u8,
 }
 
-/// The timer that is due first, where `is_due` says that one is: timer `timer` of processor `vp`, at
-/// `high` * 2^64 + `low` in units of 100 ns. The clock reaches no moment with a `high` above 0.
+/// The earliest deadline: if `is_due`, timer `timer` of processor `vp` is due at `high` * 2^64 +
+/// `low`, in units of 100 ns. The clock never reaches a deadline with `high` above 0.
 #[repr(C)]
 #[derive(Clone, Copy)]
 pub struct PlainDue {
@@ -28,7 +28,7 @@ pub struct PlainDue {
     pub high: u64,
 }
 
-/// The next vector of a processor; 0 where there is none, no such processor, or no board.
+/// The next vector of a processor; 0 if there is none, no such processor, or no board.
 #[unsafe(no_mangle)]
 pub extern "C" fn synicboard_next(handle: &mut DeskHandle, vp: u8) -> u8
     ensures desk { handle.new.desk ≡ handle.old.desk }
@@ -43,7 +43,7 @@ pub extern "C" fn synicboard_next(handle: &mut DeskHandle, vp: u8) -> u8
     }
 }
 
-/// Whether a vector ends by itself when a processor takes it.
+/// Whether a vector is auto-EOI on a processor.
 #[unsafe(no_mangle)]
 pub extern "C" fn synicboard_is_auto(handle: &mut DeskHandle, vp: u8, vector: u8) -> bool
     ensures desk { handle.new.desk ≡ handle.old.desk }
@@ -58,7 +58,7 @@ pub extern "C" fn synicboard_is_auto(handle: &mut DeskHandle, vp: u8, vector: u8
     }
 }
 
-/// Whose page a guest sees at a page number.
+/// Which page a guest sees at a page number.
 #[unsafe(no_mangle)]
 pub extern "C" fn synicboard_owner(handle: &mut DeskHandle, page: u64) -> PlainOwner
     ensures desk { handle.new.desk ≡ handle.old.desk }
@@ -97,7 +97,7 @@ pub extern "C" fn synicboard_queued(handle: &mut DeskHandle, vp: u8, sint: u8) -
     }
 }
 
-/// The timer that is due first.
+/// The timer with the earliest deadline.
 #[unsafe(no_mangle)]
 pub extern "C" fn synicboard_earliest(handle: &mut DeskHandle) -> PlainDue
     ensures desk { handle.new.desk ≡ handle.old.desk }
@@ -125,7 +125,7 @@ pub extern "C" fn synicboard_earliest(handle: &mut DeskHandle) -> PlainDue
     }
 }
 
-/// The present moment, in units of 100 ns; 0 where there is no board.
+/// The present time, in units of 100 ns; 0 if there is no board.
 #[unsafe(no_mangle)]
 pub extern "C" fn synicboard_moment(handle: &mut DeskHandle) -> u64
     ensures desk { handle.new.desk ≡ handle.old.desk }
@@ -137,7 +137,7 @@ pub extern "C" fn synicboard_moment(handle: &mut DeskHandle) -> u64
     }
 }
 
-/// The ticket that the next accepted message takes; 0 where there is no board.
+/// The ticket that the next accepted message gets; 0 if there is no board.
 #[unsafe(no_mangle)]
 pub extern "C" fn synicboard_next_ticket(handle: &mut DeskHandle) -> u64
     ensures desk { handle.new.desk ≡ handle.old.desk }

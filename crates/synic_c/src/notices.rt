@@ -6,8 +6,8 @@ ghost use Rattle.synic_c.specs.Told.{notices_told};
 use handles::DeskHandle;
 use plain_terms::{PlainNotice, put_plain};
 
-/// Copies the notices of the last event, as many as there is room for, and answers how many there
-/// are. No event gives more than 276.
+/// Copies the notices of the last event, as many as fit, and returns how many there are. No event
+/// emits more than 276.
 #[unsafe(no_mangle)]
 pub extern "C" fn synicboard_notices(handle: &mut DeskHandle, room: &mut [PlainNotice]) -> usize
     ensures desk { handle.new.desk ≡ handle.old.desk }

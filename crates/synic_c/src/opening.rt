@@ -1,4 +1,4 @@
-// A board is opened and closed.
+// Opening and closing boards.
 ghost use Rattle.std.specs.Prelude.{◌≡◌, ◌≢◌, ◌<◌, ◌↔◌, IsSome, None};
 ghost use Rattle.synic_board.specs.State.{AreSizes};
 ghost use Rattle.synic_c.specs.Opened.{IsNewDesk};
@@ -8,10 +8,10 @@ use handles::DeskHandle;
 use std::alloc::Global;
 use synic_board::OpenFault;
 
-/// Opens a board of that many processors and guest pages at moment 0, whose first accepted message
-/// takes `first_ticket`, behind a closed handle. 0, or why not: 1 unless there are 1 to 8 processors
-/// and 1 to 64 pages, 2 for want of memory, 3 where a board is open behind the handle already. All
-/// memory that events need is taken here.
+/// Opens a board of that many processors and guest pages at time 0, in a closed handle. The first
+/// message that it accepts gets the ticket `first_ticket`. Returns 0; or 1 unless there are 1 to 8
+/// processors and 1 to 64 pages, 2 if an allocation fails, 3 if the handle is open. Allocates all
+/// memory that events need.
 #[unsafe(no_mangle)]
 pub extern "C" fn synicboard_open(
     alloc: Global,
@@ -44,7 +44,7 @@ pub extern "C" fn synicboard_open(
     }
 }
 
-/// Closes the board behind a handle, if one is open, and gives its memory back.
+/// Frees the board of a handle, and closes the handle.
 #[unsafe(no_mangle)]
 pub extern "C" fn synicboard_close(alloc: Global, handle: &mut DeskHandle)
     ensures { handle.new.desk ≡ None }

@@ -1,4 +1,4 @@
-// The pages of the board, where they lie.
+// The addresses of the board's pages.
 ghost use Rattle.std.specs.Prelude.{◌≡◌, false};
 ghost use Rattle.board_terms.specs.declared.pages.Kind.TheVariants as kind;
 ghost use Rattle.synic_c.specs.Told.{has_own_page, has_guest_page};
@@ -7,8 +7,8 @@ use board_terms::{Kind, Vp};
 use handles::DeskHandle;
 use std::ptr::from_ref;
 
-/// Where the page of messages of a processor lies, 4096 bytes, visible or not. Whether there is one.
-/// It may be read until the board is closed, and not while a call runs.
+/// Stores the address of the message page of a processor, 4096 bytes, visible or not. Returns
+/// whether there is one. The page may be read until the board is closed, but not while a call runs.
 #[unsafe(no_mangle)]
 pub extern "C" fn synicboard_message_page(
     handle: &mut DeskHandle,
@@ -22,8 +22,8 @@ pub extern "C" fn synicboard_message_page(
     own_page(handle, vp, Kind::Sim, page)
 }
 
-/// Where the page of event flags of a processor lies, 4096 bytes, visible or not. Whether there is one.
-/// It may be read until the board is closed, and not while a call runs.
+/// Stores the address of the event flags page of a processor, 4096 bytes, visible or not. Returns
+/// whether there is one. The page may be read until the board is closed, but not while a call runs.
 #[unsafe(no_mangle)]
 pub extern "C" fn synicboard_flag_page(
     handle: &mut DeskHandle,
@@ -52,8 +52,8 @@ fn own_page(handle: &mut DeskHandle, vp: u8, kind: Kind, page: &mut *const u8) -
     true
 }
 
-/// Where a guest page lies, 4096 bytes, without the overlays above it. Whether there is one. It may be
-/// read until the board is closed, and not while a call runs.
+/// Stores the address of a guest page, 4096 bytes, without the overlays that obscure it. Returns
+/// whether there is one. The page may be read until the board is closed, but not while a call runs.
 #[unsafe(no_mangle)]
 pub extern "C" fn synicboard_guest_page(
     handle: &mut DeskHandle,

@@ -1,4 +1,4 @@
-// Whole texts, from a buffer into a buffer.
+// Scripts and traces in buffers.
 ghost use Rattle.std.specs.Prelude.{◌≡◌, ◌≢◌, ◌<◌, ◌↔◌, None};
 ghost use Rattle.board_trace.specs.Trace.{IsTrace};
 ghost use Rattle.board_trace.specs.Verdicts.{FirstWrong};
@@ -13,9 +13,9 @@ use plain_terms::{PlainEvent, PlainReply, put_bytes};
 use plain_trace::{Untold, lines_of};
 use std::alloc::Global;
 
-/// How the reading or the telling of a text ended. `kind` is 0 where all of it is right, 1 where line
-/// `line` is the first that is not, 2 for want of memory, and 3 for a text of more than 1,073,741,824 bytes.
-/// `length` is how many bytes there are to tell, or 0.
+/// The result of a call that writes a text. `kind` is 0 if no line is wrong, 1 if `line` is the
+/// first wrong line, 2 if an allocation failed, and 3 for a text of more than 1,073,741,824 bytes.
+/// `length` is the length of the whole output, or 0.
 #[repr(C)]
 #[derive(Clone, Copy)]
 pub struct PlainEnd {
@@ -24,8 +24,8 @@ pub struct PlainEnd {
     pub length: usize,
 }
 
-/// What is said of a trace. `kind` is 0 where it is that of a legal history of `entries` entries, 1
-/// where line `line` is the first that is wrong, 2 for want of memory, and 3 for a text of more than
+/// The result of a check. `kind` is 0 for the trace of a legal history of `entries` entries, 1 if
+/// `line` is the first wrong line, 2 if an allocation failed, and 3 for a text of more than
 /// 1,073,741,824 bytes.
 #[repr(C)]
 #[derive(Clone, Copy)]
@@ -35,7 +35,7 @@ pub struct PlainVerdict {
     pub line: u64,
 }
 
-/// The end of a text of which nothing is told, since that line is wrong, or for another reason.
+/// The result without an output, because of a wrong line or for another reason.
 fn untold(kind: u8, line: u64) -> PlainEnd
     ensures { result ≡ record { kind = kind; line = line; length = 0 } }
 {
@@ -46,8 +46,8 @@ fn untold(kind: u8, line: u64) -> PlainEnd
     }
 }
 
-/// Performs a script on a board of its own, and writes its text into a room, as much as fits. This
-/// takes memory, for a board and for the text.
+/// Performs a script on a board of its own, and writes its output to a buffer, as much as fits.
+/// Allocates a board and the output.
 #[unsafe(no_mangle)]
 pub extern "C" fn synicboard_replay(alloc: Global, script: &[u8], room: &mut [u8]) -> PlainEnd
     ensures { IsReplay script.now room.old room.new result }
@@ -65,7 +65,7 @@ pub extern "C" fn synicboard_replay(alloc: Global, script: &[u8], room: &mut [u8
     PlainEnd { kind, line, length }
 }
 
-/// Checks whether a text is the trace of a legal history. This takes memory, for a board.
+/// Checks whether a text is the trace of a legal history. Allocates a board.
 #[unsafe(no_mangle)]
 pub extern "C" fn synicboard_check(alloc: Global, trace: &[u8]) -> PlainVerdict
     ensures kinds { result.kind < 4 }
@@ -89,9 +89,9 @@ pub extern "C" fn synicboard_check(alloc: Global, trace: &[u8]) -> PlainVerdict
     }
 }
 
-/// Writes the two lines of a trace that tell what an actor asked and what was answered into a room, as
-/// much as fits. Line 1 is wrong where the numbers mean no event, and else line 2 where they tell no
-/// reply of a board's. This takes memory, for the lines.
+/// Writes the two lines of a trace entry for an actor's event and its reply to a buffer, as much as
+/// fits. Line 1 is wrong if `event` encodes no event, and otherwise line 2 if `reply` encodes no
+/// reply of a board. Allocates the lines.
 #[unsafe(no_mangle)]
 pub extern "C" fn synicboard_tell(
     alloc: Global,

@@ -1,9 +1,9 @@
--- What is kept of the overlays: at which guest pages they lie.
+-- The cache of where overlays are mapped.
 use Rattle.std.specs.Prelude.{◌≡◌, ◌≢◌, ◌<◌, ℕ, Bool, ◌==◌, List, Option, None, Some, ◌⊎◌, length, slice_index_or}
 use Rattle.std.specs.Int.{bit_at}
 use Rattle.gpa_space.specs.Space.{lies_at}
 
--- bit i of the word of a guest page tells whether overlay i lies there
+-- bit i of the word of a guest page is set iff overlay i is mapped there
 abbrev pub AreLying : List ℕ → List ℕ → Type 0
 AreLying registers words = (page i : ℕ) → page < length words → i < 16 → (bit_at (slice_index_or words page 0) i == 1) ≡ lies_at page (slice_index_or registers i 0)
 
@@ -13,7 +13,7 @@ pub record Marks (old new : List ℕ) (page overlay : ℕ) (lies : Bool) : Type 
   pub here : page < length old → (bit_at (slice_index_or new page 0) overlay == 1) ≡ lies
   pub others : (p i : ℕ) → i < 16 → (p ≢ page) ⊎ (i ≢ overlay) → bit_at (slice_index_or new p 0) i ≡ bit_at (slice_index_or old p 0) i
 
--- the lowest bit of a word that is 1, if there is one
+-- the lowest bit of a word that is set, if there is one
 abbrev pub IsLowest : ℕ → Option ℕ → Type 0
 IsLowest word None = (i : ℕ) → bit_at word i ≡ 0
 IsLowest word (Some k) = (k < 16) × (bit_at word k ≡ 1) × ((i : ℕ) → i < k → bit_at word i ≡ 0)

@@ -1,4 +1,4 @@
--- What the fields stand for, and what they keep.
+-- The abstract view of the fields, and their invariant.
 use Rattle.std.specs.Prelude.{◌≡◌, ◌≤◌, length}
 use Rattle.gpa_space.specs.Space.{Space}
 use Rattle.gpa_space.specs.inside.Lying.{AreLying}
