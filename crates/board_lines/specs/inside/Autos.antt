@@ -4,7 +4,7 @@ use Rattle.board_text.specs.Numbers.{two_digits}
 use Rattle.board_text.specs.Fields.{spaced}
 use Rattle.board_lines.specs.Printing.{auto_fields}
 
--- one of them as it is written, the first behind the head of the line
+-- the text of one of them; the first follows the head of the line
 abbrev pub auto_part : ℕ → ℕ → Bool → List ℕ
 auto_part p v any = (if any then [] else spaced (codes ":" ∷ codes "auto" ∷ decimal p ∷ [])) ++ 32 ∷ two_digits v
 
