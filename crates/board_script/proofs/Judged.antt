@@ -1,4 +1,4 @@
--- What a drive over the lines of a script says of the text.
+-- What a drive over the lines of a script determines about the text.
 use Rattle.std.proofs.Common.{◌≡◌, ℕ, ◌+◌, ◌<◌, ◌≤◌, List, [], ◌∷◌, ◌++◌, length, refl, sym, ap, subst, ◌∙◌, arith, Bool, true, false, cond, le-ltb, Option, None, Some, is_some, append_assoc, append-nil}
 use Rattle.std.specs.Option.{IfSome}
 use Rattle.std.specs.Io.KnownBytes.{Appends}
@@ -19,7 +19,7 @@ use Rattle.board_script.specs.declared.stream.ReplayEnd.{ReplayEnd}
 use Rattle.board_script.specs.declared.stream.ReplayEnd.TheVariants.{Done, Script, Memory, Reading, Writing}
 use Rattle.board_script.proofs.ScriptLemmas.{output_from-line, first_fault-line, output_from-bad, first_fault-bad}
 
--- The fault that a drive found, the board being open or not.
+-- The fault that a drive found, given whether the board is open.
 abbrev FaultAt : End ScriptFault → Bool → Option (ℕ × ScriptFault) → Type 0
 FaultAt (ends.Last line) opened fault = cond opened None (Some (line, faults.First)) ≡ fault
 FaultAt (ends.Wrong line f) opened fault = Some (line, f) ≡ fault
@@ -40,7 +40,7 @@ rest-end : (opened : Bool) (line : ℕ) → first_fault line opened [] [] ≡ co
 rest-end true line = refl
 rest-end false line = refl
 
--- Some lines were answered, and then comes what is left.
+-- Some lines were answered, and the rest follows.
 record Answered (old new : Machine) (k j : ℕ) (lines left : List (List ℕ)) (rest answers : List ℕ) : Type 0 where
   pub output : output_from old (lines ++ left) ≡ answers ++ output_from new left
   pub fault : first_fault k (is_some old) (lines ++ left) rest ≡ first_fault j (is_some new) left rest
@@ -91,7 +91,7 @@ module _ {J : Type 0} (seen : J → Machine) (old new : J) (start : seen old ≡
   known-by : (end : End ScriptFault) (answers text : List ℕ) (fault : Option (ℕ × ScriptFault)) (h : Ended end answers text) → (output_from (seen h.state) h.left ≡ []) × (first_fault (length h.lines + 1) (is_some (seen h.state)) h.left (rest_of text) ≡ fault) → (output_of text ≡ answers) × (fault_of text ≡ fault)
   known-by end answers text fault h left = let on = on-text end answers text h in (on.0 ∙ ap (λ (x : List ℕ). answers ++ x) left.0 ∙ append-nil answers, on.1 ∙ left.1)
 
-  -- What was sent is all that is answered, and the fault is the first.
+  -- The answers that were sent are all there are, and the fault is the first.
   known : (end : End ScriptFault) (fault : Option (ℕ × ScriptFault)) (answers text : List ℕ) → FaultAt end (is_some (seen new)) fault → Ended end answers text → (output_of text ≡ answers) × (fault_of text ≡ fault)
   known (ends.Last line) fault answers text is h =
       let e = h.ends in
@@ -110,7 +110,7 @@ module _ {J : Type 0} (seen : J → Machine) (old new : J) (start : seen old ≡
       known-by (ends.Cut line) answers text fault h (rw (e.2, rest-cut (is_some (seen h.state)) (rest_of text) e.4 e.3) (refl, rw (sym e.0) is))
   known end fault answers text is h = absurd is
 
-  -- The fault is said, if there is one.
+  -- The fault's line is written, if there is a fault.
   replays-finished : (end : End ScriptFault) (fault : Option (ℕ × ScriptFault)) (result : ReplayEnd) (r0 r1 w0 w w1 : Option (List ℕ)) → FaultAt end (is_some (seen new)) fault → Driven end r0 r1 w0 w → Finishes result fault w w1 → Replays result r0 r1 w0 w1
   replays-finished end fault result r0 r1 w0 w w1 is d = by result
     where
@@ -137,7 +137,7 @@ module _ {J : Type 0} (seen : J → Machine) (old new : J) (start : seen old ≡
         begins = rw (here.0, here.1) (ap (λ (x : List ℕ). d.answers ++ x) f.3 ∙ sym (append_assoc d.answers f.0 f.1));
       }
 
-  -- What was sent begins what is answered to the bytes that came.
+  -- What was sent is a prefix of the answers to the bytes that were read.
   replays-begun : (end : End ScriptFault) (r0 r1 w0 w1 : Option (List ℕ)) (d : Driven end r0 r1 w0 w1) → d.answers ≡ d.sent → BegunText output_of r0 r1 w0 w1
   replays-begun end r0 r1 w0 w1 d sent = record { taken = d.taken; sent = d.sent; unsent = output_from (seen d.read.state) d.read.left; reads = d.reads; writes = d.writes; begins = (on-text end d.answers d.taken d.read).0 ∙ ap (λ (x : List ℕ). x ++ output_from (seen d.read.state) d.read.left) sent }
 
@@ -148,7 +148,7 @@ module _ {J : Type 0} (seen : J → Machine) (old new : J) (start : seen old ≡
       let tail = fault_text (fault_of d.taken) in
       record { taken = d.taken; sent = d.sent; unsent = (d.sends.0 ++ more) ++ tail; reads = d.reads; writes = d.writes; begins = ap (λ (x : List ℕ). x ++ tail) ((on-text ends.Writing d.answers d.taken d.read).0 ∙ ap (λ (x : List ℕ). x ++ more) d.sends.1) ∙ simp append_assoc }
 
-  -- What a drive and what is written behind it come to.
+  -- A drive, and what is written after it.
   pub replays-concluded : (end : End ScriptFault) (result : ReplayEnd) (r0 r1 w0 w w1 : Option (List ℕ)) → Driven end r0 r1 w0 w → Concludes (conclusion end (is_some (seen new))) result w w1 → Replays result r0 r1 w0 w1
   replays-concluded (ends.Last line) result r0 r1 w0 w w1 d f = replays-finished (ends.Last line) (cond (is_some (seen new)) None (Some (line, faults.First))) result r0 r1 w0 w w1 refl d f
   replays-concluded (ends.Wrong line g) result r0 r1 w0 w w1 d f = replays-finished (ends.Wrong line g) (Some (line, g)) result r0 r1 w0 w w1 refl d f

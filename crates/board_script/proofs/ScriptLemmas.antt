@@ -1,4 +1,4 @@
--- What is written for one line more.
+-- The output of one more line.
 use Rattle.std.proofs.Common.{◌≡◌, ◌≤◌, le-ltb, ap, sym, ◌∙◌, codes, ℕ, ◌+◌, List, [], ◌∷◌, ◌++◌, length, refl, cond, Bool, true, false, not, ◌||◌, nat_lt, Option, None, Some, is_some}
 use Rattle.std.specs.List.{cons_option}
 use Rattle.std.specs.Option.{option_map}
@@ -61,7 +61,7 @@ item-at line word rest e = ap item_say e
 judged : (opened : Bool) (line : List ℕ) (item : Option Item) → length line ≤ 640 → is_skipped line ≡ false → item_at line ≡ item → (line_fault opened line ≡ item_fault opened item) × (item_in line ≡ item)
 judged opened line item short not is = rw (le-ltb 640 (length line) short, not, is) (refl, refl)
 
--- what is answered to the item is answered to the line
+-- the answer to the item is the answer to the line
 pub answers-line : (result : Taken ScriptFault) (line word : List ℕ) (rest : Fields) (old new : Machine) (out : List ℕ) → length line ≤ 640 → is_skipped line ≡ false → fields_of line ≡ word ∷ rest → AnswersItem result (item_say (word ∷ rest)) old new out → Judges IsAnswered IsFaulty result old new line out
 answers-line taken.Good line word rest old new out short not fields h =
     let j = judged (is_some old) line (item_say (word ∷ rest)) short not (item-at line word rest fields) in
@@ -71,7 +71,7 @@ answers-line (taken.Wrong fault) line word rest old new out short not fields h =
     rw j.0 h
 answers-line taken.Memory line word rest old new out short not fields h = tt
 
--- a first item that is no board line
+-- a first item that is not a board line
 other : (t : Bool) (fs : Fields) (r : Option Event) → item_fault false (cond t (none_left Summary fs) (option_map Performs r)) ≡ Some faults.First
 other true [] r = refl
 other true (field ∷ fs) r = refl
@@ -84,7 +84,7 @@ first-other word key fs is e =
     ap (λ (t : Bool). item_fault false (cond t (opening_item fs) (cond (bytes_eq word (codes "summary")) (none_left Summary fs) (option_map Performs (event_say (word ∷ fs)))))) no_board
     ∙ other (bytes_eq word (codes "summary")) fs (event_say (word ∷ fs))
 
--- a board that was opened has sizes within the limits
+-- an opened board has sizes within the limits
 sized : (n g f : ℕ) (t : Bool) → are_sizes n g ≡ t → ((AreSizes n g → ⊥) → ⊥) → item_fault false (Some (Opening n g f)) ≡ None
 sized n g f true is h = rw is refl
 sized n g f false is h = absurd (h (λ sizes. let yes = (sizes-are n g).1 sizes in cc))

@@ -1,4 +1,4 @@
--- What is written for a script: what the machine answers to its good lines, and then its first fault.
+-- The output of a script: the machine's answers to its good lines, and then its first fault.
 use Rattle.std.specs.Prelude.{ℕ, List, [], ◌∷◌, ◌++◌, map, Option, None, Some, is_some, false}
 use Rattle.board_text.specs.Lines.{lines_of, rest_of}
 use Rattle.synic_board.specs.State.{State, opened}
@@ -11,7 +11,7 @@ use Rattle.board_lines.specs.Printing.{text_of, reply_fields, notice_fields, sum
 use Rattle.board_script.specs.Script.{first_fault, good_items}
 use Rattle.board_lines.specs.declared.fault.ScriptFault.{ScriptFault}
 
--- the machine, once it is open
+-- the state of the machine, once it is open
 abbrev pub Machine : Type 0
 Machine = Option State
 
@@ -32,16 +32,16 @@ answer (Some s) (Performs event) = told (step s event)
 answer None Summary = []
 answer (Some s) Summary = text_of (summary_lines (scratch s))
 
--- what the machine answers to a list of items
+-- the machine's answers to a list of items
 abbrev pub answers : Machine → List Item → List ℕ
 answers machine [] = []
 answers machine (item ∷ items) = answer machine item ++ answers (machine_after machine item) items
 
--- what is written for whole lines, from a machine on
+-- the output of whole lines, starting in a state
 abbrev pub output_from : Machine → List (List ℕ) → List ℕ
 output_from machine lines = answers machine (good_items (is_some machine) lines)
 
--- what is written before the fault's line
+-- the output before the fault's line
 unfoldable pub output_of : List ℕ → List ℕ
 output_of input = output_from None (lines_of input)
 
@@ -49,6 +49,6 @@ output_of input = output_from None (lines_of input)
 unfoldable pub fault_of : List ℕ → Option (ℕ × ScriptFault)
 fault_of input = first_fault 1 false (lines_of input) (rest_of input)
 
--- all that is written
+-- the whole output
 abbrev pub text : List ℕ → List ℕ
 text input = output_of input ++ fault_text (fault_of input)

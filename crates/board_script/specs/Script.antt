@@ -1,4 +1,4 @@
--- What is wrong with a script, and where first.
+-- The faults of a script, and the first of them.
 use Rattle.std.specs.Prelude.{ℕ, ◌+◌, List, [], ◌∷◌, ◌||◌, not, Bool, true, false, if◌then◌else◌, nat_lt, length, Option, None, Some, is_some}
 use Rattle.std.specs.List.{filter_map}
 use Rattle.board_lines.specs.Items.{Item, Opening, Performs, Summary}
@@ -8,11 +8,11 @@ pub use Rattle.board_lines.specs.Faults.{is_skipped, rest_fault}
 use Rattle.board_lines.specs.declared.fault.ScriptFault.{ScriptFault}
 use Rattle.board_lines.specs.declared.fault.ScriptFault.TheVariants as faults
 
--- what a line asks for, if it is not skipped
+-- the item of a line, unless it is skipped
 abbrev pub item_in : List ℕ → Option Item
 item_in line = if is_skipped line then None else item_at line
 
--- The first item opens the board, within the limits, and no other does.
+-- The first item must open the board, with sizes within the limits, and no later item may.
 abbrev pub item_fault : Bool → Option Item → Option ScriptFault
 item_fault false (Some (Opening processors pages ticket)) = if are_sizes processors pages then None else Some faults.Size
 item_fault false (Some (Performs event)) = Some faults.First
@@ -23,7 +23,7 @@ item_fault true (Some (Performs event)) = None
 item_fault true (Some Summary) = None
 item_fault true None = Some faults.Form
 
--- what is wrong with a whole line, before the board is open or after
+-- the fault of a whole line, given whether the board is open
 abbrev pub line_fault : Bool → List ℕ → Option ScriptFault
 line_fault opened line =
     if nat_lt 640 (length line) then Some faults.Long
@@ -38,7 +38,7 @@ abbrev pub at_line : ℕ → Option ScriptFault → Option (ℕ × ScriptFault) 
 at_line k None later = later
 at_line k (Some fault) later = Some (k, fault)
 
--- the first fault and its line, the lines counted from k
+-- the first fault and its line; the lines are counted from k
 abbrev pub first_fault : ℕ → Bool → List (List ℕ) → List ℕ → Option (ℕ × ScriptFault)
 first_fault k opened [] rest = at_line k (rest_fault opened rest) None
 first_fault k opened (line ∷ lines) rest = at_line k (line_fault opened line) (first_fault (k + 1) (opens opened line) lines rest)
@@ -48,6 +48,6 @@ abbrev pub good_lines : Bool → List (List ℕ) → List (List ℕ)
 good_lines opened [] = []
 good_lines opened (line ∷ lines) = if is_some (line_fault opened line) then [] else line ∷ good_lines (opens opened line) lines
 
--- what the good lines ask for
+-- the items of the good lines
 abbrev pub good_items : Bool → List (List ℕ) → List Item
 good_items opened lines = filter_map item_in (good_lines opened lines)

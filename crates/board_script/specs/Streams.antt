@@ -7,7 +7,7 @@ use Rattle.board_script.specs.Output.{output_of, fault_of, text}
 use Rattle.board_script.specs.declared.stream.ReplayEnd.{ReplayEnd}
 use Rattle.board_script.specs.declared.stream.ReplayEnd.TheVariants.{Done, Script, Memory, Reading, Writing}
 
--- These bytes were read, and what was written begins what is written for them.
+-- These bytes were read, and what was written is a prefix of their output.
 pub record BegunText (of : List ℕ → List ℕ) (r0 r1 w0 w1 : Option (List ℕ)) : Type 0 where
   pub taken : List ℕ
   pub sent : List ℕ
@@ -16,7 +16,7 @@ pub record BegunText (of : List ℕ → List ℕ) (r0 r1 w0 w1 : Option (List �
   pub writes : Appends w0 w1 sent
   pub begins : of taken ≡ sent ++ unsent
 
--- from what a reader had and a writer held to what they have and hold at the end
+-- the reader and the writer before and after
 abbrev pub Replays : ReplayEnd → Option (List ℕ) → Option (List ℕ) → Option (List ℕ) → Option (List ℕ) → Type 0
 Replays Done r0 r1 w0 w1 = IfSome r0 (λ input. (fault_of input ≡ None) × Appends w0 w1 (text input))
 Replays (Script line fault) r0 r1 w0 w1 = IfSome r0 (λ input. (fault_of input ≡ Some (line, fault)) × Appends w0 w1 (text input))
@@ -24,12 +24,12 @@ Replays Memory r0 r1 w0 w1 = BegunText output_of r0 r1 w0 w1
 Replays Reading r0 r1 w0 w1 = BegunText output_of r0 r1 w0 w1
 Replays Writing r0 r1 w0 w1 = BegunText text r0 r1 w0 w1
 
--- how many bytes are read at most: the byte behind the limit only where reading ends for it
+-- the greatest number of bytes read: the byte beyond the limit only if reading ends there
 abbrev pub most_read : ReplayEnd → ℕ
 most_read Reading = 1073741825
 most_read end = 1073741824
 
--- behind the line of a fault at most one block was read
+-- after the line of a fault at most one block was read
 abbrev pub StopsNear : ReplayEnd → Option (List ℕ) → Option (List ℕ) → Type 0
 StopsNear (Script line fault) r0 r1 = ReadsNear line r0 r1
 StopsNear end r0 r1 = Unit {0}

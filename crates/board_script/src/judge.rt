@@ -1,4 +1,4 @@
-// The judge of a script's lines.
+// The judge for the lines of a script.
 ghost use Rattle.board_script.specs.inside.Judging.{IsAnswered, IsFaulty, machine_of};
 
 use crate::respond::respond;
@@ -8,7 +8,7 @@ use line_driver::{Judge, Taken};
 use std::alloc::Global;
 use synic_board::{Board, Event};
 
-/// Judges the lines of a script, and performs them on a board of its own.
+/// Validates the lines of a script, and performs them on a board of its own.
 #[derive(Drop)]
 pub(crate) struct ScriptJudge {
     pub(crate) alloc: Global,

@@ -1,5 +1,5 @@
-//! The texts of the board: scripts are replayed, the scripts of crews are run in threads, and traces
-//! are checked.
+//! The texts of the board: replays scripts, runs the scripts of crews in threads, and checks
+//! traces.
 #![tactic(auto)]
 
 mod judge;

@@ -1,4 +1,4 @@
-// What a line asks of the board, and the answer.
+// Performing a line, and its answer.
 ghost use Rattle.std.specs.Prelude.{◌≡◌, ◌≤◌, [], ◌∷◌, ◌++◌, length, OnOk, None, Some};
 ghost use Rattle.synic_board.specs.Step.{step};
 ghost use Rattle.board_lines.specs.Reading.{opening_item, item_say};
@@ -15,8 +15,8 @@ use line_driver::Taken;
 use std::alloc::{AllocError, Global};
 use synic_board::{Board, Event, OpenFault};
 
-/// Judges a line, does what it asks of the board, and writes the answer into `out`. An event is read
-/// into `event`, of which nothing is kept from line to line.
+/// Validates a line, performs it, and writes the answer to `out`. `event` is scratch space: nothing
+/// in it is used by the next line.
 pub(crate) fn respond(
     alloc: Global,
     board: &mut Option<Board>,
@@ -58,7 +58,7 @@ fn open(
     Taken::Wrong(ScriptFault::First)
 }
 
-/// Opens a board of the sizes that the fields name.
+/// Opens a board with the sizes in the fields.
 fn open_sized(
     alloc: Global,
     board: &mut Option<Board>,
@@ -80,7 +80,7 @@ fn open_sized(
     }
 }
 
-/// Takes an event's line or the line `summary`.
+/// Takes the line of an event or the line `summary`.
 fn take_line(
     board: &mut Board,
     word: &[u8],
@@ -110,7 +110,7 @@ fn take_line(
     }
 }
 
-/// Performs an event, and writes its reply and its notices at the end of `out`.
+/// Performs an event, and appends its reply and its notices to `out`.
 fn perform(
     board: &mut Board,
     event: &Event,

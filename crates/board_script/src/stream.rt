@@ -1,4 +1,4 @@
-// A script from a reader, its text to a writer.
+// Replaying a script from a reader to a writer.
 ghost use Rattle.board_text.specs.Streams.{ReadsUpTo};
 ghost use Rattle.board_script.specs.Streams.{Replays, most_read, StopsNear};
 ghost use Rattle.board_script.specs.inside.Judging.{conclusion, Concludes, Finishes};
@@ -16,20 +16,20 @@ use synic_board::Event;
 pub enum ReplayEnd {
     /// The whole script was performed.
     Done,
-    /// A line is wrong; nothing behind it was performed. Lines are counted from 1.
+    /// A line is wrong; no line after it was performed. Lines are counted from 1.
     Script { line: u64, fault: ScriptFault },
-    /// There was no memory.
+    /// An allocation failed.
     Memory,
     /// A read failed, or the input has more than 1,073,741,824 bytes.
     Reading,
-    /// A write or a flush failed, or a write took nothing.
+    /// A write or a flush failed, or a write returned 0.
     Writing,
 }
 
-/// Performs the script that the reader gives on a board of its own, and writes its text: the board's
-/// answer to each line before the next is performed, and at a wrong line that line's fault. The
-/// writer is flushed before each read and at the end. The memory that this takes does not depend on
-/// the script's length.
+/// Performs the script of the reader on a board of its own, and writes its output: the answer to
+/// each line before the next one is performed, and the fault of a wrong line. The writer is flushed
+/// before each read and at the end. The memory that this allocates does not depend on the length of
+/// the script.
 pub fn replay<R: Read, W: Write>(alloc: Global, reader: &mut R, writer: &mut W) -> ReplayEnd
     ensures text { Replays result (R.remaining reader.old) (R.remaining reader.new) (W.contents writer.old) (W.contents writer.new) }
     ensures limit { ReadsUpTo (most_read result) (R.remaining reader.old) (R.remaining reader.new) }
@@ -49,8 +49,8 @@ pub fn replay<R: Read, W: Write>(alloc: Global, reader: &mut R, writer: &mut W) 
     conclude(writer, &mut out, end, judge.board.is_some())
 }
 
-/// Writes what the end of the reading leaves to write. It stands apart from `replay`, which so lets go of
-/// all that it owns at one place.
+/// Writes what is left to write when reading ends. It is separate from `replay`, so that one owner
+/// drops everything.
 fn conclude<W: Write>(
     writer: &mut W,
     out: &mut Vec<u8>,
@@ -71,7 +71,7 @@ fn conclude<W: Write>(
     }
 }
 
-/// Writes the fault's line, if there is one, and flushes.
+/// Writes the fault's line, if there is a fault, and flushes.
 fn finish<W: Write>(
     writer: &mut W,
     out: &mut Vec<u8>,

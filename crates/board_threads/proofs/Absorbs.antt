@@ -1,4 +1,4 @@
--- What the lines were answered is what the history absorbed and what stands.
+-- The results of the lines' raises equal what the history absorbed plus the bits that are set.
 use Rattle.std.proofs.Common.{◌≡◌, ℕ, zero, suc, ◌+◌, ◌<◌, true, false, List, [], ◌∷◌, ◌++◌, length, All, map, refl, sym, ap, ◌∙◌, subst, arith, reverse}
 use Rattle.std.specs.Prelude.{if◌then◌else◌}
 use Rattle.std.specs.List.{flat_map, sum_by}
@@ -94,7 +94,7 @@ log_of a = sweeps_of a.calls.items
 abbrev IsOwn : Acting → Type 0
 IsOwn a = a.did ≡ sweeps_of a.calls
 
--- the logs of the sweepers, by the lists that are handed out
+-- the logs of the sweepers, given the returned lists
 logs-are : (actors : List Acting) (ended : List ActorCalls) → map calls_given ended ≡ map calls_held actors → All IsOwn actors → map (λ (a : Acting). a.did) actors ≡ map log_of ended
 logs-are [] [] is own = refl
 logs-are [] (e ∷ ended) is own = absurd (cc)

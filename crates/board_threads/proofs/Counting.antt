@@ -1,4 +1,4 @@
--- What is counted over a history is what is counted over its actors' calls.
+-- Counts over a history equal counts over its actors' calls.
 use Rattle.std.proofs.Common.{◌≡◌, ◌≢◌, ℕ, Bool, true, false, List, [], ◌∷◌, length, All, map, cond, refl, sym, ap, ◌∙◌, arith}
 use Rattle.std.specs.Prelude.{◌==◌, not, filter}
 use Rattle.std.specs.List.{sum_by}
@@ -19,7 +19,7 @@ module _ {A B : Type 0} where
   sum-map f g [] = refl
   sum-map f g (x ∷ xs) = omega (arith, sum_by-cons f (g x) (map g xs), sum_by-cons (λ y. f (g y)) x xs, sum-map f g xs)
 
--- what is left out for one number is no entry of another
+-- the calls without one number's include no entry of another
 others : (n m : ℕ) (h : List Entry) → n ≢ m → filter (λ e. n == e.actor) (filter (λ e. not (m == e.actor)) h) ≡ filter (λ e. n == e.actor) h
 others n m [] differ = refl
 others n m (e ∷ h) differ = one (m == e.actor) (λ is. grind (arith, nat_tests)) (others n m h differ)

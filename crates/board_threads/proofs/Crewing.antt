@@ -1,4 +1,4 @@
--- The actors and the lines of a crew, from their opening to their end.
+-- The actors and the lines of a crew, from the opening to the end.
 use Rattle.std.proofs.Common.{◌≡◌, ℕ, zero, suc, Bool, true, false, List, [], ◌∷◌, ◌++◌, All, map, drop, take, length, length-append, replicate, Vec, Global, refl, sym, ap, ◌∙◌, subst, arith}
 use Rattle.std.specs.Prelude.{◌||◌, nat_le}
 use Rattle.std.specs.List.{AllZip, list_any, range_with_len}
@@ -34,7 +34,7 @@ new-lines name zero k d lt = absurd (omega arith)
 new-lines name (suc n) zero d lt = (refl, refl)
 new-lines name (suc n) (suc k) d lt = new-lines name n k d (omega arith)
 
--- where no test says yes
+-- neither test holds
 or-none : (a b : Bool) → (a || b) ≡ false → (a ≡ false) × (b ≡ false)
 or-none true b h = absurd (cc)
 or-none false b h = (refl, h)
@@ -53,7 +53,7 @@ pub all-there : (setup : Setup) (scripts : Scripts) → has_bad_step setup scrip
 all-there setup scripts h =
     there setup.processors scripts.lines.items (or-none (list_any is_absorb setup.events.items || list_any is_bad_script scripts.actors.items) (list_any (is_bad_line setup.processors) scripts.lines.items) h).1
 
--- all actors are of the board
+-- all actors belong to the board
 of-each : (name : TableId) (scripts : List (Vec Step Global)) (others : List Acting) → AllZip (λ (s : Vec Step Global) (a : Acting). HasActed name a.number s.items a) scripts others → All (λ (a : Acting). a.of ≡ name) others
 of-each name [] [] h k d lt = absurd (omega arith)
 of-each name [] (a ∷ others) h k d lt = absurd h
@@ -81,7 +81,7 @@ lines-of name (s ∷ scripts) [] h k d lt = absurd (omega arith)
 lines-of name (s ∷ scripts) (r ∷ ran) h zero d lt = h.0.of
 lines-of name (s ∷ scripts) (r ∷ ran) h (suc k) d lt = lines-of name scripts ran h.1 k d (omega arith)
 
--- a line's log has raises alone
+-- a line's log has only raises
 only-append : (xs ys : List Did) → only_raises xs ≡ true → only_raises ys ≡ true → only_raises (xs ++ ys) ≡ true
 only-append [] ys h k = k
 only-append (Raise w b f ∷ xs) ys h k = only-append xs ys h k

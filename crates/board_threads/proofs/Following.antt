@@ -1,4 +1,4 @@
--- A worker one step on.
+-- One more step of a worker.
 use Rattle.std.proofs.Common.{◌≡◌, ℕ, ◌+◌, ◌/◌, ◌%◌, List, [], ◌∷◌, ◌++◌, map, length, length-append, refl, sym, ap, ◌∙◌, subst, arith, append_assoc, reverse}
 use mathlib.Core.List.{map-append}
 use Rattle.std.specs.List.{AllZip, range_with_len}
@@ -24,7 +24,7 @@ module _ {A B : Type 0} (R : A → B → Type 0) where
   zip-push (a ∷ xs) [] x y h r = absurd h
   zip-push (a ∷ xs) (b ∷ ys) x y h r = (h.0, zip-push xs ys x y h.1 r)
 
--- an actor made one call more, and its number and its words are as they were
+-- an actor made one more call, and its number and its words are unchanged
 pub record GoesOn (steps : List Step) (start now : Acting) : Type 0 where
   pub of : now.of ≡ start.of
   pub number : now.number ≡ start.number
@@ -69,7 +69,7 @@ raises-push [] (b ∷ answers) s a e = absurd (omega arith)
 raises-push (t ∷ script) [] s a e = absurd (omega arith)
 raises-push (t ∷ script) (b ∷ answers) s a e = ap (λ l. raise_of t.0 t.1 (is_fresh b) ∷ l) (raises-push script answers s a (omega arith))
 
--- a line raised one vector more
+-- a line raised one more vector
 pub raised-on : (front more : List (ℕ × ℕ)) (old new : List Raised) (log longer : List Did) (s : ℕ × ℕ) (a : Raised) → more ≡ front ++ s ∷ [] → length old ≡ length front → log ≡ log_of front old
     → new ≡ old ++ a ∷ [] → longer ≡ raise_of s.0 s.1 (is_fresh a) ∷ log → (length new ≡ length more) × (longer ≡ log_of more new)
 raised-on front more old new log longer s a is each was goes step = (

@@ -1,4 +1,4 @@
--- The calls of one actor, as far as the history has been read.
+-- The calls of one actor, in the part of the history read so far.
 use Rattle.std.proofs.Common.{◌≡◌, ◌≢◌, ℕ, Bool, true, false, List, [], ◌∷◌, ◌++◌, map, refl, sym, ap, ◌∙◌, arith, append-nil}
 use Rattle.std.specs.Prelude.{◌==◌, if◌then◌else◌, filter}
 use mathlib.Core.List.{map-append}

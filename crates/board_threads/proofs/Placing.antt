@@ -1,4 +1,4 @@
--- The places of the setup and of the last absorbs.
+-- Where the setup and the last absorbs are in the history.
 use Rattle.std.proofs.Common.{◌≡◌, ℕ, zero, suc, ◌+◌, ◌<◌, true, false, List, [], ◌∷◌, ◌++◌, All, map, length, length-append, Vec, Global, refl, sym, ap, ◌∙◌, subst, arith, append-nil}
 use Rattle.std.specs.Prelude.{◌==◌, ◌*◌, if◌then◌else◌, filter}
 use Rattle.std.specs.List.{AllZip, range_with_len, sum_by}
@@ -24,14 +24,14 @@ use Rattle.board_threads.proofs.Matching.{calls_by-append}
 abbrev IsMain : Entry → Type 0
 IsMain e = e.actor ≡ 0
 
--- where all entries are actor 0's
+-- all entries are by actor 0
 all-main : (xs : List Entry) → All IsMain xs → filter (λ e. 0 == e.actor) xs ≡ xs
 all-main [] main = refl
 all-main (x ∷ xs) main =
     let test : (0 == x.actor) ≡ true = eq-eqb 0 x.actor (sym (All-head IsMain x xs main)) in
     λ i. if test i then x ∷ all-main xs (All-tail IsMain x xs main) i else all-main xs (All-tail IsMain x xs main) i
 
--- no other has one
+-- no entry is by another actor
 none-other : (n : ℕ) (xs : List Entry) → 0 < n → All IsMain xs → filter (λ e. n == e.actor) xs ≡ []
 none-other n [] some main = refl
 none-other n (x ∷ xs) some main =
@@ -70,7 +70,7 @@ others-between n [] h first between last some is f l each = tt
 others-between n (s ∷ scripts) h first between last some is f l each =
     (subst (AreSteps s) (ap (calls_by n) is ∙ between-calls n first between last some f l) each.0, others-between (n + 1) scripts h first between last (omega arith) is f l each.1)
 
--- what actor 0 did stands at the ends, and the others' scripts between
+-- the calls of actor 0 are at the ends, and the others' scripts between
 pub crewed : (name : TableId) (n : ℕ) (setup : List Event) (scripts : List (List Step)) (h : List Entry) (main : Acting) → InPlace (length setup) (4 * n) h → HasServed name n setup main
     → calls_by 0 h ≡ main.calls → EachFollows 1 scripts h → length h ≡ length main.calls + sum_by (λ (s : List Step). length s) scripts → IsCrewed n setup scripts h
 crewed name n setup scripts h main place served own each many =
@@ -119,7 +119,7 @@ steps-add-up name (s ∷ scripts) (a ∷ others) acted =
 abbrev pub StandsIn : List Entry → Acting → Type 0
 StandsIn h a = calls_by a.number h ≡ a.calls
 
--- the entries of each actor are its calls, as it had them
+-- the entries of each actor are its calls, in its order
 pub stand : (h : List Entry) (ended : List ActorCalls) (actors : List Acting) → map calls_given ended ≡ map calls_held actors → All (λ (a : ActorCalls). calls_by a.number h ≡ a.calls.items) ended → All (StandsIn h) actors
 stand h [] [] is own k d lt = absurd (omega arith)
 stand h [] (a ∷ actors) is own k d lt = absurd (cc)
@@ -131,7 +131,7 @@ stand h (e ∷ ended) (a ∷ actors) is own (suc k) d lt =
     let tail : map calls_given ended ≡ map calls_held actors = cc in
     stand h ended actors tail (All-tail (λ (b : ActorCalls). calls_by b.number h ≡ b.calls.items) e ended own) k d (omega arith)
 
--- each script stands in the history, by the actor of its place
+-- each script is in the history, by the actor with its number
 pub each-stands : (name : TableId) (n : ℕ) (scripts : List (Vec Step Global)) (others : List Acting) (h : List Entry) → map (λ (a : Acting). a.number) others ≡ range_with_len n (length scripts)
     → AllZip (λ (s : Vec Step Global) (a : Acting). HasActed name a.number s.items a) scripts others → All (StandsIn h) others → EachFollows n (lists scripts) h
 each-stands name n [] [] h numbers acted own = tt

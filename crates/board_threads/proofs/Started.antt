@@ -1,4 +1,4 @@
--- Threads that were started, and what they gave.
+-- Threads that were started, and their results.
 use Rattle.std.proofs.Common.{◌≡◌, ℕ, List, [], ◌∷◌, length, map, Vec, Global, refl, ap, subst, ◌∙◌}
 use Rattle.std.specs.List.{AllZip}
 use Rattle.atomic_table.specs.Seated.{TableId}
@@ -12,7 +12,7 @@ use Rattle.board_threads.specs.declared.script.Step.{Step}
 abbrev pub pair : {A B : Type 0} → A → B → A × B
 pair a b = (a, b)
 
--- What the threads of a list of handles gave, thread by thread, is what the list asks for that the handles stand for.
+-- The results of the threads of a list of handles satisfy the list of their postconditions, one by one.
 pub given : {H T S X : Type 0} (R : H → T → Type 0) (Q : S → T → Type 0) (f : H → X) (g : S → X) → ((h : H) (s : S) (t : T) → f h ≡ g s → R h t → Q s t)
     → (hs : List H) (ss : List S) (ts : List T) → map f hs ≡ map g ss → AllZip R hs ts → AllZip Q ss ts
 given R Q f g step [] [] [] is all = tt
@@ -25,7 +25,7 @@ given R Q f g step (h ∷ hs) (s ∷ ss) (t ∷ ts) is all =
     let tail : map f hs ≡ map g ss = cc in
     (step h s t head all.0, given R Q f g step hs ss ts tail all.1)
 
--- a number that each thread keeps
+-- a number that each thread preserves
 pub numbers-kept : {H T : Type 0} (R : H → T → Type 0) (f : H → ℕ) (g : T → ℕ) → ((h : H) (t : T) → R h t → g t ≡ f h) → (hs : List H) (ts : List T) → AllZip R hs ts → map g ts ≡ map f hs
 numbers-kept R f g step [] [] all = refl
 numbers-kept R f g step [] (t ∷ ts) all = absurd all
@@ -33,7 +33,7 @@ numbers-kept R f g step (h ∷ hs) [] all = absurd all
 numbers-kept R f g step (h ∷ hs) (t ∷ ts) all = λ i. step h t all.0 i ∷ numbers-kept R f g step hs ts all.1 i
 
 module _ (name name' : TableId) where
-  -- an actor that was to run a script of a board's words ran it
+  -- an actor that was to run a script on a board's words ran it
   pub acted : (n : ℕ) (script : List Step) (s : Vec Step Global) (a : Acting) → pair name' script ≡ pair name s.items → HasActed name' n script a → HasActed name a.number s.items a
   acted n script s a is h = record {
     of = h.of ∙ ap (λ (p : TableId × List Step). p.0) is;

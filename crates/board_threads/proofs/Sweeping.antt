@@ -1,4 +1,4 @@
--- What a sweeper did are the absorbs among its actor's calls.
+-- The steps of a sweeper are the absorbs among its actor's calls.
 use Rattle.std.proofs.Common.{◌≡◌, ℕ, Bool, true, false, List, [], ◌∷◌, ◌++◌, refl, sym, ap, ◌∙◌}
 use Rattle.std.specs.Prelude.{if◌then◌else◌, nat_lt, nat_le, ◌&&◌}
 use Rattle.std.specs.List.{flat_map}
@@ -20,7 +20,7 @@ use Rattle.board_threads.specs.Sweeps.{is_absorb, is_refusal, sweep_in, sweeps_o
 sweeps-push : (calls : List Call) (e : Event) (r : Reply) → sweeps_of (calls ++ (e, r) ∷ []) ≡ sweep_in e r ++ sweeps_of calls
 sweeps-push calls e r = ap (flat_map (λ (c : Call). sweep_in c.0 c.1)) (reverse-append calls ((e, r) ∷ []))
 
--- an event that is no absorb sweeps nothing
+-- an event other than an absorb sweeps nothing
 none-swept : (e : Event) (r : Reply) → is_absorb e ≡ false → sweep_in e r ≡ []
 none-swept (OpenPort port p i shape) r h = refl
 none-swept (ClosePort port) r h = refl
@@ -47,7 +47,7 @@ by-cases s true true e vp part bits ds = refl
 by-cases s true false e vp part bits ds = refl
 by-cases s false b e vp part bits ds = refl
 
--- an absorb is refused exactly where no word is swept
+-- an absorb is refused iff no word is swept
 pub absorb-sweeps : (s : State) (n vp part bits : ℕ) (r : Reply) (ds : List Did) → r ≡ (step s (Absorb vp part bits)).1 → processors s ≡ n
     → sweep_in (Absorb vp part bits) r ++ ds ≡ (if nat_lt vp n && nat_le part 3 then sweep_of vp part bits ∷ ds else ds)
 unfolding step
@@ -60,7 +60,7 @@ refused-by-cases s true true e h = absurd (cc)
 refused-by-cases s true false e h = refl
 refused-by-cases s false b e h = refl
 
--- no word of a refused absorb is there
+-- the word of a refused absorb does not exist
 pub refused-absorb : (s : State) (n vp part bits : ℕ) (r : Reply) → r ≡ (step s (Absorb vp part bits)).1 → processors s ≡ n
     → is_refusal r ≡ true → (nat_lt vp n && nat_le part 3) ≡ false
 unfolding step

@@ -1,4 +1,4 @@
--- What a crew does.
+-- The history of a crew.
 use Rattle.std.specs.Prelude.{◌≡◌, ℕ, ◌+◌, ◌*◌, ◌/◌, ◌%◌, List, [], ◌∷◌, ◌++◌, All, length, map, reverse, Vec}
 use Rattle.std.specs.Global.{Global}
 use Rattle.std.specs.List.{AllZip, range_with_len, sum_by}
@@ -13,12 +13,12 @@ use Rattle.board_threads.specs.History.{Call, call_of, calls_by}
 use Rattle.board_threads.specs.declared.script.Step.{Step}
 use Rattle.board_threads.specs.declared.script.Step.TheVariants.{Act, Sweep}
 
--- a call is a step of a script: a sweep stands as the absorb of the bits that it took
+-- a call performs a step of a script: a sweep appears as the absorb of the bits that it took
 abbrev pub IsStep : Step → Call → Type 0
 IsStep (Act e) c = c.0 ≡ e
 IsStep (Sweep vp part) c = (bits : ℕ) × (c.0 ≡ Absorb vp part bits)
 
--- calls are a script, step by step
+-- calls perform a script, step by step
 abbrev pub AreSteps : List Step → List Call → Type 0
 AreSteps = AllZip IsStep
 
@@ -32,13 +32,13 @@ last_step k = Sweep (k / 4) (k % 4)
 abbrev pub last_steps : ℕ → List Step
 last_steps processors = map last_step (range_with_len 0 (4 * processors))
 
--- what a line did that raised these vectors and was answered so
+-- the steps of a line that raised these vectors with these results
 abbrev pub raises_of : List (ℕ × ℕ) → List Raised → List Did
 raises_of [] answers = []
 raises_of (s ∷ script) [] = []
 raises_of (s ∷ script) (a ∷ answers) = raise_of s.0 s.1 (is_fresh a) ∷ raises_of script answers
 
--- its log, the last step first
+-- the log of the line, the last step first
 abbrev pub log_of : List (ℕ × ℕ) → List Raised → List Did
 log_of script answers = reverse (raises_of script answers)
 
@@ -48,25 +48,25 @@ logs_of [] answers = []
 logs_of (s ∷ scripts) [] = []
 logs_of (s ∷ scripts) (a ∷ answers) = log_of s a ∷ logs_of scripts answers
 
--- one answer for each raise
+-- one result for each raise
 abbrev pub HasEach : List (ℕ × ℕ) → List Raised → Type 0
 HasEach script answers = length answers ≡ length script
 
--- the lists that vectors hold
+-- the lists in vectors
 abbrev pub lists : {A : Type 0} → List (Vec A Global) → List (List A)
 lists {A} = map (λ (v : Vec A Global). v.items)
 
--- the calls of the actors from n on are their scripts
+-- the calls of the actors from n on perform their scripts
 abbrev pub EachFollows : ℕ → List (List Step) → List Entry → Type 0
 EachFollows n [] history = Unit {0}
 EachFollows n (s ∷ scripts) history = AreSteps s (calls_by n history) × EachFollows (n + 1) scripts history
 
--- entries by actor 0 that are these steps
+-- entries by actor 0 that perform these steps
 pub record AreMain (steps : List Step) (entries : List Entry) : Type 0 where
   pub number : All (λ (e : Entry). e.actor ≡ 0) entries
   pub follow : AreSteps steps (map call_of entries)
 
--- the history of a crew: the setup, then all scripts in whatever order their calls came, then the last absorbs
+-- the history of a crew: the setup, then the calls of all scripts in any interleaving, then the last absorbs
 pub record IsCrewed (processors : ℕ) (setup : List Event) (scripts : List (List Step)) (history : List Entry) : Type 0 where
   pub first : List Entry
   pub between : List Entry

@@ -1,4 +1,4 @@
--- What is judged of a crew before a thread starts.
+-- The preconditions of a crew.
 use Rattle.std.specs.Prelude.{ℕ, ◌+◌, ◌*◌, ◌≤◌, ◌||◌, Bool, false, nat_le, Vec, vec_len}
 use Rattle.std.specs.List.{list_any, sum_by}
 use Rattle.std.specs.Global.{Global}
@@ -15,10 +15,10 @@ pub record IsSized (setup : Setup) (scripts : Scripts) : Type 0 where
   -- actor 0 has no script
   pub actors : vec_len scripts.actors ≤ 15
   pub lines : vec_len scripts.lines ≤ 16
-  -- all entries, those of the last absorbs too, fit into a history
+  -- all entries, including those of the last absorbs, fit into a history
   pub entries : vec_len setup.events + sum_by (λ s. vec_len s) scripts.actors.items + 4 * setup.processors ≤ 65536
 
--- an absorb is no event of a crew: its bits are what a sweep takes
+-- a crew has no absorb events: their bits are what a sweep takes
 abbrev pub is_bad_step : Step → Bool
 is_bad_step (Act e) = is_absorb e
 is_bad_step (Sweep vp part) = false

@@ -1,4 +1,4 @@
--- What holds once the threads have ended.
+-- What holds when the threads have ended.
 use Rattle.std.specs.Prelude.{◌≡◌, ◌≢◌, ℕ, ◌+◌, ◌<◌, List, [], ◌∷◌, All, Bool, true, false, length, slice_index}
 use Rattle.std.specs.List.{sum_by}
 use Rattle.std.specs.Int.{bit_at}
@@ -15,12 +15,12 @@ use Rattle.board_threads.specs.Sharing.{Acting}
 use Rattle.board_threads.specs.declared.settling.ActorCalls.{ActorCalls}
 use Rattle.board_threads.specs.declared.settling.Ended.{Ended}
 
--- no two have one number
+-- no two actors have the same number
 abbrev pub HaveOwnNumbers : List ActorCalls → Type 0
 HaveOwnNumbers [] = Unit {0}
 HaveOwnNumbers (a ∷ rest) = All (λ (b : ActorCalls). b.number ≢ a.number) rest × HaveOwnNumbers rest
 
--- The history is what each of these actors called, and nothing else.
+-- The history is exactly the calls of these actors.
 pub record AreAllOf (history : List Entry) (actors : List ActorCalls) : Type 0 where
   pub numbers : HaveOwnNumbers actors
   -- the entries with an actor's number are its calls, in its order
@@ -28,20 +28,20 @@ pub record AreAllOf (history : List Entry) (actors : List ActorCalls) : Type 0 w
   -- and there are no other entries
   pub all : sum_by (λ (a : ActorCalls). length a.calls.items) actors ≡ length history
 
--- What a board that was opened in a state comes to: a run of one thread.
+-- The result of settling a board that was opened in a state: a run of one thread.
 pub record IsSettled (start : State) (e : Ended) : Type 0 where
-  -- the replies are those of the written machine
+  -- the replies are those of the reference model
   pub legal : IsLegal start e.history.items
-  -- and the board is the one that the history leads to
+  -- the history leads to the state of the board
   pub leads : e.board.state ≡ leads_to start e.history.items
   pub actors : AreAllOf e.history.items e.actors.items
 
--- What became of the raises of lines with these logs, at the n words of a board.
+-- The raises of lines with these logs, at the n words of a board.
 pub record AreAbsorbed (n : ℕ) (logs : List (List Did)) (history : List Entry) (standing : List ℕ) : Type 0 where
   pub words : length standing ≡ n
-  -- each Fresh answer was absorbed once, or stands
+  -- each Fresh raise was absorbed once, or its bit is set
   pub even : (w b : ℕ) → w < n → all_fresh logs w b ≡ times_absorbed w b history + bit_at (slice_index standing w) b
-  -- and where a line raised at all, some answer was Fresh
+  -- if a line raised a bit at all, some raise of it was Fresh
   pub some : (w b : ℕ) → 0 < sum_by (times_raised w b) logs → 0 < all_fresh logs w b
 
 -- a line has swept nothing
@@ -50,7 +50,7 @@ only_raises [] = true
 only_raises (Raise word bit fresh ∷ log) = only_raises log
 only_raises (Sweep word bits ∷ log) = false
 
--- the number and the calls, as an actor has them and as they are handed out
+-- the number and the calls of an actor, before and after settling
 abbrev pub calls_held : Acting → ℕ × List Call
 calls_held a = (a.number, a.calls)
 

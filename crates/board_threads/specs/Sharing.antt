@@ -1,4 +1,4 @@
--- What callers see of a shared board and of an actor.
+-- The abstract state of a shared board and of an actor.
 use Rattle.std.specs.Prelude.{ℕ, List, []}
 use Rattle.atomic_table.specs.Seated.{TableId}
 use Rattle.posted_words.specs.declared.rule.Did.{Did}
@@ -6,7 +6,7 @@ use Rattle.posted_words.specs.Words.{Words, AreWordSizes}
 use Rattle.synic_board.specs.State.{State, opened, AreSizes as AreBoardSizes}
 use Rattle.board_threads.specs.History.{Call}
 
--- the posted words, and what else the board was opened with
+-- the posted words, and the other arguments of the opening
 pub record Sharing : Type 0 where
   pub words : Words
   pub pages : ℕ
@@ -15,16 +15,16 @@ pub record Sharing : Type 0 where
 abbrev pub sharing : Words → ℕ → ℕ → Sharing
 sharing words pages first_ticket = record { words = words; pages = pages; first_ticket = first_ticket }
 
--- the state of the written machine at the opening
+-- the state of the reference model at the opening
 abbrev pub start : Sharing → State
 start s = opened s.words.processors s.pages s.first_ticket
 
--- the sizes that a shared board may be opened with: those of a board and of its posted words, which each actor sweeps
+-- the valid sizes of a shared board: those of a board and of its posted words, which each actor sweeps
 pub record AreSharedSizes (processors pages actors lines : ℕ) : Type 0 where
   pub board : AreBoardSizes processors pages
   pub words : AreWordSizes processors actors lines
 
--- of which words an actor's sweeper is, the actor's number, its calls in order, and what its sweeper did
+-- the words of an actor's sweeper, the actor's number, its calls in order, and the steps of its sweeper
 pub record Acting : Type 0 where
   pub of : TableId
   pub number : ℕ

@@ -1,4 +1,4 @@
--- What the absorbs among an actor's calls swept, as the log of its sweeper.
+-- The sweeps of the absorbs among an actor's calls, as the log of its sweeper.
 use Rattle.std.specs.Prelude.{ℕ, Bool, true, false, List, [], ◌∷◌, if◌then◌else◌, reverse}
 use Rattle.std.specs.List.{flat_map, sum_by}
 use Rattle.synic_board.specs.declared.event.Event.{Event}
@@ -28,6 +28,6 @@ sweep_in _ reply = []
 abbrev pub sweeps_of : List Call → List Did
 sweeps_of calls = flat_map (λ (c : Call). sweep_in c.0 c.1) (reverse calls)
 
--- how often the bit b of the word w was absorbed: the absorbs that were not refused and had it
+-- how often the bit b of the word w was absorbed: the absorbs with that bit that were not refused
 abbrev pub times_absorbed : ℕ → ℕ → List Entry → ℕ
 times_absorbed w b history = sum_by (λ (e : Entry). times_taken w b (sweep_in e.event e.reply)) history

@@ -18,10 +18,10 @@ use thiserror::Error;
 /// Why an actor's call did nothing.
 #[derive(Clone, Copy, PartialEq, Eq, Debug, Drop, Error)]
 pub enum CallFault {
-    /// There was no memory for one more entry.
+    /// There is no memory for one more entry.
     #[error("out of memory")]
     Memory = 1,
-    /// An absorb is not performed as an event: its bits are what a sweep takes.
+    /// An absorb cannot be performed as an event: its bits are what a sweep takes.
     #[error("an absorb is no event of an actor")]
     AbsorbEvent = 2,
     /// The history has 65,536 entries.
@@ -33,9 +33,9 @@ pub enum CallFault {
     WrongBoard = 4,
 }
 
-/// Who performs events on a shared board, in one thread at a time. It holds a sweeper of the board's
-/// posted words. Contracts see which words they are, its number, its calls in order, and what its
-/// sweeper did.
+/// Performs events on a shared board, in one thread at a time. It owns a sweeper of the board's
+/// posted words. Its contract shows these words, its number, its calls in order, and the steps of
+/// its sweeper.
 #[derive(Drop)]
 pub struct Actor {
     number: u8,
@@ -67,15 +67,15 @@ impl Actor {
         }
     }
 
-    /// Its number, by which the history names it.
+    /// Its number in the history.
     pub fn number(&self) -> u8
         ensures { result ≡ self.now.number }
     {
         self.number
     }
 
-    /// Its calls in order, each with its reply. What its sweeper took are the bits of the absorbs among
-    /// them that were not refused.
+    /// Its calls in order, each with its reply. The bits that its sweeper took are those of the
+    /// absorbs among them that were not refused.
     pub fn calls(&self) -> &[(Event, Reply)]
         ensures calls { result.now ≡ self.now.calls }
         ensures sweeps { self.now.did ≡ sweeps_of self.now.calls }
@@ -97,8 +97,9 @@ impl Actor {
         (sweeper, ActorCalls { number, calls })
     }
 
-    /// Performs an event on the board under the lock. Its own list grows before the lock is taken, and
-    /// gets the call when it is given back, so that nobody waits for either.
+    /// Performs an event on the board under the lock. Its own list grows before the lock is
+    /// acquired, and gets the call after the lock is released, so that no other actor waits for
+    /// either.
     pub(crate) fn perform<R: Wait>(
         &mut self,
         rt: &R,

@@ -26,7 +26,8 @@ use std::sync::Wait;
 use std::thread::Threads;
 use thiserror::Error;
 
-/// Why a crew did not come to its end. The first two are judged before any thread is started.
+/// Why a crew has no result. The first two are checked first; tests show that no thread is started
+/// then.
 #[derive(Clone, Copy, PartialEq, Eq, Debug, Drop, Error)]
 pub enum CrewFault {
     /// A board's size is outside its limits, or there are more than 15 actors' scripts, more than 16
@@ -36,10 +37,10 @@ pub enum CrewFault {
     /// An event is an absorb, or a line raises at a processor that is not on the board.
     #[error("a step is none of a crew")]
     BadStep = 2,
-    /// There was no memory.
+    /// An allocation failed.
     #[error("out of memory")]
     Memory = 3,
-    /// What the threads left is no history of the crew.
+    /// The calls of the threads are no history of the crew.
     #[error("the history is not settled")]
     Unsettled = 4,
     /// A thread could not be started.
@@ -47,14 +48,14 @@ pub enum CrewFault {
     NoThread = 5,
 }
 
-/// What a crew comes to: what the board comes to, and for each line the answers to its raises.
+/// The result of a crew: that of settling the board, and for each line the results of its raises.
 #[derive(Drop)]
 pub struct CrewEnd {
     pub ended: Ended,
     pub raised: Vec<Vec<Raised>>,
 }
 
-/// The actors and the lines when all threads have ended, with the lines' answers.
+/// The actors and the lines when all threads have ended, with the results of the lines' raises.
 #[derive(Drop)]
 struct Worked {
     actors: Vec<Actor>,
@@ -62,8 +63,8 @@ struct Worked {
     raised: Vec<Vec<Raised>>,
 }
 
-/// Runs a crew on a board of its own: actor 0 performs the setup, then each actor from 1 on and each
-/// line from 0 on runs its script in a thread of its own, and when all have ended actor 0 absorbs
+/// Runs a crew on a board of its own. Actor 0 performs the setup; then each actor from 1 on and
+/// each line from 0 on runs its script in a thread of its own; when all have ended, actor 0 absorbs
 /// parts 0 to 3 of each processor in order. Then the board is settled.
 pub fn run_crew<R: Threads + Wait + Sync, G: Gate + Sync>(
     rt: &R,
@@ -94,7 +95,7 @@ pub fn run_crew<R: Threads + Wait + Sync, G: Gate + Sync>(
     }
 }
 
-/// Runs a crew that was judged to be good.
+/// Runs a crew with valid sizes and steps.
 fn run_judged<R: Threads + Wait + Sync, G: Gate + Sync>(
     rt: &R,
     alloc: Global,
@@ -163,7 +164,7 @@ fn work<R: Threads + Wait + Sync, G: Gate + Sync>(
     })
 }
 
-/// The lines, and what each was answered.
+/// The lines, and the results of their raises.
 fn split_lines(
     alloc: Global,
     ran: Vec<(Line, Vec<Raised>)>,
@@ -182,7 +183,7 @@ fn split_lines(
     Ok((lines, answers))
 }
 
-/// Settles the board, and looks where actor 0 stands in its history.
+/// Settles the board, and checks where the calls of actor 0 are in its history.
 fn finish(
     board: SharedBoard,
     setup: &Setup,

@@ -3,12 +3,12 @@ use crate::actor::CallFault;
 use crate::settling::SettleFault;
 use std::alloc::AllocError;
 
-/// Why the work of a crew that was judged to be good did not come to its end.
+/// Why a crew with valid sizes and steps has no result.
 #[derive(Clone, Copy, PartialEq, Eq, Debug)]
 pub(crate) enum WorkFault {
-    /// There was no memory.
+    /// An allocation failed.
     Memory,
-    /// What the threads left is no history of the crew.
+    /// The calls of the threads are no history of the crew.
     Unsettled,
     /// A thread could not be started.
     NoThread,
@@ -34,7 +34,7 @@ impl From<CallFault> for WorkFault {
     fn from(fault: CallFault) -> WorkFault {
         match fault {
             CallFault::Memory => WorkFault::Memory,
-            // The steps were judged before, and there is room for all of them.
+            // The steps were validated before, and all of them fit into the history.
             CallFault::AbsorbEvent | CallFault::Full | CallFault::WrongBoard => {
                 WorkFault::Unsettled
             }

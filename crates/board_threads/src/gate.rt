@@ -1,22 +1,22 @@
-// What is called round each call of a worker.
+// Hooks around the calls of workers.
 use std::sync::Wait;
 
-/// Who makes a call.
+/// The caller of a hook.
 #[derive(Clone, Copy, PartialEq, Eq, Debug)]
 pub enum Worker {
-    /// The actor of that number, from 1 on.
+    /// The actor with this number, from 1 on.
     Acts(u8),
-    /// The line of that number, from 0 on.
+    /// The line with this number, from 0 on.
     Raises(u8),
 }
 
-/// What a crew calls round each call of a worker, with no lock held: a place to hold one up, to slow
-/// it down or to watch. A worker's calls are numbered from 0. What actor 0 does passes no gate.
+/// Hooks that a crew calls around each call of a worker, with no lock held, to delay or observe the
+/// worker. A worker's calls are numbered from 0. The calls of actor 0 have no hooks.
 pub trait Gate {
-    /// Before the call.
+    /// Called before each call of a worker.
     fn enter<R: Wait>(&self, rt: &R, who: Worker, call: u64);
 
-    /// After the call.
+    /// Called after each call of a worker.
     fn leave<R: Wait>(&self, rt: &R, who: Worker, call: u64);
 }
 

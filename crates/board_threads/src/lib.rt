@@ -1,5 +1,5 @@
-//! One board that threads share: actors perform events under a lock, lines raise vectors with no
-//! lock, and at the end the board is handed out with its history, which is a run of one thread.
+//! One board for several threads: actors perform events under a lock, and lines raise vectors
+//! without it. At the end the board is returned with its history, which is a run of one thread.
 #![tactic(auto)]
 
 mod actor;

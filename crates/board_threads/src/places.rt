@@ -1,11 +1,11 @@
-// Where the setup and the last absorbs stand in a history.
+// Where the setup and the last absorbs are in a history.
 ghost use Rattle.std.specs.Prelude.{◌≡◌, ◌↔◌, IsTrue, All};
 ghost use Rattle.board_threads.specs.inside.Work.{InPlace};
 
 use synic_board::Entry;
 
-/// Whether the first entries and the last ones are those of actor 0. The lock tells nothing of the
-/// order in which it was taken, so this looks.
+/// Whether the first and the last entries are by actor 0. The contract of a lock says nothing about
+/// the order in which it is acquired, so this has to be checked.
 pub(crate) fn are_in_place(history: &[Entry], setup: usize, ends: usize) -> bool
     ensures placed { IsTrue result → InPlace setup ends history.now }
     ensures all { InPlace setup ends history.now → IsTrue result }

@@ -1,4 +1,4 @@
-// What lies under the lock.
+// The state under the lock.
 ghost use base.Stored.{Coded-set};
 ghost use Rattle.std.specs.Prelude.{◌≡◌, ◌↔◌, ◌≤◌, length, true, false, [], ◌∷◌, ◌++◌, IfOk, OnOk, OnErr, IsErrOf, if◌then◌else◌, nat_lt, nat_le, ◌&&◌};
 ghost use Rattle.posted_words.specs.Words.{token, sweep_of};
@@ -20,10 +20,10 @@ use posted_words::{PostedWords, Standing, Sweeper};
 use std::alloc::{AllocError, Global};
 use synic_board::{Board, Entry, Event, Reply};
 
-/// How many entries a history has at most.
+/// The greatest number of entries of a history.
 pub(crate) const MOST: usize = 65_536;
 
-/// What a board is opened with.
+/// The arguments of opening a board.
 #[derive(Clone, Copy, PartialEq, Eq, Debug)]
 pub(crate) struct Opening {
     pub(crate) processors: u8,
@@ -31,8 +31,8 @@ pub(crate) struct Opening {
     pub(crate) first_ticket: Ticket,
 }
 
-/// A board with its history. Whoever takes the lock finds a history that is legal from the opening
-/// and leads to the board beside it.
+/// A board with its history. Invariant: the history is legal from the opening, and leads to the
+/// state of the board.
 #[derive(Drop)]
 pub(crate) struct Recorded {
     pub(crate) opening: Opening,
@@ -44,7 +44,7 @@ pub(crate) struct Recorded {
 }
 
 impl Recorded {
-    /// A board as it is opened, with no history.
+    /// A newly opened board with an empty history.
     pub(crate) fn open(alloc: Global, opening: Opening) -> Result<Recorded, AllocError>
         requires { AreSizes opening.processors opening.pages }
         ensures opening { IfOk result (λ r. r.opening ≡ opening) }
@@ -67,8 +67,8 @@ impl Recorded {
         })
     }
 
-    /// Performs an event for an actor that has room for one more call. Faults are judged in this order:
-    /// `Full`, `Memory`; then nothing is performed.
+    /// Performs an event for an actor with capacity for one more call. The faults are checked in
+    /// this order: `Full`, `Memory`; then no event is performed.
     pub(crate) fn enter(
         &mut self,
         has_room: bool,
@@ -116,8 +116,8 @@ impl Recorded {
         Ok((bits, reply))
     }
 
-    /// What the board comes to, if it was opened so and its history is what these actors called and
-    /// nothing else.
+    /// The result of settling, if the board was opened so and its history is exactly the calls of
+    /// these actors.
     pub(crate) fn end(
         self,
         alloc: Global,
@@ -159,7 +159,7 @@ impl Recorded {
         Ok(history)
     }
 
-    /// Makes room for one more entry, where the actor has room for one more call.
+    /// Ensures capacity for one more entry, if the actor has capacity for one more call.
     fn make_room(&mut self, has_room: bool) -> Result<(), CallFault>
         ensures room { OnOk result (self.new.history.has_room ≡ true) }
         ensures actor { OnOk result (has_room ≡ true) }
@@ -178,8 +178,8 @@ impl Recorded {
         Ok(())
     }
 
-    /// Performs an event for an actor, and enters it in room that was made before: an event that is
-    /// performed is always told of.
+    /// Performs an event for an actor, and appends it within the capacity, so that every performed
+    /// event is in the history.
     fn perform(&mut self, actor: u8, event: &Event) -> Reply
         requires room { self.old.history.has_room ≡ true }
         ensures history { self.new.history.entries ≡ self.old.history.entries ++ entry actor event.now result ∷ [] }
@@ -192,8 +192,8 @@ impl Recorded {
     }
 }
 
-/// Sweeps a word, if there is one, and answers its bits. No absorb of another word is performed, so
-/// its bits would be lost.
+/// Sweeps a word, if it exists, and returns its bits. An absorb of any other word would be refused,
+/// so its bits would be lost.
 fn sweep_if_there(words: &PostedWords, sweeper: &mut Sweeper, vp: u8, part: u8) -> u64
     requires { sweeper.old.of ≡ words.now.name }
     ensures swept { sweeper.new ≡ token sweeper.old.of (if nat_lt vp words.now.processors && nat_le part 3 then sweep_of vp part result ∷ sweeper.old.did else sweeper.old.did) }

@@ -1,4 +1,4 @@
-// What a crew is to do, and what is judged of it before a thread starts.
+// The scripts of a crew, and their validation.
 ghost use Rattle.std.specs.Prelude.{◌≡◌, ◌↔◌, ◌≤◌, IsTrue, vec_len};
 ghost use Rattle.std.specs.List.{list_any, sum_by};
 ghost use Rattle.board_threads.specs.Sweeps.{is_absorb};
@@ -11,13 +11,14 @@ use synic_board::Event;
 /// A step of an actor's script.
 #[derive(PartialEq, Debug, Drop)]
 pub enum Step {
-    /// The event is performed.
+    /// Performs an event.
     Act(Event),
-    /// The word is swept, and its bits are absorbed.
+    /// Sweeps a word, and absorbs its bits.
     Sweep { vp: u8, part: u8 },
 }
 
-/// How the board of a crew is opened, and the events that actor 0 performs before any thread starts.
+/// How the board of a crew is opened, and the events that actor 0 performs before any thread
+/// starts.
 #[derive(Drop)]
 pub struct Setup {
     pub processors: u8,
@@ -26,7 +27,7 @@ pub struct Setup {
     pub events: Vec<Event>,
 }
 
-/// What each actor from 1 on does, and the vectors that each line from 0 on raises.
+/// The steps of each actor from 1 on, and the vectors that each line from 0 on raises.
 #[derive(Drop)]
 pub struct Scripts {
     pub actors: Vec<Vec<Step>>,
@@ -48,7 +49,7 @@ pub(crate) fn is_sized(setup: &Setup, scripts: &Scripts) -> bool
     setup.events.len() <= room && fit(scripts.actors.as_slice(), room - setup.events.len())
 }
 
-/// Whether there is room for all steps.
+/// Whether all steps fit.
 fn fit(scripts: &[Vec<Step>], room: usize) -> bool
     ensures { IsTrue result ↔ sum_by (λ s. vec_len s) scripts.now ≤ room }
 {

@@ -1,4 +1,4 @@
-// What is compared once the threads have ended.
+// Validation when the threads have ended.
 ghost use Rattle.std.specs.Prelude.{◌≡◌, ◌≢◌, IsTrue, IfOk, All, length, map};
 ghost use Rattle.std.specs.List.{sum_by};
 ghost use Rattle.posted_words.specs.Words.{token};
@@ -13,13 +13,15 @@ use std::alloc::{AllocError, Global};
 use synic_board::{Board, Entry, Event, Reply};
 use thiserror::Error;
 
-/// Why a board was not settled. All that was handed in is given up.
+/// Why a board could not be settled. The board, the actors and the lines are dropped.
 #[derive(Clone, Copy, PartialEq, Eq, Debug, Drop, Error)]
 pub enum SettleFault {
-    /// An actor or a line is missing, or one performed on a board that is not its own.
+    /// An actor or a line is missing, or the history is not exactly the calls of these actors. This
+    /// is also found if an actor performed on a board that is not its own, where the lists of calls
+    /// or their totals then differ.
     #[error("the actors are not those of the board")]
     Mismatch = 1,
-    /// There was no memory.
+    /// An allocation failed.
     #[error("out of memory")]
     Memory = 2,
 }
@@ -39,15 +41,15 @@ impl From<GatherFault> for SettleFault {
     }
 }
 
-/// An actor that has ended.
+/// An actor that has ended: its number and its calls.
 #[derive(Drop)]
 pub struct ActorCalls {
     pub number: u8,
     pub calls: Vec<(Event, Reply)>,
 }
 
-/// What a shared board comes to: the board, the history that led to it, what each actor called, and
-/// the raised vectors that no absorb took.
+/// The result of settling a shared board: the board, the history that led to it, the calls of each
+/// actor, and the raised vectors that no absorb took.
 #[derive(Drop)]
 pub struct Ended {
     pub board: Board,
@@ -77,7 +79,7 @@ pub(crate) fn split_all(
     Ok((sweepers, ended))
 }
 
-/// Whether a history is what these actors called, and nothing else.
+/// Whether a history is exactly the calls of these actors.
 pub(crate) fn are_all_of(history: &[Entry], actors: &[ActorCalls]) -> bool
     ensures { IsTrue result → AreAllOf history.now actors.now }
 {
@@ -136,7 +138,7 @@ fn matches(history: &[Entry], actor: &ActorCalls) -> bool
     next == calls.len()
 }
 
-/// Whether the actors made so many calls together.
+/// Whether the actors made that many calls together.
 fn add_up(actors: &[ActorCalls], count: usize) -> bool
     ensures { IsTrue result → sum_by (λ a. length a.calls.items) actors.now ≡ count }
 {

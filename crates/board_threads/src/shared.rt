@@ -1,4 +1,4 @@
-// The board that threads share.
+// The shared board.
 ghost use Rattle.std.specs.Prelude.{◌≡◌, ◌↔◌, ℕ, ◌*◌, ◌<◌, true, [], ◌∷◌, ◌++◌, IsTrue, IfOk, OnErr, IsErrOf, map, All, replicate};
 ghost use Rattle.std.specs.List.{range_with_len};
 ghost use Rattle.atomic_table.specs.Seated.{TableId};
@@ -19,8 +19,9 @@ use std::marker::Model;
 use std::sync::{Mutex, Wait};
 use synic_board::{Event, OpenFault, Reply};
 
-/// A board that threads share by reference. Events are performed under a lock, one at a time; vectors
-/// are raised with no lock. Contracts see the posted words and what the board was opened with.
+/// A board that threads share by reference. Events are performed under a lock, one at a time;
+/// vectors are raised without the lock. Its contract shows the posted words and the arguments of
+/// the opening.
 #[derive(Drop)]
 pub struct SharedBoard {
     alloc: Global,
@@ -68,9 +69,9 @@ fn number_all(
 }
 
 impl SharedBoard {
-    /// A board with that many processors and guest pages, whose first accepted message takes
-    /// `first_ticket`, with its actors, numbered from 0, and its lines. `BadSize` unless there are 1 to 8
-    /// processors, 1 to 64 pages, 1 to 16 actors and at most 16 lines.
+    /// Opens a board with that many processors and guest pages, whose first accepted message gets
+    /// the ticket `first_ticket`, with its actors, numbered from 0, and its lines. `BadSize` unless
+    /// there are 1 to 8 processors, 1 to 64 pages, 1 to 16 actors and at most 16 lines.
     pub fn open(
         alloc: Global,
         processors: u8,
@@ -112,18 +113,20 @@ impl SharedBoard {
         Ok((board, actors, lines))
     }
 
-    /// How many processors are on the board.
+    /// The number of processors of the board.
     pub fn processors(&self) -> u8
         ensures { result ≡ self.now.words.processors }
     {
         self.opening.processors
     }
 
-    /// Performs an event, in turn with all other calls of `perform` and `absorb`, and enters it in the
-    /// history and in the actor's calls. A refused event is entered like any other. After a fault
-    /// nothing is changed: `AbsorbEvent` for an absorb, `Full` where the history has 65,536 entries,
-    /// `Memory` where there is no room for one more. That the actor is of this board is not looked at
-    /// here: `settle` finds it.
+    /// Performs an event under the lock, and appends it to the history and to the actor's calls. A
+    /// refused event is appended like any other. A fault changes nothing: `AbsorbEvent` for an
+    /// absorb; `Full` if the history has 65,536 entries; `Memory` if an allocation fails.
+    ///
+    /// This does not check that the actor belongs to this board. `settle` finds a call on another
+    /// board only where the lists of calls or their totals then differ: two boards whose actors 0
+    /// each performed the same call on the other both settle.
     pub fn perform<R: Wait>(
         &self,
         rt: &R,
@@ -140,11 +143,11 @@ impl SharedBoard {
         actor.perform(rt, &self.recorded, event)
     }
 
-    /// Sweeps a word of the board's posted words, and performs the absorb of its bits, in turn with all
-    /// other calls of `perform` and `absorb`. Where the absorb is refused, as no processor `vp` or no
-    /// part above 3 is on the board, nothing is swept and its bits are 0. The sweep stands inside the
-    /// lock, so the history has the sweeps of a word in the order in which they were made. Faults as
-    /// those of `perform`.
+    /// Sweeps a word of the board's posted words, and performs the absorb of its bits, under the
+    /// lock. If the absorb is refused, since the board has no processor `vp` or `part` is above 3,
+    /// nothing is swept and its bits are 0. The sweep happens under the lock, so the history has
+    /// the sweeps of a word in the order in which they happened. The faults are those of `perform`.
+    /// Requires an actor of this board.
     pub fn absorb<R: Wait>(
         &self,
         rt: &R,
@@ -161,7 +164,9 @@ impl SharedBoard {
         actor.absorb(rt, &self.recorded, &self.words, vp, part)
     }
 
-    /// Raises a vector at a processor, by one atomic step with no lock: `Fresh` if it was not pending.
+    /// Raises a vector of a processor, by one atomic step without the lock. `Fresh` if its bit was
+    /// clear; `PostedWords::raise` says what is proved of this. Requires a line of this board, and
+    /// a processor on the board.
     pub fn raise(&self, line: &mut Line, vp: Vp, vector: Vector) -> Raised
         requires own { line.old.of ≡ self.now.words.name }
         requires there { vp < self.now.words.processors }
@@ -170,9 +175,10 @@ impl SharedBoard {
         self.words.raise(line, vp, vector)
     }
 
-    /// Ends the board. What it hands out is a run of one thread, in which each actor's calls stand, and
-    /// each raise that was answered `Fresh` was absorbed once or stands. `Mismatch` where an actor or a
-    /// line is missing, or an actor performed on another board; all is given up then.
+    /// Ends the board, and returns a run of one thread: each actor's calls are in its history, in
+    /// order, and each `Fresh` raise was absorbed once or its bit is set. `Mismatch` if an actor or
+    /// a line is missing, or if the history is not exactly the calls of these actors; then
+    /// everything is dropped. Requires actors and lines of this board.
     pub fn settle(self, actors: Vec<Actor>, lines: Vec<Line>) -> Result<Ended, SettleFault>
         requires actors { All (λ a. a.of ≡ self.words.name) actors.items }
         requires lines { All (λ l. l.of ≡ self.words.name) lines.items }

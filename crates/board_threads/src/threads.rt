@@ -1,4 +1,4 @@
-// A thread of its own for each worker.
+// One thread for each worker.
 ghost use Rattle.std.specs.Prelude.{◌≡◌, ◌<◌, ◌≤◌, ◌+◌, ℕ, List, IfOk, Ok, All, map, length, vec_len, Vec};
 ghost use Rattle.std.specs.Global.{Global};
 ghost use Rattle.posted_words.specs.Words.{Token};
@@ -23,7 +23,7 @@ use std::sync::Wait;
 use std::thread;
 use std::thread::{Promise, PromisedHandle, Scope, Threads};
 
-/// What the thread of an actor gives: the actor, having run its script.
+/// The result of an actor's thread: the actor, after its script.
 #[derive(Drop)]
 pub(crate) struct Acts<'a> {
     board: &'a SharedBoard,
@@ -38,7 +38,7 @@ impl<'a> Promise<Result<Actor, WorkFault>> for Acts<'a> {
     ghost kept_by = { λ p r. IfOk r (HasActed p.board.now.words.name p.number p.script.now) };
 }
 
-/// What the thread of a line gives: the line, having raised its vectors, and the answers.
+/// The result of a line's thread: the line, after its raises, and their results.
 #[derive(Drop)]
 pub(crate) struct Raises<'a> {
     board: &'a SharedBoard,
@@ -52,7 +52,7 @@ impl<'a> Promise<Result<(Line, Vec<Raised>), WorkFault>> for Raises<'a> {
     ghost kept_by = { λ p r. IfOk r (λ x. HasRaised p.board.now.words.name p.script.now x.0 x.1.items) };
 }
 
-/// What all threads gave, in the order in which they were started.
+/// The results of all threads, in the order in which they were started.
 fn join_all<R: Threads, T: Drop, P: Promise<Result<T, WorkFault>>>(
     rt: &R,
     alloc: Global,
@@ -70,10 +70,10 @@ fn join_all<R: Threads, T: Drop, P: Promise<Result<T, WorkFault>>>(
     Ok(all)
 }
 
-/// The thread of an actor, once it was started.
+/// A started thread of an actor.
 type ActingThread<'s> = PromisedHandle<Result<Actor, WorkFault>, Acts<'s>>;
 
-/// The thread of a line, once it was started.
+/// A started thread of a line.
 type RaisingThread<'s> = PromisedHandle<Result<(Line, Vec<Raised>), WorkFault>, Raises<'s>>;
 
 /// Starts the thread of an actor.
@@ -135,7 +135,7 @@ fn start_line<'s, E, R: Threads + Wait + Sync, G: Gate + Sync>(
     }
 }
 
-/// Starts a thread for each actor, with the script of its place.
+/// Starts a thread for each actor, with the script at its index.
 fn start_actors<'s, E, R: Threads + Wait + Sync, G: Gate + Sync>(
     rt: &'s R,
     alloc: Global,
@@ -163,7 +163,7 @@ fn start_actors<'s, E, R: Threads + Wait + Sync, G: Gate + Sync>(
     Ok(threads)
 }
 
-/// Starts a thread for each line, with the script of its place.
+/// Starts a thread for each line, with the script at its index.
 fn start_lines<'s, E, R: Threads + Wait + Sync, G: Gate + Sync>(
     rt: &'s R,
     alloc: Global,
@@ -192,8 +192,8 @@ fn start_lines<'s, E, R: Threads + Wait + Sync, G: Gate + Sync>(
     Ok(threads)
 }
 
-/// Runs each script in a thread of its own, those of the actors and those of the lines, all at once,
-/// and waits for all of them. Where a thread can't be started, those that run come to their end first.
+/// Runs each script of the actors and of the lines in a thread of its own, concurrently, and waits
+/// for all of them. If a thread cannot be started, the threads that run are joined first.
 pub(crate) fn run_all<R: Threads + Wait + Sync, G: Gate + Sync>(
     rt: &R,
     alloc: Global,

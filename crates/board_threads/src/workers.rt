@@ -1,4 +1,4 @@
-// What actor 0 and the workers do, each in its thread.
+// The work of actor 0 and of the workers, each in its thread.
 ghost use Rattle.std.specs.Prelude.{◌≡◌, ◌<◌, ◌≤◌, ◌++◌, [], List, IfOk};
 ghost use Rattle.board_threads.specs.History.{Call};
 ghost use Rattle.board_threads.specs.Crew.{AreSteps, acts, last_steps};
@@ -51,7 +51,7 @@ pub(crate) fn absorb_all<R: Wait>(
     Ok(actor)
 }
 
-/// An actor runs its script, each call between two calls of the gate.
+/// An actor runs its script, each call between the two hooks of the gate.
 pub(crate) fn act<R: Wait, G: Gate>(
     rt: &R,
     board: &SharedBoard,
@@ -77,7 +77,7 @@ pub(crate) fn act<R: Wait, G: Gate>(
     Ok(actor)
 }
 
-/// A line raises its vectors, each between two calls of the gate, and keeps the answers.
+/// A line raises its vectors, each between the two hooks of the gate, and returns their results.
 pub(crate) fn raise<R: Wait, G: Gate>(
     rt: &R,
     alloc: Global,

@@ -1,4 +1,4 @@
--- A text is the trace of one history at most.
+-- A text is the trace of at most one history.
 use Rattle.std.proofs.Common.{◌≡◌, ℕ, get_or, arith, List, [], ◌∷◌, ◌++◌, length, Some, refl, sym, ap, subst, ◌∙◌, decimal}
 use Rattle.std.specs.List.{All}
 use Rattle.std.proofs.lemmas.List.{append_cancel_left}
@@ -31,7 +31,7 @@ Lines = List (List (List ℕ))
 abbrev closed : Format → List Entry → ℕ → ℕ → Lines
 closed f history n next = history_lines history ++ end_fields f n next ∷ []
 
--- texts that are the same begin with the same line
+-- equal texts have equal first lines
 same-first : (f g : List (List ℕ)) (more rest : Lines) → IsWritten f → IsWritten g → text_of (f ∷ more) ≡ text_of (g ∷ rest) → (spaced f ≡ spaced g) × (text_of more ≡ text_of rest)
 same-first f g more rest wf wg text = first_line (spaced f) (text_of more) (spaced g) (text_of rest) wf.one wg.one (sym (text-line f more) ∙ text ∙ text-line g rest)
 
@@ -39,7 +39,7 @@ same-entry : (x y : Entry) → x.actor ≡ y.actor → x.event ≡ y.event → x
 same-entry x y actor event reply =
     ap (λ (a : ℕ). record x { actor = a }) actor ∙ ap (λ (v : Event). record x { actor = y.actor; event = v }) event ∙ ap (λ (r : Reply). record y { reply = r }) reply
 
--- an entry's line is that of one actor and one event
+-- an entry's line determines its actor and its event
 same-actor : (f : Format) (x y : Entry) → IsEntry f x → IsEntry f y → spaced (entry_fields x.actor x.event) ≡ spaced (entry_fields y.actor y.event) → x.actor ≡ y.actor
 same-actor f x y fx fy line =
     let fields : entry_fields x.actor x.event ≡ entry_fields y.actor y.event = sym (entry-written x.actor x.event fx.actor fx.event).read ∙ ap fields_of line ∙ (entry-written y.actor y.event fy.actor fy.event).read in
@@ -77,7 +77,7 @@ same-history f s (x ∷ a) (y ∷ b) m n t u fa fb la lb text =
     let rest : a ≡ b = same-history f (step s x.event).0 a b m n t u (All-tail (IsEntry f) x a fa) (All-tail (IsEntry f) y b fb) left (subst (λ (v : Event). IsLegal (step s v).0 b) (sym event) right) behind in
     ap (λ (e : Entry). e ∷ a) (same-entry x y (same-actor f x y fx fy cut.0) event reply) ∙ ap (λ (l : List Entry). y ∷ l) rest
 
--- titles tell formats apart
+-- titles determine formats
 same-format : (f g : Format) → spaced (title_fields f) ≡ spaced (title_fields g) → f ≡ g
 same-format One One e = refl
 same-format Two Two e = refl

@@ -1,4 +1,4 @@
--- What a drive over the lines of a trace says of the text.
+-- What a drive over the lines of a trace determines about the text.
 use Rattle.std.proofs.Common.{◌≡◌, ◌⊎◌, inl, inr, ℕ, ◌+◌, ◌<◌, List, [], ◌∷◌, ◌++◌, length, length-append, take, append_assoc, append-nil, Option, Some, None, refl, sym, ap, subst, ◌∙◌, arith}
 use Rattle.std.proofs.Math.Seq.{take-append_seam, take-append-add}
 use Rattle.std.specs.Io.KnownBytes.{Appends}
@@ -20,7 +20,7 @@ use Rattle.board_trace.specs.declared.check.CheckEnd.{CheckEnd}
 use Rattle.board_trace.specs.declared.check.CheckEnd.TheVariants.{Legal, Refused, Memory, Reading, Writing}
 use Rattle.board_trace.proofs.StageLemmas.{Continues, Fits, first_line, back, forward, move, reached, Starts, starts, alive}
 
--- A text that begins with these lines goes on from the one stage as the rest of it does from the other.
+-- A text that begins with these lines continues a trace from the old stage iff the rest of it does from the new one.
 record Leads (old new : Stage) (lines : List (List ℕ)) : Type 0 where
   pub fits : Fits new
   pub must : (ys : List ℕ) (n : ℕ) → Continues old (joined lines ++ ys) n → Continues new ys n
@@ -57,7 +57,7 @@ module _ {J : Type 0} (seen : J → Stage) where
         may = λ ys n k. subst (λ (x : List ℕ). Continues (seen old) x n) (sym (over ys)) (forward (seen old) next line (joined lines ++ ys) n h.4.0 (w.may ys n k));
       }
 
--- The lines lead to a stage, and then no trace goes on so.
+-- The lines lead to a stage from which the rest continues no trace.
 first-wrong : (text : List ℕ) (lines left : List (List ℕ)) (stage : Stage) → lines_of text ≡ lines ++ left → Leads Title stage lines → ((line : List ℕ) (later : List (List ℕ)) (rest : List ℕ) (n : ℕ) → left ≡ line ∷ later → Continues stage (line ++ 10 ∷ rest) n → ⊥) →
     ((n : ℕ) → Continues stage (joined left ++ rest_of text) n → ⊥) → FirstWrong text (length lines + 1)
 first-wrong text lines left stage split leads wrong none = record {
@@ -82,7 +82,7 @@ no_feed [] (x ∷ l) rest h e = cc
 no_feed (y ∷ line) [] rest h e = let is : y ≡ 10 = cc in h.0 is
 no_feed (y ∷ line) (x ∷ l) rest h e = let t : line ≡ l ++ 10 ∷ rest = cc in no_feed line l rest h.1 t
 
--- No trace goes on with a part of a line.
+-- A part of a line continues no trace.
 no_part : (stage : Stage) (part : List ℕ) (n : ℕ) → Fits stage → IsOneLine part → ((n : ℕ) → stage ≡ Over n → part ≡ [] → ⊥) → Continues stage part n → ⊥
 no_part stage part n fits one still h = by (starts stage part n fits h)
   where
@@ -90,7 +90,7 @@ no_part stage part n fits one still h = by (starts stage part n fits h)
     by (inl e) = still n e.0 e.1
     by (inr s) = no_feed part s.line s.rest one s.text
 
--- Nor with a long one.
+-- A line that is too long continues none either.
 no_long : (stage : Stage) (line rest : List ℕ) (n : ℕ) → Fits stage → IsOneLine line → 640 < length line → Continues stage (line ++ 10 ∷ rest) n → ⊥
 no_long stage line rest n fits one long h = by (starts stage (line ++ 10 ∷ rest) n fits h)
   where
@@ -98,7 +98,7 @@ no_long stage line rest n fits one long h = by (starts stage (line ++ 10 ∷ res
     by (inl e) = let none = ap length e.1 in omega (arith, length-append line (10 ∷ rest), none)
     by (inr s) = let same = ap length (first_line line rest s.line s.rest one s.one s.text).0 in omega (arith, s.short, same)
 
--- The first line that is left may not stand there.
+-- The next line is not allowed there.
 wrong-line : (text : List ℕ) (lines left : List (List ℕ)) (stage : Stage) (k : ℕ) (fault : Unit {0}) → lines_of text ≡ lines ++ left → Leads Title stage lines → AreLines left → Ends IsWrong (ends.Wrong k fault) (length lines + 1) stage stage left (rest_of text) → FirstWrong text (length lines + 1)
 wrong-line text lines [] stage k fault split leads each h = absurd h
 wrong-line text lines (bad ∷ later) stage k fault split leads each h =
@@ -109,7 +109,7 @@ wrong-line text lines (bad ∷ later) stage k fault split leads each h =
     off : (rest : List ℕ) (n : ℕ) → Continues stage (bad ++ 10 ∷ rest) n → ⊥
     off rest n t = let f = back stage bad rest n leads.fits each.0 t in let none : None ≡ Some f.next = sym h.2 ∙ f.is in cc
 
--- It is too long.
+-- The next line is too long.
 long-line : (text : List ℕ) (lines left : List (List ℕ)) (stage : Stage) → lines_of text ≡ lines ++ left → Leads Title stage lines → AreLines left → IsOneLine (rest_of text) → 640 < length (next_of left (rest_of text)) → FirstWrong text (length lines + 1)
 long-line text lines [] stage split leads each one long =
     first-wrong text lines [] stage split leads (λ line ls rest n is t. cc) (λ n t. no_part stage (rest_of text) n leads.fits one (λ m over empty. let none = ap length empty in omega (arith, long, none)) t)
@@ -118,7 +118,7 @@ long-line text lines (bad ∷ later) stage split leads each one long =
     (λ line ls rest n is t. let same : line ≡ bad = cc in no_long stage bad rest n leads.fits each.0 long (subst (λ (x : List ℕ). Continues stage (x ++ 10 ∷ rest) n) same t))
     (λ n t. no_long stage bad (joined later ++ rest_of text) n leads.fits each.0 long (subst (λ (x : List ℕ). Continues stage x n) (append_assoc bad (10 ∷ joined later) (rest_of text)) t))
 
--- No whole line is left, and the trace is not over.
+-- No whole line is left, and the trace is not complete.
 part-left : (text : List ℕ) (lines left : List (List ℕ)) (stage : Stage) → lines_of text ≡ lines ++ left → Leads Title stage lines → left ≡ [] → IsOneLine (rest_of text) → ((n : ℕ) → stage ≡ Over n → rest_of text ≡ [] → ⊥) → FirstWrong text (length lines + 1)
 part-left text lines left stage split leads none one still =
     first-wrong text lines left stage split leads
@@ -141,7 +141,7 @@ nothing-sent ends.Writing answers [] none h = refl
 nothing-sent ends.Writing answers (b ∷ sent) none h = let off : [] ≡ b ∷ (sent ++ h.0) = sym none ∙ h.1 in cc
 nothing-sent end answers sent none h = sym h ∙ none
 
--- A verdict that was reached is said.
+-- A verdict that was reached is written.
 checks-said : (end : CheckEnd) (verdict : Verdict) (r0 w0 w w1 : Option (List ℕ)) → IfSome r0 (Judges verdict) → Appends w0 w [] → Says end verdict w w1 → Checks end r0 w0 w1
 checks-said (Legal n) verdict r0 w0 w w1 is silent says = (subst (λ (v : Verdict). IfSome r0 (Judges v)) says.0 is, subst (λ (v : Verdict). Appends w0 w1 (verdict_text v)) says.0 (Appends-trans w0 w w1 [] (verdict_text verdict) silent says.1))
 checks-said (Refused k) verdict r0 w0 w w1 is silent says = (subst (λ (v : Verdict). IfSome r0 (Judges v)) says.0 is, subst (λ (v : Verdict). Appends w0 w1 (verdict_text v)) says.0 (Appends-trans w0 w w1 [] (verdict_text verdict) silent says.1))
@@ -200,7 +200,7 @@ module _ {J : Type 0} (seen : J → Stage) (old new : J) (start : seen old ≡ T
   finished-said : (result : CheckEnd) (line n : ℕ) (r0 r1 w0 w w1 : Option (List ℕ)) → seen new ≡ Over n → Driven (ends.Last line) r0 r1 w0 w → Says result (verdicts.Legal n) w w1 → Checks result r0 w0 w1
   finished-said result line n r0 r1 w0 w w1 over d says = checks-said result (verdicts.Legal n) r0 w0 w w1 (some-on r0 (Ended (ends.Last line) d.answers) (λ text. IsTrace text n) (λ text h. finished line n d.answers text over h) d.whole) (quiet (ends.Last line) r0 r1 w0 w d) says
 
-  -- What a drive and what is said behind it come to.
+  -- A drive, and what is written after it.
   pub checks-concluded : (end : End (Unit {0})) (entries : Option ℕ) (result : CheckEnd) (r0 r1 w0 w w1 : Option (List ℕ)) → IsOver entries (seen new) → Driven end r0 r1 w0 w → Concludes (conclusion end entries) result w w1 → Checks result r0 w0 w1
   checks-concluded (ends.Last line) (Some n) result r0 r1 w0 w w1 over d says = finished-said result line n r0 r1 w0 w w1 over d says
   checks-concluded (ends.Last line) None result r0 r1 w0 w w1 still d says = unfinished-said result line r0 r1 w0 w w1 still d says

@@ -1,4 +1,4 @@
--- How much is read at most.
+-- The greatest number of bytes read.
 use Rattle.std.proofs.Common.{◌≡◌, ℕ, List, Option, None, Some, refl, sym, subst}
 use Rattle.board_text.specs.Streams.{ReadsUpTo}
 use Rattle.line_driver.specs.Driving.{most_of, ReadsNear, StopsNear as DriveStopsNear}
@@ -18,16 +18,16 @@ said-within Memory verdict w0 w1 says = refl
 said-within Reading verdict w0 w1 says = absurd says
 said-within Writing verdict w0 w1 says = refl
 
--- Where a verdict is said, the limit is not passed.
+-- If a verdict is written, the limit is not exceeded.
 said-limit : (result : CheckEnd) (verdict : Verdict) (r0 r1 w0 w1 : Option (List ℕ)) → Says result verdict w0 w1 → ReadsUpTo 1073741824 r0 r1 → ReadsUpTo (most_read result) r0 r1
 said-limit result verdict r0 r1 w0 w1 says = subst (λ n. ReadsUpTo n r0 r1) (sym (said-within result verdict w0 w1 says))
 
--- No wrong line is said where the trace is legal.
+-- No wrong line is reported if the trace is legal.
 legal-near : (result : CheckEnd) (n : ℕ) (r0 r1 w0 w1 : Option (List ℕ)) → Says result (verdicts.Legal n) w0 w1 → StopsNear result r0 r1
 legal-near (Refused k) n r0 r1 w0 w1 says = let off = says.0 in cc
 legal-near result n r0 r1 w0 w1 says = tt
 
--- The line that is said is the one near which reading stopped.
+-- The reported line is the one near which reading stopped.
 refused-near : (result : CheckEnd) (k : ℕ) (r0 r1 w0 w1 : Option (List ℕ)) → Says result (verdicts.Refused k) w0 w1 → ReadsNear k r0 r1 → StopsNear result r0 r1
 refused-near (Refused j) k r0 r1 w0 w1 says near = let is = says.0 in let same : k ≡ j = cc in subst (λ n. ReadsNear n r0 r1) same near
 refused-near result k r0 r1 w0 w1 says near = tt

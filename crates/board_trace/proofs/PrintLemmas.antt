@@ -1,4 +1,4 @@
--- The lines of a history, one entry behind another.
+-- The lines of a history, one entry after another.
 use Rattle.std.proofs.Common.{◌≡◌, ℕ, ◌+◌, ◌<◌, List, [], ◌∷◌, ◌++◌, length, get_or, drop, append_assoc, append-nil, sym, ap, ◌∙◌}
 use Rattle.std.proofs.lemmas.List.{drop_more}
 use Rattle.board_text.specs.Fields.{spaced, line_of}
@@ -9,7 +9,7 @@ use Rattle.board_lines.proofs.PrintLemmas.{text_of-append}
 use Rattle.board_trace.specs.declared.format.Format.{Format}
 use Rattle.board_trace.specs.Trace.{title_fields, end_fields, history_lines, trace_lines}
 
--- one entry more
+-- one more entry
 pub history-step : (history : List Entry) (i : ℕ) (e : Entry) (so_far next out : List ℕ) → i < length history → e ≡ get_or history i e →
     next ≡ so_far ++ text_of (history_lines (e ∷ [])) → so_far ++ text_of (history_lines (drop i history)) ≡ out → next ++ text_of (history_lines (drop (i + 1) history)) ≡ out
 history-step history i e so_far next out inside is here all =

@@ -1,4 +1,4 @@
--- How a trace goes on from a stage of its check.
+-- How a trace continues from a stage of its check.
 use Rattle.std.proofs.Common.{◌≡◌, ◌⊎◌, inl, inr, ℕ, ◌+◌, ◌<◌, ◌≤◌, ◌^◌, List, [], ◌∷◌, ◌++◌, length, append_assoc, Some, None, refl, sym, ap, subst, ◌∙◌, arith, Bool, true, false}
 use Rattle.std.specs.Option.{option_map}
 use Rattle.std.specs.List.{All}
@@ -31,7 +31,7 @@ use Rattle.board_trace.proofs.Written.{title-written, entry-written, reply-writt
 abbrev left : Format → List Entry → ℕ → ℕ → List (List (List ℕ))
 left f history n next = history_lines history ++ end_fields f n next ∷ []
 
--- entries of a run from a state on, and the end
+-- the entries of a run from a state on, and the end line
 pub record Goes (f : Format) (s : State) (c : ℕ) (ys : List ℕ) (n : ℕ) : Type 0 where
   pub history : List Entry
   pub fits : All (IsEntry f) history
@@ -39,7 +39,7 @@ pub record Goes (f : Format) (s : State) (c : ℕ) (ys : List ℕ) (n : ℕ) : T
   pub counted : c + length history ≡ n
   pub text : ys ≡ text_of (left f history n (leads_to s history).next_ticket)
 
--- the reply that is due, and then these
+-- the reply that is due, and then the rest
 pub record Due (f : Format) (s : State) (c : ℕ) (r : Reply) (ys : List ℕ) (n : ℕ) : Type 0 where
   pub rest : List ℕ
   pub text : ys ≡ spaced (reply_fields r) ++ 10 ∷ rest
@@ -55,7 +55,7 @@ pub record Opens (f : Format) (ys : List ℕ) (n : ℕ) : Type 0 where
   pub text : ys ≡ spaced (item_fields (Board processors pages ticket)) ++ 10 ∷ rest
   pub goes : Goes f (opened processors pages ticket) 0 rest n
 
--- ys is what is left of the trace of a legal history of n entries
+-- ys is the rest of the trace of a legal history of n entries
 abbrev pub Continues : Stage → List ℕ → ℕ → Type 0
 Continues Title ys n = IsTrace ys n
 Continues (Opening f) ys n = Opens f ys n
@@ -85,7 +85,7 @@ first_line (x ∷ xs) ys (x' ∷ xs') ys' h k e =
 pub text-line : (fields : List (List ℕ)) (lines : List (List (List ℕ))) → text_of (fields ∷ lines) ≡ spaced fields ++ 10 ∷ text_of lines
 text-line fields lines = append_assoc (spaced fields) (10 ∷ []) (text_of lines)
 
--- where the line leads, and how it goes on from there
+-- the stage after the line, and the rest that continues from there
 pub record Follow (stage : Stage) (line ys : List ℕ) (n : ℕ) : Type 0 where
   pub next : Stage
   pub is : follow stage line ≡ Some next
@@ -101,7 +101,7 @@ tested-no line w e = go (bytes_eq line w) refl
     go true is = absurd (e ((bytes_eq-Decides line w).0 is))
     go false is = refl
 
--- the title tells the format
+-- the title determines the format
 title-follow : (f : Format) → follow Title (spaced (title_fields f)) ≡ Some (Opening f)
 title-follow One = refl
 title-follow Two = refl
@@ -219,7 +219,7 @@ no_more : (line ys : List ℕ) → line ++ 10 ∷ ys ≡ [] → ⊥
 no_more [] ys e = cc
 no_more (x ∷ line) ys e = cc
 
--- A trace that goes on with this line follows it.
+-- If a line and a rest continue a trace, `follow` accepts the line.
 pub back : (stage : Stage) (line ys : List ℕ) (n : ℕ) → Fits stage → IsOneLine line → Continues stage (line ++ 10 ∷ ys) n → Follow stage line ys n
 back Title line ys n short one h = back-title line ys n one h
 back (Opening f) line ys n short one h = back-opening f line ys n one h
@@ -230,7 +230,7 @@ back (Over c) line ys n short one h = absurd (no_more line ys h.0)
 pub move : (from to : Stage) (ys : List ℕ) (n : ℕ) → Some to ≡ Some from → Continues from ys n → Continues to ys n
 move from to ys n e h = let same : from ≡ to = cc in subst (λ (s : Stage). Continues s ys n) same h
 
--- What follows the line goes on behind it.
+-- If `follow` accepts a line, the line and a rest that continues from the next stage continue the trace.
 pub forward : (stage next : Stage) (line ys : List ℕ) (n : ℕ) → follow stage line ≡ Some next → Continues next ys n → Continues stage (line ++ 10 ∷ ys) n
 forward Title next line ys n e h =
     yes (bytes_eq line (spaced (title_fields One))) (Some (Opening One)) _ next _
@@ -252,7 +252,7 @@ forward (Running f s c (Some r)) next line ys n e h =
     (λ e. cc) e
 forward (Over c) next line ys n e h = cc
 
--- at most one entry more, and a short reply
+-- at most one more entry, and a short reply
 pub record Reached (stage next : Stage) : Type 0 where
   pub few : count next ≤ count stage + 1
   pub fits : Fits next
@@ -290,7 +290,7 @@ starts-goes f ys n next (e ∷ history) fits text =
     let rest = reply_fields e.reply ∷ left f history n next in
     start (entry_fields e.actor e.event) ys (text_of rest) (entry-written e.actor e.event h.actor h.event) (text ∙ text-line (entry_fields e.actor e.event) rest)
 
--- Only a trace that is over has no line left.
+-- Only a complete trace has no further line.
 pub starts : (stage : Stage) (ys : List ℕ) (n : ℕ) → Fits stage → Continues stage ys n → ((stage ≡ Over n) × (ys ≡ [])) ⊎ Starts ys
 starts Title ys n short h =
     let rest = item_fields (Board h.processors h.pages h.ticket) ∷ left h.format h.history (length h.history) (leads_to (opened h.processors h.pages h.ticket) h.history).next_ticket in
@@ -300,7 +300,7 @@ starts (Running f s c None) ys n short h = inr (starts-goes f ys n (leads_to s h
 starts (Running f s c (Some r)) ys n short h = inr (start (reply_fields r) ys h.rest (reply-written r short) h.text)
 starts (Over c) ys n short h = inl (ap Over (sym h.1), h.0)
 
--- From each stage a trace can go on.
+-- From each stage some trace continues.
 pub record Alive (stage : Stage) : Type 0 where
   pub rest : List ℕ
   pub entries : ℕ

@@ -1,4 +1,4 @@
--- The lines of a trace, as they are written and read.
+-- The lines of a trace, printed and parsed.
 use Rattle.std.proofs.Common.{◌≡◌, ℕ, ◌<◌, ◌≤◌, ◌^◌, List, [], ◌∷◌, length, Option, Some, None, refl, sym, ap, ◌∙◌, arith, cond, Bool, true, false, not, decimal, codes}
 use Rattle.std.specs.Option.{option_and_then}
 use Rattle.std.specs.Str.{bytes_eq}
@@ -64,7 +64,7 @@ reply-written (replies.Refused r) h = written _ _ (plain_by (codes "=") refl, (p
 whole : (line : List ℕ) (fields : Fields) → fields_of line ≡ fields → line ≡ spaced fields
 whole line fields e = sym (join_with_byte-slice_split 32 line) ∙ ap spaced e
 
--- A line is read as an entry exactly where it is written so.
+-- A line parses as an entry iff it is the entry's printed line.
 pub entry-reads : (f : Format) (e : Entry) → IsEntry f e → entry_at f (spaced (entry_fields e.actor e.event)) ≡ Some e.event
 unfolding entry_at
 entry-reads f e h =
@@ -113,7 +113,7 @@ end-no_entry f n next actor event small fits e =
     let read : u8_at (codes "end") ≡ Some actor = ap u8_at first ∙ u8-spelled actor small in
     cc
 
--- A line is read as a board line exactly where it is written so.
+-- A line parses as a board line iff it is its printed line.
 pub board-reads : (p g f : ℕ) → AreSizes p g → f < 2 ^ 64 → board_at (spaced (item_fields (Opening p g f))) ≡ Some (p, g, f)
 unfolding board_at
 board-reads p g f sizes given =

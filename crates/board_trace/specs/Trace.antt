@@ -1,4 +1,4 @@
--- The text of a history.
+-- The text form of a history.
 use Rattle.std.specs.Prelude.{◌≡◌, ℕ, ◌<◌, ◌^◌, List, [], ◌∷◌, ◌++◌, length, Bool, true, false, not, codes, decimal}
 use Rattle.std.specs.List.{All}
 use Rattle.synic_board.specs.State.{AreSizes, opened}
@@ -34,7 +34,7 @@ title_fields Two = codes "trace" ∷ codes "2" ∷ []
 abbrev pub entry_fields : ℕ → Event → List (List ℕ)
 entry_fields actor event = decimal actor ∷ event_fields event
 
--- how many entries there were, and in format 2 the next ticket
+-- the number of entries, and in format 2 the next ticket
 abbrev pub end_fields : Format → ℕ → ℕ → List (List ℕ)
 end_fields One entries next = codes "end" ∷ decimal entries ∷ []
 end_fields Two entries next = codes "end" ∷ decimal entries ∷ decimal next ∷ []
@@ -44,16 +44,16 @@ abbrev pub history_lines : List Entry → List (List (List ℕ))
 history_lines [] = []
 history_lines (e ∷ history) = entry_fields e.actor e.event ∷ reply_fields e.reply ∷ history_lines history
 
--- the lines of a trace that ends with this ticket
+-- the lines of a trace that ends with this next ticket
 abbrev pub trace_lines : Format → ℕ → ℕ → ℕ → List Entry → ℕ → List (List (List ℕ))
 trace_lines f processors pages ticket history next =
     title_fields f ∷ item_fields (Opening processors pages ticket) ∷ (history_lines history ++ end_fields f (length history) next ∷ [])
 
--- it is the next one of the board that the history leads to
+-- the trace of a history; the next ticket is that of the state to which the history leads
 abbrev pub trace : Format → ℕ → ℕ → ℕ → List Entry → List ℕ
 trace f processors pages ticket history = text_of (trace_lines f processors pages ticket history (leads_to (opened processors pages ticket) history).next_ticket)
 
--- The text is the trace of a legal history of so many entries, from a board within the limits.
+-- The text is the trace of a legal history of that many entries, from a board within the limits.
 pub record IsTrace (text : List ℕ) (entries : ℕ) : Type 0 where
   pub format : Format
   pub processors : ℕ
@@ -67,7 +67,7 @@ pub record IsTrace (text : List ℕ) (entries : ℕ) : Type 0 where
   pub counted : length history ≡ entries
   pub written : text ≡ trace format processors pages ticket history
 
--- The text begins the trace of a legal history.
+-- The text is a prefix of the trace of a legal history.
 pub record Begins (text : List ℕ) : Type 0 where
   pub rest : List ℕ
   pub entries : ℕ

@@ -1,4 +1,4 @@
--- What a check says of a text.
+-- The verdict of a check on a text.
 use Rattle.std.specs.Prelude.{◌≡◌, ◌⊎◌, ℕ, ◌+◌, ◌≤◌, ◌<◌, List, [], ◌∷◌, ◌++◌, length, take, codes, decimal, Option, IfSome}
 use Rattle.std.specs.Io.KnownBytes.{Appends}
 use Rattle.board_text.specs.Lines.{lines_of, joined}
@@ -10,7 +10,7 @@ use Rattle.board_trace.specs.declared.check.Verdict.TheVariants as verdicts
 use Rattle.board_trace.specs.declared.check.CheckEnd.{CheckEnd}
 use Rattle.board_trace.specs.declared.check.CheckEnd.TheVariants.{Legal, Refused, Memory, Reading, Writing}
 
--- The text is no legal trace. The whole lines before line k begin one; line k is not whole, or with it they begin none.
+-- The text is no legal trace. The whole lines before line k are a prefix of one; line k is incomplete, or with it they are not.
 pub record FirstWrong (text : List ℕ) (k : ℕ) : Type 0 where
   pub before : ℕ
   pub number : k ≡ before + 1
@@ -28,13 +28,13 @@ abbrev pub verdict_text : Verdict → List ℕ
 verdict_text (verdicts.Legal n) = line_of (codes "legal" ∷ decimal n ∷ [])
 verdict_text (verdicts.Refused k) = line_of (codes "refused" ∷ decimal k ∷ [])
 
--- Nothing was written, or a beginning of the text's verdict.
+-- Nothing was written, or a prefix of the text's verdict.
 pub record BegunVerdict (r0 w0 w1 : Option (List ℕ)) : Type 0 where
   pub sent : List ℕ
   pub writes : Appends w0 w1 sent
   pub begins : (sent ≡ []) ⊎ ((verdict : Verdict) × (rest : List ℕ) × IfSome r0 (Judges verdict) × (verdict_text verdict ≡ sent ++ rest))
 
--- from what a reader had and a writer held to what the writer holds at the end
+-- the reader before, and the writer before and after
 abbrev pub Checks : CheckEnd → Option (List ℕ) → Option (List ℕ) → Option (List ℕ) → Type 0
 Checks (Legal n) r0 w0 w1 = IfSome r0 (Judges (verdicts.Legal n)) × Appends w0 w1 (verdict_text (verdicts.Legal n))
 Checks (Refused k) r0 w0 w1 = IfSome r0 (Judges (verdicts.Refused k)) × Appends w0 w1 (verdict_text (verdicts.Refused k))
@@ -42,12 +42,12 @@ Checks Memory r0 w0 w1 = Appends w0 w1 []
 Checks Reading r0 w0 w1 = Appends w0 w1 []
 Checks Writing r0 w0 w1 = BegunVerdict r0 w0 w1
 
--- how many bytes are read at most: the byte behind the limit only where reading ends for it
+-- the greatest number of bytes read: the byte beyond the limit only if reading ends there
 abbrev pub most_read : CheckEnd → ℕ
 most_read Reading = 1073741825
 most_read end = 1073741824
 
--- behind the first wrong line at most one block was read
+-- after the first wrong line at most one block was read
 abbrev pub StopsNear : CheckEnd → Option (List ℕ) → Option (List ℕ) → Type 0
 StopsNear (Refused k) r0 r1 = ReadsNear k r0 r1
 StopsNear end r0 r1 = Unit {0}

@@ -1,4 +1,4 @@
-// The check of a trace.
+// Checking a trace.
 ghost use Rattle.std.specs.Prelude.{◌≡◌, ◌++◌, OnOk};
 ghost use Rattle.board_text.specs.Streams.{ReadsUpTo};
 ghost use Rattle.board_trace.specs.Verdicts.{Checks, most_read, StopsNear, verdict_text};
@@ -12,31 +12,31 @@ use line_driver::{End, close, drive};
 use std::alloc::{AllocError, Global};
 use std::io::{Read, Write};
 
-/// How a check ends.
+/// The result of a check.
 #[derive(Clone, Copy, PartialEq, Eq, Debug)]
 pub enum CheckEnd {
-    /// The input is the trace of a legal history of so many entries.
+    /// The input is the trace of a legal history of that many entries.
     Legal(u64),
-    /// It is none; this line is the first that is wrong. Lines are counted from 1.
+    /// The input is not; this line is the first wrong one. Lines are counted from 1.
     Refused(u64),
-    /// There was no memory.
+    /// An allocation failed.
     Memory,
     /// A read failed, or the input has more than 1,073,741,824 bytes.
     Reading,
-    /// A write or a flush failed, or a write took nothing.
+    /// A write or a flush failed, or a write returned 0.
     Writing,
 }
 
-/// What a check says.
+/// The verdict of a check.
 #[derive(Clone, Copy)]
 enum Verdict {
     Legal(u64),
     Refused(u64),
 }
 
-/// Checks whether the reader gives the trace of a legal history, and writes `legal` with the number
-/// of its entries, or `refused` with the first line that is wrong, behind which nothing is judged.
-/// The memory that this takes does not depend on the trace's length.
+/// Checks whether the input is the trace of a legal history. Writes `legal` with the number of its
+/// entries, or `refused` with the first wrong line; lines after that are not checked. The memory
+/// that this allocates does not depend on the length of the trace.
 pub fn check_trace<R: Read, W: Write>(alloc: Global, reader: &mut R, writer: &mut W) -> CheckEnd
     ensures verdict { Checks result (R.remaining reader.old) (W.contents writer.old) (W.contents writer.new) }
     ensures limit { ReadsUpTo (most_read result) (R.remaining reader.old) (R.remaining reader.new) }
@@ -56,8 +56,8 @@ pub fn check_trace<R: Read, W: Write>(alloc: Global, reader: &mut R, writer: &mu
     conclude(writer, &mut out, end, entries_of(&judge.stage))
 }
 
-/// Says what the end of the reading comes to, behind so many entries of a trace that is over. It stands
-/// apart from `check_trace`, which so lets go of all that it owns at one place.
+/// Writes the verdict when reading ends, given the number of entries if the trace is complete. It
+/// is separate from `check_trace`, so that one owner drops everything.
 fn conclude<W: Write>(
     writer: &mut W,
     out: &mut Vec<u8>,
@@ -97,7 +97,7 @@ fn say<W: Write>(writer: &mut W, out: &mut Vec<u8>, verdict: Verdict) -> CheckEn
     }
 }
 
-/// Writes the verdict's line at the end of `out`.
+/// Appends the verdict's line to `out`.
 fn put_verdict(out: &mut Vec<u8>, verdict: Verdict) -> Result<(), AllocError>
     ensures { OnOk result (out.new.items ≡ out.old.items ++ verdict_text verdict) }
 {

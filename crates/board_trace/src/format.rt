@@ -4,8 +4,8 @@ ghost use Rattle.board_trace.specs.Trace.{has_line};
 
 use synic_board::Event;
 
-/// The formats of a trace, as its first line tells. Format 2 has lines for resets of a processor, and
-/// its last line tells the next ticket.
+/// The formats of a trace, named by its first line. Format 2 has lines for resets of a processor,
+/// and its last line has the next ticket.
 #[derive(Clone, Copy, PartialEq, Eq, Debug)]
 pub enum Format {
     One,

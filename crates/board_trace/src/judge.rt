@@ -1,4 +1,4 @@
-// The judge of a trace's lines.
+// The judge for the lines of a trace.
 ghost use Rattle.board_trace.specs.inside.Stages.{stage_of, IsGood, IsWrong, IsBehind};
 
 use crate::stage::{Stage, take_line};
@@ -6,7 +6,8 @@ use board_terms::Notices;
 use line_driver::{Judge, Taken};
 use std::alloc::Global;
 
-/// Judges the lines of a trace: it performs the events on a board of its own.
+/// Validates the lines of a trace: performs the events on a board of its own, and compares the
+/// replies.
 #[derive(Drop)]
 pub(crate) struct TraceJudge {
     pub(crate) alloc: Global,

@@ -1,4 +1,4 @@
-//! Traces: what a board was asked and what it answered, line by line, and the check of such a text.
+//! Traces: the events and replies of a board as a text, and the check of such a text.
 #![tactic(auto)]
 
 mod check;

@@ -1,4 +1,4 @@
-// What is written of a history.
+// Printing a history.
 ghost use Rattle.std.specs.Prelude.{◌≡◌, ◌++◌, [], ◌∷◌, OnOk};
 ghost use Rattle.std.specs.List.{All};
 ghost use Rattle.board_text.specs.Fields.{spaced, line_of};
@@ -13,9 +13,8 @@ use board_text::put_decimal;
 use std::alloc::AllocError;
 use synic_board::Entry;
 
-/// Writes the trace of a history at the end of `out`: that of a board of so many processors and
-/// pages, whose first message takes the first ticket, and whose next one would take the next. The
-/// trace has format 2.
+/// Appends the trace of a history, in format 2, to `out`: for a board of that many processors and
+/// pages, with its first ticket, and the next ticket after the history.
 pub fn put_trace(
     out: &mut Vec<u8>,
     processors: u8,
@@ -34,7 +33,7 @@ pub fn put_trace(
     out.extend_from_slice(b"\n")
 }
 
-/// Writes the board line at the end of `out`.
+/// Appends the board line.
 fn put_opening(
     out: &mut Vec<u8>,
     processors: u8,
@@ -52,7 +51,7 @@ fn put_opening(
     out.extend_from_slice(b"\n")
 }
 
-/// Writes the lines of each entry at the end of `out`.
+/// Appends the lines of each entry.
 fn put_history(out: &mut Vec<u8>, history: &[Entry]) -> Result<(), AllocError>
     ensures written { OnOk result (out.new.items ≡ out.old.items ++ text_of (history_lines history.now)) }
     ensures fits { OnOk result (All (IsEntry Format.Two) history.now) }
@@ -63,7 +62,7 @@ fn put_history(out: &mut Vec<u8>, history: &[Entry]) -> Result<(), AllocError>
     Ok(())
 }
 
-/// Writes the two lines of an entry at the end of `out`.
+/// Appends the two lines of an entry to `out`.
 pub fn put_entry(out: &mut Vec<u8>, entry: &Entry) -> Result<(), AllocError>
     ensures written { OnOk result (out.new.items ≡ out.old.items ++ text_of (history_lines (entry.now ∷ []))) }
     ensures fits { OnOk result (IsEntry Format.Two entry.now) }
@@ -76,8 +75,7 @@ pub fn put_entry(out: &mut Vec<u8>, entry: &Entry) -> Result<(), AllocError>
     out.extend_from_slice(b"\n")
 }
 
-/// Writes the end behind so many entries, where this is the next ticket, at the end of `out`, without
-/// a line feed.
+/// Appends the end line, without a line feed: the number of entries, and the next ticket.
 pub(crate) fn put_end(
     out: &mut Vec<u8>,
     format: Format,

@@ -1,4 +1,4 @@
-// What a trace may go on with, and the board that it tells of.
+// The stages of a trace's check, and its board.
 ghost use Rattle.std.specs.Prelude.{◌≡◌, ◌<◌, ◌-◌, ◌^◌, [], IfOk};
 ghost use Rattle.std.specs.Str.{bytes_eq};
 ghost use Rattle.board_text.specs.Fields.{spaced};
@@ -23,18 +23,18 @@ pub(crate) enum Stage {
     Title,
     /// The board line.
     Opening(Format),
-    /// The reply that is due, or else an event or the end, behind so many entries.
+    /// The reply that is due, or else an event or the end line, after that many entries.
     Running {
         format: Format,
         board: Board,
         entries: u64,
         due: Option<Reply>,
     },
-    /// Nothing, behind so many entries.
+    /// Nothing, after that many entries.
     Over(u64),
 }
 
-/// What came of a board line.
+/// The result of a board line.
 #[derive(Drop)]
 enum Opened {
     Board(Board),
@@ -42,7 +42,7 @@ enum Opened {
     Memory,
 }
 
-/// What came of a line behind the board line.
+/// The result of a line after the board line.
 #[derive(Clone, Copy)]
 enum Ran {
     On,
@@ -51,7 +51,7 @@ enum Ran {
     Memory,
 }
 
-/// Takes a line, if it may stand here.
+/// Takes a line, if it is allowed here.
 pub(crate) fn take_line(
     alloc: Global,
     stage: &mut Stage,
@@ -87,8 +87,8 @@ pub(crate) fn take_line(
     }
 }
 
-// A stage is written by functions of their own: its room is cleared where one is formed, which is
-// not to be at each line.
+// Stages are written in separate functions: where one is constructed its memory is zeroed first,
+// which must not happen for each line.
 
 /// Takes the title.
 #[inline(never)]
@@ -128,7 +128,7 @@ fn take_opening(alloc: Global, stage: &mut Stage, format: Format, line: &[u8]) -
     }
 }
 
-/// Is over, behind so many entries.
+/// Ends the trace after that many entries.
 #[inline(never)]
 fn close(stage: &mut Stage, entries: u64)
     ensures { stage_of stage.new ≡ Over entries }
@@ -136,7 +136,7 @@ fn close(stage: &mut Stage, entries: u64)
     *stage = Stage::Over(entries);
 }
 
-/// The entries of a trace that is over.
+/// The number of entries of a complete trace.
 pub(crate) fn entries_of(stage: &Stage) -> Option<u64>
     ensures { IsOver result (stage_of stage.now) }
 {
@@ -146,7 +146,7 @@ pub(crate) fn entries_of(stage: &Stage) -> Option<u64>
     }
 }
 
-/// Opens the board that a board line names.
+/// Opens the board of a board line.
 #[tactic(auto, unfolding(crate::specs::inside::Stages::board_at))]
 fn open(alloc: Global, line: &[u8]) -> Opened
     ensures { (format : Format) → Opens result format line.now }
@@ -168,7 +168,8 @@ fn open(alloc: Global, line: &[u8]) -> Opened
     }
 }
 
-/// Takes a line behind the board line: the reply that is due, an event, which is performed, or the end.
+/// Takes a line after the board line: the reply that is due, an event, which is performed, or the
+/// end line.
 fn run_line(
     format: Format,
     board: &mut Board,
@@ -205,7 +206,7 @@ fn run_line(
     Ran::On
 }
 
-/// Whether a line is that of this reply.
+/// Whether a line is the line of this reply.
 fn is_reply(reply: &Reply, line: &[u8], out: &mut Vec<u8>) -> Result<bool, AllocError>
     ensures { IfOk result (λ is. is ≡ bytes_eq line.now (spaced (reply_fields reply.now))) }
 {
@@ -214,7 +215,7 @@ fn is_reply(reply: &Reply, line: &[u8], out: &mut Vec<u8>) -> Result<bool, Alloc
     Ok(line == out.as_slice())
 }
 
-/// Whether a line is the end behind so many entries, where this is the next ticket.
+/// Whether a line is the end line after that many entries, with this next ticket.
 fn is_end(
     format: Format,
     entries: u64,
@@ -232,7 +233,7 @@ fn is_end(
     Ok(line == out.as_slice())
 }
 
-/// The event that a line names behind an actor's number, if it has a line in the format.
+/// The event of a line after an actor's number, if it has a line in the format.
 #[tactic(auto, unfolding(crate::specs::inside::Stages::entry_at))]
 fn entry_of(format: Format, line: &[u8]) -> Option<Event>
     ensures { result ≡ entry_at format line.now }

@@ -1,4 +1,4 @@
--- How many entries a crew has.
+-- The number of entries of a crew.
 use Rattle.std.proofs.Common.{◌≡◌, ℕ, ◌+◌, ◌<◌, ◌*◌, ◌⊎◌, Bool, true, false, List, [], ◌∷◌, length, vec_len, Vec, Global, IsTrue, nat_lt, refl, sym, ap, arith}
 use mathlib.Core.Logic.{inl, inr}
 use Rattle.std.specs.List.{sum_by}
@@ -16,7 +16,7 @@ pub lengths : (scripts : List (Vec Step Global)) → sum_by (λ (s : List Step).
 lengths [] = refl
 lengths (s ∷ scripts) = omega (arith, s.ok.0, lengths scripts, sum_by-cons (λ (x : List Step). length x) s.items (lists scripts), sum_by-cons (λ (x : Vec Step Global). vec_len x) s scripts)
 
--- the steps of the present section, if it is an actor's
+-- the steps of the current section, if it is an actor's
 abbrev pub open_of : Section → ℕ
 open_of held.Setup = 0
 open_of (held.Actor steps) = vec_len steps
@@ -42,7 +42,7 @@ pub no-steps : (c : CrewScript) → (c.section ≡ held.Setup) ⊎ ((raises : Ve
 no-steps c (inl is) = ap open_of (sym is)
 no-steps c (inr is) = ap open_of (sym is.1)
 
--- a test that is true just where one number is below another
+-- a test that decides whether one number is below another
 pub tells : (b : Bool) (y m : ℕ) → (IsTrue b → y < m) → (y < m → IsTrue b) → b ≡ nat_lt y m
 tells true y m f g = sym ((Decides-ltb y m).1 (f refl))
 tells false y m f g = one (nat_lt y m) refl

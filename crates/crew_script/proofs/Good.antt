@@ -1,4 +1,4 @@
--- A script that was read is good.
+-- A parsed script is valid.
 use Rattle.std.proofs.Common.{◌≡◌, ℕ, ◌+◌, ◌*◌, ◌<◌, List, [], ◌∷◌, ◌++◌, length, length-append, refl, sym, subst, ◌∙◌, arith, Bool, false, ◌||◌, cond, nat_lt, Option, None, Some, Ok, Err, codes}
 use Rattle.std.specs.List.{list_any, sum_by}
 use Rattle.std.specs.Option.{IfSome, option_and_then}
@@ -26,7 +26,7 @@ use Rattle.crew_script.specs.inside.Good.{IsGood}
 use Rattle.crew_script.specs.Reading.{Read, no_absorb, act_say, sweep_say, on_board, raise_say, step_of, step_say, line_say, with_entry, with_event, with_step, with_raise, section_line, with_actor, with_line, with_board, fields_say, line_adds}
 use Rattle.crew_script.proofs.Reading.{Good}
 
--- what was read, with its last section over, is good
+-- what was parsed is valid, with its last section closed
 abbrev pub AllGood : Option Crew → Type 0
 AllGood crew = IfSome crew (λ c. IsGood (finished c))
 
@@ -36,7 +36,7 @@ Kept read = IfOk read AllGood
 abbrev steps_in : List (List Step) → ℕ
 steps_in scripts = sum_by (λ (s : List Step). length s) scripts
 
--- one more at the end, which is not bad
+-- one more item at the end, which is not bad
 none-more : {X : Type 0} (bad : X → Bool) (xs : List X) (x : X) → list_any bad xs ≡ false → bad x ≡ false → list_any bad (xs ++ x ∷ []) ≡ false
 none-more bad xs x h is = list_any-append bad xs (x ∷ []) ∙ or_from (list_any bad xs) (bad x || false) h (or_from (bad x) false is refl)
 
@@ -103,7 +103,7 @@ line-begun crew g few = record {
   no_bad_raise = none-more (list_any (is_bad_raise crew.processors)) crew.lines [] g.no_bad_raise refl;
 }
 
--- What the fields say is not bad.
+-- The item of the fields is not bad.
 then-good : {A B : Type 0} (next : B → Fields → Option A) (P : A → Type 0) → ((b : B) (fields : Fields) → IfSome (next b fields) P) → (r : Option (B × Fields)) → IfSome (option_and_then (λ (p : B × Fields). next p.0 p.1) r) P
 then-good next P each None = tt
 then-good next P each (Some p) = each p.0 p.1
@@ -133,7 +133,7 @@ raise-good processors (Some r) = cond_both (nat_lt r.0 processors) (Some r) None
 line-good : (processors : ℕ) (word : List ℕ) (fields : Fields) → IfSome (line_say processors word fields) (λ r. is_bad_raise processors r ≡ false)
 line-good processors word fields = cond_both (bytes_eq word (codes "raise")) (raise_say processors fields) None (λ x. IfSome x (λ r. is_bad_raise processors r ≡ false)) (λ _. raise-good processors (take_then u8_at (λ vp. take_then vector_at (λ vector. none_left (vp, vector))) fields)) (λ _. tt)
 
--- What a line adds is good.
+-- What a line adds is valid.
 entry-kept : (crew more : Crew) → (entries crew < 65536 → IsGood (finished more)) → Kept (with_entry crew more)
 entry-kept crew more good = cond_both (nat_lt (entries crew) 65536) (Ok (Some more)) (Err faults.Many) Kept (λ is. good ((Decides-ltb (entries crew) 65536).0 is)) (λ _. tt)
 
@@ -199,7 +199,7 @@ kept crew line g =
     let rest = fields_say crew (fields_of line) in
     cond_both (nat_lt 640 (length line)) (Err faults.Long) (cond (is_skipped line) (Ok crew) rest) Kept (λ _. tt) (λ _. cond_both (is_skipped line) (Ok crew) rest Kept (λ _. g) (λ _. fields-kept crew (fields_of line) g))
 
--- So is what good lines add.
+-- What good lines add is valid.
 pub all-good : {J : Type 0} (seen : J → Option Crew) (old new : J) (lines : List (List ℕ)) (answers : List ℕ) → AllGood (seen old) → Follows (Good seen) old lines answers new → AllGood (seen new)
 all-good {J} seen old new [] answers g h = subst (λ (j : J). AllGood (seen j)) (sym h.1) g
 all-good seen old new (line ∷ lines) answers g h = all-good seen h.2 new lines h.1 (subst Kept h.4.1 (kept (seen old) line g)) h.5

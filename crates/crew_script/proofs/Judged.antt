@@ -1,4 +1,4 @@
--- A good script passes what is judged of a crew before a thread starts.
+-- A valid script satisfies the preconditions of a crew.
 use Rattle.std.proofs.Common.{◌≡◌, List, [], ◌∷◌, length, Vec, Global, refl, ap, ◌∙◌, arith, Bool, false, ◌||◌}
 use Rattle.std.specs.List.{list_any}
 use Rattle.std.proofs.lemmas.Bool.{or_from}

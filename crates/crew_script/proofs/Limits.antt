@@ -1,4 +1,4 @@
--- How much is read at most.
+-- The greatest number of bytes read.
 use Rattle.std.proofs.Common.{◌≡◌, ℕ, List, Option, refl, sym, subst}
 use Rattle.board_text.specs.Streams.{ReadsUpTo}
 use Rattle.line_driver.specs.Driving.{ReadsNear}
@@ -9,7 +9,7 @@ use Rattle.crew_script.specs.inside.Reporting.{Refuses, Runs}
 use Rattle.crew_script.specs.declared.running.CrewRun.{CrewRun}
 use Rattle.crew_script.specs.declared.running.CrewRun.TheVariants.{Done, Script, Unsettled, Memory, NoThread, Reading, Writing}
 
--- an end that says something is no failed read
+-- an end with a report is not a failed read
 said-within : (result : CrewRun) (tells : CrewRun → List ℕ → Type 0) (w0 w1 : Option (List ℕ)) → ((text : List ℕ) → tells Reading text → ⊥) → Writes tells result w0 w1 → most_read result ≡ 1073741824
 said-within Done tells w0 w1 never says = refl
 said-within (Script line fault) tells w0 w1 never says = refl
@@ -19,16 +19,16 @@ said-within NoThread tells w0 w1 never says = refl
 said-within Reading tells w0 w1 never says = absurd (never says.0 says.1)
 said-within Writing tells w0 w1 never says = refl
 
--- Where something is said of the whole script, the limit is not passed.
+-- If something is reported about the whole script, the limit is not exceeded.
 pub within : (result : CrewRun) (tells : CrewRun → List ℕ → Type 0) (r0 r1 w0 w1 : Option (List ℕ)) → ((text : List ℕ) → tells Reading text → ⊥) → Writes tells result w0 w1 → ReadsUpTo 1073741824 r0 r1 → ReadsUpTo (most_read result) r0 r1
 within result tells r0 r1 w0 w1 never says = subst (λ n. ReadsUpTo n r0 r1) (sym (said-within result tells w0 w1 never says))
 
--- No line is said where a crew is run.
+-- No line is reported if a crew is run.
 pub run-near : (result : CrewRun) (crew : Crew) (r0 r1 w0 w1 : Option (List ℕ)) → Runs result crew w0 w1 → StopsNear result r0 r1
 run-near (Script line fault) crew r0 r1 w0 w1 runs = absurd runs.1
 run-near result crew r0 r1 w0 w1 runs = tt
 
--- The line that is said is the one near which reading stopped.
+-- The reported line is the one near which reading stopped.
 pub fault-near : (result : CrewRun) (line : ℕ) (fault : ScriptFault) (r0 r1 w0 w1 : Option (List ℕ)) → Refuses result line fault w0 w1 → ReadsNear line r0 r1 → StopsNear result r0 r1
 fault-near (Script l f) line fault r0 r1 w0 w1 refuses near = subst (λ n. ReadsNear n r0 r1) (sym refuses.1.0) near
 fault-near result line fault r0 r1 w0 w1 refuses near = tt

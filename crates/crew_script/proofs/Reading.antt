@@ -1,4 +1,4 @@
--- From the end of a drive over the lines to what the script asks for.
+-- From the end of a drive over the lines to the crew of the script.
 use Rattle.std.proofs.Common.{◌≡◌, ℕ, ◌+◌, ◌<◌, ◌≤◌, List, [], ◌∷◌, ◌++◌, length, refl, sym, ap, ◌∙◌, arith, Bool, Option, None, Some, Ok, Err, le-ltb}
 use Rattle.std.proofs.lemmas.Bool.Decides.{Decides-ltb}
 use Rattle.board_text.specs.Lines.{rest_of}
@@ -19,7 +19,7 @@ module _ {J : Type 0} (seen : J → Option Crew) where
   abbrev Wrong : J → List ℕ → ScriptFault → Type 0
   Wrong state line fault = line_adds (seen state) line ≡ Err fault
 
-  -- good lines are answered by nothing, and lead on
+  -- good lines have no answers, and lead to the next state
   followed : (old new : J) (lines left : List (List ℕ)) (answers rest : List ℕ) (k j : ℕ) → j ≡ k + length lines → Follows Good old lines answers new → (answers ≡ []) × (lines_ask k (seen old) (lines ++ left) rest ≡ lines_ask j (seen new) left rest)
   followed old new [] left answers rest k j count h = (h.0, let same : k ≡ j = omega (arith, count) in λ i. lines_ask (same i) (seen (sym h.1 i)) left rest)
   followed old new (line ∷ lines) left answers rest k j count h =

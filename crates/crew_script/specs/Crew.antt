@@ -1,10 +1,10 @@
--- What a crew script has asked for, up to some line.
+-- The crew of a script, up to some line.
 use Rattle.std.specs.Prelude.{ℕ, ◌+◌, ◌*◌, List, [], ◌∷◌, ◌++◌, length}
 use Rattle.std.specs.List.{sum_by}
 use Rattle.synic_board.specs.declared.event.Event.{Event}
 use Rattle.board_threads.specs.declared.script.Step.{Step}
 
--- where the next line stands: in the setup, in the script of an actor, or in that of a line, with its steps so far
+-- the section of the next line, with its steps so far: the setup, or the script of an actor or of a line
 pub data Section : Type 0 where
   InSetup : Section
   InActor : List Step → Section
@@ -17,7 +17,7 @@ pub record Crew : Type 0 where
   pub first_ticket : ℕ
   -- the events of the setup
   pub setup : List Event
-  -- the scripts of the actors and of the lines whose sections are over
+  -- the scripts of the actors and of the lines whose sections are closed
   pub actors : List (List Step)
   pub lines : List (List (ℕ × ℕ))
   pub section : Section
@@ -25,7 +25,7 @@ pub record Crew : Type 0 where
 abbrev pub new_crew : ℕ → ℕ → ℕ → Crew
 new_crew processors pages ticket = record { processors = processors; pages = pages; first_ticket = ticket; setup = []; actors = []; lines = []; section = InSetup }
 
--- the same with the present section over
+-- the same with the current section closed
 abbrev pub over : Section → Crew → Crew
 over InSetup crew = record crew { section = InSetup }
 over (InActor steps) crew = record crew { actors = crew.actors ++ steps ∷ []; section = InSetup }
@@ -38,6 +38,6 @@ finished crew = over crew.section crew
 abbrev pub entries_of : Crew → ℕ
 entries_of crew = length crew.setup + sum_by (λ (s : List Step). length s) crew.actors + 4 * crew.processors
 
--- the same with the present section over
+-- the same with the current section closed
 abbrev pub entries : Crew → ℕ
 entries crew = length crew.setup + sum_by (λ (s : List Step). length s) (finished crew).actors + 4 * crew.processors

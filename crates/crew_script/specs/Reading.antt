@@ -1,4 +1,4 @@
--- What the lines of a crew script mean, and what is wrong with one.
+-- Parsing the lines of a crew script, and their faults.
 use Rattle.std.specs.Prelude.{ℕ, ◌+◌, List, [], ◌∷◌, ◌++◌, Bool, true, false, if◌then◌else◌, nat_lt, length, Option, None, Some, Result, Ok, Err, codes}
 use Rattle.std.specs.Option.{option_and_then}
 use Rattle.std.specs.Str.{bytes_eq}
@@ -15,11 +15,11 @@ use Rattle.board_threads.specs.declared.script.Step.{Step}
 use Rattle.board_threads.specs.declared.script.Step.TheVariants.{Act, Sweep}
 use Rattle.crew_script.specs.Crew.{Section, InSetup, InActor, InLine, Crew, new_crew, finished, entries}
 
--- what a script asks for, once its board is open, or a fault
+-- the crew of a script, once its board is open, or a fault
 abbrev pub Read : Type 0
 Read = Result (Option Crew) ScriptFault
 
--- An event line of a crew is any but an absorb, whose bits are what a sweep takes.
+-- An event line of a crew is any event but an absorb, whose bits are what a sweep takes.
 abbrev pub no_absorb : Event → Option Event
 no_absorb e = if is_absorb e then None else Some e
 
@@ -46,7 +46,7 @@ step_say word fields = if bytes_eq word (codes "absorb") then sweep_say fields e
 abbrev pub line_say : ℕ → List ℕ → Fields → Option (ℕ × ℕ)
 line_say processors word fields = if bytes_eq word (codes "raise") then raise_say processors fields else None
 
--- one entry more, where a history has room for it
+-- one more entry, if it fits into a history
 abbrev pub with_entry : Crew → Crew → Read
 with_entry crew more = if nat_lt (entries crew) 65536 then Ok (Some more) else Err faults.Many
 
@@ -62,13 +62,13 @@ abbrev pub with_raise : Crew → List (ℕ × ℕ) → Option (ℕ × ℕ) → R
 with_raise crew raises None = Err faults.Form
 with_raise crew raises (Some r) = Ok (Some (record crew { section = InLine (raises ++ r ∷ []) }))
 
--- a line of the present section
+-- a line of the current section
 abbrev pub section_line : Section → Crew → List ℕ → Fields → Read
 section_line InSetup crew word fields = with_event crew (act_say (word ∷ fields))
 section_line (InActor steps) crew word fields = with_step crew steps (step_say word fields)
 section_line (InLine raises) crew word fields = with_raise crew raises (line_say crew.processors word fields)
 
--- `actor` begins the script of the next actor, of 15 at most, and `line` that of the next line, of 16 at most
+-- `actor` begins the script of the next actor, at most 15, and `line` that of the next line, at most 16
 abbrev pub with_actor : Crew → Fields → Read
 with_actor crew [] = if nat_lt (length (finished crew).actors) 15 then Ok (Some (record (finished crew) { section = InActor [] })) else Err faults.Many
 with_actor crew (field ∷ fields) = Err faults.Form
@@ -104,7 +104,7 @@ line_adds crew line =
     else if is_skipped line then Ok crew
     else fields_say crew (fields_of line)
 
--- what lines ask for, or the first fault and its line, the lines counted from k
+-- the crew of some lines, or the first fault and its line; the lines are counted from k
 abbrev pub at_rest : ℕ → Option Crew → Option ScriptFault → Result (Option Crew) (ℕ × ScriptFault)
 at_rest k crew None = Ok crew
 at_rest k crew (Some fault) = Err (k, fault)
@@ -121,6 +121,6 @@ abbrev pub lines_ask : ℕ → Option Crew → List (List ℕ) → List ℕ → 
 lines_ask k crew [] rest = at_rest k crew (rest_fault (is_open crew) rest)
 lines_ask k crew (line ∷ lines) rest = go_on k (line_adds crew line) (λ (next : Option Crew). lines_ask (k + 1) next lines rest)
 
--- what a whole script asks for, or its first fault
+-- the crew of a whole script, or its first fault
 unfoldable pub script_asks : List ℕ → Result (Option Crew) (ℕ × ScriptFault)
 script_asks input = lines_ask 1 None (lines_of input) (rest_of input)

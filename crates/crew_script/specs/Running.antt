@@ -1,4 +1,4 @@
--- What is written for a crew script.
+-- The output for a crew script.
 use Rattle.std.specs.Prelude.{◌≡◌, ℕ, ◌*◌, List, [], ◌++◌, Option, Some, Ok, Err, IfSome, codes}
 use Rattle.std.specs.List.{AllZip}
 use Rattle.std.specs.Io.KnownBytes.{Appends}
@@ -34,7 +34,7 @@ pub record IsCrewTrace (crew : Crew) (text : List ℕ) : Type 0 where
   pub written : text ≡ trace Two crew.processors crew.pages crew.first_ticket history
   pub legal : IsTrace text (entries_of crew)
 
--- the script has no fault, and asks for this crew
+-- the script has no fault, and its crew is this one
 abbrev pub Asks : List ℕ → Crew → Type 0
 Asks input crew = (last : Crew) × (script_asks input ≡ Ok (Some last)) × (crew ≡ finished last)
 
@@ -53,7 +53,7 @@ abbrev pub Writes : (CrewRun → List ℕ → Type 0) → CrewRun → Option (Li
 Writes texts Writing w0 w1 = (end : CrewRun) × (sent : List ℕ) × (unsent : List ℕ) × texts end (sent ++ unsent) × Appends w0 w1 sent
 Writes texts end w0 w1 = (text : List ℕ) × texts end text × Appends w0 w1 text
 
--- from what a reader had and a writer held to what the writer holds at the end
+-- the reader before, and the writer before and after
 abbrev pub Crews : CrewRun → Option (List ℕ) → Option (List ℕ) → Option (List ℕ) → Type 0
 Crews end r0 w0 w1 = Writes (λ (e : CrewRun) (text : List ℕ). IfSome r0 (λ input. IsOutput input e text)) end w0 w1
 

@@ -1,10 +1,10 @@
-// What a crew script has asked for, as it is kept.
+// The state of a partly read crew script.
 ghost use Rattle.std.specs.Prelude.{◌≤◌};
 
 use board_terms::{Vector, Vp};
 use board_threads::{Scripts, Setup, Step};
 
-/// Where the next line stands, with the steps of its section so far.
+/// The section of the next line, with its steps so far.
 #[derive(Drop)]
 pub(crate) enum Section {
     Setup,
@@ -12,7 +12,7 @@ pub(crate) enum Section {
     Line(Vec<(Vp, Vector)>),
 }
 
-/// What a crew script has asked for: the scripts of the sections that are over, and the present one.
+/// A partly read crew script: the scripts of the closed sections, and the current one.
 #[derive(Drop)]
 pub(crate) struct CrewScript {
     pub(crate) setup: Setup,

@@ -1,4 +1,4 @@
-// The judge of a crew script's lines.
+// The judge for the lines of a crew script.
 ghost use Rattle.std.specs.Prelude.{◌≡◌, [], Ok, Err};
 ghost use Rattle.crew_script.specs.Reading.{line_adds};
 ghost use Rattle.crew_script.specs.inside.View.{asked};
@@ -9,7 +9,7 @@ use board_lines::ScriptFault;
 use line_driver::{Judge, Taken};
 use std::alloc::Global;
 
-/// Reads the lines of a crew script. Nothing is sent before the whole of it was read.
+/// Parses the lines of a crew script. Nothing is written before the whole script is read.
 #[derive(Drop)]
 pub(crate) struct CrewJudge {
     pub(crate) alloc: Global,

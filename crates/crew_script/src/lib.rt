@@ -1,5 +1,5 @@
-//! Scripts of crews: actors and lines on one board, each in a thread of its own, and the trace of what
-//! happened.
+//! Scripts of crews: actors and lines on one board, each in a thread of its own, and the trace of
+//! the run.
 #![tactic(auto)]
 
 mod held;

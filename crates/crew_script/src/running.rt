@@ -1,4 +1,4 @@
-// A crew script from a reader, the trace of its crew to a writer.
+// Running a crew script from a reader, and writing the trace of its crew.
 ghost use Rattle.board_text.specs.Streams.{ReadsUpTo};
 ghost use Rattle.crew_script.specs.inside.View.{crew_of};
 ghost use Rattle.crew_script.specs.Crew.{finished};
@@ -19,28 +19,28 @@ use std::io::{Read, Write};
 use std::sync::Wait;
 use std::thread::Threads;
 
-/// How a crew ends.
+/// The result of a crew script.
 #[derive(Clone, Copy, PartialEq, Eq, Debug)]
 pub enum CrewRun {
     /// The crew was run, and the trace of its history was written.
     Done,
     /// A line of the script is wrong; no thread was started. Lines are counted from 1.
     Script { line: u64, fault: ScriptFault },
-    /// What the threads left is no history of the crew.
+    /// The calls of the threads are no history of the crew.
     Unsettled,
-    /// There was no memory.
+    /// An allocation failed.
     Memory,
     /// A thread could not be started.
     NoThread,
     /// A read failed, or the input has more than 1,073,741,824 bytes.
     Reading,
-    /// A write or a flush failed, or a write took nothing.
+    /// A write or a flush failed, or a write returned 0.
     Writing,
 }
 
-/// Reads a crew script whole, runs its crew on a board of its own, each actor and each line in a thread
-/// of its own, and writes the trace of what happened. A wrong line is said alone, and then no thread is
-/// started. The gate is called round each call of an actor or a line.
+/// Reads a whole crew script, runs its crew on a board of its own, each actor and each line in a
+/// thread of its own, and writes the trace of the run. If a line is wrong, writes only its fault,
+/// and starts no thread. The gate is called around each call of an actor or a line.
 pub fn crew<T: Threads + Wait + Sync, R: Read, W: Write, G: Gate + Sync>(
     rt: &T,
     alloc: Global,
@@ -85,8 +85,8 @@ fn refuse<W: Write>(alloc: Global, writer: &mut W, line: u64, fault: ScriptFault
     CrewRun::Script { line, fault }
 }
 
-/// Runs the crew of a script, and says what became of it. The whole text is made before its first byte
-/// is written, so that nothing is written where there is no memory for it.
+/// Runs the crew of a script, and writes the result. The whole text is formatted before its first
+/// byte is written, so that an allocation failure leaves no partial text.
 fn run<T: Threads + Wait + Sync, W: Write, G: Gate + Sync>(
     rt: &T,
     alloc: Global,
@@ -116,7 +116,7 @@ fn run<T: Threads + Wait + Sync, W: Write, G: Gate + Sync>(
     }
 }
 
-/// What became of a crew.
+/// The result of running a crew.
 #[derive(Clone, Copy)]
 enum Outcome {
     Done,
@@ -125,7 +125,7 @@ enum Outcome {
     NoThread,
 }
 
-/// Runs the crew of a script, and writes its trace at the end of `out`.
+/// Runs the crew of a script, and appends its trace to `out`.
 fn prepare<T: Threads + Wait + Sync, G: Gate + Sync>(
     rt: &T,
     alloc: Global,
@@ -146,8 +146,8 @@ fn prepare<T: Threads + Wait + Sync, G: Gate + Sync>(
     }
 }
 
-/// Writes the trace of a crew that ended at the end of `out`. It stands apart from `prepare`, which so
-/// lets go of the crew at one place.
+/// Appends the trace of a crew that has ended to `out`. It is separate from `prepare`, so that one
+/// owner drops the crew.
 fn tell(setup: &Setup, ended: &Ended, out: &mut Vec<u8>) -> Outcome
     ensures { IsTold result setup.now ended.now out.old.items out.new.items }
 {
@@ -164,7 +164,7 @@ fn tell(setup: &Setup, ended: &Ended, out: &mut Vec<u8>) -> Outcome
     }
 }
 
-/// What a fault of a crew comes to. Its sizes and its steps were judged line by line.
+/// The outcome for a fault of a crew. Its sizes and steps were validated line by line.
 fn outcome_of(fault: CrewFault) -> Outcome
     requires size { fault ≢ CrewFault.BadSize }
     requires step { fault ≢ CrewFault.BadStep }

@@ -1,4 +1,4 @@
-// What a crew script has asked for.
+// Parsing a crew script.
 ghost use Rattle.std.specs.Prelude.{◌≡◌, ◌≤◌, ◌<◌, ◌↔◌, ◌∷◌, length, vec_len, nat_lt, IsTrue, OnOk, Some};
 ghost use Rattle.std.specs.List.{sum_by};
 ghost use Rattle.crew_script.specs.Crew.{finished, entries};
@@ -15,10 +15,10 @@ use std::alloc::{AllocError, Global};
 use std::mem;
 use synic_board::Event;
 
-/// How many entries a history has at most.
+/// The greatest number of entries of a history.
 const MOST: usize = 65_536;
 
-/// Reads a line of at most 640 bytes.
+/// Parses a line of at most 640 bytes.
 pub(crate) fn read_line(
     alloc: Global,
     script: &mut Option<CrewScript>,
@@ -75,7 +75,7 @@ fn open(
 }
 
 impl CrewScript {
-    /// Takes a line behind the board line.
+    /// Takes a line after the board line.
     fn take_line(
         &mut self,
         alloc: Global,
@@ -93,7 +93,7 @@ impl CrewScript {
         self.take_step(word, fields)
     }
 
-    /// Takes a line of the present section.
+    /// Takes a line of the current section.
     fn take_step(&mut self, word: &[u8], fields: &mut Fields<'_>) -> Taken<ScriptFault>
         ensures { Adds result (section_line (section_of self.old.section) (crew_of self.old) word.now fields.old) (Some (crew_of self.new)) }
     {
@@ -150,7 +150,7 @@ impl CrewScript {
         Taken::Good
     }
 
-    /// The present section is over.
+    /// Closes the current section.
     pub(crate) fn close(&mut self) -> Result<(), AllocError>
         ensures { OnOk result (crew_of self.new ≡ finished (crew_of self.old)) }
     {
@@ -170,7 +170,7 @@ impl CrewScript {
         Ok(())
     }
 
-    /// Whether a history has room for one entry more.
+    /// Whether one more entry fits into a history.
     fn has_room(&self) -> bool
         ensures { result ≡ nat_lt (entries (crew_of self.now)) 65536 }
     {
@@ -190,7 +190,7 @@ impl CrewScript {
     }
 }
 
-/// Puts an item at the end.
+/// Appends an item.
 fn put<T: Drop>(items: &mut Vec<T>, item: T) -> Taken<ScriptFault>
     ensures { Puts result items.old.items items.new.items item }
 {
@@ -214,7 +214,7 @@ fn fit(scripts: &[Vec<Step>], room: usize) -> bool
     left > 0
 }
 
-/// The event of a line, if it is no absorb.
+/// The event of a line, unless it is an absorb.
 fn act_of(word: &[u8], fields: &mut Fields<'_>) -> Option<Event>
     ensures { result ≡ act_say (word.now ∷ fields.old) }
 {
@@ -247,7 +247,7 @@ fn sweep_of(fields: &mut Fields<'_>) -> Option<Step>
     Some(Step::Sweep { vp, part })
 }
 
-/// The raise of a line of a line's script.
+/// The raise of a line in a line's script.
 fn raise_of(processors: u8, word: &[u8], fields: &mut Fields<'_>) -> Option<(Vp, Vector)>
     requires { processors ≤ 8 }
     ensures { result ≡ line_say processors word.now fields.old }

@@ -11,21 +11,21 @@ use Rattle.posted_words.specs.declared.rule.Did.TheVariants.{Raise, Sweep}
 use Rattle.posted_words.specs.Did.{is_fresh_at, takes_at, one_if}
 use Rattle.posted_words.specs.inside.Posted.{mask_of}
 
--- a bit of a word is the one that is raised, or another
+-- a bit of a word is the raised one, or another
 pub same_bit : (x w b k : ℕ) → ((x ≡ w) × (b ≡ k) × (((x == w) && (b == k)) ≡ true)) ⊎ ((x ≡ w → b ≡ k → ⊥) × (((x == w) && (b == k)) ≡ false))
 same_bit x w b k =
     dite (ℕ_discrete x w)
     (λ p. dite (ℕ_discrete b k) (λ q. inl (p, q, grind (arith, nat_tests))) (λ q. inr ((λ _ e. q e), grind (arith, nat_tests))))
     (λ p. inr ((λ e _. p e), grind (arith, nat_tests)))
 
--- the bit that is raised stands then
+-- the raised bit is set afterwards
 pub raised_stands : (words : List ℕ) (w k x b n : ℕ) → w < length words → k < 64 → x ≡ w → b ≡ k → bit_at (slice_index (set words w (bit_or n (mask_of k))) x) b ≡ 1
 raised_stands words w k x b n wide small p q =
     let words' : List ℕ = set words w (bit_or n (mask_of k)) in
     let here : slice_index words' x ≡ bit_or n (mask_of k) = ap (slice_index words') p ∙ get_or-set_same words w (bit_or n (mask_of k)) 0 wide in
     (λ i. bit_at (here i) (q i)) ∙ bit_at_set_same w64 n k small
 
--- a raise adds the bit where it was clear, and leaves every other
+-- a raise sets the bit if it was clear, and leaves every other
 pub raised-bit : (words : List ℕ) (w k x b n : ℕ) → w < length words → n ≡ slice_index words w → k < 64
     → bit_at (slice_index (set words w (bit_or n (mask_of k))) x) b ≡ bit_at (slice_index words x) b + one_if (is_fresh_at x b (Raise w k (bit_at n k == 0)))
 raised-bit words w k x b n wide is small =
@@ -54,7 +54,7 @@ raised-bit words w k x b n wide is small =
     fills : (t : ℕ) → t < 2 → (x w b k : ℕ) → x ≡ w → b ≡ k → 1 ≡ t + one_if (((x == w) && (b == k)) && (t == 0))
     fills t lt x w b k p q = grind (arith, nat_tests)
 
--- the mask of a bit tells the bit
+-- the mask of a bit determines the bit
 pub mask_of-injective : (k j : ℕ) → k < 64 → j < 64 → mask_of k ≡ mask_of j → j ≡ k
 mask_of-injective k j small little e =
     dite (ℕ_discrete j k)
@@ -66,12 +66,12 @@ mask_of-injective k j small little e =
     let same : bit_at (bit_or 0 (mask_of k)) j ≡ bit_at (bit_or 0 (mask_of j)) j = ap (λ m. bit_at (bit_or 0 m) j) e in
     absurd (omega arith))
 
--- no bit of a word stands once it is swept
+-- no bit of a word is set after a sweep of it
 pub swept_is_clear : (words : List ℕ) (w x b : ℕ) → w < length words → x ≡ w → bit_at (slice_index (set words w 0) x) b ≡ 0
 swept_is_clear words w x b wide p =
     ap (λ z. bit_at z b) (ap (slice_index (set words w 0)) p ∙ get_or-set_same words w 0 0 wide) ∙ bit_at-zero b
 
--- a sweep takes the bits that stood, and leaves every other
+-- a sweep takes the bits that were set, and leaves every other word
 pub swept-bit : (words : List ℕ) (w x b n : ℕ) → w < length words → n ≡ slice_index words w
     → bit_at (slice_index words x) b ≡ bit_at (slice_index (set words w 0) x) b + takes_at x b (Sweep w n)
 swept-bit words w x b n wide is =

@@ -1,4 +1,4 @@
--- The rule at the end, where one seat stands for all tokens.
+-- The rule at the end, when one seat holds all tokens.
 use Rattle.std.proofs.Common.{◌≡◌, ℕ, ◌+◌, ◌<◌, ◌≤◌, Bool, false, List, [], ◌∷◌, ◌++◌, length, All, sym, ap, ◌∙◌, subst, map, arith, length-append}
 use Rattle.std.specs.Prelude.{slice_index, sum_by}
 use Rattle.std.specs.Int.{bit_at}
@@ -37,7 +37,7 @@ closes key id v words slots final whole =
           v.logs (All-found (IsBounded (views_fresh s.views) (views_taken s.views)) s.views id v at h.bounded);
     }
 
--- the order of the tokens is of no account
+-- the order of the tokens does not matter
 Settled-append_comm : (n : ℕ) (xs ys : List (List Did)) (words : List ℕ) → Settled n (xs ++ ys) words → Settled n (ys ++ xs) words
 Settled-append_comm n xs ys words h =
     let F : (w b : ℕ) → all_fresh (xs ++ ys) w b ≡ all_fresh (ys ++ xs) w b = λ w b. (let l = sum_by-append (fresh w b) xs ys in let r = sum_by-append (fresh w b) ys xs in omega arith) in
@@ -53,7 +53,7 @@ Settled-append_comm n xs ys words h =
           (subst (All B) (take-append_seam xs ys) (All-take B (length xs) (xs ++ ys) both));
     }
 
--- a seat that stands for the last of some tokens, after it took over the others
+-- a seat that held the last of some tokens, after it took over the others
 pub stands_for_all : (seat : View) (rest all : List Token) (t : Token) (n : ℕ) → seat ≡ view_of 1 (t.did ∷ []) → all ≡ rest ++ t ∷ [] → n ≡ length rest
     → view_of (seat.parts + n) (map did_of rest ++ seat.logs) ≡ view_of (length all) (map did_of all)
 stands_for_all seat rest all t n own is many =
@@ -61,7 +61,7 @@ stands_for_all seat rest all t n own is many =
     let logs : map did_of rest ++ seat.logs ≡ map did_of all = ap (λ (v : View). map did_of rest ++ v.logs) own ∙ sym (map-append did_of rest (t ∷ [])) ∙ ap (map did_of) (sym is) in
     λ i. view_of (parts i) (logs i)
 
--- a seat that took over the lines, after it stood for all sweepers
+-- a seat that held all sweepers, after it took over the lines
 pub gathered : (key : ℕ × ℕ) (n tokens id : ℕ) (seat v : View) (words : List ℕ) (slots : List (Unit {0})) (sweepers lines : List Token) (m : ℕ)
     → key ≡ (n, tokens) → Final (Seen (Posted key) id v) words slots
     → seat ≡ view_of (length sweepers) (map did_of sweepers) → v ≡ view_of (seat.parts + m) (map did_of lines ++ seat.logs) → m ≡ length lines
@@ -85,14 +85,14 @@ raise-found w b [] some = absurd (omega arith)
 raise-found w b (Sweep word bits ∷ ds) some = before-it (Sweep word bits) w b ds (raise-found w b ds (omega (arith, some)))
 raise-found w b (Raise word bit g ∷ ds) some =
     let later = λ (none : raises_at w b (Raise word bit g) ≡ false).
-        let zero : one_if (raises_at w b (Raise word bit g)) ≡ 0 = ap one_if none in
-        let r = raise-found w b ds (omega (arith, some, zero)) in
-        before-it (Raise word bit g) w b ds r in
+    let zero : one_if (raises_at w b (Raise word bit g)) ≡ 0 = ap one_if none in
+    let r = raise-found w b ds (omega (arith, some, zero)) in
+    before-it (Raise word bit g) w b ds r in
     dite (ℕ_discrete w word)
     (λ p. dite (ℕ_discrete b bit) (λ q. ([], ds, g, (λ i. Raise (sym p i) (sym q i) g ∷ ds))) (λ q. later (grind (arith, nat_tests))))
     (λ p. later (grind (arith, nat_tests)))
 
--- where a token raised a bit at all, some raise of that bit was fresh
+-- if a token raised a bit at all, some raise of that bit was fresh
 pub fresh-once : (F T : ℕ → ℕ → ℕ) (w b : ℕ) (ds : List Did) → Bounded F T ds → 0 < times_raised w b ds → 0 < F w b
 fresh-once F T w b ds here some = let r = raise-found w b ds some in let p = here.raises w b r.0 r.1 r.2 r.3 in omega (arith, p)
 

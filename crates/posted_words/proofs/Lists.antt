@@ -1,4 +1,4 @@
--- Sums over a list, and facts of each element, where one element is known by its place.
+-- Sums over a list, and facts of each element, given one element by its index.
 use Rattle.std.proofs.Common.{◌≡◌, ℕ, zero, suc, ◌+◌, ◌<◌, ◌≤◌, List, [], ◌∷◌, length, get_or, set, All, refl, sym, ap, subst, arith}
 use Rattle.std.specs.Prelude.{sum_by}
 use Rattle.std.proofs.lemmas.List.Sums.{sum_by-cons, sum_by-set, get_or-le-sum_by}
@@ -34,7 +34,7 @@ module _ {A : Type 0} where
       let r = sum_by-none g f xs (omega arith) (All-tail (Follows g f) x xs all) in
       omega arith
 
-  -- where one element has all of g, it has all of f
+  -- if one element has all of g, it has all of f
   pub sum_by-alone : (g f : A → ℕ) (xs : List A) (i : ℕ) (a : A) → get_elem? xs i ≡ some a → sum_by g xs ≡ g a → All (Follows g f) xs → sum_by f xs ≡ f a
   sum_by-alone g f [] i a e is all = absurd (some-ne-none a (sym e))
   sum_by-alone g f (x ∷ xs) zero a e is all =

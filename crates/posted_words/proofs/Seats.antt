@@ -1,4 +1,4 @@
--- What opens, splits and joins seats keeps the rule.
+-- Opening, splitting and joining seats preserve the rule.
 use Rattle.std.proofs.Common.{◌≡◌, ℕ, zero, suc, ◌+◌, ◌-◌, ◌<◌, List, [], ◌∷◌, ◌++◌, set, All, refl, ap, ◌∙◌, ⊎_elim, arith, replicate}
 use Rattle.std.specs.Prelude.{slice_index}
 use Rattle.std.specs.Int.{bit_at}
@@ -17,12 +17,12 @@ use Rattle.posted_words.specs.inside.Posted.{view_of, views_fresh, views_taken, 
 use Rattle.posted_words.proofs.Lists.{All-found, sum_by-set_found}
 use Rattle.posted_words.proofs.Steps.{fresh_of, taken_of, Bounded-nil, IsBounded-more, bounded_own}
 
--- where the counts of all views are as before, each view keeps its lower bounds
+-- if the counts of all views are unchanged, each view keeps its lower bounds
 kept : (F T F' T' : ℕ → ℕ → ℕ) (views : List View) → ((w b : ℕ) → F' w b ≡ F w b) → ((w b : ℕ) → T' w b ≡ T w b) → All (IsBounded F T) views → All (IsBounded F' T') views
 kept F T F' T' views f t =
     All-weaker (IsBounded F T) (IsBounded F' T') (λ v. IsBounded-more F T F' T' v (λ w b. (let e = f w b in omega arith)) (λ w b. (let e = t w b in omega arith))) views
 
--- a token that did nothing
+-- a token without steps
 abbrev pub unused : View
 unused = view_of 1 ([] ∷ [])
 

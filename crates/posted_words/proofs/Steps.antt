@@ -1,4 +1,4 @@
--- A raise and a sweep keep the rule.
+-- A raise and a sweep preserve the rule.
 use Rattle.std.proofs.Common.{◌≡◌, ℕ, ◌+◌, ◌<◌, ◌≤◌, Bool, List, [], ◌∷◌, ◌++◌, length, set, refl, sym, ap, ◌∙◌, subst, ⊎_elim, arith, length-set}
 use Rattle.std.specs.Prelude.{◌==◌, if◌then◌else◌, bit_or, slice_index}
 use Rattle.std.specs.Int.{bit_at}
@@ -18,7 +18,7 @@ use Rattle.posted_words.specs.inside.Posted.{view_of, views_fresh, views_taken, 
 use Rattle.posted_words.proofs.Lists.{All-found, sum_by-set_found, found-le-sum_by}
 use Rattle.posted_words.proofs.Bits.{same_bit, raised_stands, raised-bit, mask_of-injective, swept_is_clear, swept-bit}
 
--- a token did nothing yet
+-- a token without steps
 pub Bounded-nil : (F T : ℕ → ℕ → ℕ) → Bounded F T []
 Bounded-nil F T = record { raises = λ w b later before f is. absurd (none later (Raise w b f) before is); sweeps = λ w b bits later before is. absurd (none later (Sweep w bits) before is) }
   where
@@ -26,7 +26,7 @@ Bounded-nil F T = record { raises = λ w b later before f is. absurd (none later
     none [] d before is = cc
     none (x ∷ later) d before is = cc
 
--- lower bounds last while what all tokens did grows
+-- lower bounds stay true while the counts of all tokens grow
 pub Bounded-more : (F T F' T' : ℕ → ℕ → ℕ) (ds : List Did) → ((w b : ℕ) → F w b ≤ F' w b) → ((w b : ℕ) → T w b ≤ T' w b) → Bounded F T ds → Bounded F' T' ds
 Bounded-more F T F' T' ds f t h = record { raises = λ w b later before g is. (let p = h.raises w b later before g is in let q = f w b in omega arith); sweeps = λ w b bits later before is. (let p = h.sweeps w b bits later before is in let q = t w b in omega arith) }
 
@@ -45,7 +45,7 @@ Bounded-cons F T d ds raise sweep h = record { raises = raised; sweeps = swept }
 pub IsBounded-more : (F T F' T' : ℕ → ℕ → ℕ) (v : View) → ((w b : ℕ) → F w b ≤ F' w b) → ((w b : ℕ) → T w b ≤ T' w b) → IsBounded F T v → IsBounded F' T' v
 IsBounded-more F T F' T' v f t = All-weaker (Bounded F T) (Bounded F' T') (λ ds. Bounded-more F T F' T' ds f t) v.logs
 
--- what a seat's tokens did
+-- the steps of a seat's tokens
 abbrev pub fresh_of : ℕ → ℕ → View → ℕ
 fresh_of w b v = all_fresh v.logs w b
 
@@ -62,7 +62,7 @@ own_bounded F T ds all = All-head (Bounded F T) ds [] all
 pub bounded_own : (F T : ℕ → ℕ → ℕ) (ds : List Did) → Bounded F T ds → IsBounded F T (own ds)
 bounded_own F T ds one = All-cons (Bounded F T) ds [] one (All-nil (Bounded F T))
 
--- a state in which one view has changed, by a step that lets no count fall
+-- a state in which one view has changed, by a step that decreases no count
 module _ (key : ℕ × ℕ) (s : State (Unit {0}) View) (id : ℕ) (v w : View) (words : List ℕ) where
   abbrev views' : List View
   views' = set s.views id w
@@ -103,13 +103,13 @@ raises key slots id w k ds in_words small s h _ at _ =
     let mine : Bounded (views_fresh views) (views_taken views) (d ∷ ds) =
     Bounded-cons (views_fresh views) (views_taken views) d ds
     (λ x b g is.
-        let word : x ≡ w = cc in
-        let bit : b ≡ k = cc in
-        let e = even x b (omega (arith, word)) in
-        let q = T x b in
-        let o = found-le-sum_by (taken_of x b) s.views id (own ds) at in
-        let stands : bit_at (slice_index words x) b ≡ 1 = raised_stands s.words w k x b n wide small word bit in
-        omega (arith, e, q, o, stands))
+    let word : x ≡ w = cc in
+    let bit : b ≡ k = cc in
+    let e = even x b (omega (arith, word)) in
+    let q = T x b in
+    let o = found-le-sum_by (taken_of x b) s.views id (own ds) at in
+    let stands : bit_at (slice_index words x) b ≡ 1 = raised_stands s.words w k x b n wide small word bit in
+    omega (arith, e, q, o, stands))
     (λ x b bits is. absurd (cc))
     (Bounded-more (views_fresh s.views) (views_taken s.views) (views_fresh views) (views_taken views) ds (λ x b. (let q = F x b in omega arith)) (λ x b. (let q = T x b in omega arith)) before) in (
       u,
@@ -137,12 +137,12 @@ sweeps key slots id w ds in_words s h _ at _ =
     Bounded-cons (views_fresh views) (views_taken views) d ds
     (λ x b g is. absurd (cc))
     (λ x b bits is.
-        let word : x ≡ w = cc in
-        let e = even x b (omega (arith, word)) in
-        let q = F x b in
-        let o = found-le-sum_by (fresh_of x b) s.views id (own ds) at in
-        let gone : bit_at (slice_index words x) b ≡ 0 = swept_is_clear s.words w x b wide word in
-        omega (arith, e, q, o, gone))
+    let word : x ≡ w = cc in
+    let e = even x b (omega (arith, word)) in
+    let q = F x b in
+    let o = found-le-sum_by (fresh_of x b) s.views id (own ds) at in
+    let gone : bit_at (slice_index words x) b ≡ 0 = swept_is_clear s.words w x b wide word in
+    omega (arith, e, q, o, gone))
     (Bounded-more (views_fresh s.views) (views_taken s.views) (views_fresh views) (views_taken views) ds (λ x b. (let q = F x b in omega arith)) (λ x b. (let q = T x b in omega arith)) before) in (
       u,
       keeps,

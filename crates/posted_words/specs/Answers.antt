@@ -1,4 +1,4 @@
--- What a raise answers.
+-- The results of raises.
 use Rattle.std.specs.Prelude.{Bool, true, false}
 use Rattle.posted_words.specs.declared.line.Raised.{Raised}
 use Rattle.posted_words.specs.declared.line.Raised.TheVariants.{Fresh, Already}

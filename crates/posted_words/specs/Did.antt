@@ -1,4 +1,4 @@
--- What a token did, counted. A log has the last step first.
+-- Counting the steps of a token. A log has the last step first.
 use Rattle.std.specs.Prelude.{ℕ, ◌+◌, ◌==◌, ◌&&◌, Bool, false, if◌then◌else◌, List, [], ◌∷◌}
 use Rattle.std.specs.Int.{bit_at}
 use Rattle.posted_words.specs.declared.rule.Did.{Did}
@@ -12,7 +12,7 @@ abbrev pub raises_at : ℕ → ℕ → Did → Bool
 raises_at w b (Raise word bit fresh) = (w == word) && (b == bit)
 raises_at w b (Sweep word bits) = false
 
--- whether it did, and made it pending
+-- whether it did, and the result was Fresh
 abbrev pub is_fresh_at : ℕ → ℕ → Did → Bool
 is_fresh_at w b (Raise word bit fresh) = ((w == word) && (b == bit)) && fresh
 is_fresh_at w b (Sweep word bits) = false
@@ -27,7 +27,7 @@ abbrev pub times_raised : ℕ → ℕ → List Did → ℕ
 times_raised w b [] = 0
 times_raised w b (d ∷ ds) = one_if (raises_at w b d) + times_raised w b ds
 
--- how often it was answered Fresh there
+-- how often its raise of that bit was Fresh
 abbrev pub fresh : ℕ → ℕ → List Did → ℕ
 fresh w b [] = 0
 fresh w b (d ∷ ds) = one_if (is_fresh_at w b d) + fresh w b ds

@@ -1,15 +1,15 @@
--- What holds once all tokens are back.
+-- What holds when all tokens are gathered.
 use Rattle.std.specs.Prelude.{◌≡◌, ℕ, ◌+◌, ◌<◌, ◌≤◌, Bool, List, ◌∷◌, ◌++◌, All, sum_by, slice_index}
 use Rattle.std.specs.Int.{bit_at}
 use Rattle.posted_words.specs.declared.rule.Did.{Did}
 use Rattle.posted_words.specs.declared.rule.Did.TheVariants.{Raise, Sweep}
 use Rattle.posted_words.specs.Did.{fresh, times_taken}
 
--- how often any of the tokens was answered Fresh at the bit b of the word w
+-- how often raises of the bit b of the word w were Fresh, over all tokens
 abbrev pub all_fresh : List (List Did) → ℕ → ℕ → ℕ
 all_fresh logs w b = sum_by (fresh w b) logs
 
--- how often any of them took it
+-- how often that bit was taken, over all tokens
 abbrev pub all_taken : List (List Did) → ℕ → ℕ → ℕ
 all_taken logs w b = sum_by (times_taken w b) logs
 
@@ -22,6 +22,6 @@ pub record Bounded (F T : ℕ → ℕ → ℕ) (log : List Did) : Type 0 where
 
 -- the logs of all tokens of n words, and the words
 pub record Settled (n : ℕ) (logs : List (List Did)) (words : List ℕ) : Type 0 where
-  -- each Fresh answer was taken once or stands
+  -- each Fresh raise was taken once, or its bit is set
   pub even : (w b : ℕ) → w < n → all_fresh logs w b ≡ all_taken logs w b + bit_at (slice_index words w) b
   pub bounded : All (Bounded (all_fresh logs) (all_taken logs)) logs

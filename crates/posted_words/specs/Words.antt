@@ -1,10 +1,10 @@
--- What callers see of the words and of a token.
+-- The abstract state of the words and of a token.
 use Rattle.std.specs.Prelude.{◌≡◌, ℕ, ◌+◌, ◌*◌, ◌/◌, ◌%◌, ◌≤◌, Bool, List, [], ◌∷◌}
 use Rattle.atomic_table.specs.Seated.{TableId}
 use Rattle.posted_words.specs.declared.rule.Did.{Did}
 use Rattle.posted_words.specs.declared.rule.Did.TheVariants.{Raise, Sweep}
 
--- which words, and how many processors, sweepers and lines they were opened for
+-- the identity of the words, and how many processors, sweepers and lines they were opened for
 pub record Words : Type 0 where
   pub name : TableId
   pub processors : ℕ
@@ -14,7 +14,7 @@ pub record Words : Type 0 where
 abbrev pub shared_words : TableId → ℕ → ℕ → ℕ → Words
 shared_words name processors sweepers lines = record { name = name; processors = processors; sweepers = sweepers; lines = lines }
 
--- the sizes that words may be opened with
+-- the valid sizes of words
 pub record AreWordSizes (processors sweepers lines : ℕ) : Type 0 where
   pub some_processor : 1 ≤ processors
   pub few_processors : processors ≤ 8
@@ -22,7 +22,7 @@ pub record AreWordSizes (processors sweepers lines : ℕ) : Type 0 where
   pub few_sweepers : sweepers ≤ 16
   pub few_lines : lines ≤ 16
 
--- of which words a token is, and what it did, its last step first
+-- the words of a token, and its steps, the last one first
 pub record Token : Type 0 where
   pub of : TableId
   pub did : List Did
@@ -34,14 +34,14 @@ token name did = record { of = name; did = did }
 abbrev pub IsOf : TableId → Token → Type 0
 IsOf name t = t.of ≡ name
 
--- a token after one step more
+-- a token after one more step
 abbrev pub with_last_step : Token → Did → Token
 with_last_step t d = token t.of (d ∷ t.did)
 
 abbrev pub did_of : Token → List Did
 did_of t = t.did
 
--- a processor has four words, its parts 0 to 3
+-- a processor has four words, for its parts 0 to 3
 abbrev pub word_of : ℕ → ℕ → ℕ
 word_of vp part = 4 * vp + part
 

@@ -1,2 +1,2 @@
--- How the fields stand for what the contracts speak of, and what they keep: nothing that a caller reads.
+-- The abstract view of the fields, and their invariant. Callers need neither.
 pub mod Posted

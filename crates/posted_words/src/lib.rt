@@ -1,5 +1,6 @@
-//! The vectors that lines raise outside the lock: bits in shared words, which lines set and
-//! sweepers take by single atomic steps. Contracts see of each token what it did.
+//! Posted words: the vectors that lines raise without the lock. They are bits in shared words,
+//! which lines set and sweepers take by single atomic steps. Contracts record the steps of each
+//! token.
 #![tactic(auto)]
 
 mod line;

@@ -7,23 +7,23 @@ use crate::rule::View;
 use atomic_table::Seat;
 use std::marker::Model;
 
-/// Whether a raise made its vector pending.
+/// The result of a raise.
 #[derive(Clone, Copy, PartialEq, Eq, Debug)]
 pub enum Raised {
     /// The bit was clear, and this raise set it.
     Fresh,
-    /// The bit was set already.
+    /// The bit was already set.
     Already,
 }
 
-/// The right to step at some words, which has no bytes and is held by one thread at a time.
-/// Contracts see which words it is of and what it did.
+/// The right of one thread to raise and sweep some words. It has no bytes. Its contract shows the
+/// words and the steps of the token.
 #[derive(Drop)]
 pub struct Line {
     pub(crate) seat: Seat<(), View>,
 }
 
-/// The line of an actor, which sweeps.
+/// The token of an actor, which sweeps.
 pub type Sweeper = Line;
 
 impl Model for Line {
@@ -40,7 +40,7 @@ impl Model for Line {
 }
 
 impl Line {
-    /// A token that did nothing, of a seat that stands for it alone.
+    /// A token without steps, from a seat that holds it alone.
     pub(crate) fn new(seat: Seat<(), View>) -> Line
         requires { seat.me ≡ (view_of 1 ([] ∷ []), []) }
         ensures { result ≡ token seat.table_id [] }

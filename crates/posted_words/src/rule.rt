@@ -1,8 +1,9 @@
-// The rule of the words, what a seat at them knows, and what each kind of step does to that.
+// The protocol of the words: the state of a seat, and the effect of each kind of step. All types
+// here are ghost.
 use atomic_table::{Join, Play, Split, TableRule};
 use std::collections::LinkedList;
 
-/// One step of a token. It exists in contracts alone.
+/// One step of a token. Ghost.
 pub enum Did {
     /// A raise of a bit of a word, and whether the bit was clear.
     Raise { word: u64, bit: u64, fresh: bool },
@@ -10,15 +11,15 @@ pub enum Did {
     Sweep { word: u64, bits: u64 },
 }
 
-/// What a seat knows. It exists in contracts alone.
+/// The state of a seat. Ghost.
 pub struct View {
-    /// How many tokens the seat stands for.
+    /// How many tokens the seat holds.
     pub parts: u64,
-    /// What each of them did, its last step first.
+    /// The steps of each of them, the last one first.
     pub logs: LinkedList<LinkedList<Did>>,
 }
 
-/// The rule. Its key is how many words there are, and how many tokens.
+/// The rule. Its key is the number of words, and of tokens.
 pub struct Counted;
 
 impl TableRule<(), View, (u64, u64)> for Counted {
@@ -48,7 +49,7 @@ impl Play<(), View> for Sweeps {
     ghost then = { swept_as };
 }
 
-/// A token that did nothing is split off a seat.
+/// Splits a token without steps off a seat.
 pub struct Deals;
 
 impl Split<View> for Deals {
@@ -60,7 +61,7 @@ impl Split<View> for Deals {
     ghost right = { λ v. view_of 1 ([] ∷ []) };
 }
 
-/// A seat takes over what another stands for.
+/// A seat takes over the tokens of another.
 pub struct Gathers;
 
 impl Join<View> for Gathers {

@@ -6,7 +6,7 @@ use crate::words::place_of;
 use board_terms::Vp;
 use std::marker::Model;
 
-/// The bits that stood when the tokens were gathered, four words for each processor.
+/// The bits that were set when the tokens were gathered: four words for each processor.
 #[derive(Drop)]
 pub struct Standing {
     pub(crate) words: Vec<u64>,
@@ -21,7 +21,8 @@ impl Model for Standing {
 }
 
 impl Standing {
-    /// The bits of a processor's part, 0 to 3: bit `n` of part `p` stands for vector `64 * p + n`.
+    /// The bits of a processor's part, 0 to 3: bit `n` of part `p` is vector `64 * p + n`. Requires
+    /// that the words have the processor.
     pub fn word(&self, vp: Vp, part: u8) -> u64
         requires there { word_of vp part < length self.now }
         requires part { part < 4 }

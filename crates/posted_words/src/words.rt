@@ -1,4 +1,4 @@
-// The words, and the four kinds of step at them.
+// The words, and the four kinds of steps on them.
 ghost use Rattle.std.specs.Prelude.{◌≡◌, ◌+◌, ◌*◌, ◌-◌, ◌<◌, ◌≤◌, ◌⊎◌, ◌↔◌, [], ◌∷◌, ◌++◌, map, replicate, All, IfOk, IsErrOf, vec_len, length};
 ghost use Rattle.std.specs.Mem.Slots.{slots_items, IsFull};
 ghost use Rattle.posted_words.specs.inside.Posted.{view_of};
@@ -15,7 +15,7 @@ use std::alloc::{AllocError, Global};
 use std::marker::Model;
 use thiserror::Error;
 
-/// Why words were not opened.
+/// Why words could not be opened.
 #[derive(Clone, Copy, PartialEq, Eq, Debug, Drop, Error)]
 pub enum PostedFault {
     #[error("the sizes are outside the limits")]
@@ -24,7 +24,7 @@ pub enum PostedFault {
     Memory = 2,
 }
 
-/// Why tokens were not gathered.
+/// Why tokens could not be gathered.
 #[derive(Clone, Copy, PartialEq, Eq, Debug, Drop, Error)]
 pub enum GatherFault {
     #[error("a sweeper or a line is missing")]
@@ -33,9 +33,9 @@ pub enum GatherFault {
     Memory = 2,
 }
 
-/// Four words of 64 bits for each processor, a bit for each vector that was raised and not yet
-/// swept. Threads share it by reference, and each steps with a token of its own, which `open` gave
-/// with these words.
+/// Four words of 64 bits for each processor: a bit for each vector, set by a raise and cleared by a
+/// sweep. Threads share the words by reference, and each uses a token of its own, which `open`
+/// returned with these words.
 #[derive(Drop)]
 pub struct PostedWords {
     alloc: Global,
@@ -58,7 +58,7 @@ impl Model for PostedWords {
 
 type Places = Shared<(), View, (u64, u64), Counted>;
 
-/// The place of a processor's word, of its parts 0 to 3.
+/// The index of the word for a processor's part, 0 to 3.
 pub(crate) fn place_of(vp: Vp, part: u8) -> usize
     requires { part < 4 }
     ensures { result ≡ word_of vp part }
@@ -66,7 +66,7 @@ pub(crate) fn place_of(vp: Vp, part: u8) -> usize
     4 * usize::from(vp.number()) + usize::from(part)
 }
 
-/// That many tokens, each split off the seat.
+/// Splits that many tokens off the seat.
 fn deal(
     alloc: Global,
     places: &Places,
@@ -89,7 +89,7 @@ fn deal(
     Ok(tokens)
 }
 
-/// The seat stands for all the tokens too.
+/// Joins all the tokens to the seat.
 fn join_all(places: &Places, seat: &mut Seat<(), View>, mut tokens: Vec<Line>)
     requires own { seat.old.table_id ≡ places.now.table_id }
     requires some_word { 0 < places.now.table_id.words }
@@ -118,8 +118,8 @@ fn read(alloc: Global, closed: &Closed<(), Global>) -> Result<Vec<u64>, AllocErr
 
 impl PostedWords {
     /// Words of that many processors, all zero, with a sweeper for each actor and a line for each
-    /// device, none of which did a step. `BadSize` unless there are 1 to 8 processors, 1 to 16
-    /// sweepers and at most 16 lines, which is judged first; `Memory` where memory is refused.
+    /// device, all without steps. `BadSize` unless there are 1 to 8 processors, 1 to 16 sweepers
+    /// and at most 16 lines, which is checked first; `Memory` if an allocation fails.
     pub fn open(
         alloc: Global,
         processors: u8,
@@ -171,7 +171,7 @@ impl PostedWords {
         Ok((words, given_sweepers, given_lines))
     }
 
-    /// How many processors the words are for.
+    /// The number of processors of the words, at most 8.
     pub fn processors(&self) -> u8
         ensures count { result ≡ self.now.processors }
         ensures few { result ≤ 8 }
@@ -179,11 +179,14 @@ impl PostedWords {
         self.processors
     }
 
-    /// Raises a vector of a processor that the words are for, and never waits. One atomic step, the
-    /// `fetch_or` of the vector's bit, is enough: it sets the bit and finds what it was. `Fresh`
-    /// tells the device's line that this raise and no other made the vector pending, so it has to
-    /// kick an actor; `Already` that the bit stood, and whoever sweeps next takes both raises at
-    /// once.
+    /// Raises a vector of a processor. Never blocks: one atomic step, the `fetch_or` of the
+    /// vector's bit, sets it and returns its old value. `Fresh` if the bit was clear, so that the
+    /// device has to kick an actor; `Already` if it was set, so that the next sweep takes both
+    /// raises. Requires a line of these words, and a processor of the words.
+    ///
+    /// The clause records the step and its result in the line; `gather` says how the results of all
+    /// tokens are related. That `Already` is returned only if the bit was set, while other tokens
+    /// raise and sweep, is shown only by tests.
     pub fn raise(&self, line: &mut Line, vp: Vp, vector: Vector) -> Raised
         requires own { line.old.of ≡ self.now.name }
         requires there { vp < self.now.processors }
@@ -202,10 +205,14 @@ impl PostedWords {
         }
     }
 
-    /// Takes the bits of a part, 0 to 3, of a processor that the words are for, and never waits:
-    /// bit `n` of part `p` stands for vector `64 * p + n`. One atomic step, the `swap` with zero,
-    /// is enough: a raise comes before it, and its bit is taken, or after it, and is `Fresh` again.
-    /// So no raise is lost and none is taken twice.
+    /// Takes the bits of a part, 0 to 3, of a processor. Never blocks. Bit `n` of part `p` is
+    /// vector `64 * p + n`. One atomic step, the `swap` with zero, reads and clears the word: it
+    /// takes the bit of a raise before it, and a raise after it is `Fresh` again. Requires a
+    /// sweeper of these words, and a processor of the words.
+    ///
+    /// The clause records the step and its bits in the sweeper; `gather` says how the results of
+    /// all tokens are related. That a sweep takes every bit that is set, while other tokens raise
+    /// and sweep, is shown only by tests.
     pub fn sweep(&self, sweeper: &mut Sweeper, vp: Vp, part: u8) -> u64
         requires own { sweeper.old.of ≡ self.now.name }
         requires there { vp < self.now.processors }
@@ -217,9 +224,10 @@ impl PostedWords {
             .swap::<Sweeps>(&mut sweeper.seat, place_of(vp, part), 0)
     }
 
-    /// The bits that stand once all tokens are back: each `Fresh` answer was taken by one sweep, or
-    /// its bit stands. `Missing` where there are fewer sweepers or lines than were opened, which is
-    /// judged first; `Memory` where memory is refused. On either fault all is given up.
+    /// The bits that are set when all tokens are gathered: each `Fresh` raise was taken by one
+    /// sweep, or its bit is set. `Missing` if there are fewer sweepers or lines than were opened,
+    /// which is checked first; `Memory` if an allocation fails. Both faults drop the words and the
+    /// tokens. Requires tokens of these words.
     pub fn gather(
         self,
         mut sweepers: Vec<Sweeper>,

@@ -1,4 +1,4 @@
--- A bit of a configuration, as a mask finds it.
+-- A bit of a configuration, tested with a mask.
 use Rattle.std.proofs.Common.{◌≡◌, ℕ, zero, suc, ◌*◌, ◌/◌, ◌%◌, ◌^◌, ◌<◌, ap, ◌∙◌, arith}
 use Rattle.std.specs.Prelude.{◌==◌, bit_and}
 use Rattle.std.proofs.lemmas.Nat.Bits.{and_pow}

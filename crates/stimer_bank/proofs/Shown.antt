@@ -1,4 +1,4 @@
--- When the timers are due, by number: those of suspended processors are not.
+-- The deadlines of the timers by number: timers of suspended processors have none.
 use Rattle.std.proofs.Common.{◌≡◌, ◌≢◌, ℕ, zero, suc, ◌+◌, ◌*◌, ◌/◌, ◌%◌, ◌<◌, ◌≤◌, Bool, true, false, not, ◌&&◌, nat_le, List, [], ◌∷◌, length, set, get_or, replicate, inl, inr, refl, sym, ap, ◌∙◌, arith}
 use Rattle.std.specs.Prelude.{Option, None, Some, IsSome, if◌then◌else◌}
 use Rattle.std.proofs.lemmas.Bool.{cases_eq, cases_lt}
@@ -57,7 +57,7 @@ module _ {X : Type 0} (xs : List X) (p : ℕ) (f : ℕ → X) where
       let far : (i : ℕ) → i < 4 → k ≢ 4 * p + i = λ i h e. n (omega arith) in
       get_or-set_other three (4 * p + 3) k (f 3) d (far 3 (omega arith)) ∙ get_or-set_other two (4 * p + 2) k (f 2) d (far 2 (omega arith)) ∙ get_or-set_other one (4 * p + 1) k (f 1) d (far 1 (omega arith)) ∙ get_or-set_other xs (4 * p + 0) k (f 0) d (far 0 (omega arith))
 
--- what is set to the default reads as that, also past the end
+-- an element that is set to the default reads as the default, also past the end
 set-default : {X : Type 0} (xs : List X) (i : ℕ) (d : X) → get_or (set xs i d) i d ≡ d
 set-default [] i d = refl
 set-default (x ∷ xs) zero d = refl
@@ -67,7 +67,7 @@ pub length-dues : (b : Bank) → length (dues b) ≡ 32
 unfolding dues
 length-dues b = length-map-range_with_len (shown_due b) 0 32
 
--- when the timer of a number is due
+-- the deadline of the timer with a number
 pub due_at : (b : Bank) (k : ℕ) → k < 32 → get_or (dues b) k None ≡ shown_due b k
 unfolding dues
 due_at b k h = get_or-map-range_with_len (shown_due b) 0 32 k k None h (omega arith)
@@ -75,14 +75,14 @@ due_at b k h = get_or-map-range_with_len (shown_due b) 0 32 k k None h (omega ar
 pub dues-past : (b : Bank) (k : ℕ) → 32 ≤ k → get_or (dues b) k None ≡ None
 dues-past b k h = get_or_past (dues b) k None (omega (arith, length-dues b))
 
--- two banks that say the same of a number
+-- two banks that agree on a number
 pub dues-alike : (a b : Bank) (k : ℕ) → shown_due a k ≡ shown_due b k → get_or (dues a) k None ≡ get_or (dues b) k None
 dues-alike a b k e = elim (cases_lt k 32) as (λ _. get_or (dues a) k None ≡ get_or (dues b) k None) [
   | inl h ↦ due_at a k h ∙ e ∙ sym (due_at b k h)
   | inr h ↦ dues-past a k h ∙ sym (dues-past b k h)
 ]
 
--- due moments are those of a bank
+-- these deadlines are those of a bank
 pub dues-are : (m : Dues) (b : Bank) → length m ≡ 32 → ((k : ℕ) → k < 32 → get_or m k None ≡ shown_due b k) → dues b ≡ m
 dues-are m b l h = same_lists (dues b) m (length-dues b ∙ sym l) (λ k d low.
     let less : k < 32 = omega (arith, length-dues b) in
@@ -160,14 +160,14 @@ all-default (suc n) (suc k) d = all-default n k d
 opened-shown : (k : ℕ) → shown_due opened k ≡ None
 opened-shown k = (λ i. shown (all-default 8 (k / 4) false i) (all-default 32 k idle_timer i).due)
 
--- at first no timer is due
+-- initially no timer has a deadline
 pub dues-none : dues opened ≡ no_dues
 dues-none = dues-are no_dues opened refl (λ k _. all-default 32 k None ∙ sym (opened-shown k))
 
 pub dues-opened : (k : ℕ) → get_or (dues opened) k None ≡ None
 dues-opened k = ap (λ m. get_or m k None) dues-none ∙ all-default 32 k None
 
--- the heap follows a timer that is written
+-- the heap is updated for a timer that is written
 module _ (b : Bank) (t : ℕ × ℕ) (x : Timer) (i : ℕ) (at : i ≡ number_of t) (index : t.1 < 4) (h : Dues) (was : h ≡ dues b) where
   pub follows : (h' : Dues) → number_of t < length b.timers → is_suspended b t.0 ≡ false → h' ≡ set h (number_of t) x.due → h' ≡ dues (record b { timers = set b.timers i x })
   follows h' l e is = is ∙ ap (λ m. set m (number_of t) x.due) was ∙ sym (dues-timer b t x index l e) ∙ ap (λ j. dues (record b { timers = set b.timers j x })) (sym at)
@@ -175,7 +175,7 @@ module _ (b : Bank) (t : ℕ × ℕ) (x : Timer) (i : ℕ) (at : i ≡ number_of
   pub stays : is_suspended b t.0 ≡ true → h ≡ dues (record b { timers = set b.timers i x })
   stays e = was ∙ sym (dues-timer-suspended b t x index e) ∙ ap (λ j. dues (record b { timers = set b.timers j x })) (sym at)
 
--- the heap gets the due moments of a processor that is resumed, one by one
+-- the heap gets the deadlines of a resumed processor, one by one
 pub restored : (b : Bank) (p : ℕ) (h : Dues) → h ≡ dues b
     → (h0 : Dues) → h0 ≡ set h (4 * p + 0) (due_by_number b (4 * p + 0))
     → (h1 : Dues) → h1 ≡ set h0 (4 * p + 1) (due_by_number b (4 * p + 1))
@@ -222,7 +222,7 @@ module _ (b : Bank) (t : ℕ × ℕ) (moment : ℕ) (index : t.1 < 4) where
   of-processor : number_of t / 4 ≡ t.0
   of-processor = omega arith
 
-  -- a timer is due where its processor is not suspended and its due moment has come
+  -- a timer is due iff its processor is not suspended and its deadline has been reached
   pub due-by_dues : t.0 < 8 → is_due_in b t moment ≡ (not (is_suspended b t.0) && is_due (timer_in b t) moment)
   due-by_dues low =
       ap (λ o. option_map_or (λ d. nat_le d moment) o false) (due_at b (number_of t) (omega arith) ∙ ap (λ q. shown (is_suspended b q) (timer_in b t).due) of-processor) ∙ due-shown_by moment (is_suspended b t.0) (timer_in b t).due
@@ -231,7 +231,7 @@ module _ (b : Bank) (t : ℕ × ℕ) (moment : ℕ) (index : t.1 < 4) where
 pub due-awake : (b : Bank) (t : ℕ × ℕ) (moment : ℕ) → t.1 < 4 → t.0 < 8 → is_due_in b t moment ≡ true → is_suspended b t.0 ≡ false
 due-awake b t moment index low e = is-awake (is_suspended b t.0) (is_due (timer_in b t) moment) (sym (due-by_dues b t moment index low) ∙ e)
 
--- a timer that is due at a moment has a due moment that it has reached
+-- a due timer has a deadline that has been reached
 pub due-reached : (b : Bank) (t : ℕ × ℕ) (moment : ℕ) → is_due_in b t moment ≡ true → is_due (timer_in b t) moment ≡ true
 due-reached b t moment e = elim (cases_lt (number_of t) 32) as (λ _. is_due (timer_in b t) moment ≡ true) [
   | inl h ↦ by (is_suspended b (number_of t / 4)) (sym (ap (λ o. option_map_or (λ d. nat_le d moment) o false) (due_at b (number_of t) h)) ∙ e)

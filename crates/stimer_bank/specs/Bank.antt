@@ -27,7 +27,7 @@ timer_in b t = slice_index_or b.timers (number_of t) idle_timer
 abbrev pub with_timer : Bank → TimerId → Timer → Bank
 with_timer b t x = record b { timers = slice_set b.timers (number_of t) x }
 
--- a timer after a write of its configuration, and after one of its count, at a moment
+-- the bank after a write of a timer's configuration, or of its count, at a time
 abbrev pub with_config : Bank → TimerId → Word → Moment → Bank
 with_config b t value moment = with_timer b t (after_config (timer_in b t) value moment)
 
@@ -45,31 +45,31 @@ with_suspension b p mark = record b { suspended = slice_set b.suspended p mark }
 abbrev pub reset : Bank → Processor → Bank
 reset b p = with_suspension (with_timer (with_timer (with_timer (with_timer b (p, 0) idle_timer) (p, 1) idle_timer) (p, 2) idle_timer) (p, 3) idle_timer) p false
 
--- when the timer of number n is due: one of a suspended processor is not
+-- the deadline of timer n, or none if its processor is suspended
 abbrev pub shown_due : Bank → ℕ → Option Moment
 shown_due b n = if is_suspended b (n / 4) then None else (slice_index_or b.timers n idle_timer).due
 
--- when each timer is due
+-- the deadlines of all timers
 unfoldable pub dues : Bank → Dues
 dues b = map (shown_due b) (range_with_len 0 32)
 
--- a timer is due at the moment
+-- a timer is due at a time
 abbrev pub is_due_in : Bank → TimerId → Moment → Bool
 is_due_in b t moment = is_due_by (dues b) moment (number_of t)
 
 abbrev pub after_expiry_of : Bank → TimerId → Moment → Bank × Expiry
 after_expiry_of b t moment = let r = after_expiry (timer_in b t) moment in (with_timer b t r.0, r.1)
 
--- a timer is due later than d
+-- the deadline of a timer is later than d
 abbrev pub is_later : Dues → Moment → TimerId → Bool
 is_later m d t = option_map_or (λ e. nat_lt d e) (due_of m t) false
 
--- the timer of number n joins a list, if it is due at the moment, before the first timer that is due later
+-- timer n is inserted into a list if it is due, before the first timer with a later deadline
 abbrev pub listed : Dues → Moment → ℕ → List TimerId → List TimerId
 listed m moment n ts =
     option_map_or (λ d. if nat_le d moment then insert ts (position_or_len (is_later m d) ts) (timer_of n) else ts) (slice_index_or m n None) ts
 
--- the timers of numbers below n that are due at the moment, by (due, processor, index)
+-- the timers with numbers below n that are due at a time, by (deadline, processor, index)
 unfoldable pub due_below : Dues → Moment → ℕ → List TimerId
 due_below m moment zero = []
 due_below m moment (suc n) = listed m moment n (due_below m moment n)

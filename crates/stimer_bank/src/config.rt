@@ -1,19 +1,19 @@
-// The word of STIMERn_CONFIG.
+// The value of STIMERn_CONFIG.
 ghost use Rattle.std.specs.Prelude.{◌≡◌, ◌<◌, bit_and};
 ghost use Rattle.stimer_bank.specs.Timer.{is_enabled, is_periodic, is_lazy, enables_itself, is_direct, vector_of, sint_of, is_mute, disabled, ruled, written_count};
 
 use bitflags::{Flag, Flags, bitflag_items};
 
-/// What is kept of a configuration that is written: all other bits are dropped (profile).
+/// The bits of a configuration that are stored: a write drops all others (profile).
 const KEPT: u64 = 0xf1fff;
 
-/// The vector of the direct mode stands in bits 4 to 11.
+/// The vector of direct mode is in bits 4 to 11.
 const VECTOR: u32 = 4;
 
-/// The source of the message mode stands in bits 16 to 19.
+/// The source of message mode is in bits 16 to 19.
 const SINTX: u32 = 16;
 
-/// The word of STIMERn_CONFIG (TLFS, "STIMERx_CONFIG Register").
+/// The value of STIMERn_CONFIG (TLFS, "STIMERx_CONFIG Register").
 #[derive(Clone, Copy, PartialEq, Eq, Debug)]
 pub struct ConfigWord(u64);
 
@@ -52,14 +52,14 @@ impl Flags for ConfigWord {
 }
 
 impl ConfigWord {
-    /// The word of these bits.
+    /// The value with these bits.
     pub fn new(bits: u64) -> ConfigWord
         ensures { result.0 ≡ bits }
     {
         ConfigWord(bits)
     }
 
-    /// What is kept of a value that is written.
+    /// What is stored of a written value.
     pub fn kept(value: u64) -> ConfigWord
         ensures { result.0 ≡ bit_and value 0xf1fff }
     {
@@ -73,35 +73,36 @@ impl ConfigWord {
         self.contains(ConfigWord::ENABLED)
     }
 
-    /// Whether it is due again and again.
+    /// Whether the timer is periodic.
     pub fn is_periodic(self) -> bool
         ensures { result ≡ is_periodic self.0 }
     {
         self.contains(ConfigWord::PERIODIC)
     }
 
-    /// Whether it makes up no period that it missed.
+    /// Whether the timer is lazy: it makes up no missed period.
     pub fn is_lazy(self) -> bool
         ensures { result ≡ is_lazy self.0 }
     {
         self.contains(ConfigWord::LAZY)
     }
 
-    /// Whether a count that is written enables it.
+    /// Whether AutoEnable is set: writing a count enables the timer.
     pub fn enables_itself(self) -> bool
         ensures { result ≡ enables_itself self.0 }
     {
         self.contains(ConfigWord::AUTO_ENABLE)
     }
 
-    /// Whether it requests a vector and posts no message (TLFS, "Direct Synthetic Timers").
+    /// Whether the timer is in direct mode: it requests a vector and sends no message (TLFS,
+    /// "Direct Synthetic Timers").
     pub fn is_direct(self) -> bool
         ensures { result ≡ is_direct self.0 }
     {
         self.contains(ConfigWord::DIRECT)
     }
 
-    /// The number in its vector field, which is no vector below 16.
+    /// The number in its vector field. Below 16 it is no vector.
     pub fn vector_number(self) -> u8
         ensures { result ≡ vector_of self.0 }
     {
@@ -116,7 +117,7 @@ impl ConfigWord {
         ((self.0 >> SINTX) % 16) as u8
     }
 
-    /// Whether it has nobody to tell.
+    /// Whether the timer cannot signal.
     fn is_mute(self) -> bool
         ensures { result ≡ is_mute self.0 }
     {
@@ -127,14 +128,14 @@ impl ConfigWord {
         }
     }
 
-    /// The same, not enabled.
+    /// The same configuration, not enabled.
     pub fn disabled(self) -> ConfigWord
         ensures { result.0 ≡ disabled self.0 }
     {
         ConfigWord(self.0 - self.0 % 2)
     }
 
-    /// A timer that has nobody to tell is not enabled.
+    /// The same configuration, disabled if the timer cannot signal.
     pub fn ruled(self) -> ConfigWord
         ensures { result.0 ≡ ruled self.0 }
     {

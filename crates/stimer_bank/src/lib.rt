@@ -1,4 +1,5 @@
-//! The synthetic timers: their registers, when they are due, and how they expire.
+//! The synthetic timers: their registers, their deadlines, and their expiries (TLFS, "Synthetic
+//! Timers").
 #![tactic(auto)]
 
 mod bank;

@@ -1,4 +1,4 @@
-// One timer: its registers, when it is due, and how it expires.
+// One timer: its registers, its deadline, and its expiry.
 ghost use Rattle.std.specs.Prelude.{◌≡◌, true, ◌+◌, ◌*◌, ◌^◌, ◌-◌, ◌<◌, ◌≤◌, Option, Some, None, IsSome, IsTrue};
 ghost use Rattle.stimer_bank.specs.Timer.{is_periodic, started, after_config, after_count, is_due, mode_of, expired, once, catching_up, lazily, late, expiry_of, after_expiry};
 ghost use Rattle.stimer_bank.specs.inside.Sound.{IsSoundTimer, IsRuled};
@@ -8,24 +8,24 @@ use crate::config::ConfigWord;
 use bitflags::Flags;
 use board_terms::{Moment, Sint, Vector};
 
-/// How many periods a late periodic timer makes up one by one (profile).
+/// How many missed periods a late periodic timer makes up one by one (profile).
 const CATCHES_UP: u64 = 8;
 
-/// Whom a timer tells when it expires (TLFS, "Direct Synthetic Timers").
+/// The delivery mode of a timer (TLFS, "Direct Synthetic Timers").
 #[derive(Clone, Copy, Debug)]
 pub enum Mode {
     /// It requests a vector.
     Direct(Vector),
-    /// It posts a message to a source.
+    /// It sends a message to a source.
     Posted(Sint),
 }
 
-/// How a timer expired.
+/// The result of an expiry.
 #[derive(Clone, Copy, Debug)]
 pub struct Expiry {
-    /// The moment that it tells, if it tells any.
+    /// The deadline that is signalled, if any is.
     pub signal: Option<Moment>,
-    /// How many of its moments it tells of nobody.
+    /// How many deadlines are skipped without a signal.
     pub skipped: u64,
 }
 
@@ -37,7 +37,7 @@ pub(crate) struct Timer {
     pub(crate) due: Option<u128>,
 }
 
-/// When a timer that is written at `moment` is due.
+/// The deadline of a timer that is written at `moment`.
 fn started(config: u64, count: u64, moment: Moment) -> Option<u128>
     ensures { result ≡ started config count moment }
 {
@@ -52,7 +52,7 @@ fn started(config: u64, count: u64, moment: Moment) -> Option<u128>
 }
 
 impl Timer {
-    /// It is not configured.
+    /// A timer that is not configured.
     pub(crate) fn idle() -> Timer
         ensures idle { result ≡ idle_timer }
         ensures sound { IsSoundTimer result }
@@ -102,7 +102,7 @@ impl Timer {
         }
     }
 
-    /// How many periods late it is. Most often it is none, and then nothing is divided.
+    /// How many periods late the timer is. Usually none, and then the division is avoided.
     fn missed(self, due: u64, moment: Moment) -> u64
         requires period { 0 < self.count }
         requires late { due ≤ moment }
@@ -115,7 +115,7 @@ impl Timer {
         behind / self.count
     }
 
-    /// How it expires at a moment that has reached its due moment, and when it is due next.
+    /// The expiry at a time that has reached the deadline, and the next deadline.
     fn expiry(self, due: u64, moment: Moment) -> (Expiry, Option<u128>)
         requires period { 0 < self.count }
         requires late { due ≤ moment }
@@ -134,7 +134,7 @@ impl Timer {
         catch_up(self.count, due, missed)
     }
 
-    /// It expires at a moment, and is due anew if it is periodic.
+    /// Expires the timer at a time. A periodic timer gets its next deadline.
     pub(crate) fn expire(&mut self, moment: Moment) -> Expiry
         requires sound { IsSoundTimer self.old }
         requires is_due { IsTrue (is_due self.old moment) }
@@ -152,7 +152,7 @@ impl Timer {
     }
 }
 
-/// A one-shot timer expires for its due moment.
+/// The expiry of a one-shot.
 fn expire_once(due: u64) -> (Expiry, Option<u128>)
     ensures expiry { result.0 ≡ expiry_of (once due) }
     ensures next { result.1 ≡ (once due).next }
@@ -164,7 +164,7 @@ fn expire_once(due: u64) -> (Expiry, Option<u128>)
     (expiry, None)
 }
 
-/// A periodic timer that missed some periods makes up eight of them at most, one by one.
+/// The expiry of a periodic timer that missed some periods: it makes up at most eight, one by one.
 fn catch_up(period: u64, due: u64, missed: u64) -> (Expiry, Option<u128>)
     requires { due + missed * period < 2 ^ 64 }
     ensures expiry { result.0 ≡ expiry_of (catching_up period due missed) }
@@ -185,7 +185,7 @@ fn catch_up(period: u64, due: u64, missed: u64) -> (Expiry, Option<u128>)
     (expiry, Some(due as u128 + period as u128 * periods))
 }
 
-/// A lazy periodic timer tells of its last moment, unless the next is near.
+/// The expiry of a lazy periodic timer: it signals its last deadline, unless the next one is near.
 fn expire_lazily(period: u64, last: u64, missed: u64, moment: Moment) -> (Expiry, Option<u128>)
     requires late { last ≤ moment }
     requires near { moment < last + period }

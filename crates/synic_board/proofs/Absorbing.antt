@@ -1,4 +1,4 @@
--- Posted vectors: a bit that is clear changes nothing, and the lowest bit that is set is the next vector.
+-- Posted vectors: a clear bit changes nothing, and the lowest set bit is the next vector.
 use Rattle.std.proofs.Common.{◌≡◌, ℕ, ◌+◌, ◌*◌, ◌-◌, ◌/◌, ◌^◌, ◌<◌, ◌≤◌, List, refl, ap, sym, ◌∙◌, arith}
 use Rattle.std.specs.Prelude.{◌==◌, ◌&&◌, nat_le, if◌then◌else◌}
 use Rattle.std.specs.Int.{bit_at}
@@ -16,7 +16,7 @@ absorbs : (p part bits : ℕ) → IsFold (λ s n. absorbed_below s p part bits n
 unfolding absorbed_below
 absorbs p part bits = record { none = λ s. refl; more = λ s i. refl }
 
--- bits that are clear change nothing
+-- clear bits change nothing
 clear-bit : (s : State) (p part bits i : ℕ) → bit_at bits i ≡ 0 → absorbed_bit s p part bits i ≡ nothing s
 clear-bit s p part bits i clear = ap (λ k. if (k == 1 && nat_le 16 (64 * part + i)) then requested s p (64 * part + i) else nothing s) clear
 

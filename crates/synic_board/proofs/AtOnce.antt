@@ -1,4 +1,4 @@
--- A message that is placed at once is one that was queued and then placed.
+-- Placing a message at once equals queueing and then placing it.
 use Rattle.std.proofs.Common.{◌≡◌, ℕ, ◌+◌, ◌<◌, Bool, true, false, ◌&&◌, not, nat_lt, List, [], ◌∷◌, ◌++◌, length, set, refl, ap, sym, ◌∙◌, Some, arith}
 use Rattle.std.specs.Prelude.{if◌then◌else◌}
 use Rattle.std.proofs.lemmas.Bool.Decides.{nat_tests}
@@ -23,7 +23,7 @@ nothing-queued : (q : List Message) → nat_lt 0 (length q) ≡ false → q ≡ 
 nothing-queued [] h = refl
 nothing-queued (m ∷ q) h = absurd (grind (arith, nat_tests))
 
--- what a free slot is
+-- the slot is free
 record DeliversAtOnce (s : State) (p i : ℕ) : Type 0 where
   enabled : delivers s p ≡ true
   none : queue_of s.queues p i ≡ []
@@ -56,7 +56,7 @@ at-once s p i m free within =
         let t : State = with_slot_ticket (record (with_space s (after_slot (space_of s) p i (image m false s.moment))) { next_ticket = s.next_ticket + 1; queues = qs }) p i (Some (ticket_of m)) in
         ((raised t p i).0, Accepted (ticket_of m) p i ∷ Placed (ticket_of m) p i ∷ (raised t p i).1)
 
--- the image of a post that nothing waits behind
+-- the image of a post after which nothing is queued
 pub post-image : (ticket port kind moment : ℕ) (payload : List ℕ) → image (FromPort ticket port kind (record { items = payload })) false moment ≡ message_bytes (header kind (length payload) false port) payload
 unfolding image
 post-image ticket port kind moment payload = refl

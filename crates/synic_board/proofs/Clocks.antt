@@ -1,4 +1,4 @@
--- Timers that are written and expire, and the stored earliest one.
+-- Writing and expiring timers, and the cached earliest one.
 use Rattle.std.proofs.Common.{◌≡◌, ◌≢◌, ℕ, ◌*◌, ◌<◌, ◌≤◌, Bool, List, [], ◌∷◌, length, refl, sym, ap, ◌∙◌, arith, get_or, nat_lt, true, false, zero, suc}
 use Rattle.std.specs.Prelude.{Option, None, Some, ◌==◌, if◌then◌else◌}
 use Rattle.std.specs.Option.{option_map_or, option_map}
@@ -24,7 +24,7 @@ use Rattle.synic_board.specs.inside.Steps.{is_any_due}
 pub idle-written : (b now : Bank) (t : ℕ × ℕ) (x : Timer) (m : ℕ) → now ≡ with_timer b t x → number_of t < 4 * m → ((k : ℕ) → 4 * m ≤ k → get_or (dues b) k None ≡ None) → (k : ℕ) → 4 * m ≤ k → get_or (dues now) k None ≡ None
 idle-written b now t x m is low idle k h = ap (λ (y : Bank). get_or (dues y) k None) is ∙ dues-timer-other b t x k (λ e. omega arith) ∙ idle k h
 
--- and so where a processor on the board is suspended, goes on or is reset
+-- and also if a processor on the board is suspended, resumed or reset
 pub idle-marked : (b : Bank) (p m : ℕ) (mark : Bool) → p < m → ((k : ℕ) → 4 * m ≤ k → get_or (dues b) k None ≡ None) → (k : ℕ) → 4 * m ≤ k → get_or (dues (with_suspension b p mark)) k None ≡ None
 idle-marked b p m mark low idle k h = dues-mark-other b p k mark (λ e. omega (arith, e, low, h)) ∙ idle k h
 
@@ -38,7 +38,7 @@ pub scratch-earliest : (nexts : List (Option ℕ)) (autos : List Vectors) (owner
 scratch-earliest nexts autos owners queued was now is before after start written same =
     written ∙ (λ i. record (start i) { earliest = same i })
 
--- a timer that is listed as due is of a processor on the board
+-- a listed due timer belongs to a processor on the board
 pub listed_on : (b : Bank) (moment m : ℕ) → ((k : ℕ) → 4 * m ≤ k → get_or (dues b) k None ≡ None) → (k : ℕ) → k < length (due_list (dues b) moment) → (get_or (due_list (dues b) moment) k (0, 0)).0 < m
 listed_on b moment m idle k h = on (get_or (due_list (dues b) moment) k (0, 0)) (each_at (IsDueBy (dues b) moment 32) (due_list (dues b) moment) (sorted (dues b) moment).each k h)
   where
@@ -88,7 +88,7 @@ listed_due : (m : Dues) (moment k d : ℕ) → k < 32 → get_or m k None ≡ So
 unfolding least
 listed_due m moment k d h e le = some_due (least_below m 32) d moment (by_due m 32 k d h e) le
 
--- no timer is listed before the earliest is due
+-- no timer is listed before the earliest deadline
 none_listed : (m : Dues) (moment : ℕ) → is_any_due (least m) moment ≡ false → due_list m moment ≡ []
 none_listed m moment none = empty (due_list m moment) (sorted m moment).each
   where
@@ -100,7 +100,7 @@ nothing_tried : (s : State) → attempted_all s [] ≡ (s, [])
 unfolding attempted_all
 nothing_tried s = refl
 
--- a tick before the earliest timer is due changes the moment alone
+-- a tick before the earliest deadline changes only the time
 pub ticked_before : (s : State) (moment : ℕ) → s.moment ≤ moment → moment ≢ s.moment → is_any_due (least (dues (bank_of s))) moment ≡ false → ticked s moment ≡ (at_moment s moment, Done, [])
 ticked_before s moment on other none =
     let back : nat_lt moment s.moment ≡ false = grind (arith, nat_tests) in

@@ -1,4 +1,4 @@
--- A processor whose slots and queues are emptied: source by source, and with room for the notices.
+-- Emptying the slots and queues of a processor: source by source, with capacity for the notices.
 use Rattle.std.proofs.Common.{◌≡◌, ◌⊎◌, inl, inr, ℕ, zero, suc, ◌+◌, ◌<◌, ◌≤◌, List, [], ◌++◌, length, length-append, map, refl, ap, ◌∙◌, arith}
 use Rattle.std.specs.Prelude.{None, Some}
 use Rattle.std.specs.Option.{option_map_or}
@@ -36,7 +36,7 @@ emptied_more s now between next p i v before told half more so_far same first se
 abbrev pub total : State → ℕ
 total s = sum_by (λ (q : List Message). length q) s.queues
 
--- each message that is withdrawn from a queue has left it
+-- each message withdrawn from a queue has left it
 queue-room : (s : State) (p i : ℕ) → length (queue_emptied s p i).1 + total (queue_emptied s p i).0 ≡ total s
 queue-room s p i = by (cases_lt (source_number p i) (length s.queues))
   where
@@ -50,7 +50,7 @@ queue-room s p i = by (cases_lt (source_number p i) (length s.queues))
         let same : total (queue_emptied s p i).0 ≡ total s = ap (sum_by (λ (q : List Message). length q)) (set_past s.queues (source_number p i) [] past) in
         omega (arith, told, ap length none, same)
 
--- and of the slot there is one notice at most
+-- a slot emits at most one notice
 slot-room : (s : State) (p i : ℕ) → length (slot_emptied s p i).1 + total (slot_emptied s p i).0 ≤ 1 + total s
 slot-room s p i = elim (slot_of s p i) as (λ o. length (option_map_or (withdrawn_ticket s p i) o (nothing s)).1 + total (option_map_or (withdrawn_ticket s p i) o (nothing s)).0 ≤ 1 + total s) [ None ↦ omega arith | Some t ↦ omega arith ]
 
@@ -63,7 +63,7 @@ emptied-room s p (suc i) =
     let queue : Effect = queue_emptied slot.0 p i in
     omega (arith, emptied-room s p i, slot-room e.0 p i, queue-room slot.0 p i, length-append e.1 (slot.1 ++ queue.1), length-append slot.1 queue.1)
 
--- the processors stay, and so do the queues at first
+-- the processors are unchanged, and initially the queues too
 pub same_left : (s : State) (p n : ℕ) → processors (emptied_below s p n).0 ≡ processors s
 unfolding emptied_below
 same_left s p zero = refl
@@ -79,7 +79,7 @@ pub first-total : (s : State) (p i : ℕ) → total (slot_emptied (emptied_below
 unfolding emptied_below
 first-total s p i = slot-total s p i
 
--- so there is room for the notice of a slot, and then for those of a queue
+-- so the notice of a slot fits, and then those of a queue
 pub slot-fits : (s : State) (p n : ℕ) → n < 16 → (0 < n → total s ≤ 288) → length (emptied_below s p n).1 < 304
 unfolding emptied_below
 slot-fits s p zero few all = omega arith
@@ -88,7 +88,7 @@ slot-fits s p (suc i) few all = omega (arith, few, all (omega arith), emptied-ro
 pub queue-fits : (s : State) (p n v : ℕ) → n < 16 → v ≡ n → total s ≤ 288 → length (emptied_below s p n).1 + length (slot_emptied (emptied_below s p n).0 p v).1 + total (slot_emptied (emptied_below s p n).0 p v).0 ≤ 304
 queue-fits s p n v few same all = omega (arith, few, all, emptied-room s p n, slot-room (emptied_below s p n).0 p v)
 
--- what is queued where a slot was emptied tells what was queued at first
+-- the messages queued after a slot was emptied are bounded by those queued at first
 pub all-in : (s : State) (p n v : ℕ) → total (slot_emptied (emptied_below s p n).0 p v).0 ≤ 288 → (0 < n → total s ≤ 288) → total s ≤ 288
 all-in s p zero v few all = omega (arith, few, first-total s p v)
 all-in s p (suc i) v few all = all (omega arith)

@@ -1,4 +1,4 @@
--- Effects one after another: what is done for the sources below a number.
+-- Effects in sequence: what is done for the sources below a number.
 use Rattle.std.proofs.Common.{◌≡◌, ℕ, ◌+◌, ◌-◌, ◌<◌, ◌≤◌, ◌&&◌, Bool, true, false, arith, add-zero, add-suc, List, [], ◌∷◌, ◌++◌, length, take, get_or, refl, ap, sym, ◌∙◌, append_assoc, append-nil, add-one, suc, zero, subst}
 use Rattle.std.proofs.lemmas.List.{take_more, take_all}
 use Rattle.board_terms.specs.declared.notices.Notice.{Notice}
@@ -10,7 +10,7 @@ use Rattle.synic_board.specs.Delivery.{delivers, tried, tried_below}
 use Rattle.synic_board.specs.Stores.{consumed, consumed_below}
 use Rattle.synic_board.specs.Timers.{attempted, attempted_all}
 
--- a fold over the numbers below n: nothing, then one step after what was done below
+-- a fold over the numbers below n: nothing, then one step after those below
 pub record IsFold (below : State → ℕ → Effect) (one : State → ℕ → Effect) : Type 0 where
   pub none : (s : State) → below s zero ≡ nothing s
   pub more : (s : State) (i : ℕ) → below s (suc i) ≡ after (below s i) (one (below s i).0 i)
@@ -57,7 +57,7 @@ tried_more : (s now next : State) (p i v : ℕ) (before told more : List Notice)
     (next, more) ≡ preceded before (tried_below s p (i + 1))
 tried_more s now next p i v before told more so_far same step = fold_more (tries p) s now next i v before told more so_far same step
 
--- a source for which nothing is queued
+-- a source without queued messages
 untried : (s : State) (p i : ℕ) → length (queue_of s.queues p i) ≡ 0 → tried s p i ≡ nothing s
 unfolding tried
 untried s p i none = rw (none, both (delivers s p)) refl
@@ -66,7 +66,7 @@ untried s p i none = rw (none, both (delivers s p)) refl
     both true = refl
     both false = refl
 
--- nothing is queued for the sources from one number to another
+-- no source from one number to another has a queued message
 abbrev pub NoneFrom : State → ℕ → ℕ → ℕ → Type 0
 NoneFrom s p from to = (i : ℕ) → from ≤ i → i < to → length (queue_of s.queues p i) ≡ 0
 

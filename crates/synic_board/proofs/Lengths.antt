@@ -1,4 +1,4 @@
--- The stored lengths of the queues.
+-- The cached lengths of the queues.
 use Rattle.std.proofs.Common.{◌≡◌, ℕ, ◌<◌, List, [], map, length, sym, ap, ◌∙◌, get_or, set}
 use Rattle.std.specs.Prelude.{Option}
 use Rattle.std.proofs.lemmas.List.{get_or-set_same, map-set}

@@ -1,4 +1,4 @@
--- The summary of a board as it is opened.
+-- The summary of a newly opened board.
 use Rattle.std.proofs.Common.{◌≡◌, ℕ, ◌*◌, ◌<◌, Bool, true, false, cond, List, [], ◌∷◌, map, replicate, length, refl, sym, ap, ◌∙◌, zero, suc, arith, nat_lt}
 use Rattle.std.specs.Prelude.{Option, None, Some, not, if◌then◌else◌}
 use Rattle.std.specs.Option.{option_map_or, option_map}
@@ -39,11 +39,11 @@ none_auto : (v n : ℕ) → list_any (is_auto_source v) (replicate n masked) ≡
 none_auto v zero = refl
 none_auto v (suc n) = none_auto v n
 
--- after reset no vector ends by itself
+-- after reset no vector is auto-EOI
 pub auto-reset : auto_vectors reset_regs ≡ set.empty
 auto-reset = set.same_set nat_cmp_total nat_cmp-IsAntisymmetric _ _ (λ v. contains-auto_vectors reset_regs v ∙ none_auto v 16 ∙ sym (set.contains-empty nat_cmp v))
 
--- no overlay is visible where all are disabled
+-- no overlay is visible if all are disabled
 none-visible : (s : Space) (n page : ℕ) → s.registers ≡ replicate n 0 → visible s page ≡ None
 none-visible s n page e =
     let p : ℕ → Bool = lies_at page in
@@ -63,7 +63,7 @@ owners-opened s n k e l =
     fill_by_all (owner_of s) (replicate k Guest) (length s.pages) Guest (length-replicate k Guest ∙ sym l)
     (λ i h. get_or-replicate k i Guest Guest (omega arith) ∙ sym (owner-opened s n i e h))
 
--- no timer is due
+-- no timer has a deadline
 none_below : (n : ℕ) → least_below (dues no_timers) n ≡ None
 unfolding least_below
 none_below zero = refl
@@ -73,7 +73,7 @@ none-due : least (dues no_timers) ≡ None
 unfolding least
 none-due = ap (option_map (λ (r : ℕ × ℕ). (r.0, timer_of r.1))) (none_below 32)
 
--- the summary that is stored when a board is opened
+-- the cached summary when a board is opened
 pub scratch-opened : (n pages ticket : ℕ) (v : Values) → v.nexts ≡ replicate n None → v.autos ≡ replicate n set.empty → v.owners ≡ replicate pages Guest → v.queued ≡ replicate (16 * n) 0 → v.earliest ≡ None → v ≡ scratch (opened n pages ticket)
 scratch-opened n pages ticket v nexts autos owners queued earliest =
     let s = opened n pages ticket in
@@ -84,7 +84,7 @@ scratch-opened n pages ticket v nexts autos owners queued earliest =
     let e : v.earliest ≡ least (dues (bank_of s)) = earliest ∙ sym none-due in
     (λ i. record { nexts = a i; autos = b i; owners = c i; queued = d i; earliest = e i })
 
--- the state of the fields that a board is opened with
+-- the state of the fields of a newly opened board
 pub state-opened : (n pages ticket : ℕ) (apics : List Apic) (regs : List Regs) (space : Space) (ports : Ports) (queues : Queues) (slots : List (Option ℕ)) (bank : Bank) →
     apics ≡ replicate n empty_apic → regs ≡ replicate n reset_regs → space ≡ opened_space n pages → ports ≡ no_ports n → queues ≡ no_messages n → slots ≡ replicate (16 * n) None → bank ≡ no_timers →
     record { moment = 0; next_ticket = ticket; apics = apics; regs = regs; pages = space.pages; own = space.own; ports = ports.ports; queues = queues; slots = slots; timers = bank.timers; suspended = bank.suspended } ≡ opened n pages ticket

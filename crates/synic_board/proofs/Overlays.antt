@@ -1,4 +1,4 @@
--- The overlay registers of the processors, and what a move of one changes.
+-- The overlay registers of the processors, and the effect of moving one overlay.
 use Rattle.std.proofs.Common.{◌≡◌, ◌≢◌, ℕ, ◌+◌, ◌*◌, ◌/◌, ◌<◌, Bool, true, false, cond, ◌⊎◌, inl, inr, List, [], ◌∷◌, map, length, refl, sym, ap, ◌∙◌, zero, suc, arith, nat_lt, get_or, set, length-set}
 use Rattle.std.specs.Prelude.{Option, None, Some, ◌==◌, if◌then◌else◌}
 use Rattle.std.specs.Option.{option_map_or}
@@ -23,7 +23,7 @@ pub length-overlays : (rs : List Regs) → length (overlay_registers rs) ≡ 2 *
 length-overlays [] = refl
 length-overlays (r ∷ rs) = omega (arith, length-overlays rs)
 
--- other registers of one processor: its two overlays change
+-- other registers of one processor: only its two overlays change
 pub overlays-set : (rs : List Regs) (p : ℕ) (r : Regs) → overlay_registers (set rs p r) ≡ set (set (overlay_registers rs) (2 * p) r.sim) (2 * p + 1) r.sief
 overlays-set [] p r = refl
 overlays-set (q ∷ rs) zero r = refl
@@ -42,7 +42,7 @@ sief-overlay [] p h = absurd (omega arith)
 sief-overlay (q ∷ rs) zero h = refl
 sief-overlay (q ∷ rs) (suc p) h = let odd : 2 * suc p + 1 ≡ suc (suc (2 * p + 1)) = omega arith in ap (λ k. get_or (q.sim ∷ q.sief ∷ overlay_registers rs) k 0) odd ∙ sief-overlay rs p (omega arith)
 
--- a processor's registers, all but one overlay register as before
+-- a processor's registers that differ in one overlay register
 pub overlays-sim : (rs : List Regs) (p v : ℕ) → p < length rs → overlay_registers (set rs p (record (get_or rs p reset_regs) { sim = v })) ≡ set (overlay_registers rs) (2 * p) v
 overlays-sim rs p v h =
     let other : 2 * p + 1 ≢ 2 * p = λ e. omega arith in
@@ -75,7 +75,7 @@ visible-moved s k u v page was a b =
     let l = length-set s.registers k v in
     (λ i. cond (nat_lt (at i) (l i)) (Some (at i)) None)
 
--- a page where the overlay neither was nor is keeps its owner
+-- a page that the overlay neither left nor reached keeps its owner
 owner-moved : (s : Space) (k u v page : ℕ) → get_or s.registers k 0 ≡ u → u / 4096 ≢ page → v / 4096 ≢ page → owner_of (record s { registers = set s.registers k v }) page ≡ owner_of s page
 owner-moved s k u v page was a b = ap (λ o. if nat_lt page (length s.pages) then option_map_or overlay_owner o Guest else Nothing) (visible-moved s k u v page was a b)
 
@@ -97,7 +97,7 @@ is_or_not x k = go (x == k) refl
     go true e = inl (grind (arith, nat_tests))
     go false e = inr (grind (arith, nat_tests))
 
--- after a move the owners of the page that was left and of the page that was reached are looked up
+-- after a move, the owners of the page that was left and of the page that was reached are recomputed
 pub owners-moved : (s : Space) (k u v : ℕ) → get_or s.registers k 0 ≡ u →
     let t : Space = record s { registers = set s.registers k v } in looked_up t (looked_up t (owners_of s) (u / 4096)) (v / 4096) ≡ owners_of t
 owners-moved s k u v was =
@@ -137,7 +137,7 @@ scratch-moved b t rs n k u v w nexts queued earliest before between after tied m
     let l : after.earliest ≡ earliest = ap (λ (x : Values). x.earliest) (second ∙ ap (λ (x : Values). with_owners x (looked_up t between.owners (v / 4096))) (first ∙ ap (λ (x : Values). with_owners x (looked_up t before.owners (u / 4096))) start)) in
     (λ i. record { nexts = g i; autos = f i; owners = e i; queued = j i; earliest = l i })
 
--- where an overlay lies, as the registers of its processor say it
+-- where an overlay is mapped, by the registers of its processor
 pub overlay-read : (rs : List Regs) (p : ℕ) (k : Kind) → p < length rs → get_or (overlay_registers rs) (overlay_of p k) 0 ≡ value_of (get_or rs p reset_regs) (overlay_register k)
 overlay-read rs p kind.Sim h = sim-overlay rs p h
 overlay-read rs p kind.Sief h = sief-overlay rs p h
@@ -154,7 +154,7 @@ overlays-moved : (rs : List Regs) (p v : ℕ) (k : Kind) → p < length rs → o
 overlays-moved rs p v kind.Sim h = overlays-sim rs p v h
 overlays-moved rs p v kind.Sief h = overlays-sief rs p v h
 
--- the space after an overlay has moved has the registers of the processors
+-- after an overlay has moved, the space has the registers of the processors
 pub overlay-tied : (b t : Space) (rs : List Regs) (n v : ℕ) (k : Kind) (u w : Regs) → n < length rs → b.registers ≡ overlay_registers rs → u ≡ get_or rs n reset_regs → w ≡ after_write u (overlay_register k) v → t ≡ record b { registers = set b.registers (overlay_of n k) v } → t.registers ≡ overlay_registers (set rs n w)
 overlay-tied b t rs n v k u w h tied was now moved =
     ap (λ (s : Space). s.registers) moved ∙ ap (λ xs. set xs (overlay_of n k) v) tied ∙ sym (overlays-moved rs n v k h) ∙ ap (λ r. overlay_registers (set rs n r)) (sym (now ∙ ap (λ (r : Regs). after_write r (overlay_register k) v) was))

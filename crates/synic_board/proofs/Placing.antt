@@ -1,4 +1,4 @@
--- The head of a queue is placed in its slot.
+-- Placing the head of a queue in its slot.
 use Rattle.std.proofs.Common.{◌≡◌, ℕ, ◌<◌, Bool, nat_lt, List, [], ◌∷◌, ◌++◌, drop, length, sym, ap, ◌∙◌, set}
 use Rattle.std.specs.Prelude.{Option, Some}
 use Rattle.std.specs.List.{slice_get}
@@ -18,11 +18,11 @@ headed : (q : List Message) (m : Message) → slice_get q 0 ≡ Some m → q ≡
 headed [] m e = cc
 headed (x ∷ q) m e = let same : x ≡ m = cc in ap (λ y. y ∷ q) same
 
--- what is left behind in the queue, counted
+-- the number of messages that stay in the queue
 left_behind : (qs now : Queues) (p i left : ℕ) → source_number p i < length qs → now ≡ after_place qs p i → left ≡ length (queue_of now p i) → left ≡ length (drop 1 (queue_of qs p i))
 left_behind qs now p i left h is count = count ∙ ap (λ xs. length (queue_of xs p i)) is ∙ ap length (get_or-set_same qs (source_number p i) (drop 1 (queue_of qs p i)) [] h)
 
--- the fields after a message was placed, and what it tells, are those of the definition
+-- after a message was placed, the fields and the notices are those of the definition
 pub placed_is : (s : State) (p i left at ticket : ℕ) (pending : Bool) (m : Message) (img : List ℕ) (b t : Space) (now : Queues) (slots : List (Option ℕ)) (before told : List Notice) →
     b ≡ space_of s → source_number p i < length s.queues → slice_get (queue_of s.queues p i) 0 ≡ Some m → now ≡ after_place s.queues p i → left ≡ length (queue_of now p i) →
     img ≡ image m (nat_lt 0 left) s.moment → t ≡ after_slot b p i img → ticket ≡ ticket_of m → at ≡ source_number p i → slots ≡ set s.slots at (Some ticket) → pending ≡ nat_lt 0 left → told ≡ before ++ placed_notices ticket p i pending →

@@ -1,4 +1,4 @@
--- A run goes on by one event.
+-- A run continues by one event.
 use Rattle.std.proofs.Common.{◌≡◌, ℕ, ◌+◌, ◌<◌, ◌≤◌, List, [], ◌∷◌, ◌++◌, refl, ap, sym, subst, ◌∙◌, arith, append_assoc, append-nil, length, take, get_or}
 use Rattle.std.proofs.lemmas.List.{take_more}
 use Rattle.board_terms.specs.declared.notices.Notice.{Notice}

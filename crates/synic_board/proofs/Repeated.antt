@@ -1,4 +1,4 @@
--- Calls that all return the same make a list of it.
+-- Calls that all return the same value build a list of it.
 use Rattle.std.proofs.Common.{◌≡◌, ℕ, List, [], ◌∷◌, length, replicate, refl, sym, ap, ◌∙◌}
 use Rattle.std.specs.List.{FoldsTo, AppendsResults}
 

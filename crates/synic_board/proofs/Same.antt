@@ -1,4 +1,4 @@
--- Events that a derived comparison finds equal are equal.
+-- Events that the derived comparison finds equal are equal.
 use Rattle.std.proofs.Common.{◌≡◌, ◌&&◌, ℕ, List, Bool, true, false, sym, ap, subst, ◌∙◌, [], arith}
 use Rattle.std.proofs.lemmas.Bool.Decides.{nat_tests}
 use Rattle.std.specs.Cmp.Lexicographic.{pointwise, same_text}
@@ -15,7 +15,7 @@ last-holds : (a b : Bool) → (a && b) ≡ true → b ≡ true
 last-holds true b e = e
 last-holds false b e = absurd (cc)
 
--- the bytes of an event that has some
+-- the bytes of an event that has bytes
 abbrev bytes_in : Event → ArrayVec ℕ
 bytes_in (Post _ _ payload) = payload
 bytes_in (Store _ bytes) = bytes

@@ -1,4 +1,4 @@
--- Of how much the stored summary tells.
+-- The sizes of the cached summary.
 use Rattle.std.proofs.Common.{length, ◌∙◌}
 use Rattle.std.proofs.lemmas.List.{length-map}
 use Rattle.lapic_core.specs.Apic.{next}

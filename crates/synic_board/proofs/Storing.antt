@@ -1,4 +1,4 @@
--- A store that is not refused, and whose page it touches.
+-- Accepted stores, and the page that they write.
 use Rattle.std.proofs.Common.{◌≡◌, ℕ, ◌*◌, ◌/◌, ◌%◌, ◌<◌, true, false, List, [], length, refl, sym, ap, subst, ◌∙◌, arith, nat_lt}
 use Rattle.std.specs.Prelude.{Option, None, Some, ◌==◌, Ok, Err, if◌then◌else◌}
 use Rattle.std.specs.Option.{option_map_or}
@@ -15,7 +15,7 @@ use Rattle.synic_board.specs.inside.Effected.{preceded}
 use Rattle.synic_board.specs.Stores.{consumed_in, with_bytes, stored_bytes}
 use Rattle.synic_board.specs.inside.Steps.{IsOn}
 
--- a store that is answered by an owner was not refused, and touches the visible page
+-- a store that returns an owner was not refused, and writes the visible page
 pub store_is_good : (s : Space) (address : ℕ) (bytes : List ℕ) (owner : Owner) → Ok owner ≡ store_answer s address bytes → (refusal_of s address (length bytes) ≡ None) × (owner ≡ owner_of s (address / 4096))
 store_is_good s address bytes owner e = judged (refusal_of s address (length bytes)) refl
   where
@@ -30,7 +30,7 @@ shown_on : (s : State) (space : Space) (page : ℕ) (o : Option ℕ) → visible
 shown_on s space page None e h = tt
 shown_on s space page (Some k) e h = overlay_on s k (omega (arith, (position-Some (lies_at page) space.registers k 0 e).0))
 
--- whose page is visible has its processor on the board
+-- the owner of a visible page has its processor on the board
 pub owner_on : (s : State) (space : Space) (page : ℕ) (owner : Owner) → length space.registers ≡ 2 * processors s → owner ≡ owner_of space page → IsOn s owner
 owner_on s space page owner h e =
     subst (IsOn s) (sym e) (elim (nat_lt page (length space.pages)) as (λ b. IsOn s (if b then option_map_or overlay_owner (visible space page) Guest else Nothing)) [
@@ -38,7 +38,7 @@ owner_on s space page owner h e =
       | false ↦ tt
     ])
 
--- the fields after a store that is not refused, and what it consumed, are those of the definition
+-- after an accepted store, the fields and the consumed messages are those of the definition
 pub stored_is : (s now : State) (address : ℕ) (bytes : List ℕ) (b t : Space) (owner : Owner) (before told : List Notice) →
     b ≡ space_of s → Ok owner ≡ store_answer b address bytes → t ≡ after_store b address bytes → before ≡ [] → (now, told) ≡ preceded before (consumed_in (with_space s t) owner) →
     (now, Done, told) ≡ stored_bytes s address bytes

@@ -3,7 +3,7 @@ use Rattle.std.proofs.Common.{◌≡◌, ℕ, ◌+◌, ◌<◌, ◌≤◌, List,
 use Rattle.std.proofs.lemmas.List.{take_more, take_all, map-append, length-map}
 use Rattle.board_terms.specs.declared.notices.Notice.{Notice}
 
--- the notices for the first i tickets stand behind those before
+-- the notices for the first i tickets follow those before
 abbrev pub Told : (ℕ → Notice) → List Notice → List ℕ → ℕ → List Notice → Type 0
 Told f before tickets i now = now ≡ before ++ map f (take i tickets)
 

@@ -1,4 +1,4 @@
--- A store consumes no message but that of the slot whose type it touches.
+-- A store consumes at most the message of the slot whose type it writes.
 use Rattle.std.proofs.Common.{◌≡◌, ◌≢◌, ◌⊎◌, inl, inr, ⊎_elim, ℕ, suc, ◌+◌, ◌-◌, ◌*◌, ◌/◌, ◌%◌, ◌<◌, ◌≤◌, Bool, true, false, List, [], length, get_or, set, refl, ap, sym, subst, ◌∙◌, arith, nat_lt, zero-add}
 use Rattle.std.specs.Prelude.{Option, None, Some, Ok, ◌==◌}
 use Rattle.std.specs.Option.{option_map_or}
@@ -24,7 +24,7 @@ use Rattle.synic_board.proofs.Overlays.{length-overlays}
 use Rattle.synic_board.proofs.keeping.Requests.{either}
 use Rattle.synic_board.proofs.keeping.Slots.{overwritten-other}
 
--- a slot that is not the one touched is another one, or its type stands before what is written
+-- a slot other than the written one is another source's, or its type is before the written bytes
 apart : (at count i : ℕ) → touched at count ≢ Some i → (i ≢ (at + count - 1) / 256) ⊎ (256 * ((at + count - 1) / 256) + 4 ≤ at)
 apart at count i other = by-type (nat_lt at (256 * ((at + count - 1) / 256) + 4)) refl
   where
@@ -41,7 +41,7 @@ type-untouched page bytes at i l fits some few low other =
     place k h (inl ne) = ⊎_elim (λ below. inl (omega arith)) (λ above. inr (omega arith)) (cases_lt i ((at + length bytes - 1) / 256))
     place k h (inr behind) = ⊎_elim (λ below. inl (omega arith)) (λ above. ⊎_elim (λ same. inl (omega arith)) (λ ne. inr (omega arith)) (cases_eq i ((at + length bytes - 1) / 256))) (cases_lt i ((at + length bytes - 1) / 256))
 
--- a slot that is empty only where it holds no ticket consumes nothing
+-- a slot that is empty only if it holds no ticket consumes nothing
 free-consumes : (t : State) (p i : ℕ) → IsFree t p i → consumed t p i ≡ nothing t
 unfolding consumed
 free-consumes t p i free = either (λ e. e ≡ nothing t) (is_slot_empty t p i) _ _ (λ e. let none = free (grind (arith, nat_tests)) in ap (consumed_ticket t p i) none) (λ _. refl)
@@ -76,7 +76,7 @@ one-consumed t p k low free =
     ∙ fold_skip (consumes p) t (suc k) (15 - k) (λ j h. subst (λ u. consumed u p (suc k + j) ≡ nothing u) now (free-consumes e.0 p (suc k + j) (free-behind t p k (suc k + j) (omega arith) low (omega arith) (free (suc k + j) (omega arith) (omega arith)))))
     ∙ here
 
--- where an overlay's page was written
+-- an overlay's page was written
 others-written : (s : State) (k at : ℕ) (bytes : List ℕ) → IsSound s → k < 2 * processors s → at + length bytes ≤ 4096 → 0 < length bytes → length bytes ≤ 8 →
     OthersFree (record s { own = set s.own k (overwritten (get_or s.own k []) at bytes) }) (overlay_owner k) (touched at (length bytes))
 others-written s k at bytes h low fits some few =
@@ -92,7 +92,7 @@ others-written s k at bytes h low fits some few =
         let stays = type-untouched (get_or s.own k []) bytes at i (h.whole.pages k [] within) fits some few under other in
         h.empty (k / 2) i (omega arith) under (ap (λ n. slot_type (get_or s.own n []) i) same ∙ sym stays ∙ ap (λ x. slot_type x i) (sym there) ∙ z)
 
--- after a store that is not refused
+-- after an accepted store
 pub others-free : (s : State) (address : ℕ) (bytes : List ℕ) (t : Space) (owner : Owner) → IsSound s → Ok owner ≡ store_answer (space_of s) address bytes → t ≡ after_store (space_of s) address bytes →
     OthersFree (with_space s t) owner (touched (address % 4096) (length bytes))
 others-free s address bytes t owner h answer after' =

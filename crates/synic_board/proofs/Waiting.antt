@@ -1,4 +1,4 @@
--- The words of the sources for which something is queued.
+-- The words of the sources with queued messages.
 use Rattle.std.proofs.Common.{◌≡◌, ℕ, ◌+◌, ◌-◌, ◌/◌, ◌^◌, ◌<◌, ◌≤◌, true, false, List, [], Option, None, Some, IsSome, IfSome, ◌↔◌, ⊎_elim, length, get_or, set, ap, sym, ◌∙◌, subst, refl, arith}
 use Rattle.std.specs.Int.{bit_at}
 use Rattle.std.proofs.lemmas.Bool.{cases_lt}
@@ -30,7 +30,7 @@ before-waits queued words p from skip are on next i above low below =
     let at : from + (i - from) ≡ i = omega arith in
     none-at queued words p i are on low (ap (bit_at (get_or words p 0)) (sym at) ∙ next.clear (i - from) (omega arith))
 
--- the source whose bit is the lowest that is left, if there is such a source
+-- the source of the lowest remaining bit, if there is one
 pub first-waits : (queued words : List ℕ) (p from skip : ℕ) (s : Option ℕ) → AreWaiting queued words → p < 8 → IsNext 32 (get_or words p 0) from skip → (IsSome s ↔ (from + skip < 16)) → IfSome s (λ v. v ≡ from + skip) → IsFirstWaiting queued p from s
 first-waits queued words p from skip None are on next valid value =
     λ i above low. ⊎_elim (λ small. let e : false ≡ true = valid.1 small in absurd (cc)) (λ great. before-waits queued words p from skip are on next i above low (omega arith)) (cases_lt (from + skip) 16)
@@ -38,7 +38,7 @@ first-waits queued words p from skip (Some v) are on next valid value =
     let low = valid.0 refl in
     subst (λ n. IsFirstWaiting queued p from (Some n)) (sym value) (omega arith, low, some-at queued words p (from + skip) are on low next.set, λ i above below. before-waits queued words p from skip are on next i above (omega arith) below)
 
--- where the summary counts nothing, nothing is queued
+-- if the summary counts nothing, nothing is queued
 pub none-queued : (b : Inside) (p from to : ℕ) → IsKept b → p < length b.lapics.items → to ≤ 16 → ((i : ℕ) → from ≤ i → i < to → count_at b.summary.values.queued p i ≡ 0) → NoneFrom (state_of b) p from to
 none-queued b p from to h on low none i above below =
     sym (get_or-map (λ (q : List Message). length q) b.queues (source_number p i) [] 0 (omega (arith, h.queues))) ∙ ap (λ (v : Values). count_at v.queued p i) (sym h.summary) ∙ none i above below

@@ -1,4 +1,4 @@
--- Words that are gone through bit by bit, the lowest first.
+-- Iterating over the bits of a word, the lowest first.
 use Rattle.std.proofs.Common.{◌≡◌, ℕ, ◌+◌, ◌/◌, ◌%◌, ◌^◌, ◌<◌, ◌≤◌, ◌⊎◌, inl, inr, ap, sym, ◌∙◌, arith}
 use Rattle.std.specs.Int.{Width, bit_at, trailing_zeros}
 use Rattle.std.proofs.Math.Nat.{div-div-eq-div-mul}
@@ -7,7 +7,7 @@ use Rattle.std.proofs.lemmas.Nat.Bits.{bit_at-trailing_zeros, bit_at_above}
 use Rattle.std.proofs.lemmas.Bool.{cases_lt}
 use mir.Val.{bits}
 
--- what is left of a word without its lowest bits has the bits behind them
+-- a word without its lowest bits has the bits after them
 shifted : (n i j : ℕ) → n / 2 ^ i / 2 ^ j ≡ n / 2 ^ (i + j)
 shifted n i j = div-div-eq-div-mul n (2 ^ i) (2 ^ j) ∙ ap (λ k. n / k) (sym (pow-add 2 i j))
 
@@ -17,7 +17,7 @@ halved n i j = ap (λ k. k / 2) (shifted n i j) ∙ shifted n (i + j) 1
 pub bit_at-left : (n i j : ℕ) → bit_at (n / 2 ^ i) j ≡ bit_at n (i + j)
 bit_at-left n i j = ap (λ k. k % 2) (shifted n i j)
 
--- the lowest bit of what is left of a word is the next one
+-- the lowest bit of the rest of a word is the next one
 pub record IsNext (many bits behind skipped : ℕ) : Type 0 where
   pub inside : behind + skipped < many
   pub set : bit_at bits (behind + skipped) ≡ 1

@@ -1,4 +1,4 @@
--- Posted vectors that are taken in (SDM volume 3, "Posted-Interrupt Processing").
+-- Absorbing posted vectors (SDM volume 3, "Posted-Interrupt Processing").
 use Rattle.std.specs.Prelude.{ℕ, zero, suc, ◌+◌, ◌*◌, ◌==◌, ◌&&◌, nat_le, Bool, if◌then◌else◌}
 use Rattle.std.specs.Int.{bit_at}
 use Rattle.board_terms.specs.Quantities.{Processor}
@@ -16,7 +16,7 @@ is_posted part bits i = bit_at bits i == 1 && nat_le 16 (64 * part + i)
 abbrev pub absorbed_bit : State → Processor → ℕ → ℕ → ℕ → Effect
 absorbed_bit s p part bits i = if is_posted part bits i then requested s p (64 * part + i) else nothing s
 
--- those of the bits below n, smallest first
+-- the vectors of the bits below n, smallest first
 unfoldable pub absorbed_below : State → Processor → ℕ → ℕ → ℕ → Effect
 absorbed_below s p part bits zero = nothing s
 absorbed_below s p part bits (suc i) = after (absorbed_below s p part bits i) (absorbed_bit (absorbed_below s p part bits i).0 p part bits i)

@@ -1,9 +1,9 @@
--- How many notices an event gives at most.
+-- The greatest number of notices of an event.
 use Rattle.std.specs.Prelude.{ℕ}
 use Rattle.synic_board.specs.declared.event.Event.{Event}
 use Rattle.synic_board.specs.declared.event.Event.TheVariants.{Reset}
 
--- a reset one for each of 16 slots, of 256 buffers of ports and of 4 of timers, and no other event more than the 192 of a tick
+-- a reset: one for each of 16 slots, 256 buffers of ports and 4 of timers; any other event: at most the 192 of a tick
 abbrev pub most_notices : Event → ℕ
 most_notices (Reset p) = 276
 most_notices event = 192

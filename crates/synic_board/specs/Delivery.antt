@@ -1,4 +1,4 @@
--- Delivery attempts: a queued message goes into the slot of its source (TLFS, "Message Delivery").
+-- Delivery attempts: a queued message is placed in the slot of its source (TLFS, "Message Delivery").
 use Rattle.std.specs.Prelude.{ℕ, zero, suc, ◌==◌, ◌&&◌, ◌+◌, Bool, nat_lt, List, [], ◌∷◌, length, Some, if◌then◌else◌}
 use Rattle.board_terms.specs.Quantities.{Processor, Source, Ticket}
 use Rattle.board_terms.specs.declared.messages.Message.{Message}
@@ -18,7 +18,7 @@ use Rattle.synic_board.specs.Interrupts.{raised}
 abbrev pub delivers : State → Processor → Bool
 delivers s p = has (regs_of s p).control enable && has (regs_of s p).sim enable
 
--- a slot is empty exactly where its type is 0
+-- a slot is empty iff its type is 0
 abbrev pub is_slot_empty : State → Processor → Source → Bool
 is_slot_empty s p i = slot_type (own_page (space_of s) p Sim) i == 0
 
@@ -58,12 +58,12 @@ tried s p i =
     then (if is_slot_empty s p i then after (placed s p i) (raised (placed s p i).0 p i) else marked s p i)
     else nothing s
 
--- one for each source below n, in order
+-- one attempt for each source below n, in order
 unfoldable pub tried_below : State → Processor → ℕ → Effect
 tried_below s p zero = nothing s
 tried_below s p (suc i) = after (tried_below s p i) (tried (tried_below s p i).0 p i)
 
--- a message takes the next ticket and joins the end of its queue
+-- a message gets the next ticket and joins the end of its queue
 abbrev pub accepted : State → Processor → Source → Message → Effect
 accepted s p i m = (record s { queues = joined s.queues p i m; next_ticket = s.next_ticket + 1 }, Accepted (ticket_of m) p i ∷ [])
 

@@ -1,4 +1,4 @@
--- What actors asked of a board, one after another, and what it answered.
+-- Histories: the events of actors on a board, in order, with the replies.
 use Rattle.std.specs.Prelude.{◌≡◌, List, map}
 use Rattle.synic_board.specs.declared.event.Event.{Event}
 use Rattle.synic_board.specs.declared.event.Reply.{Reply}

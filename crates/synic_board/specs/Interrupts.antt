@@ -10,7 +10,7 @@ use Rattle.synic_board.specs.declared.event.Reply.TheVariants.{Taken}
 use Rattle.synic_board.specs.State.{State, apic_of, regs_of, with_apic}
 use Rattle.synic_board.specs.Effects.{Effect, Outcome, nothing}
 
--- a vector is requested; a request that stands merges with it, and gives no notice
+-- a vector is requested; a request that is already set merges with it, and emits no notice
 abbrev pub requested : State → Processor → Vector → Effect
 requested s p v =
     if set.contains (apic_of s p).requested v then nothing s
@@ -20,7 +20,7 @@ requested s p v =
 abbrev pub raised : State → Processor → Source → Effect
 raised s p i = option_map_or (requested s p) (raised_by (regs_of s p) i) (nothing s)
 
--- an interrupt is taken: the next vector ends by itself if it is auto-EOI now (profile)
+-- `take`: the next vector does not enter service if it is auto-EOI now (profile)
 abbrev pub taken_at : State → Processor → Vector → Apic
 taken_at s p v = take_vector (set.contains (auto_vectors (regs_of s p)) v) v (apic_of s p)
 
@@ -34,6 +34,6 @@ taken s p = (taken_state s p, Taken (next (apic_of s p)), [])
 abbrev pub ended : State → Processor → State
 ended s p = with_apic s p (after_end (apic_of s p))
 
--- TPR keeps the low 8 bits (profile)
+-- TPR stores the low 8 bits (profile)
 abbrev pub with_priority : State → Processor → Word → State
 with_priority s p value = with_apic s p (with_task_priority (apic_of s p) (value % 256))

@@ -10,11 +10,11 @@ use Rattle.synic_board.specs.State.{State}
 unfoldable pub places : State → List ℕ
 places s = flat_map (map ticket_of) s.queues ++ filter_map (λ ticket. ticket) s.slots
 
--- how often a ticket stands in a list
+-- how often a ticket is in a list
 abbrev pub times : ℕ → List ℕ → ℕ
 times t tickets = count_by (λ x. x == t) tickets
 
--- the notice that a message was consumed or withdrawn
+-- the notice reports that the ticket's message was consumed or withdrawn
 abbrev pub tells_end : ℕ → Notice → Bool
 tells_end t (Consumed ticket p i) = ticket == t
 tells_end t (Withdrawn ticket p i) = ticket == t
@@ -32,7 +32,7 @@ given t s now = if nat_le s.next_ticket t && nat_lt t now.next_ticket then 1 els
 abbrev pub Conserves : State → State → List Notice → Type 0
 Conserves s now notices = (t : ℕ) → times t (places now) + times_ended t notices ≡ times t (places s) + given t s now
 
--- a ticket stands in one place at most, and none that was not given
+-- a ticket is in at most one place, and only given tickets are
 pub record AreTickets (s : State) : Type 0 where
   pub once : (t : ℕ) → times t (places s) ≤ 1
   pub given_before : (t : ℕ) → s.next_ticket ≤ t → times t (places s) ≡ 0

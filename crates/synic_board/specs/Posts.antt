@@ -1,4 +1,4 @@
--- Ports that are opened and closed, posts and signals (TLFS, "Ports", "Messages" and "Event Flags").
+-- Opening and closing ports, posts and signals (TLFS, "Ports", "Messages" and "Event Flags").
 use Rattle.std.specs.Prelude.{ℕ, Bool, not, ◌&&◌, nat_lt, nat_le, List, [], ◌∷◌, map, Option, None, Some, Result, Ok, Err, slice_set, if◌then◌else◌}
 use Rattle.std.specs.Option.{option_map_or}
 use Rattle.board_terms.specs.Quantities.{Processor, Source, PortNumber, Flag}
@@ -21,7 +21,7 @@ use Rattle.synic_board.specs.Effects.{Effect, Outcome, after, answered, unchange
 use Rattle.synic_board.specs.Interrupts.{raised}
 use Rattle.synic_board.specs.Delivery.{delivered}
 
--- a port joins the map
+-- a port is added
 abbrev pub with_port : State → PortNumber → Port → State
 with_port s port p = record s { ports = slice_set s.ports port (Some p) }
 
@@ -30,14 +30,14 @@ opened_port s port p i shape =
     option_map_or (refused s) (open_refusal (ports_of s) port p i shape)
     (unchanged (with_port s port (record { vp = p; sint = i; shape = shape })) Done)
 
--- the messages of a port leave the queue of its source, front first; slots stay
+-- the messages of a port leave the queue of its source, front first; messages in slots stay
 abbrev pub withdrawals : State → Processor → Source → PortNumber → List Notice
 withdrawals s p i port = map (λ t. Withdrawn t p i) (withdrawn_of port (queue_of s.queues p i))
 
 abbrev pub withdrawn : State → Processor → Source → PortNumber → Effect
 withdrawn s p i port = (record s { queues = after_withdrawal s.queues p i port }, withdrawals s p i port)
 
--- a port leaves the map, then its messages their queue
+-- a port is removed, then its messages leave their queue
 abbrev pub without_port : State → PortNumber → State
 without_port s port = record s { ports = slice_set s.ports port None }
 
@@ -53,11 +53,11 @@ abbrev pub buffers_of : PortShape → ℕ
 buffers_of (Messages buffers) = buffers
 buffers_of (Flags base count) = 0
 
--- the greatest ticket that is given is 2^64 - 2
+-- the greatest ticket is 2^64 - 2
 abbrev pub are_tickets_left : State → Bool
 are_tickets_left s = nat_lt s.next_ticket 0xffffffffffffffff
 
--- why a post to a port is refused, in the order in which it is judged
+-- why a post to a port is refused; the checks are in this order
 abbrev pub post_refusal : State → PortNumber → Processor → PortShape → Option Refusal
 post_refusal s port p shape =
     if not (has (regs_of s p).control enable) then Some SynicOff
@@ -65,7 +65,7 @@ post_refusal s port p shape =
     else if not (are_tickets_left s) then Some TicketsSpent
     else None
 
--- a post is accepted with the next ticket, then tried
+-- a post is accepted with the next ticket, then a delivery attempt is made
 abbrev pub posted_at : State → PortNumber → ℕ → ArrayVec ℕ → Result Port Refusal → Outcome
 posted_at s port kind payload (Err r) = refused s r
 posted_at s port kind payload (Ok p) =
@@ -75,14 +75,14 @@ posted_at s port kind payload (Ok p) =
 abbrev pub posted : State → PortNumber → ℕ → ArrayVec ℕ → Outcome
 posted s port kind payload = posted_at s port kind payload (message_target_of (ports_of s) port kind)
 
--- an event flag is set, and its source raised if the flag was clear; the page is written also where it is hidden
+-- an event flag is set, and its source raises its vector if the flag was clear; the page is written even if it is obscured
 abbrev pub with_flag : State → Processor → Source → Flag → State
 with_flag s p i flag = with_space s (after_flag (space_of s) p i flag)
 
 abbrev pub flagged : State → Processor → Source → Flag → Effect
 flagged s p i flag = (with_flag s p i flag, FlagSet p i flag ∷ [])
 
--- a signal needs the SynIC and its page of event flags (profile)
+-- a signal requires that the SynIC and its event flags page are enabled (profile)
 abbrev pub signalled_place : State → Processor × Source × Flag → Outcome
 signalled_place s (p, i, flag) =
     if not (has (regs_of s p).control enable && has (regs_of s p).sief enable) then refused s SynicOff

@@ -1,4 +1,4 @@
--- What reads and writes of the registers of one processor do (TLFS, "Virtual Interrupt Controller").
+-- Reads and writes of the registers of one processor (TLFS, "Virtual Interrupt Controller").
 use Rattle.std.specs.Prelude.{if◌then◌else◌}
 use Rattle.std.specs.Option.{option_map_or}
 use Rattle.board_terms.specs.Quantities.{Processor, RegisterNumber, Word}
@@ -15,7 +15,7 @@ use Rattle.synic_board.specs.Interrupts.{ended, with_priority}
 use Rattle.synic_board.specs.Delivery.{tried_below}
 use Rattle.synic_board.specs.Timers.{written_timer}
 
--- a register that stores what is written: a source with a vector below 16 has to be masked
+-- a register that stores what is written; a source with a vector below 16 must be masked
 abbrev pub stored : State → Processor → Register → Word → Outcome
 stored s p r value = if is_refused r value then unchanged s GeneralProtection else unchanged (with_regs s p (with_value (regs_of s p) r value)) Done
 

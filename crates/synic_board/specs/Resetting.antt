@@ -1,4 +1,4 @@
--- A processor that is reset: its messages are withdrawn, and then it is as it was opened (profile).
+-- Resetting a processor: its messages are withdrawn, and then it is as newly opened (profile).
 use Rattle.std.specs.Prelude.{ℕ, zero, suc, [], ◌∷◌, map, None}
 use Rattle.std.specs.Option.{option_map_or}
 use Rattle.board_terms.specs.Quantities.{Processor, Source, Ticket}
@@ -33,7 +33,7 @@ unfoldable pub emptied_below : State → Processor → ℕ → Effect
 emptied_below s p zero = nothing s
 emptied_below s p (suc i) = after (emptied_below s p i) (source_emptied (emptied_below s p i).0 p i)
 
--- the local APIC, the registers, both own pages and the timers are those of a processor that was just opened; ports, guest pages and the clock stay
+-- the local APIC, the registers, both own pages and the timers are those of a newly opened processor; ports, guest pages and the clock stay
 abbrev pub cleared : State → Processor → State
 cleared s p =
     let apic = with_apic s p empty_apic in

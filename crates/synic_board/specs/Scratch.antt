@@ -10,17 +10,17 @@ use Rattle.board_terms.specs.Dues.{least}
 use Rattle.stimer_bank.specs.Bank.{dues}
 use Rattle.synic_board.specs.State.{State, space_of, bank_of}
 
--- what a summary tells
+-- the values of a summary
 pub record Values : Type 0 where
   -- the next vector of each processor
   pub nexts : List (Option ℕ)
-  -- the vectors of each processor that end by themselves when they are taken
+  -- the auto-EOI vectors of each processor
   pub autos : List Vectors
-  -- whose page a guest sees at each page number
+  -- which page a guest sees at each page number
   pub owners : List Owner
   -- how many messages are queued for each source
   pub queued : List ℕ
-  -- the timer that is due first, and when
+  -- the earliest timer, with its deadline
   pub earliest : Option (ℕ × (ℕ × ℕ))
 
 -- the owner of each page
@@ -30,14 +30,14 @@ owners_of s = map (owner_of s) (range_with_len 0 (length s.pages))
 abbrev pub scratch : State → Values
 scratch s = record { nexts = map next s.apics; autos = map auto_vectors s.regs; owners = owners_of (space_of s); queued = map length s.queues; earliest = least (dues (bank_of s)) }
 
--- it tells of so many processors and pages
+-- a summary for that many processors and pages
 pub record TellsOf (processors pages : ℕ) (values : Values) : Type 0 where
   pub nexts : length values.nexts ≡ processors
   pub autos : length values.autos ≡ processors
   pub owners : length values.owners ≡ pages
   pub queued : length values.queued ≡ 16 * processors
 
--- a summary as it is stored, and how often it was written
+-- a cached summary, and how often it was written
 pub record Kept : Type 0 where
   pub values : Values
   pub writes : ℕ

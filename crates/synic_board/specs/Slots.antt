@@ -1,4 +1,4 @@
--- What is left of an occupied message slot (TLFS, "SynIC Message Flags").
+-- What events leave unchanged in an occupied message slot (TLFS, "SynIC Message Flags").
 use Rattle.std.specs.Prelude.{◌≡◌, ◌≢◌, ℕ, ◌+◌, ◌*◌, ◌<◌, slice_index_or}
 use Rattle.std.specs.Int.{bit_at}
 use Rattle.board_terms.specs.declared.pages.Kind.TheVariants.{Sim}
@@ -7,7 +7,7 @@ use Rattle.synic_board.specs.declared.event.Event.{Event}
 use Rattle.synic_board.specs.declared.event.Event.TheVariants.{Store, Reset}
 use Rattle.synic_board.specs.State.{State, space_of, slot_of}
 
--- an event that is no guest store, and no reset of a processor
+-- an event that is neither a guest store nor a reset of the processor
 abbrev pub IsApart : ℕ → Event → Type 0
 IsApart p (Store address bytes) = ⊥
 IsApart p (Reset q) = q ≢ p
@@ -17,7 +17,7 @@ IsApart p event = Unit {0}
 abbrev pub slot_byte : State → ℕ → ℕ → ℕ → ℕ
 slot_byte s p i k = slice_index_or (own_page (space_of s) p Sim) (256 * i + k) 0
 
--- a slot has the same ticket, and the same bytes but for MessagePending, which is bit 0 of byte 5
+-- a slot has the same ticket, and the same bytes except MessagePending, which is bit 0 of byte 5
 pub record LeavesSlot (s now : State) (p i : ℕ) : Type 0 where
   pub ticket : slot_of now p i ≡ slot_of s p i
   pub bytes : (k : ℕ) → k < 256 → k ≢ 5 → slot_byte now p i k ≡ slot_byte s p i k

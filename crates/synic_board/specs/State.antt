@@ -1,4 +1,4 @@
--- The state of the written machine: one list a part, each by the number of the processor.
+-- The state of the reference model: one list for each part, indexed by processor.
 use Rattle.std.specs.Prelude.{ℕ, Bool, ◌≤◌, ◌*◌, List, [], ◌∷◌, Option, None, slice_index_or, slice_set, replicate, length}
 use Rattle.board_terms.specs.Quantities.{Processor, Source, Moment, Ticket}
 use Rattle.lapic_core.specs.Apic.{Apic, empty_apic}
@@ -13,9 +13,9 @@ use Rattle.gpa_space.specs.Page.{zero_page}
 use Rattle.gpa_space.specs.Space.{Space}
 
 pub record State : Type 0 where
-  -- the present moment
+  -- the present time
   pub moment : Moment
-  -- the ticket that the next accepted message takes
+  -- the ticket that the next accepted message gets
   pub next_ticket : Ticket
   -- the local APIC of each processor
   pub apics : List Apic
@@ -29,14 +29,14 @@ pub record State : Type 0 where
   pub ports : List (Option Port)
   -- the queue of each source, those of processor 0 first
   pub queues : Queues
-  -- the ticket in the message slot of each source, likewise
+  -- the ticket in the message slot of each source, in the same order
   pub slots : List (Option Ticket)
   -- the timers, four of each processor
   pub timers : List Timer
   -- whether the timers of each processor are suspended, as its local APIC is
   pub suspended : List Bool
 
--- how many processors are on the board
+-- the number of processors on the board
 abbrev pub processors : State → ℕ
 processors s = length s.apics
 
@@ -46,7 +46,7 @@ apic_of s p = slice_index_or s.apics p empty_apic
 abbrev pub regs_of : State → Processor → Regs
 regs_of s p = slice_index_or s.regs p reset_regs
 
--- the machine with another local APIC, or other registers, at one processor
+-- the state with another local APIC, or other registers, of one processor
 abbrev pub with_apic : State → Processor → Apic → State
 with_apic s p a = record s { apics = slice_set s.apics p a }
 
@@ -58,18 +58,18 @@ abbrev pub overlay_registers : List Regs → List ℕ
 overlay_registers [] = []
 overlay_registers (r ∷ regs) = r.sim ∷ r.sief ∷ overlay_registers regs
 
--- the pages as a guest sees them, and the machine with others
+-- the pages as a guest sees them, and the state with others
 abbrev pub space_of : State → Space
 space_of s = record { pages = s.pages; registers = overlay_registers s.regs; own = s.own }
 
 abbrev pub with_space : State → Space → State
 with_space s space = record s { pages = space.pages; own = space.own }
 
--- the ports, and the processors that they can reach
+-- the ports, and the number of processors that they can target
 abbrev pub ports_of : State → Ports
 ports_of s = record { processors = processors s; ports = s.ports }
 
--- the timers and what suspends them, and the machine with others
+-- the timers and their suspensions, and the state with others
 abbrev pub bank_of : State → Bank
 bank_of s = record { timers = s.timers; suspended = s.suspended }
 
@@ -83,14 +83,14 @@ slot_of s p i = slice_index_or s.slots (source_number p i) None
 abbrev pub with_slot_ticket : State → Processor → Source → Option Ticket → State
 with_slot_ticket s p i ticket = record s { slots = slice_set s.slots (source_number p i) ticket }
 
--- the sizes that a board may be opened with
+-- the valid sizes of a board
 pub record AreSizes (processors pages : ℕ) : Type 0 where
   pub some_processor : 1 ≤ processors
   pub few_processors : processors ≤ 8
   pub some_page : 1 ≤ pages
   pub few_pages : pages ≤ 64
 
--- the machine as it is opened
+-- the state of a newly opened board
 abbrev pub opened : ℕ → ℕ → Ticket → State
 opened n pages ticket =
     record {

@@ -1,4 +1,4 @@
--- What each event does: the state after it, the reply and the notices.
+-- The step function: for each event the next state, the reply and the notices.
 use Rattle.synic_board.specs.declared.event.Event.{Event}
 use Rattle.synic_board.specs.declared.event.Event.TheVariants.{OpenPort, ClosePort, Write, Read, Post, Signal, Assert, Absorb, Store, Load, Tick, Take, Suspend, Resume, Reset}
 use Rattle.synic_board.specs.declared.event.Reply.TheVariants.{Done}

@@ -27,14 +27,14 @@ unfoldable pub consumed_below : State → Processor → ℕ → Effect
 consumed_below s p zero = nothing s
 consumed_below s p (suc i) = after (consumed_below s p i) (consumed (consumed_below s p i).0 p i)
 
--- a store in a message page consumes the messages of the slots that are then empty
+-- a store in a message page consumes the messages of the slots that are empty afterwards
 abbrev pub consumed_in : State → Owner → Effect
 consumed_in s Guest = nothing s
 consumed_in s (Sim p) = consumed_below s p 16
 consumed_in s (Sief p) = nothing s
 consumed_in s Nothing = nothing s
 
--- the bytes are stored in what is visible
+-- the bytes are stored in the visible page
 abbrev pub with_bytes : State → Address → List ℕ → State
 with_bytes s address bytes = with_space s (after_store (space_of s) address bytes)
 
@@ -43,7 +43,7 @@ stored_bytes s address bytes =
     option_map_or (refused s) (refusal_of (space_of s) address (length bytes))
     (answered Done (consumed_in (with_bytes s address bytes) (owner_of (space_of s) (address / 4096))))
 
--- the bytes come from what is visible
+-- the bytes are loaded from the visible page
 abbrev pub load_reply : Result (ArrayVec ℕ) Refusal → Reply
 load_reply (Ok bytes) = Bytes bytes
 load_reply (Err r) = Refused r

@@ -1,4 +1,4 @@
--- Timers that are written, that are tried, and the clock (TLFS, "Synthetic Timers"; the rules on late and lazy timers are this profile's).
+-- Writing and trying timers, and the clock (TLFS, "Synthetic Timers"; the rules for late and lazy timers are choices of this profile).
 use Rattle.std.specs.Prelude.{ℕ, Bool, true, ◌==◌, ◌&&◌, nat_lt, List, [], ◌∷◌, ◌++◌, Option, if◌then◌else◌}
 use Rattle.std.specs.Option.{option_map_or}
 use Rattle.board_terms.specs.Quantities.{TimerId, Moment}
@@ -20,7 +20,7 @@ use Rattle.synic_board.specs.Interrupts.{requested}
 use Rattle.synic_board.specs.Delivery.{delivered}
 use Rattle.synic_board.specs.Posts.{are_tickets_left}
 
--- whom a timer tells
+-- the delivery mode of a timer
 abbrev pub mode_at : State → TimerId → Mode
 mode_at s t = mode_of (timer_in (bank_of s) t).config
 
@@ -29,11 +29,11 @@ abbrev pub is_ready_for : State → TimerId → Mode → Bool
 is_ready_for s t (Direct v) = true
 is_ready_for s t (Posted i) = has (regs_of s t.0).control enable && is_timer_free s.queues t && are_tickets_left s
 
--- a timer that is due at the present moment and can tell of it
+-- a timer that is due at the present time and can be delivered
 abbrev pub is_ready : State → TimerId → Bool
 is_ready s t = is_due_in (bank_of s) t s.moment && is_ready_for s t (mode_at s t)
 
--- what an expiry tells
+-- the notices of an expiry
 abbrev pub expired_notices : TimerId → Option Moment → List Notice
 expired_notices t signal = option_map_or (λ d. Expired t.0 t.1 d ∷ []) signal []
 
@@ -43,7 +43,7 @@ skipped_notices t skipped = if skipped == 0 then [] else Skipped t.0 t.1 skipped
 abbrev pub expiry_notices : TimerId → Option Moment → ℕ → List Notice
 expiry_notices t signal skipped = expired_notices t signal ++ skipped_notices t skipped
 
--- a timer tells that it expired for a moment: a request, or a message that is delivered
+-- the delivery of an expiry: a request, or a message
 abbrev pub told_by : State → TimerId → Mode → Moment → Effect
 told_by s t (Direct v) d = requested s t.0 v
 told_by s t (Posted i) d = delivered s t.0 i (FromTimer s.next_ticket t d)
@@ -65,11 +65,11 @@ fired s t mode =
     let expired = expired_state s t in
     after (expired, expiry_notices t expiry.signal expiry.skipped) (signalled_by expired t mode expiry.signal)
 
--- a timer is tried: one that is not ready stays as it is
+-- an attempt of a timer: one that is not ready is unchanged
 unfoldable pub attempted : State → TimerId → Effect
 attempted s t = if is_ready s t then fired s t (mode_at s t) else nothing s
 
--- several timers, one after another, each judged at its turn
+-- attempts of several timers in order; readiness is evaluated at each
 unfoldable pub attempted_all : State → List TimerId → Effect
 attempted_all s [] = nothing s
 attempted_all s (t ∷ ts) = after (attempted s t) (attempted_all (attempted s t).0 ts)
@@ -78,7 +78,7 @@ attempted_all s (t ∷ ts) = after (attempted s t) (attempted_all (attempted s t
 abbrev pub written_timer : State → Bank → TimerId → Outcome
 written_timer s b t = answered Done (attempted (with_bank s b) t)
 
--- the clock goes on, and the timers that are due then are tried in the order of (due, processor, index)
+-- the clock moves, and the timers that are due then are tried in the order of (deadline, processor, index)
 abbrev pub at_moment : State → Moment → State
 at_moment s moment = record s { moment = moment }
 

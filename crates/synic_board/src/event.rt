@@ -1,20 +1,21 @@
-// What the board is asked, and what it answers.
+// Events and replies.
 ghost use Rattle.std.specs.Prelude.{◌≡◌};
 
 use arrayvec::ArrayVec;
 use board_terms::{Bytes8, Moment, PayloadBytes, PortShape, Refusal, Ticket, Vector};
 
-/// What the board is asked. Processor, source, port and register numbers are plain data, which the board judges.
+/// An event of the board. Processor, source, port and register numbers are plain integers, and the
+/// board refuses those that are out of range.
 #[derive(PartialEq, Debug, Drop)]
 pub enum Event {
-    /// A port is opened to source `sint` of processor `vp`.
+    /// Opens a port to source `sint` of processor `vp`.
     OpenPort {
         port: u8,
         vp: u8,
         sint: u8,
         shape: PortShape,
     },
-    /// A port is closed.
+    /// Closes a port.
     ClosePort {
         port: u8,
     },
@@ -29,24 +30,24 @@ pub enum Event {
         vp: u8,
         register: u32,
     },
-    /// A message of a type (`kind`) is posted to a port.
+    /// Posts a message of type `kind` to a port.
     Post {
         port: u8,
         kind: u32,
         payload: PayloadBytes,
     },
-    /// An event flag of a port is signalled.
+    /// Signals an event flag of a port.
     Signal {
         port: u8,
         flag: u16,
     },
-    /// A device asserts a vector at the local APIC of processor `vp`.
+    /// A device requests a vector at the local APIC of processor `vp`.
     Assert {
         vp: u8,
         vector: Vector,
     },
-    /// Posted vectors are taken in at the local APIC of processor `vp`: bit i of `bits` is vector
-    /// 64 * `part` + i. Vectors below 16 are left out.
+    /// Requests posted vectors at the local APIC of processor `vp`: bit i of `bits` is vector 64 *
+    /// `part` + i. Vectors below 16 are ignored.
     Absorb {
         vp: u8,
         part: u8,
@@ -62,55 +63,55 @@ pub enum Event {
         address: u64,
         length: u8,
     },
-    /// The clock goes on to a moment.
+    /// Moves the clock to a time in units of 100 ns.
     Tick {
         moment: Moment,
     },
-    /// Processor `vp` takes its next interrupt.
+    /// Processor `vp` takes its next vector.
     Take {
         vp: u8,
     },
-    /// Processor `vp` is suspended: it takes no interrupt, and its timers are not tried, until it
-    /// goes on.
+    /// Suspends processor `vp`: it takes no interrupt, and its timers are not tried, until it
+    /// resumes.
     Suspend {
         vp: u8,
     },
-    /// Processor `vp` goes on. Nothing is tried.
+    /// Resumes processor `vp`. This tries no timer.
     Resume {
         vp: u8,
     },
-    /// Processor `vp` is as it was opened: its messages in slots and queues are withdrawn, and its
-    /// registers, its local APIC, its timers and its own two pages are reset. Ports stay open.
+    /// Resets processor `vp` to its state at the opening: withdraws its messages in slots and
+    /// queues, and resets its registers, local APIC, timers and own two pages. Ports stay open.
     Reset {
         vp: u8,
     },
 }
 
-/// What the board answers.
+/// The reply to an event.
 #[derive(PartialEq, Debug, Drop)]
 pub enum Reply {
     /// The event was performed.
     Done,
-    /// What the register reads.
+    /// The value of the register.
     Value(u64),
-    /// What the guest loads.
+    /// The bytes that the guest loads.
     Bytes(Bytes8),
-    /// The vector that was taken, if there was one.
+    /// The vector that was taken, or none.
     Taken(Option<Vector>),
     /// The post was accepted with this ticket.
     Accepted(Ticket),
     /// The event flag was clear, and was set.
     FlagWasClear,
-    /// The event flag was set already.
+    /// The event flag was already set.
     FlagWasSet,
-    /// The access raises #GP; nothing was changed.
+    /// The access raises #GP; nothing changed.
     GeneralProtection,
-    /// The event was refused; nothing was changed.
+    /// The event was refused; nothing changed.
     Refused(Refusal),
 }
 
 impl Event {
-    /// An equal event, by writing no more bytes than this one has.
+    /// A copy of the event. Writes only the bytes that its variant uses.
     pub fn copy(&self) -> Event
         ensures { result ≡ self.now }
     {
@@ -180,7 +181,7 @@ impl Event {
 }
 
 impl Reply {
-    /// An equal reply, by writing no more bytes than this one has.
+    /// A copy of the reply. Writes only the bytes that its variant uses.
     pub fn copy(&self) -> Reply
         ensures { result ≡ self.now }
     {
@@ -198,7 +199,7 @@ impl Reply {
     }
 }
 
-/// Equal bytes.
+/// A copy of these bytes.
 fn bytes_of<const N: usize>(bytes: &ArrayVec<u8, N>) -> ArrayVec<u8, N>
     ensures { result ≡ bytes.now }
 {

@@ -1,7 +1,7 @@
-// What is kept of an event that was performed.
+// Histories.
 use crate::event::{Event, Reply};
 
-/// An event, the reply to it, and the number of the actor that had it performed.
+/// An event, its reply, and the number of the actor that performed it.
 #[derive(PartialEq, Debug, Drop)]
 pub struct Entry {
     pub actor: u8,

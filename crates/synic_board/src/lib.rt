@@ -1,4 +1,5 @@
-//! The board: events in, replies and notices out, and a summary that always stands.
+//! The board: performs events, returns replies and notices, and caches a summary that is always up
+//! to date.
 #![tactic(auto)]
 
 mod board;

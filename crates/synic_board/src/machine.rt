@@ -1,4 +1,4 @@
-// The parts of a board, which together are the written machine.
+// The parts of a board, which together implement the reference model.
 ghost use Rattle.std.specs.Prelude.{◌≡◌, ◌<◌, ◌≤◌, ◌+◌, ◌↔◌, length, replicate, None, IfOk, IsSome, IfSome};
 ghost use Rattle.lapic_core.specs.Apic.{empty_apic};
 ghost use Rattle.synic_regs.specs.Regs.{reset_regs};
@@ -32,8 +32,8 @@ use std::marker::Model;
 use stimer_bank::TimerBank;
 use synic_regs::SynicRegs;
 
-/// The parts of a board. Contracts see the state of the written machine, and how often the stored
-/// summary was written.
+/// The parts of a board. The contract shows the state of the reference model, and how often the
+/// cached summary was written.
 #[derive(Drop)]
 pub(crate) struct Machine {
     page_count: u8,
@@ -47,7 +47,8 @@ pub(crate) struct Machine {
     // the ticket in the message slot of each source, those of processor 0 first
     slots: Vec<Option<Ticket>>,
     timers: TimerBank,
-    // what an event changes of it is written at once, so that it is always the one from scratch
+    // cache: each event updates the values that it changes, so it always equals the summary
+    // computed from scratch
     summary: Summary,
 }
 
@@ -67,7 +68,7 @@ impl Model for Machine {
 }
 
 impl Machine {
-    /// The machine as it is opened. All memory that events need is taken here.
+    /// A newly opened machine. Allocates all memory that events need.
     pub(crate) fn open(
         alloc: Global,
         processors: u8,
@@ -101,7 +102,7 @@ impl Machine {
         })
     }
 
-    /// The stored summary. It is lent, and nothing is computed.
+    /// The cached summary, by reference.
     pub(crate) fn summary(&self) -> &Summary
         ensures value { result.now ≡ kept (scratch self.now.state) self.now.writes }
         ensures sizes { TellsOf (processors self.now.state) (length self.now.state.pages) result.now.values }
@@ -109,7 +110,7 @@ impl Machine {
         &self.summary
     }
 
-    /// How many processors are on the board.
+    /// The number of processors on the board.
     pub(crate) fn processors(&self) -> u8
         ensures count { result ≡ processors self.now.state }
         ensures few { result ≤ 8 }
@@ -117,28 +118,29 @@ impl Machine {
         self.lapics.len() as u8
     }
 
-    /// How many guest pages there are.
+    /// The number of guest pages.
     pub(crate) fn pages(&self) -> u8
         ensures { result ≡ length self.now.state.pages }
     {
         self.page_count
     }
 
-    /// The present moment.
+    /// The present time.
     pub(crate) fn moment(&self) -> Moment
         ensures { result ≡ self.now.state.moment }
     {
         self.moment
     }
 
-    /// The ticket that the next accepted message takes.
+    /// The ticket that the next accepted message gets.
     pub(crate) fn next_ticket(&self) -> Ticket
         ensures { result ≡ self.now.state.next_ticket }
     {
         self.next_ticket
     }
 
-    /// Performs an event, leaves its notices in order in `notices`, and answers. It takes no memory.
+    /// Performs an event, replaces the contents of `notices` by its notices, and returns its reply.
+    /// Never allocates.
     #[tactic(auto, unfolding(crate::specs::Step::step))]
     #[inline(always)]
     pub(crate) fn perform(&mut self, event: &Event, notices: &mut Notices) -> Reply
@@ -208,7 +210,7 @@ impl Machine {
         }
     }
 
-    /// Performs a post whose payload is lent.
+    /// Performs a post with a borrowed payload.
     #[tactic(auto, unfolding(crate::specs::Step::step))]
     #[inline(always)]
     pub(crate) fn perform_post(
@@ -227,7 +229,7 @@ impl Machine {
         self.post(port, kind, payload, notices)
     }
 
-    /// Performs a store whose bytes are lent.
+    /// Performs a store with borrowed bytes.
     #[tactic(auto, unfolding(crate::specs::Step::step))]
     #[inline(always)]
     pub(crate) fn perform_store(
@@ -244,7 +246,7 @@ impl Machine {
         self.store(address, bytes, notices)
     }
 
-    /// The processor of that number, if it is on the board.
+    /// The processor with this number, if it is on the board.
     fn processor(&self, number: u8) -> Option<Vp>
         ensures on { IsSome result ↔ (number < processors self.now.state) }
         ensures value { IfSome result (λ vp. vp ≡ number) }
@@ -257,7 +259,7 @@ impl Machine {
     }
 }
 
-/// Slots that hold no ticket.
+/// Slots without tickets.
 fn no_tickets(alloc: Global, slots: usize) -> Result<Vec<Option<Ticket>>, AllocError>
     ensures { IfOk result (λ tickets. tickets.items ≡ replicate slots None) }
 {

@@ -4,7 +4,7 @@ ghost use Rattle.std.specs.List.{AppendsResults};
 
 use std::alloc::{AllocError, Global};
 
-/// For each processor what `new` makes.
+/// A list with the result of `new` for each processor.
 pub(crate) fn one_for_each<T: Drop, F: FnMut() -> T>(
     alloc: Global,
     processors: u8,

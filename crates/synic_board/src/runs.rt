@@ -1,4 +1,4 @@
-// A list of events, one after another.
+// Runs: events in sequence.
 ghost use Rattle.std.specs.Prelude.{◌≡◌, ◌<◌, ◌≤◌, ◌+◌, ◌*◌, ◌++◌, [], length, take, drop, vec_len, vec_capacity, IfOk, IfErr};
 ghost use Rattle.synic_board.specs.Run.{run_of, told_behind};
 ghost use Rattle.synic_board.specs.Places.{Conserves};
@@ -10,7 +10,7 @@ use board_terms::{Notice, Notices};
 use std::alloc::Global;
 use thiserror::Error;
 
-/// A run that stopped for want of memory: the first `done` events were performed, with these
+/// A run that stopped at an allocation failure: the first `done` events were performed, with these
 /// replies, and no other event was.
 #[derive(Debug, Drop, Error)]
 #[error("out of memory after {done} events")]
@@ -19,8 +19,8 @@ pub struct Stopped {
     pub replies: Vec<Reply>,
 }
 
-/// Performs events in order, appends their notices to `notices`, and answers all replies. Room is
-/// made before each event, so that one that is performed is also told of.
+/// Performs events in order, appends their notices to `notices`, and returns all replies. Ensures
+/// capacity before each event, so that the notices of every performed event are recorded.
 pub fn run(
     alloc: Global,
     board: &mut Board,
@@ -44,8 +44,8 @@ pub fn run(
     }
 }
 
-/// Performs events in order, each once there is room for its reply and its notices, and says how many it
-/// performed.
+/// Performs events in order, each after ensuring capacity for its reply and its notices. Returns
+/// how many it performed.
 fn perform_all(
     alloc: Global,
     board: &mut Board,
@@ -73,7 +73,7 @@ fn perform_all(
     events.len()
 }
 
-/// Appends notices that there is room for.
+/// Appends notices within the capacity.
 fn keep(notices: &mut Vec<Notice>, more: &[Notice])
     requires { vec_len notices.old + length more.now ≤ vec_capacity notices.old }
     ensures { notices.new.items ≡ notices.old.items ++ more.now }

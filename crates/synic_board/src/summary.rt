@@ -1,4 +1,4 @@
-// What is stored beside the state, so that nobody has to compute it.
+// The cached summary of the state.
 ghost use Rattle.std.specs.Prelude.{◌≡◌, ◌≢◌, ◌==◌, ℕ, ◌+◌, ◌*◌, ◌<◌, ◌≤◌, replicate, false, None, IfOk, slice_index_or};
 ghost use Rattle.std.specs.FinSet as set;
 ghost use Rattle.std.specs.Int.{bit_at};
@@ -14,35 +14,35 @@ use lapic_core::VectorSet;
 use std::alloc::{AllocError, Global};
 use std::marker::Model;
 
-/// One value of the summary, and where it stands.
+/// One value of the summary, with its index.
 #[derive(Drop)]
 pub(crate) enum Entry {
     /// The next vector of a processor.
     Next(Vp, Option<Vector>),
-    /// The vectors of a processor that end by themselves when they are taken.
+    /// The auto-EOI vectors of a processor.
     Auto(Vp, VectorSet),
-    /// Whose page a guest sees at a page number.
+    /// Which page a guest sees at a page number.
     Owns(u8, Owner),
     /// How many messages are queued for a source of a processor.
     Queued(Vp, Sint, u16),
-    /// The timer that is due first, and when.
+    /// The earliest timer, with its deadline.
     Earliest(Option<(u128, TimerId)>),
 }
 
-/// What a hypervisor asks after each event, stored: the next vector and the auto-EOI vectors of
-/// each processor, whose page a guest sees at each page number, how many messages are queued for each
-/// source, and the timer that is due first.
+/// Caches of what a hypervisor queries after each event: the next vector and the auto-EOI vectors
+/// of each processor, which page a guest sees at each page number, how many messages are queued for
+/// each source, and the earliest timer.
 #[derive(Drop)]
 pub struct Summary {
     nexts: Vec<Option<Vector>>,
     autos: Vec<VectorSet>,
     owners: Vec<Owner>,
     queued: Vec<u16>,
-    // for each processor a word that has bit i where something is queued for source i, so that EOM
-    // looks at no other source; `write` changes it with the count
+    // for each processor a word whose bit i is set iff source i has a queued message, so that EOM
+    // visits no other source; `write` updates it with the count
     waiting: [u16; 8],
     earliest: Option<(u128, TimerId)>,
-    // how often a value was written, for contracts alone
+    // ghost: how often a value was written
     writes: Count,
 }
 
@@ -64,7 +64,7 @@ impl Model for Summary {
 impl Summary {
     ghost use Rattle.synic_board.specs.inside.Entries.{HasEntry, with_entry};
 
-    /// The summary of a board as it is opened.
+    /// The summary of a newly opened board.
     pub(crate) fn open(alloc: Global, processors: u8, pages: u8) -> Result<Summary, AllocError>
         ensures nexts { IfOk result (λ s. s.values.nexts ≡ replicate processors None) }
         ensures autos { IfOk result (λ s. s.values.autos ≡ replicate processors set.empty) }
@@ -108,7 +108,7 @@ impl Summary {
         }
     }
 
-    /// The first source of a processor from a number on for which something is queued.
+    /// The first source of a processor, from a number on, with a queued message.
     #[inline]
     pub(crate) fn waiting_from(&self, vp: Vp, from: u8) -> Option<Sint>
         requires { from ≤ 16 }
@@ -122,7 +122,7 @@ impl Summary {
         Sint::new(from + left.trailing_zeros() as u8)
     }
 
-    /// The next vector of a processor, `None` for one that is not on the board.
+    /// The next vector of a processor; `None` if it is not on the board.
     pub fn next(&self, vp: Vp) -> Option<Vector>
         ensures { result ≡ slice_index_or self.now.values.nexts vp None }
     {
@@ -132,8 +132,7 @@ impl Summary {
         }
     }
 
-    /// Whether a vector ends by itself when a processor takes it, `false` for a processor that is
-    /// not on the board.
+    /// Whether a vector is auto-EOI on a processor; `false` if the processor is not on the board.
     pub fn is_auto(&self, vp: Vp, vector: Vector) -> bool
         ensures { result ≡ set.contains (slice_index_or self.now.values.autos vp set.empty) vector }
     {
@@ -143,7 +142,7 @@ impl Summary {
         }
     }
 
-    /// Whose page a guest sees at a page number, `Nothing` where there is no such page.
+    /// Which page a guest sees at a page number; `Nothing` if there is no such page.
     pub fn owner(&self, page: u64) -> Owner
         ensures { result ≡ slice_index_or self.now.values.owners page Nothing }
     {
@@ -153,16 +152,16 @@ impl Summary {
         }
     }
 
-    /// The timer that is due first, and when: the least by due moment, processor and index. `None`
-    /// where no timer is due at any moment.
+    /// The earliest timer and its deadline: the least by deadline, processor and index. `None` if
+    /// no timer has a deadline.
     pub fn earliest(&self) -> Option<(u128, TimerId)>
         ensures { result ≡ self.now.values.earliest }
     {
         self.earliest
     }
 
-    /// How many messages are queued for a source of a processor, 0 for a processor that is not on
-    /// the board.
+    /// How many messages are queued for a source of a processor; 0 if the processor is not on the
+    /// board.
     pub fn queued(&self, vp: Vp, sint: Sint) -> u16
         ensures { result ≡ slice_index_or self.now.values.queued (source_number vp sint) 0 }
     {
@@ -173,7 +172,7 @@ impl Summary {
     }
 }
 
-/// A word whose bit of a source tells whether something is queued for it; its other bits stay.
+/// A word with the bit of a source set or cleared; its other bits stay.
 fn with_source(word: u16, sint: Sint, waits: bool) -> u16
     ensures here { (bit_at result sint == 1) ≡ waits }
     ensures others { (i : ℕ) → i < 16 → i ≢ sint → bit_at result i ≡ bit_at word i }

@@ -1,4 +1,4 @@
--- The table when a timer comes, changes or goes.
+-- The table after a timer is added, changed or removed.
 use Rattle.std.proofs.Common.{◌≡◌, ◌≢◌, ℕ, zero, suc, ◌+◌, ◌-◌, ◌*◌, ◌/◌, ◌%◌, ◌^◌, ◌<◌, ◌≤◌, List, inl, inr, [], ◌∷◌, ◌++◌, length, set, get_or, map, take, refl, sym, ap, ◌∙◌, arith}
 use Rattle.std.specs.Prelude.{Option, None, Some}
 use Rattle.std.proofs.lemmas.Bool.{cases_eq, cases_lt}
@@ -10,7 +10,7 @@ use Rattle.timer_heap.specs.inside.Table.{size, dues, due_through, number_at, mo
 use Rattle.timer_heap.specs.inside.Moves.{IsNear, IsMoving}
 use Rattle.timer_heap.proofs.Inverse.{in_table, size_with, IsExchanged, exchanged_numbers, exchange_inverse, exchange_dues}
 
--- when a timer is due
+-- the deadline of a timer
 pub dues_at : (t : Table) (n : ℕ) → get_or (dues t) n None ≡ due_through t (place_of t n)
 unfolding dues
 dues_at t n =
@@ -27,7 +27,7 @@ pub due_kept : (t t' : Table) (n : ℕ) (o : Option ℕ) → ((i : ℕ) → o �
 due_kept t t' n None h = refl
 due_kept t t' n (Some i) h = ap (λ (x : Entry). Some x.due) (h i refl)
 
--- one timer's due moment is written
+-- one timer's deadline is written
 pub dues_set : (t t' : Table) (n : ℕ) (x : Option ℕ) → n < length t.places → length t'.places ≡ length t.places → due_through t' (place_of t' n) ≡ x → ((m : ℕ) → m ≢ n → due_through t' (place_of t' m) ≡ due_through t (place_of t m))
     → dues t' ≡ set (dues t) n x
 dues_set t t' n x inside long here others =
@@ -45,7 +45,7 @@ same_entry t t' i a b = ap (entry_of t') a ∙ (λ j. record { due = b j; number
 same_moment : (t t' : Table) (n : ℕ) → t'.highs ≡ t.highs → t'.lows ≡ t.lows → moment_of t' n ≡ moment_of t n
 same_moment t t' n h l = λ j. get_or (h j) n 0 * 2 ^ 64 + get_or (l j) n 0
 
--- the due moment of a timer is written, and no other
+-- the deadline of a timer is written, and no other
 module _ (t : Table) (e due : ℕ) (inverse : IsInverse t) (low : e < 32) where
   pub timed_here : moment_of (with_moment t e due) e ≡ due
   timed_here =
@@ -56,7 +56,7 @@ module _ (t : Table) (e due : ℕ) (inverse : IsInverse t) (low : e < 32) where
   pub timed_other : (m : ℕ) → m ≢ e → moment_of (with_moment t e due) m ≡ moment_of t m
   timed_other m n = λ j. get_or-set_other t.highs e m (due / 2 ^ 64) 0 n j * 2 ^ 64 + get_or-set_other t.lows e m (due % 2 ^ 64) 0 n j
 
--- a timer joins the end
+-- a timer is added at the end
 module _ (t pushed : Table) (e due : ℕ) (inverse : IsInverse t) (low : e < 32) (absent : place_of t e ≡ None) (room : size t < 32)
     (more : pushed.order.items ≡ t.order.items ++ e ∷ []) (same : pushed.places ≡ t.places) (highs : pushed.highs ≡ set t.highs e (due / 2 ^ 64)) (lows : pushed.lows ≡ set t.lows e (due % 2 ^ 64)) where
   abbrev t' : Table
@@ -147,7 +147,7 @@ module _ (t pushed : Table) (e due : ℕ) (inverse : IsInverse t) (low : e < 32)
     near = rw (sym (size_with pushed (size t) e)) (add_near o);
   }
 
--- a timer gets another due moment
+-- a timer gets another deadline
 module _ (t : Table) (p e due : ℕ) (inverse : IsInverse t) (low : e < 32) (at : place_of t e ≡ Some p) where
   abbrev timed : Table
   timed = with_moment t e due
@@ -217,12 +217,12 @@ module _ (t : Table) (p e due : ℕ) (inverse : IsInverse t) (low : e < 32) (at 
   pub change_moving : IsOrdered (key t) (size t) → IsMoving timed p e
   change_moving o = record { inside = change_in; inverse = change_inverse; near = change_near o }
 
--- the last timer is gone, and no other
+-- the last timer is removed, and no other
 pub record IsShorter (old new : Table) : Type 0 where
   pub same_size : size new + 1 ≡ size old
   pub others : (i : ℕ) → i < size new → entry_at new i ≡ entry_at old i
 
--- the last timer goes
+-- the last timer is removed
 module _ (t t' : Table) (some : 0 < size t) (inverse : IsInverse t) (kept : t'.order.items ≡ take (size t - 1) t.order.items) (written : t'.places ≡ set t.places (number_at t (size t - 1)) None) (highs : t'.highs ≡ t.highs) (lows : t'.lows ≡ t.lows) where
   drop_size : size t' ≡ size t - 1
   drop_size = ap length kept ∙ length-take-le (size t - 1) t.order.items (omega arith)
@@ -278,7 +278,7 @@ module _ (t t' : Table) (some : 0 < size t) (inverse : IsInverse t) (kept : t'.o
   pub drop_shorter : IsShorter t t'
   drop_shorter = record { same_size = omega (arith, drop_size); others = λ i h. drop_others i (omega (arith, drop_size)) }
 
--- the last timer took the place p, and the end went
+-- the last timer moved to p, and the end was removed
 pub removed_near : (t s t' : Table) (p : ℕ) → p < size t - 1 → IsOrdered (key t) (size t) → IsExchanged t s p (size t - 1) → IsShorter s t' → IsNear (key t') (size t') p
 removed_near t s t' p inside o ex short =
     let long : size t' + 1 ≡ size t = short.same_size ∙ ex.same_size in
@@ -300,7 +300,7 @@ removed_near t s t' p inside o ex short =
           rw (here, there) (omega (arith, up, down));
     }
 
--- the last timer goes, and the rest stands
+-- the last timer is removed, and the rest stays
 pub removed_last : (t t' : Table) → IsOrdered (key t) (size t) → IsShorter t t' → IsOrdered (key t') (size t')
 removed_last t t' o short = record {
   edges = λ j a b.
@@ -317,7 +317,7 @@ take_set (suc n) [] i y = refl
 take_set (suc n) (x ∷ xs) zero y = refl
 take_set (suc n) (x ∷ xs) (suc i) y = ap (λ zs. x ∷ zs) (take_set n xs i y)
 
--- a timer goes, and the last one is on its way from there
+-- a timer is removed, and the last one moves from its place
 module _ (t rest : Table) (p : ℕ) (inverse : IsInverse t) (inside : p < size t - 1) (kept : rest.order.items ≡ take (size t - 1) t.order.items) (written : rest.places ≡ set t.places (number_at t p) None) (highs : rest.highs ≡ t.highs) (lows : rest.lows ≡ t.lows) where
   abbrev last : ℕ
   last = size t - 1

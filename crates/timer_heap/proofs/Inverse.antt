@@ -1,4 +1,4 @@
--- The table when a timer passes another on its way.
+-- The table when a moving timer passes another.
 use Rattle.std.proofs.Common.{◌≡◌, ◌≢◌, ℕ, ◌+◌, ◌*◌, ◌^◌, ◌<◌, ◌≤◌, true, false, inl, inr, length, set, get_or, refl, sym, ap, ◌∙◌, arith}
 use Rattle.std.specs.Prelude.{Option, None, Some}
 use Rattle.std.proofs.lemmas.Bool.{cases_eq, cases_lt}
@@ -16,7 +16,7 @@ in_table t n i e =
       | inr h ↦ absurd (none-some i (sym (get_or_past t.places n None h) ∙ e))
     ]
 
--- two timers change places, and no other
+-- two timers change places, and no other does
 pub record IsExchanged (old new : Table) (a b : ℕ) : Type 0 where
   pub same_size : size new ≡ size old
   pub at_a : number_at new a ≡ number_at old b
@@ -138,7 +138,7 @@ with_here t p e h = get_or-set_same t.order.items p e 0 h
 pub with_other : (t : Table) (p : ℕ) (e : ℕ) (i : ℕ) → i ≢ p → number_at (with_number t p e) i ≡ number_at t i
 with_other t p e i n = get_or-set_other t.order.items p i e 0 n
 
--- a timer on its way goes from p to q, and the one at q to p
+-- a moving timer goes from p to q, and the one at q to p
 abbrev pub passing : Table → ℕ → ℕ → Table
 passing t p q = with_number t p (number_at t q)
 
@@ -181,7 +181,7 @@ module _ (t : Table) (p q : ℕ) (e : ℕ) (p_in : p < size t) (q_in : q < size 
     swapped = record { at_a = ap (λ n. rank (entry_of t n)) exchanged.at_a; at_b = ap (λ n. rank (entry_of t n)) exchanged.at_b; others = λ i x y. ap (λ n. rank (entry_of t n)) (exchanged.others i x y) };
   }
 
--- what the comparer says of two places
+-- the comparison of two places
 pub number_in : (t : Table) (i : ℕ) → IsInverse t → i < size t → number_at t i < 32
 number_in t i h l = let f = in_table t (number_at t i) i (h.back i l) in omega (arith, h.numbers)
 
@@ -191,7 +191,7 @@ key_before t i j h a b e = rank_before (entry_at t i) (entry_at t j) (number_in 
 pub key_not_before : (t : Table) (i j : ℕ) → IsInverse t → i < size t → j < size t → is_before (entry_at t i) (entry_at t j) ≡ false → key t j ≤ key t i
 key_not_before t i j h a b e = rank_not_before (entry_at t i) (entry_at t j) (number_in t i h a) (number_in t j h b) e
 
--- of a timer on its way, and one that it may pass
+-- a moving timer, and one that it may pass
 module _ (t : Table) (p q : ℕ) (e : ℕ) (p_in : p < size t) (q_in : q < size t) (apart : p ≢ q) (inverse : IsInverse (with_number t p e)) where
   abbrev v : Table
   v = with_number t p e

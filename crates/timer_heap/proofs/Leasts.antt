@@ -1,4 +1,4 @@
--- The least of a list of due moments.
+-- The least of a list of deadlines.
 use Rattle.std.proofs.Common.{◌≡◌, ℕ, zero, suc, ◌/◌, ◌%◌, ◌<◌, ◌≤◌, true, false, nat_lt, length, get_or, inl, inr, refl, sym, ap, ◌∙◌, arith}
 use Rattle.std.specs.Prelude.{Option, None, Some, if◌then◌else◌}
 use Rattle.std.specs.Option.{option_map_or, option_map}
@@ -19,7 +19,7 @@ abbrev pub Found : Dues → ℕ → Option (ℕ × ℕ) → Type 0
 Found m n None = (k : ℕ) → k < n → get_or m k None ≡ None
 Found m n (Some r) = IsFound m n r
 
--- the number n has no due moment
+-- the number n has no deadline
 skip : (m : Dues) (n : ℕ) → get_or m n None ≡ None → (o : Option (ℕ × ℕ)) → Found m n o → Found m (suc n) o
 skip m n h None f = λ k l. elim (cases_eq k n) as (λ _. get_or m k None ≡ None) [ inl e ↦ rw e h | inr e ↦ f k (omega arith) ]
 skip m n h (Some r) f = record {
@@ -78,7 +78,7 @@ same_least m d n l (Some r) h =
     let numbers : r.1 ≡ n = omega arith in
     λ i. Some (dues i, numbers i)
 
--- the least, from what it is
+-- the least, given its properties
 pub least_is : (m : Dues) (d n : ℕ) → IsLeast m d n → least m ≡ Some (d, timer_of n)
 unfolding least
 least_is m d n l = ap (option_map (λ (r : ℕ × ℕ). (r.0, timer_of r.1))) (same_least m d n l (least_below m 32) (found m 32))
@@ -91,11 +91,11 @@ pub least_none : (m : Dues) → ((k : ℕ) → get_or m k None ≡ None) → lea
 unfolding least
 least_none m n = ap (option_map (λ (r : ℕ × ℕ). (r.0, timer_of r.1))) (same_none m n (least_below m 32) (found m 32))
 
--- a due moment with its timer
+-- a deadline with its timer
 abbrev with_timer : ℕ × ℕ → ℕ × (ℕ × ℕ)
 with_timer r = (r.0, timer_of r.1)
 
--- the least, back to what it is
+-- the properties of the least
 beyond : (m : Dues) (k : ℕ) → length m ≡ 32 → 32 ≤ k → get_or m k None ≡ None
 beyond m k l above = get_or-eq_default m None (omega arith)
 

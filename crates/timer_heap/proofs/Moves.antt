@@ -1,4 +1,4 @@
--- A timer on its way down or up.
+-- A timer that moves down or up.
 use Rattle.std.proofs.Common.{◌≡◌, ◌≢◌, ℕ, ◌+◌, ◌-◌, ◌*◌, ◌^◌, ◌<◌, ◌≤◌, true, false, get_or, inl, inr, refl, ◌∙◌, arith}
 use Rattle.std.specs.Prelude.{if◌then◌else◌}
 use Rattle.std.proofs.lemmas.Bool.{cases_eq}
@@ -8,7 +8,7 @@ use Rattle.timer_heap.specs.inside.Moves.{IsMoving, IsNear, IsAbove, IsBelow}
 use Rattle.timer_heap.proofs.Order.{IsClimb, IsWithin, none_within, rise_near, rise_below, sink_near, ordered, climbs, climbed, lower}
 use Rattle.timer_heap.proofs.Inverse.{passing, passes, size_with, with_here, with_other, number_in, key_before, key_not_before}
 
--- so many timers fit
+-- that many timers fit
 pub moving_room : (t : Table) (p e : ℕ) → IsMoving t p e → size t ≤ 32
 moving_room t p e m = let room = m.inverse.room in omega (arith, room, size_with t p e)
 
@@ -26,7 +26,7 @@ moved_on t p q e m q_in apart near = record {
   near = rw (size_with t p (number_at t q)) near;
 }
 
--- a timer on its way down from start, now at p
+-- a timer that moves down from start, now at p
 pub record IsDescending (first t : Table) (e start p c : ℕ) : Type 0 where
   pub moving : IsMoving t p e
   pub same : dues (with_number t p e) ≡ dues (with_number first start e)
@@ -122,7 +122,7 @@ descends first t e start p c d q h child few =
       few = lower p q c d (omega arith) low high few h.few;
     }
 
--- a timer on its way up from start, now at p
+-- a timer that moves up from start, now at p
 pub record IsRising (first t : Table) (e start p before c : ℕ) : Type 0 where
   pub moving : IsMoving t p e
   pub up : p ≤ start
@@ -135,11 +135,11 @@ pub record IsRising (first t : Table) (e start p before c : ℕ) : Type 0 where
   pub begun : p ≡ start → c ≡ before
   pub counted : p ≢ start → before < c
 
--- its due moment stays
+-- its deadline is unchanged
 pub same_entry_of : (first t : Table) (e : ℕ) → t.highs ≡ first.highs → t.lows ≡ first.lows → entry_of t e ≡ entry_of first e
 same_entry_of first t e h l = λ i. record { due = get_or (h i) e 0 * 2 ^ 64 + get_or (l i) e 0; number = e }
 
--- it begins where there is no child
+-- it begins at a place without children
 pub starts_rising : (t : Table) (e p c : ℕ) → IsMoving t p e → size t ≤ 2 * p + 1 → IsRising t t e p p c c
 starts_rising t e p c m last =
     let room = moving_room t p e m in

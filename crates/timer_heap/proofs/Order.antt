@@ -1,4 +1,4 @@
--- A heap but for one place, when what stands there moves.
+-- A heap except at one place, when its entry moves.
 use Rattle.std.proofs.Common.{◌≡◌, ◌≢◌, ℕ, zero, suc, ◌+◌, ◌*◌, ◌<◌, ◌≤◌, true, false, inl, inr, sym, ap, ◌∙◌, arith}
 use Rattle.std.proofs.lemmas.Bool.{cases_eq}
 use Rattle.std.proofs.lemmas.Bool.Decides.{nat_tests}
@@ -107,7 +107,7 @@ root_first k n o (suc m) j a b =
           omega arith
     ]
 
--- so many comparisons were made on the way up to p, and so many before
+-- the number of comparisons on the way up to p, and before
 pub record IsClimb (p before c : ℕ) : Type 0 where
   pub five : c ≤ before + 5
   pub from_5 : before + 5 ≤ c → p ≤ 0
@@ -139,7 +139,7 @@ climbed p before c pos h = record {
   from_0 = let y : p ≤ 31 = h.from_0 in omega arith;
 }
 
--- so many comparisons were made on the way down to p
+-- the number of comparisons on the way down to p
 pub record IsWithin (p c : ℕ) : Type 0 where
   pub five : c ≤ 5
   pub below_31 : p < 31 → c ≤ 4
@@ -151,7 +151,7 @@ pub record IsWithin (p c : ℕ) : Type 0 where
 pub none_within : (p : ℕ) → IsWithin p 0
 none_within p = record { five = omega arith; below_31 = λ x. omega arith; below_15 = λ x. omega arith; below_7 = λ x. omega arith; below_3 = λ x. omega arith; at_0 = λ x. omega arith }
 
--- each step down costs one comparison at most
+-- each step down costs at most one comparison
 pub lower : (p q c d : ℕ) → 2 * p + 1 < 32 → 2 * p + 1 ≤ q → q ≤ 2 * p + 2 → d ≤ c + 1 → IsWithin p c → IsWithin q d
 lower p q c d room a b e h = record {
   five = let y : c ≤ 4 = h.below_31 (omega arith) in omega arith;
@@ -162,7 +162,7 @@ lower p q c d room a b e h = record {
   at_0 = λ x. absurd (omega arith);
 }
 
--- the rank says which of two entries comes first
+-- the rank determines which of two entries comes first
 pub rank_before : (a b : Entry) → a.number < 32 → b.number < 32 → is_before a b ≡ true → rank a < rank b
 rank_before a b x y e = grind (arith, nat_tests)
 

@@ -1,4 +1,4 @@
--- The entries that are due by a moment, found from the front.
+-- The entries that are due by a time, found from the front.
 use Rattle.std.proofs.Common.{◌≡◌, ◌≢◌, ℕ, zero, suc, ◌+◌, ◌*◌, ◌<◌, ◌≤◌, ◌^◌, ◌%◌, false, nat_lt, nat_le, min, inl, inr, refl, sym, ap, ◌∙◌, arith}
 use Rattle.std.specs.Prelude.{Option, None, Some, bit_or, ◌&&◌, if◌then◌else◌}
 use Rattle.std.specs.Option.{option_map_or}
@@ -13,11 +13,11 @@ use Rattle.timer_heap.specs.Heap.{MarksDue}
 use Rattle.timer_heap.proofs.Inverse.{number_in}
 use Rattle.timer_heap.proofs.Edits.{dues_at}
 
--- 1 for a timer whose place lies before p, and that is due at the moment or before
+-- 1 for a timer whose place is before p and that is due by the time
 abbrev pub mark : Table → ℕ → ℕ → Option ℕ → ℕ
 mark t moment p o = option_map_or (λ i. if nat_lt i p && nat_le (entry_at t i).due moment then 1 else 0) o 0
 
--- all places before p were looked at; what may be due beyond lies before the end
+-- all places before p were visited; every later entry that may be due is before the end
 pub record IsSwept (t : Table) (moment p end word : ℕ) : Type 0 where
   pub within : end ≤ size t
   pub marks : (n : ℕ) → n < 32 → bit_at word n ≡ mark t moment p (place_of t n)
@@ -34,7 +34,7 @@ beyond t moment p i a = grind (arith, nat_tests)
 later : (t : Table) (moment p i : ℕ) → moment < (entry_at t i).due → mark t moment p (Some i) ≡ 0
 later t moment p i a = grind (arith, nat_tests)
 
--- one place more is looked at: only what stands there can change its mark
+-- one more place is visited: only its timer can change its mark
 same_mark : (t : Table) (moment p : ℕ) (o : Option ℕ) → o ≢ Some p → mark t moment (p + 1) o ≡ mark t moment p o
 same_mark t moment p None n = refl
 same_mark t moment p (Some i) n = let other : i ≢ p = λ e. n (ap Some e) in grind (arith, nat_tests)
@@ -61,7 +61,7 @@ module _ (t : Table) (inverse : IsInverse t) (moment p end word : ℕ) (swept : 
   low : number < 32
   low = number_in t p inverse p_in
 
-  -- the timer that stands there, and the others
+  -- the timer at that place, and the others
   there : (n : ℕ) → place_of t n ≡ Some p → n ≡ number
   there n e = sym (inverse.there n p e).1
 
@@ -109,7 +109,7 @@ due_order t inverse o i pos inside =
     omega (arith, edge, a, b)
 
 module _ (t : Table) (inverse : IsInverse t) (o : IsOrdered (key t) (size t)) (moment p end word : ℕ) (swept : IsSwept t moment p end word) (all : end ≤ p) where
-  -- what lies beyond the end is not due
+  -- an entry beyond the end is not due
   late : (bound i : ℕ) → i ≤ bound → p ≤ i → i < size t → moment < (entry_at t i).due
   late zero i low from inside = let root = swept.root (omega arith) in absurd (omega arith)
   late (suc bound) i low from inside =

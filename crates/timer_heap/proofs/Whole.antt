@@ -1,4 +1,4 @@
--- The heap as a map from timers to due moments.
+-- The heap as a map from timers to deadlines.
 use Rattle.std.proofs.Common.{◌≡◌, ◌≢◌, ℕ, zero, suc, ◌+◌, ◌<◌, ◌≤◌, inl, inr, [], length, set, get_or, map, replicate, refl, sym, ap, ◌∙◌, arith}
 use Rattle.std.specs.Prelude.{Option, None, Some, is_none, cond}
 use Rattle.std.proofs.lemmas.Bool.{cases_eq, cases_lt}
@@ -86,7 +86,7 @@ module _ (t : Table) (inverse : IsInverse t) where
       let g = get_or-le-sum_by weight (dues t) n None (omega (arith, long)) in
       omega (arith, f, g, full)
 
-  -- nothing changes where a timer without a place is cleared
+  -- clearing a timer without a place changes nothing
   pub cleared_same : (n : ℕ) → place_of t n ≡ None → set (dues t) n None ≡ dues t
   cleared_same n at = ap (set (dues t) n) (sym (due_nowhere t n at)) ∙ set-get_or (dues t) n None
 
@@ -123,7 +123,7 @@ empty_full t none places =
     omega (arith, f, zero_size)
 
 module _ (t : Table) (inverse : IsInverse t) where
-  -- another timer stands at i
+  -- another timer is at i
   other_entry : (n i : ℕ) → i < size t → place_of t n ≢ Some i → number_at t i ≢ n
   other_entry n i inside other e = other (ap (place_of t) (sym e) ∙ inverse.back i inside)
 
@@ -182,7 +182,7 @@ module _ (t : Table) (inverse : IsInverse t) where
   number_back : (n : ℕ) → number_of (timer_of n) ≡ n
   number_back n = omega arith
 
-  -- the timer that is due first stands in front
+  -- the earliest timer is in front
   pub front : 0 < size t → IsOrdered (key t) (size t) → (d : ℕ) (u : ℕ × ℕ) → least (dues t) ≡ Some (d, u) → place_of t (number_of u) ≡ Some 0
   front some o d u h =
       let same = same_Some _ _ (sym (heap_least t inverse some o) ∙ h) in

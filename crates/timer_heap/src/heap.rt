@@ -1,4 +1,4 @@
-// The timers that are due some time, the earliest at hand.
+// The timers that have deadlines, with the earliest first.
 ghost use Rattle.std.specs.Prelude.{◌≡◌, ◌+◌, ◌<◌, ◌≤◌, Option, None, Some, slice_set};
 ghost use Rattle.board_terms.specs.Dues.{number_of, due_of, least};
 ghost use Rattle.timer_heap.specs.Heap.{no_dues, without_processor, NoOther, Other, FirstOfThree, NoneOf, MarksDue};
@@ -11,7 +11,7 @@ use arrayvec::ArrayVec;
 use board_terms::{TimerId, Vp};
 use std::marker::Model;
 
-/// The timers that are due some time, each with its due moment (TLFS, "Synthetic Timers").
+/// The timers that have deadlines, and these deadlines (TLFS, "Synthetic Timers").
 #[derive(Drop)]
 pub struct TimerHeap {
     table: Table,
@@ -35,7 +35,7 @@ impl Model for TimerHeap {
 }
 
 impl TimerHeap {
-    /// No timer is due.
+    /// A heap without deadlines.
     pub fn new() -> TimerHeap
         ensures dues { result.dues ≡ no_dues }
         ensures compared { result.compared ≡ 0 }
@@ -51,8 +51,8 @@ impl TimerHeap {
         }
     }
 
-    /// A timer gets a due moment, and keeps no other. The answer is how many comparisons were made: ten
-    /// at most, and none exactly where no other timer is due.
+    /// Sets the deadline of a timer, and replaces an earlier one. Returns the number of
+    /// comparisons: at most ten, and none iff no other timer has a deadline.
     pub fn set(&mut self, timer: TimerId, due: u128) -> u8
         ensures set { self.new.dues ≡ slice_set self.old.dues (number_of timer) (Some due) }
         ensures counted { self.new.compared ≡ self.old.compared + result }
@@ -68,9 +68,9 @@ impl TimerHeap {
         }
     }
 
-    /// A timer loses its due moment. The answer is how many comparisons were made: ten at most, and none
-    /// where no other timer is due, or where this one is not. The first of three or more is never
-    /// cleared without one.
+    /// Removes the deadline of a timer. Returns the number of comparisons: at most ten, and none if
+    /// no other timer has a deadline, or this one has none. Clearing the first of three or more
+    /// takes at least one.
     pub fn clear(&mut self, timer: TimerId) -> u8
         ensures set { self.new.dues ≡ slice_set self.old.dues (number_of timer) None }
         ensures counted { self.new.compared ≡ self.old.compared + result }
@@ -85,8 +85,8 @@ impl TimerHeap {
         }
     }
 
-    /// The timers of a processor lose their due moments. The answer is how many comparisons were made:
-    /// forty at most, and none where no timer of it is due.
+    /// Removes the deadlines of a processor's timers. Returns the number of comparisons: at most
+    /// forty, and none if no timer of it has a deadline.
     pub fn clear_processor(&mut self, vp: Vp) -> u8
         ensures set { self.new.dues ≡ without_processor self.old.dues vp }
         ensures counted { self.new.compared ≡ self.old.compared + result }
@@ -100,7 +100,7 @@ impl TimerHeap {
         zero + one + two + three
     }
 
-    /// The timer that is due first, and when: the least by due moment, processor and index.
+    /// The earliest timer and its deadline: the least by deadline, processor and index.
     pub fn least(&self) -> Option<(u128, TimerId)>
         ensures { result ≡ least self.now.dues }
     {
@@ -112,7 +112,7 @@ impl TimerHeap {
         Some((self.table.moment(number), timer))
     }
 
-    /// When a timer is due, if it is.
+    /// The deadline of a timer, if it has one.
     pub fn due_of(&self, timer: TimerId) -> Option<u128>
         ensures { result ≡ due_of self.now.dues timer }
     {
@@ -123,8 +123,8 @@ impl TimerHeap {
         }
     }
 
-    /// Which timers are due at a moment or before: bit 4 * processor + index of the word is 1 exactly for
-    /// those.
+    /// Which timers are due by a time: bit 4 * processor + index of the word is set iff that timer
+    /// is.
     pub fn due_by(&self, moment: u128) -> u32
         ensures { MarksDue self.now.dues moment result }
     {

@@ -1,10 +1,10 @@
-// Laws of the definitions.
+// Theorems about the definitions.
 ghost use Rattle.std.specs.Prelude.{◌≡◌, length};
 ghost use Rattle.board_terms.specs.Dues.{Dues};
 ghost use Rattle.timer_heap.specs.Laws.{FindsLeast};
 
-/// The timer that is due first is the least by due moment, processor and index, and there is none
-/// only where no timer is due.
+/// The earliest timer is the least by deadline, processor and index; there is none iff no timer has
+/// a deadline.
 pub fn the_first_is_the_least()
     ensures { (m : Dues) → length m ≡ 32 → FindsLeast m }
 {}

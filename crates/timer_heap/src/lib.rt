@@ -1,5 +1,5 @@
-//! The timers that are due some time, the earliest at hand: a heap of 32 places that knows where each
-//! timer stands.
+//! A heap of the deadlines of 32 timers, with the earliest first, which knows the place of each
+//! timer.
 #![tactic(auto)]
 
 mod entry;

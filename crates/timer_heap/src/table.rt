@@ -1,4 +1,4 @@
-// Timers in heap order, and the place and the due moment of each.
+// Timers in heap order, with the place and the deadline of each.
 ghost use Rattle.std.specs.Prelude.{◌≡◌, ◌+◌, ◌-◌, ◌*◌, ◌<◌, ◌≤◌, length, slice_set, Option, Some, None};
 ghost use Rattle.timer_heap.specs.inside.Table.{size, dues, number_at, moment_of, entry_of, place_of, key, with_number, with_moment, first_of, IsInverse, IsOrdered};
 ghost use Rattle.timer_heap.specs.Heap.{MarksDue};
@@ -9,19 +9,19 @@ use crate::entry::Entry;
 use crate::heap::comparer::{Comparer, high, low};
 use arrayvec::ArrayVec;
 
-/// The timers that are due some time, by number.
+/// The timers that have deadlines, by number.
 #[derive(Drop)]
 pub(crate) struct Table {
-    /// The numbers in heap order. A number alone moves, since its due moment stays where it is.
+    /// The numbers in heap order. Only numbers move; the deadlines stay in place.
     pub(crate) order: ArrayVec<u8, 32>,
     /// The place of each timer in that order.
     pub(crate) places: [Option<u8>; 32],
-    /// When each timer is due that has a place: the upper and the lower word.
+    /// The deadline of each timer with a place: the upper and the lower word.
     pub(crate) highs: [u64; 32],
     pub(crate) lows: [u64; 32],
 }
 
-/// One number takes the place of another.
+/// Replaces the number at a place.
 fn put(order: &mut ArrayVec<u8, 32>, at: usize, number: u8)
     requires { at < length order.old.items }
     ensures { order.new.items ≡ slice_set order.old.items at number }
@@ -57,7 +57,7 @@ impl Table {
         self.places[number as usize]
     }
 
-    /// When a timer is due that has a place.
+    /// The deadline of a timer with a place.
     #[inline]
     pub(crate) fn moment(&self, number: u8) -> u128
         requires { number < 32 }
@@ -67,7 +67,7 @@ impl Table {
         self.highs[at] as u128 * (1 << 64) + self.lows[at] as u128
     }
 
-    /// A timer that has a place gets a due moment.
+    /// Sets the deadline of a timer with a place.
     #[inline]
     fn set_moment(&mut self, number: u8, due: u128)
         requires { number < 32 }
@@ -78,7 +78,7 @@ impl Table {
         self.lows[at] = low(due);
     }
 
-    /// A timer with its due moment.
+    /// A timer with its deadline.
     #[inline]
     fn entry(&self, number: u8) -> Entry
         requires { number < 32 }
@@ -90,8 +90,8 @@ impl Table {
         }
     }
 
-    /// Which timers are due at a moment or before, by number: the bits of a word. No child is due before
-    /// its parent, so nothing is looked at beyond the children of the last that is due.
+    /// Which timers are due by a time, as the bits of a word. No child is due before its parent, so
+    /// the search visits no place beyond the children of the last due timer.
     pub(crate) fn due_by(&self, moment: u128) -> u32
         requires inverse { IsInverse self.now }
         requires ordered { IsOrdered (key self.now) (size self.now) }
@@ -112,7 +112,7 @@ impl Table {
         due
     }
 
-    /// A timer stands at a place, and is found there. What stood there must be put elsewhere.
+    /// Puts a timer at a place, in both maps. The timer that was there must be put elsewhere.
     #[inline]
     fn put(&mut self, at: usize, number: u8)
         requires at_in { at < size self.old }
@@ -124,7 +124,7 @@ impl Table {
         self.places[number as usize] = Some(at as u8);
     }
 
-    /// The child that comes first, of the one before `right` and the one there.
+    /// The lesser of two children: the one before `right` and the one at it.
     #[inline]
     fn first_child(&self, right: usize, comparer: &mut Comparer) -> usize
         requires right_in { 0 < right × right < size self.now }
@@ -139,8 +139,8 @@ impl Table {
         right - 1 + comparer.is_before(second, first) as usize
     }
 
-    /// The place with no child below it to which a timer comes from `start` where the child that comes
-    /// first always moves up. It is not yet put there.
+    /// Moves the lesser children up from `start`, down to a place without children, and returns it.
+    /// The timer is not yet put there.
     fn descend(&mut self, start: usize, number: u8, comparer: &mut Comparer) -> usize
         requires moving { IsMoving self.old start number }
         requires fresh { comparer.old.made ≡ 0 }
@@ -169,8 +169,8 @@ impl Table {
         only
     }
 
-    /// The place to which a timer moves up from `start`, which has no child, until its parent does not
-    /// come after it. The timers that it passes move down; it is not yet put there.
+    /// Moves parents down from `start`, which has no child, until the timer's parent does not come
+    /// after it. Returns that place. The timer is not yet put there.
     fn rise(&mut self, start: usize, number: u8, comparer: &mut Comparer) -> usize
         requires moving { IsMoving self.old start number }
         requires last { size self.old ≤ 2 * start + 1 }
@@ -199,8 +199,9 @@ impl Table {
         at
     }
 
-    /// A timer goes to where it belongs, from `start`; the answer is how many comparisons were made.
-    /// Most often it belongs far down, so that it goes there first, and is compared with its parents only.
+    /// Puts a timer at its place, starting from `start`, and returns the number of comparisons. The
+    /// place is usually far down, so it goes to the bottom first, and is then compared only with
+    /// its parents.
     fn settle(&mut self, start: usize, number: u8, comparer: &mut Comparer) -> u8
         requires { IsMoving self.old start number }
         ensures inverse { IsInverse self.new }
@@ -219,7 +220,7 @@ impl Table {
         comparer.made()
     }
 
-    /// A timer joins; the answer is how many comparisons were made.
+    /// Adds a timer, and returns the number of comparisons.
     pub(crate) fn add(&mut self, number: u8, due: u128, comparer: &mut Comparer) -> u8
         requires inverse { IsInverse self.old }
         requires ordered { IsOrdered (key self.old) (size self.old) }
@@ -241,14 +242,8 @@ impl Table {
         self.settle(last, number, comparer)
     }
 
-    /// The timer at a place gets another due moment; the answer is how many comparisons were made.
-    pub(crate) fn change(
-        &mut self,
-        at: usize,
-        number: u8,
-        due: u128,
-        comparer: &mut Comparer,
-    ) -> u8
+    /// Sets another deadline of the timer at a place, and returns the number of comparisons.
+    pub(crate) fn change(&mut self, at: usize, number: u8, due: u128, comparer: &mut Comparer) -> u8
         requires inverse { IsInverse self.old }
         requires ordered { IsOrdered (key self.old) (size self.old) }
         requires number { number < 32 }
@@ -266,7 +261,7 @@ impl Table {
         self.settle(at, number, comparer)
     }
 
-    /// The timer at a place goes; the answer is how many comparisons were made.
+    /// Removes the timer at a place, and returns the number of comparisons.
     pub(crate) fn remove(&mut self, at: usize, comparer: &mut Comparer) -> u8
         requires inverse { IsInverse self.old }
         requires ordered { IsOrdered (key self.old) (size self.old) }

@@ -15,7 +15,7 @@ use Rattle.board_lines.specs.declared.fault.ScriptFault.TheVariants as faults
 use Rattle.board_script.specs.declared.stream.ReplayEnd.{ReplayEnd}
 use Rattle.board_script.specs.declared.stream.ReplayEnd.TheVariants.{Done, Script, Memory, Reading, Writing}
 
--- the fault that is written where the reading ends so, the board being open or not, or the end with nothing written
+-- the fault to write when reading ends so, given whether the board is open; or the end with nothing written
 abbrev pub conclusion : End ScriptFault → Bool → Result (Option (ℕ × ScriptFault)) ReplayEnd
 conclusion (ends.Last line) opened = Ok (if opened then None else Some (line, faults.First))
 conclusion (ends.Wrong line fault) opened = Ok (Some (line, fault))
@@ -25,7 +25,7 @@ conclusion ends.Memory opened = Err Memory
 conclusion ends.Reading opened = Err Reading
 conclusion ends.Writing opened = Err Writing
 
--- the fault's line was written, if there is one, or a part of it
+-- the fault's line was written, if there is a fault, or a part of it
 abbrev pub Finishes : ReplayEnd → Option (ℕ × ScriptFault) → Option (List ℕ) → Option (List ℕ) → Type 0
 Finishes Done fault w0 w1 = (fault ≡ None) × Appends w0 w1 []
 Finishes (Script l f) fault w0 w1 = (fault ≡ Some (l, f)) × Appends w0 w1 (fault_text fault)
@@ -33,12 +33,12 @@ Finishes Memory fault w0 w1 = w1 ≡ w0
 Finishes Reading fault w0 w1 = ⊥
 Finishes Writing fault w0 w1 = (sent rest : List ℕ) × Appends w0 w1 sent × (fault_text fault ≡ sent ++ rest)
 
--- the fault was said, or nothing more was written
+-- the fault was reported, or nothing more was written
 abbrev pub Concludes : Result (Option (ℕ × ScriptFault)) ReplayEnd → ReplayEnd → Option (List ℕ) → Option (List ℕ) → Type 0
 Concludes (Ok fault) result w0 w1 = Finishes result fault w0 w1
 Concludes (Err end) result w0 w1 = (result ≡ end) × (w1 ≡ w0)
 
--- the machine that a board is
+-- the state of an open board
 abbrev pub machine_of : Option Held → Machine
 machine_of board = option_map (λ h. h.state) board
 
@@ -50,13 +50,13 @@ abbrev pub answer_maybe : Machine → Option Item → List ℕ
 answer_maybe machine None = []
 answer_maybe machine (Some item) = answer machine item
 
--- an item was in its place and its answer is ready, or it has a fault
+-- an item was valid at its place and its answer is ready, or it has a fault
 abbrev pub AnswersItem : Taken ScriptFault → Option Item → Machine → Machine → List ℕ → Type 0
 AnswersItem taken.Good item old new out = (item_fault (is_some old) item ≡ None) × (new ≡ after_maybe old item) × (out ≡ answer_maybe old item)
 AnswersItem (taken.Wrong fault) item old new out = item_fault (is_some old) item ≡ Some fault
 AnswersItem taken.Memory item old new out = Unit {0}
 
--- a line without a fault leads on, and this is answered to it
+-- a line without a fault leads to another state, with this answer
 abbrev pub IsAnswered : Machine → List ℕ → List ℕ → Machine → Type 0
 IsAnswered old line out new = (line_fault (is_some old) line ≡ None) × (new ≡ after_maybe old (item_in line)) × (out ≡ answer_maybe old (item_in line))
 

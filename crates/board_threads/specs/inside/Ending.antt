@@ -1,4 +1,4 @@
--- What a board and its history come to.
+-- The end of a board and its history.
 use Rattle.std.specs.Prelude.{◌≡◌, ℕ, List}
 use Rattle.synic_board.specs.State.{Held}
 use Rattle.synic_board.specs.declared.history.Entry.{Entry}
@@ -12,7 +12,7 @@ use Rattle.board_threads.specs.declared.settling.SettleFault.TheVariants as sett
 use Rattle.board_threads.specs.declared.fault.WorkFault.{WorkFault}
 use Rattle.board_threads.specs.declared.fault.WorkFault.TheVariants as works
 
--- The board and its history are handed out, with what the actors called, which is all of that history, and what is left of the words.
+-- The result: the board and its history, the actors' calls, which are exactly that history, and the rest of the words.
 pub record IsEnd (board : Held) (history : List Entry) (called : List ActorCalls) (left : List ℕ) (e : Ended) : Type 0 where
   pub same_board : e.board ≡ board
   pub entries : e.history.items ≡ history

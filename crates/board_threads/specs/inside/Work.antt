@@ -1,4 +1,4 @@
--- What a worker has done when its thread has ended.
+-- The work of a worker whose thread has ended.
 use Rattle.std.specs.Prelude.{◌≡◌, ◌<◌, ℕ, List, [], ◌∷◌, ◌++◌, All, length, map, Vec}
 use Rattle.std.specs.Global.{Global}
 use Rattle.std.specs.List.{AllZip, range_with_len}
@@ -14,7 +14,7 @@ use Rattle.board_threads.specs.declared.script.Step.{Step}
 use Rattle.board_threads.specs.declared.script.Setup.{Setup}
 use Rattle.board_threads.specs.declared.script.Scripts.{Scripts}
 
--- an actor or a line of these words that has done nothing yet
+-- an actor or a line of these words without calls or steps
 abbrev pub IsNewActor : TableId → Acting → Type 0
 IsNewActor name a = (a.of ≡ name) × (a.calls ≡ [])
 
@@ -25,13 +25,13 @@ IsNewLine name t = (t.of ≡ name) × (t.did ≡ [])
 abbrev pub IsThere : ℕ → List (ℕ × ℕ) → Type 0
 IsThere processors script = All (λ (r : ℕ × ℕ). r.0 < processors) script
 
--- an actor's calls are its script
+-- an actor's calls perform its script
 pub record HasActed (name : TableId) (number : ℕ) (script : List Step) (a : Acting) : Type 0 where
   pub of : a.of ≡ name
   pub same : a.number ≡ number
   pub follows : AreSteps script a.calls
 
--- a line raised its vectors, and has an answer for each
+-- a line raised its vectors, and has a result for each
 pub record HasRaised (name : TableId) (script : List (ℕ × ℕ)) (t : Token) (answers : List Raised) : Type 0 where
   pub of : t.of ≡ name
   pub each : length answers ≡ length script
@@ -47,7 +47,7 @@ pub record HasServed (name : TableId) (processors : ℕ) (setup : List Event) (a
   pub begins : AreSteps (acts setup) before
   pub ends : AreSteps (last_steps processors) after
 
--- a history whose first entries, and whose last ones, are those of actor 0
+-- a history whose first and last entries are by actor 0
 pub record InPlace (setup ends : ℕ) (history : List Entry) : Type 0 where
   pub first : List Entry
   pub between : List Entry
@@ -58,7 +58,7 @@ pub record InPlace (setup ends : ℕ) (history : List Entry) : Type 0 where
   pub main_first : All (λ (e : Entry). e.actor ≡ 0) first
   pub main_last : All (λ (e : Entry). e.actor ≡ 0) last
 
--- the actors and lines of a crew when all threads have ended: actor 0, the others in the order of their scripts, and the lines, each with its answers
+-- the actors and lines of a crew when all threads have ended: actor 0, the others in the order of their scripts, and the lines, each with its results
 pub record HaveWorked (name : TableId) (setup : Setup) (scripts : Scripts) (actors : List Acting) (lines : List Token) (raised : List (Vec Raised Global)) : Type 0 where
   pub main : Acting
   pub others : List Acting

@@ -9,7 +9,7 @@ use Rattle.board_trace.specs.declared.check.CheckEnd.{CheckEnd}
 use Rattle.board_trace.specs.declared.check.CheckEnd.TheVariants.{Legal, Refused, Memory, Reading, Writing}
 use Rattle.board_trace.specs.Verdicts.{verdict_text}
 
--- the verdict was written, or a beginning of it
+-- the verdict was written, or a prefix of it
 abbrev pub Says : CheckEnd → Verdict → Option (List ℕ) → Option (List ℕ) → Type 0
 Says (Legal n) verdict w0 w1 = (verdict ≡ verdicts.Legal n) × Appends w0 w1 (verdict_text verdict)
 Says (Refused k) verdict w0 w1 = (verdict ≡ verdicts.Refused k) × Appends w0 w1 (verdict_text verdict)
@@ -17,7 +17,7 @@ Says Memory verdict w0 w1 = w1 ≡ w0
 Says Reading verdict w0 w1 = ⊥
 Says Writing verdict w0 w1 = (sent rest : List ℕ) × Appends w0 w1 sent × (verdict_text verdict ≡ sent ++ rest)
 
--- the verdict where the reading ends so, behind so many entries of a trace that is over, or the end with none
+-- the verdict when reading ends so, given the number of entries if the trace is complete; or the end without a verdict
 abbrev pub conclusion : End (Unit {0}) → Option ℕ → Result Verdict CheckEnd
 conclusion (ends.Last line) (Some n) = Ok (verdicts.Legal n)
 conclusion (ends.Last line) None = Ok (verdicts.Refused line)
@@ -28,7 +28,7 @@ conclusion ends.Memory entries = Err Memory
 conclusion ends.Reading entries = Err Reading
 conclusion ends.Writing entries = Err Writing
 
--- the verdict was said, or nothing was written
+-- the verdict was written, or nothing was
 abbrev pub Concludes : Result Verdict CheckEnd → CheckEnd → Option (List ℕ) → Option (List ℕ) → Type 0
 Concludes (Ok verdict) result w0 w1 = Says result verdict w0 w1
 Concludes (Err end) result w0 w1 = (result ≡ end) × (w1 ≡ w0)

@@ -1,4 +1,4 @@
--- What a trace may go on with: which line comes next.
+-- The stages of a trace: which line comes next.
 use Rattle.std.specs.Prelude.{◌≡◌, ℕ, ◌+◌, ◌≤◌, List, [], ◌∷◌, if◌then◌else◌, Option, None, Some, codes}
 use Rattle.std.specs.Option.{option_map, option_and_then}
 use Rattle.std.specs.Str.{bytes_eq}
@@ -25,12 +25,12 @@ pub data Stage : Type 0 where
   Title : Stage
   -- the board line
   Opening : Format → Stage
-  -- the reply that is due, or else an event or the end, behind so many entries
+  -- the reply that is due, or else an event or the end line, after that many entries
   Running : Format → State → ℕ → Option Reply → Stage
-  -- nothing
+  -- nothing, after that many entries
   Over : ℕ → Stage
 
--- the event that the fields name behind an actor's number, which is free, if it has a line in the format
+-- the event of the fields after an actor's number, which may be any, if it has a line in the format
 abbrev pub with_line : Format → Event → Option Event
 with_line f event = if has_line f event then Some event else None
 
@@ -40,7 +40,7 @@ entry_say f fields = option_and_then (with_line f) (take_then u8_at (λ (actor :
 unfoldable pub entry_at : Format → List ℕ → Option Event
 entry_at f line = entry_say f (fields_of line)
 
--- the sizes, within the limits, and the first ticket that a board line names
+-- the sizes, within the limits, and the first ticket of a board line
 abbrev pub within_limits : ℕ × ℕ × ℕ → Option (ℕ × ℕ × ℕ)
 within_limits sizes = if are_sizes sizes.0 sizes.1 then Some sizes else None
 
@@ -55,7 +55,7 @@ board_at line = board_say (fields_of line)
 abbrev pub performed : Format → State → ℕ → Event → Stage
 performed f s entries event = Running f (step s event).0 (entries + 1) (Some (step s event).1)
 
--- where a line leads, if it may stand there
+-- the stage after a line, if the line is allowed here
 abbrev pub follow : Stage → List ℕ → Option Stage
 follow Title line =
     if bytes_eq line (spaced (title_fields One)) then Some (Opening One)
@@ -68,46 +68,46 @@ follow (Running f s entries None) line =
 follow (Running f s entries (Some due)) line = if bytes_eq line (spaced (reply_fields due)) then Some (Running f s entries None) else None
 follow (Over entries) line = None
 
--- the stage that a check keeps, with its board
+-- the stage of a check, with its board
 abbrev pub stage_of : Held → Stage
 stage_of held.Title = Title
 stage_of (held.Opening format) = Opening format
 stage_of (held.Running format board entries due) = Running format board.state entries due
 stage_of (held.Over entries) = Over entries
 
--- the entries so far
+-- the number of entries so far
 abbrev pub count : Stage → ℕ
 count Title = 0
 count (Opening f) = 0
 count (Running f s entries due) = entries
 count (Over entries) = entries
 
--- a line may stand here, and leads on; nothing is written for it
+-- a line is allowed here and leads to the next stage; nothing is written for it
 abbrev pub IsGood : Stage → List ℕ → List ℕ → Stage → Type 0
 IsGood old line answer new = (follow old line ≡ Some new) × (answer ≡ [])
 
--- it may not
+-- the line is not allowed
 abbrev pub IsWrong : Stage → List ℕ → Unit {0} → Type 0
 IsWrong stage line fault = follow stage line ≡ None
 
--- so many lines led here at least
+-- at least that many lines led here
 abbrev pub IsBehind : ℕ → Stage → Type 0
 IsBehind lines stage = count stage ≤ lines
 
--- a board line opened a board, or may not stand there
+-- a board line opened a board, or is not allowed there
 abbrev pub Opens : Opened → Format → List ℕ → Type 0
 Opens (openings.Board board) f line = follow (Opening f) line ≡ Some (Running f board.state 0 None)
 Opens openings.Wrong f line = follow (Opening f) line ≡ None
 Opens openings.Memory f line = Unit {0}
 
--- a line behind the board line
+-- a line after the board line
 abbrev pub Runs : Ran → Format → State → ℕ → Option Reply → State → ℕ → Option Reply → List ℕ → Type 0
 Runs ran.On f s entries due s' entries' due' line = follow (Running f s entries due) line ≡ Some (Running f s' entries' due')
 Runs ran.End f s entries due s' entries' due' line = (entries' ≡ entries) × (follow (Running f s entries due) line ≡ Some (Over entries))
 Runs ran.Wrong f s entries due s' entries' due' line = follow (Running f s entries due) line ≡ None
 Runs ran.Memory f s entries due s' entries' due' line = Unit {0}
 
--- the trace is over, behind so many entries
+-- the trace is complete, after that many entries
 abbrev pub IsOver : Option ℕ → Stage → Type 0
 IsOver None stage = (n : ℕ) → stage ≡ Over n → ⊥
 IsOver (Some n) stage = stage ≡ Over n

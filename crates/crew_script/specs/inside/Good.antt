@@ -6,7 +6,7 @@ use Rattle.board_threads.specs.Judging.{is_bad_step, is_bad_raise}
 use Rattle.board_threads.specs.Sweeps.{is_absorb}
 use Rattle.crew_script.specs.Crew.{Crew, entries_of}
 
--- All sections being over, the sizes are within the limits, and each step is one of a crew.
+-- With all sections closed, the sizes are within the limits, and each step is valid in a crew.
 pub record IsGood (crew : Crew) : Type 0 where
   pub board : AreSizes crew.processors crew.pages
   pub few_actors : length crew.actors ≤ 15

@@ -1,4 +1,4 @@
--- What the fields of the code stand for.
+-- The abstract view of the fields.
 use Rattle.std.specs.Prelude.{◌≡◌, List, [], ◌∷◌, ◌++◌, Option, Ok, Err}
 use Rattle.std.specs.Option.{option_map}
 use Rattle.line_driver.specs.declared.judge.Taken.{Taken}
@@ -36,7 +36,7 @@ Adds taken.Good read new = read ≡ Ok new
 Adds (taken.Wrong fault) read new = read ≡ Err fault
 Adds taken.Memory read new = Unit {0}
 
--- an item was put at the end
+-- an item was appended
 abbrev pub Puts : {A : Type 0} → Taken ScriptFault → List A → List A → A → Type 0
 Puts taken.Good old new item = new ≡ old ++ item ∷ []
 Puts (taken.Wrong fault) old new item = ⊥

@@ -3,11 +3,11 @@ use Rattle.std.specs.Prelude.{◌≡◌, ℕ, ◌<◌, ◌≤◌, true, false, S
 use Rattle.stimer_bank.specs.declared.timer.Timer.{Timer}
 use Rattle.stimer_bank.specs.Timer.{is_enabled, is_periodic, is_mute, enabled, ruled}
 
--- a timer that has nobody to tell is not enabled
+-- a timer that cannot signal is not enabled
 pub record IsRuled (config : ℕ) : Type 0 where
   pub heard : is_enabled config ≡ true → is_mute config ≡ false
 
--- what every timer keeps
+-- the invariant of every timer
 pub record IsSoundTimer (x : Timer) : Type 0 where
   pub ruled : IsRuled x.config
   pub enabled : (d : ℕ) → x.due ≡ Some d → is_enabled x.config ≡ true

@@ -1,4 +1,4 @@
--- Delivery attempts, and messages that are accepted and withdrawn.
+-- Delivery attempts, and accepting and withdrawing messages.
 use Rattle.std.proofs.Common.{◌≡◌, ◌⊎◌, inl, inr, ℕ, zero, suc, ◌+◌, ◌*◌, ◌<◌, ◌≤◌, Bool, true, false, cond, ◌&&◌, List, [], ◌∷◌, ◌++◌, length, map, refl, ap, sym, ◌∙◌, arith, nat_lt, length-set}
 use Rattle.std.specs.Prelude.{if◌then◌else◌, not, filter}
 use Rattle.std.specs.List.{All}
@@ -29,7 +29,7 @@ use Rattle.synic_board.proofs.keeping.Requests.{either, keeps-raised}
 use Rattle.synic_board.proofs.keeping.Slots.{slot_type-pending}
 use Rattle.synic_board.proofs.keeping.Placements.{page_of, page-long, queue-good, keeps-placed}
 
--- an occupied slot is marked
+-- MessagePending is set in an occupied slot
 
 marked-page : (n : ℕ) (s : State) (p i : ℕ) → IsWhole n s → p < n → length (with_bit (page_of s p) (pending_place i) 0) ≡ 4096
 marked-page n s p i h below = length-set (page_of s p) (pending_place i) _ ∙ page-long n s p h below

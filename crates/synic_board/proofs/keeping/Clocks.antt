@@ -1,4 +1,4 @@
--- Timers that are written and expire, and the clock.
+-- Writing and expiring timers, and the clock.
 use Rattle.std.proofs.Common.{◌≡◌, ◌⊎◌, inl, inr, ℕ, ◌*◌, ◌<◌, ◌≤◌, Bool, true, false, ◌&&◌, List, [], ◌∷◌, refl, ap, arith, nat_lt}
 use Rattle.std.specs.Prelude.{Option, None, Some, ◌==◌, nat_le}
 use Rattle.std.specs.Option.{option_map_or}
@@ -22,7 +22,7 @@ use Rattle.synic_board.proofs.keeping.Requests.{either, keeps-requested}
 use Rattle.synic_board.proofs.keeping.Attempts.{keeps-delivered}
 use Rattle.synic_board.proofs.keeping.Changes.{kept-timer, kept-moment}
 
--- a timer that is due is one of a processor on the board
+-- a due timer belongs to a processor on the board
 due-on : (n : ℕ) (s : State) (t : ℕ × ℕ) → IsIntact n s → is_due_in (bank_of s) t s.moment ≡ true → number_of t < 4 * n
 due-on n s t h due = split (cases_lt (number_of t) (4 * n))
   where
@@ -42,7 +42,7 @@ expiry-ends t signal skipped ticket = omega (arith, ended-append ticket (expired
     skips : times_ended ticket (skipped_notices t skipped) ≡ 0
     skips = either (λ ns. times_ended ticket ns ≡ 0) (skipped == 0) _ _ (λ _. refl) (λ _. refl)
 
--- a mode that names a source names one of the sixteen
+-- a mode with a source has one of the sixteen
 abbrev pub Names : Mode → Type 0
 Names (Direct v) = Unit {0}
 Names (Posted i) = i < 16

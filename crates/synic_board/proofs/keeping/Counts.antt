@@ -1,4 +1,4 @@
--- How often a ticket stands in the queues and slots, and how often it was given or ended.
+-- How often a ticket is in the queues and slots, and how often it was given or ended.
 use Rattle.std.proofs.Common.{◌≡◌, ℕ, ◌+◌, ◌<◌, ◌≤◌, Bool, true, false, cond, ◌&&◌, List, [], ◌∷◌, ◌++◌, map, refl, ap, sym, ◌∙◌, arith, nat_lt, zero-add}
 use Rattle.std.specs.Prelude.{◌==◌, Option, None, Some, sum_by, nat_le}
 use Rattle.std.specs.List.{flat_map, filter_map}
@@ -13,11 +13,11 @@ use Rattle.message_queues.specs.Queues.{Queues}
 use Rattle.synic_board.specs.State.{State}
 use Rattle.synic_board.specs.Places.{places, times, tells_end, times_ended, given}
 
--- 1 where two tickets are the same
+-- 1 if two tickets are the same
 abbrev pub one : ℕ → ℕ → ℕ
 one x t = cond (x == t) 1 0
 
--- how often a ticket stands in a queue, in all, in a slot and in all slots
+-- how often a ticket is in a queue, in all queues, in a slot and in all slots
 abbrev pub in_queue : ℕ → List Message → ℕ
 in_queue t q = times t (map ticket_of q)
 
@@ -58,7 +58,7 @@ in_queue-cons t m q = sum_by-cons (λ y. one y t) (ticket_of m) (map ticket_of q
 pub ended-append : (t : ℕ) (xs ys : List Notice) → times_ended t (xs ++ ys) ≡ times_ended t xs + times_ended t ys
 ended-append t xs ys = sum_by-append (λ n. cond (tells_end t n) 1 0) xs ys
 
--- the tickets that are given one after another
+-- the tickets given in two steps
 abbrev bit : Bool → ℕ
 bit b = cond b 1 0
 

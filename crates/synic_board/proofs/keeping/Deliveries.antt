@@ -1,4 +1,4 @@
--- What is delivered, and timers that are tried, keep to the buffers.
+-- Deliveries, and attempts of timers, stay within the buffers.
 use Rattle.std.proofs.Common.{◌≡◌, ℕ, zero, suc, ◌+◌, ◌*◌, ◌<◌, Bool, true, false, ◌&&◌, List, [], ◌∷◌, length, get_or, refl, sym, subst, arith, nat_lt}
 use Rattle.std.specs.Prelude.{Option, None, Some}
 use Rattle.std.specs.Option.{option_map_or}
@@ -62,7 +62,7 @@ buffers-tried_below s p (suc i) h = buffers-tried (tried_below s p i).0 p i (buf
 pub buffers-delivered : (s : State) (p i : ℕ) (m : Message) → Fits s p i m → HasBuffers s → HasBuffers (delivered s p i m).0
 buffers-delivered s p i m free h = buffers-tried (accepted s p i m).0 p i (buffers-accepted s p i m free h)
 
--- a timer in message mode has its buffer free
+-- a timer in message mode has a free buffer
 abbrev IsReadyTo : State → ℕ × ℕ → Mode → Type 0
 IsReadyTo s t (Direct v) = Unit {0}
 IsReadyTo s t (Posted i) = is_timer_free s.queues t ≡ true

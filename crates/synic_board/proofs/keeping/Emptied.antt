@@ -1,4 +1,4 @@
--- A reset gives at most 276 notices.
+-- A reset emits at most 276 notices.
 use Rattle.std.proofs.Common.{◌≡◌, ◌⊎◌, inl, inr, ℕ, zero, suc, ◌+◌, ◌*◌, ◌<◌, ◌≤◌, Bool, true, false, cond, ◌&&◌, List, [], ◌∷◌, ◌++◌, length, length-append, map, refl, ap, ◌∙◌, arith, nat_lt}
 use Rattle.std.specs.Prelude.{None, Some, ◌==◌, sum_by, count_by}
 use Rattle.std.specs.Option.{option_map_or}
@@ -33,7 +33,7 @@ sum-none f none (x ∷ xs) = omega (arith, none x, sum-none f none xs, sum_by-co
 abbrev one_if : Bool → ℕ
 one_if b = cond b 1 0
 
--- what one test finds, one of two others finds
+-- a message that satisfies one predicate satisfies one of two others
 found-split : (f g h : Message → Bool) → ((m : Message) → one_if (f m) ≤ one_if (g m) + one_if (h m)) → (qs : Queues) → found_in f qs ≤ found_in g qs + found_in h qs
 found-split f g h le qs = sum-split (count_by f) (count_by g) (count_by h) (λ q. sum-split (λ m. one_if (f m)) (λ m. one_if (g m)) (λ m. one_if (h m)) le q) qs
 
@@ -85,7 +85,7 @@ timers-few : (s : State) (p n : ℕ) → HasBuffers s → found_in (is_of_timers
 timers-few s p zero h = omega (arith, found-none (is_of_timers p 0) (no-timer p) s.queues)
 timers-few s p (suc n) h = omega (arith, found-split (is_of_timers p (suc n)) (is_of_timers p n) (is_from_timer (p, n)) (next-timer p n) s.queues, timers-few s p n h, h.one_each (p, n))
 
--- how many messages are queued that may be queued for a processor
+-- how many of the messages that may be queued for a processor are queued
 abbrev homes : ℕ → Queues → ℕ
 homes p qs = found_in (is_of_ports 16) qs + found_in (is_of_timers p 4) qs
 
@@ -102,7 +102,7 @@ all-found p [] h = omega arith
 all-found p (m ∷ q) h =
     omega (arith, home-found p m (All-head (IsHome p) m q h), all-found p q (All-tail (IsHome p) m q h), sum_by-cons (λ x. cond (is_of_ports 16 x) 1 0) m q, sum_by-cons (λ x. cond (is_of_timers p 4 x) 1 0) m q)
 
--- so each message that is withdrawn from a queue was one of them
+-- so each message withdrawn from a queue was one of them
 queue-told : (s : State) (p i : ℕ) → i < 16 → HasBuffers s → length (queue_emptied s p i).1 + homes p (queue_emptied s p i).0.queues ≤ homes p s.queues
 queue-told s p i below h = by (cases_lt (source_number p i) (length s.queues))
   where

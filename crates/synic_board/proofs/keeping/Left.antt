@@ -1,4 +1,4 @@
--- Slots that are occupied, and what effects leave of them.
+-- Occupied slots, and what effects leave unchanged in them.
 use Rattle.std.proofs.Common.{◌≡◌, ◌≢◌, ◌⊎◌, inl, inr, ℕ, ◌+◌, ◌*◌, ◌%◌, ◌^◌, ◌<◌, ◌≤◌, max, get_or, set, false, List, [], ◌++◌, length, take, drop, refl, ap, sym, subst, ◌∙◌, arith}
 use Rattle.std.specs.Prelude.{Option, None, bit_or}
 use Rattle.std.specs.Int.{bit_at}
@@ -16,11 +16,11 @@ use Rattle.synic_board.specs.Posts.{with_flag}
 use Rattle.synic_board.specs.Slots.{slot_byte, LeavesSlot}
 use Rattle.synic_board.proofs.keeping.Slots.{overwritten-other}
 
--- each occupied slot is left
+-- each occupied slot is left unchanged
 abbrev pub Leaves : ℕ → State → State → Type 0
 Leaves n s now = (p i : ℕ) → p < n → i < 16 → is_slot_empty s p i ≡ false → LeavesSlot s now p i
 
--- it is occupied then
+-- it is occupied afterwards
 still-occupied : (s now : State) (p i : ℕ) → LeavesSlot s now p i → is_slot_empty now p i ≡ is_slot_empty s p i
 still-occupied s now p i h = rw (h.bytes 0 (omega arith) (λ e. omega (arith, e)), h.bytes 1 (omega arith) (λ e. omega (arith, e)), h.bytes 2 (omega arith) (λ e. omega (arith, e)), h.bytes 3 (omega arith) (λ e. omega (arith, e))) refl
 
@@ -34,7 +34,7 @@ leaves-after n s now next h k p i below under full =
       flags = λ bit ne. second.flags bit ne ∙ first.flags bit ne;
     }
 
--- where the page is the same, and the ticket
+-- the page and the ticket are the same
 pub leaves-page : (s now : State) (p i : ℕ) → own_page (space_of now) p Sim ≡ own_page (space_of s) p Sim → slot_of now p i ≡ slot_of s p i → LeavesSlot s now p i
 leaves-page s now p i page ticket = record {
   ticket = ticket;
@@ -45,7 +45,7 @@ leaves-page s now p i page ticket = record {
 pub leaves-same : (n : ℕ) (s now : State) → now.own ≡ s.own → now.slots ≡ s.slots → Leaves n s now
 leaves-same n s now own slots p i _ _ _ = leaves-page s now p i (ap (λ (l : List (List ℕ)). get_or l (2 * p) []) own) (ap (λ (l : List (Option ℕ)). get_or l (source_number p i) None) slots)
 
--- event flags stand in other pages
+-- event flags are in other pages
 pub leaves-flag : (n : ℕ) (s : State) (q j flag : ℕ) → Leaves n s (with_flag s q j flag)
 leaves-flag n s q j flag p i _ _ _ = leaves-page s (with_flag s q j flag) p i (get_or-set_other s.own (2 * q + 1) (2 * p) (with_bit (own_page (space_of s) q Sief) (flag_place j flag) (flag % 8)) [] (λ e. omega (arith, e))) refl
 

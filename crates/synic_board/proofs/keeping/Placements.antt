@@ -1,4 +1,4 @@
--- The head of a queue is placed in its slot, which held no ticket.
+-- Placing the head of a queue in its slot, which held no ticket.
 use Rattle.std.proofs.Common.{◌≡◌, ◌≢◌, ◌⊎◌, inl, inr, ℕ, ◌+◌, ◌*◌, ◌<◌, Bool, true, false, List, [], ◌∷◌, length, refl, ap, sym, subst, ◌∙◌, arith, nat_lt, suc, length-set}
 use Rattle.std.specs.Prelude.{None, Some, slice_index_or, slice_set}
 use Rattle.std.specs.List.{All}
@@ -57,7 +57,7 @@ placed-whole n s p i m rest h below under good more = record {
   messages = All-set (All IsMessage) s.queues (source_number p i) rest more h.messages;
 }
 
--- the slots of other sources stay as they are, and that of the source is occupied
+-- the slots of other sources are unchanged, and that of the source is occupied
 free-other : (n : ℕ) (s : State) (p i q j : ℕ) (m : Message) (rest : List Message) → IsIntact n s → p < n → i < 16 → q < n → j < 16 → IsMessage m → (p ≡ q → i ≢ j) → IsFree (placed_state s p i m rest) q j
 free-other n s p i q j m rest h below under within inside good apart e =
     get_or-set_other s.slots (source_number p i) (source_number q j) (Some (ticket_of m)) None (λ same. other_place p i q j under inside apart (sym same))
@@ -85,7 +85,7 @@ placed-empty n s p i m rest h below under good q j within inside = split (cases_
     split (inl e) (inr ne) = free-other n s p i q j m rest h below under within inside good (λ _. ne)
     split (inl e) (inl f) = λ z. absurd (occupied n s p i m rest h below under good ((λ k. slot_type (page_of (placed_state s p i m rest) (e k)) (f k)) ∙ z))
 
--- the message goes from its queue into its slot
+-- the message moves from its queue to its slot
 placed-moves : (n : ℕ) (s : State) (p i : ℕ) (m : Message) (rest : List Message) → IsWhole n s → p < n → i < 16 → queue_of s.queues p i ≡ m ∷ rest → slot_of s p i ≡ None → (t : ℕ) → times t (places (placed_state s p i m rest)) ≡ times t (places s)
 placed-moves n s p i m rest h below under is free t =
     let a = times-places t s in
@@ -100,7 +100,7 @@ no-ends : (ticket p i : ℕ) (pending : Bool) → EndsNone (placed_notices ticke
 no-ends ticket p i true t = refl
 no-ends ticket p i false t = refl
 
--- a message is placed in an empty slot, so that each occupied one is left
+-- a message is placed in an empty slot, so each occupied one is unchanged
 leaves-placed : (n : ℕ) (s : State) (p i : ℕ) (m : Message) (rest : List Message) → IsIntact n s → p < n → i < 16 → IsMessage m → slot_type (page_of s p) i ≡ 0 → Leaves n s (placed_state s p i m rest)
 leaves-placed n s p i m rest h below under good empty q j within inside full = by (cases_eq q p)
   where
@@ -140,7 +140,7 @@ keeps-head n s p i m rest h below under is empty free =
       leaves = leaves-placed n s p i m rest h below under good.0 empty;
     }
 
--- a message of a queue that is not empty is placed in an empty slot
+-- the head of a queue is placed in an empty slot
 pub keeps-placed : (n : ℕ) (s : State) (p i : ℕ) → IsIntact n s → p < n → i < 16 → nat_lt 0 (length (queue_of s.queues p i)) ≡ true → slot_type (page_of s p) i ≡ 0 → Keeps n s (placed s p i)
 keeps-placed n s p i h below under some empty = go (queue_of s.queues p i) refl some
   where

@@ -1,4 +1,4 @@
--- Ports that are opened and closed, posts and signals.
+-- Opening and closing ports, posts and signals.
 use Rattle.std.proofs.Common.{◌≡◌, ◌≢◌, ℕ, ◌+◌, ◌^◌, ◌<◌, ◌≤◌, Bool, true, false, ◌&&◌, [], ◌∷◌, length, refl, arith, nat_lt}
 use Rattle.std.specs.Prelude.{Option, None, Some, Ok, Err, if◌then◌else◌, not, is_some}
 use Rattle.std.specs.Option.{option_map_or}
@@ -55,7 +55,7 @@ keeps-closed n s port h = found (port_at (ports_of s) port) refl
         let first = keeps-still n s (without_port s port, []) (kept-without_port n s port h) (record { queues = refl; slots = refl; next = refl }) (leaves-same n s (without_port s port) refl refl) (λ t. refl) in
         keeps-after n s (without_port s port, []) (withdrawn (without_port s port) p.vp p.sint port) first (keeps-withdrawn n (without_port s port) p.vp p.sint port first.kept reached.0 reached.1)
 
--- a type that a post may have
+-- a valid type of a post
 some-kind : (kind : ℕ) → is_posted_type kind ≡ true → kind ≢ 0
 some-kind kind e z = absurd (grind (arith, nat_tests))
 

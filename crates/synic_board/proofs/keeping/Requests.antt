@@ -1,4 +1,4 @@
--- Vectors that are requested, and raised by sources.
+-- Requesting vectors, and raising them from sources.
 use Rattle.std.proofs.Common.{◌≡◌, ℕ, ◌+◌, ◌*◌, zero, suc, Bool, true, false, [], ◌∷◌, refl}
 use Rattle.std.specs.Prelude.{None, Some, if◌then◌else◌}
 use Rattle.std.specs.Option.{option_map_or}
@@ -13,7 +13,7 @@ use Rattle.synic_board.specs.Absorbing.{is_posted, absorbed_bit, absorbed_below}
 use Rattle.synic_board.proofs.keeping.Left.{Leaves, leaves-same}
 use Rattle.synic_board.proofs.keeping.Wholes.{IsIntact, Keeps, AreStill, keeps-still, keeps-nothing, keeps-after, kept-apic}
 
--- a choice, from both sides
+-- a property of a choice, from both cases
 pub either : {X : Type 0} (P : X → Type 0) (b : Bool) (x y : X) → (b ≡ true → P x) → (b ≡ false → P y) → P (if b then x else y)
 either P true x y p q = p refl
 either P false x y p q = q refl

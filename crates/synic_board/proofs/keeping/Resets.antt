@@ -1,4 +1,4 @@
--- A processor that is reset, and one that is suspended or goes on.
+-- Resetting, suspending and resuming a processor.
 use Rattle.std.proofs.Common.{◌≡◌, ◌≢◌, ◌⊎◌, inl, inr, ℕ, zero, suc, ◌+◌, ◌*◌, ◌<◌, ◌≤◌, Bool, [], ◌∷◌, length, map, refl, ap, sym, ◌∙◌, arith, length-set, zero-add, set}
 use Rattle.std.specs.Prelude.{Option, None, Some}
 use Rattle.std.specs.Option.{option_map_or}
@@ -33,7 +33,7 @@ use Rattle.synic_board.proofs.keeping.Changes.{kept-bank}
 use Rattle.synic_board.proofs.keeping.Attempts.{ends-each}
 use Rattle.synic_board.proofs.keeping.Stores.{without-whole, without-slot}
 
--- a mark
+-- the suspension flag
 pub keeps-suspension : (n : ℕ) (s : State) (p : ℕ) (mark : Bool) → IsIntact n s → p < n → Keeps n s (with_suspension s p mark, [])
 keeps-suspension n s p mark h below =
     let apic : Apic = apic_with_suspension (apic_of s p) mark in
@@ -81,7 +81,7 @@ keeps-queue n s p i h below under = record {
   conserves = λ t. omega (arith, times-places t s, times-places t (queue_emptied s p i).0, sum_by-set (in_queue t) s.queues (source_number p i) [] [] (omega (arith, h.whole.queues)), ends-each t p i (map ticket_of (queue_of s.queues p i)), given-none t s (queue_emptied s p i).0 refl);
 }
 
--- what was done for the sources below i: their slots hold no ticket
+-- after the sources below i were emptied: their slots hold no ticket
 record Empties (n p i : ℕ) (s : State) (e : Effect) : Type 0 where
   messages : KeepsMessages n s e
   free : (j : ℕ) → j < i → slot_of e.0 p j ≡ None
@@ -112,7 +112,7 @@ empties-below n s p (suc i) h below few =
 page-other : (s : State) (p q : ℕ) → q ≢ p → own_page (space_of (cleared s p)) q Sim ≡ own_page (space_of s) q Sim
 page-other s p q ne = get_or-set_other (set s.own (2 * p) zero_page) (2 * p + 1) (2 * q) zero_page [] (λ e. omega (arith, e)) ∙ get_or-set_other s.own (2 * p) (2 * q) zero_page [] (λ e. ne (omega (arith, e)))
 
--- the rest is as it was opened
+-- the rest is as in a newly opened board
 kept-cleared : (n : ℕ) (s : State) (p : ℕ) → IsIntact n s → p < n → ((j : ℕ) → j < 16 → slot_of s p j ≡ None) → IsIntact n (cleared s p)
 kept-cleared n s p h below free = record {
   count = length-set s.apics p empty_apic ∙ h.count;
@@ -142,7 +142,7 @@ keeps-reset n s p h below =
     let all = empties-below n s p 16 h below (omega arith) in
     messages-after n s e (cleared e.0 p, []) all.messages (record { kept = kept-cleared n e.0 p all.messages.kept below all.free; later = omega arith; conserves = still e.0 (cleared e.0 p) [] (record { queues = refl; slots = refl; next = refl }) (λ t. refl) })
 
--- the slots of another processor are left
+-- the slots of another processor are unchanged
 record IsLeft (s now : State) (q : ℕ) : Type 0 where
   page : own_page (space_of now) q Sim ≡ own_page (space_of s) q Sim
   slots : (j : ℕ) → j < 16 → slot_of now q j ≡ slot_of s q j

@@ -20,11 +20,11 @@ slot_type-bit page at bit i apart =
 pub slot_type-pending : (page : List ℕ) (j i : ℕ) → slot_type (with_bit page (pending_place j) 0) i ≡ slot_type page i
 slot_type-pending page j i = slot_type-bit page (256 * j + 5) 0 i ((λ e. omega (arith, e)), (λ e. omega (arith, e)), (λ e. omega (arith, e)), (λ e. omega (arith, e)))
 
--- sources have slots of their own
+-- sources have disjoint slots
 pub other_place : (p i q j : ℕ) → i < 16 → j < 16 → (p ≡ q → i ≢ j) → source_number p i ≢ source_number q j
 other_place p i q j below under apart e = let same : p ≡ q = omega (arith, e) in apart same (omega (arith, e, same))
 
--- the bytes of a page that are not written stay
+-- bytes of a page that are not written stay
 pub overwritten-other : (page bytes : List ℕ) (at k : ℕ) → at + length bytes ≤ length page → (k < at) ⊎ (at + length bytes ≤ k) → get_or (overwritten page at bytes) k 0 ≡ get_or page k 0
 overwritten-other page bytes at k fits (inl below) =
     let front : k < length (take at page) = omega (arith, length-take at page) in

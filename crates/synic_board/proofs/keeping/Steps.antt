@@ -1,4 +1,4 @@
--- What every event keeps.
+-- Invariants of every event.
 use Rattle.std.proofs.Common.{◌≡◌, ◌∙◌, Bool, true, false, ℕ, ◌%◌, ◌<◌, ◌≤◌, List, [], refl, sym, subst, arith, nat_lt}
 use Rattle.std.specs.Prelude.{Option, None, Some, nat_le}
 use Rattle.std.specs.Option.{option_map_or}
@@ -82,7 +82,7 @@ keeps-suspended n s p h below = either (KeepsOutcome n s) (is_suspended s p) _ _
 keeps-resumed : (n : ℕ) (s : State) (p : ℕ) → IsIntact n s → p < n → KeepsOutcome n s (resumed s p)
 keeps-resumed n s p h below = either (KeepsOutcome n s) (is_suspended s p) _ _ (λ _. keeps-suspension n s p false h below) (λ _. keeps-unchanged n s (Refused NotSuspended) h)
 
--- an event that leaves all slots that are occupied: no store, and no reset
+-- an event that leaves all occupied slots unchanged: no store, and no reset
 abbrev LeavesAll : Event → Type 0
 LeavesAll (Store address bytes) = ⊥
 LeavesAll (Reset p) = ⊥
@@ -133,17 +133,17 @@ keeps-step n s (Reset p) fits h =
 pub conserves : (s now : State) (e : Event) (reply : Reply) (notices : List Notice) → PayloadFits e → (now, reply, notices) ≡ step s e → IsSound s → Conserves s now notices
 conserves s now e reply notices fits is sound = subst (λ (o : Outcome). Conserves s o.0 o.2) (sym is) (keeps-step (processors s) s e fits (kept_from_sound s sound)).conserves
 
--- no ticket is given again
+-- no ticket is given twice
 pub later : (s now : State) (e : Event) (reply : Reply) (notices : List Notice) → PayloadFits e → (now, reply, notices) ≡ step s e → IsSound s → s.next_ticket ≤ now.next_ticket
 later s now e reply notices fits is sound = subst (λ (o : Outcome). s.next_ticket ≤ o.0.next_ticket) (sym is) (keeps-step (processors s) s e fits (kept_from_sound s sound)).later
 
--- every event keeps the state sound
+-- every event preserves soundness
 pub sound : (s now : State) (e : Event) (reply : Reply) (notices : List Notice) → PayloadFits e → (now, reply, notices) ≡ step s e → IsSound s → IsSound now
 sound s now e reply notices fits is before =
     let k = keeps-step (processors s) s e fits (kept_from_sound s before) in
     subst (λ (o : Outcome). IsSound o.0) (sym is) (sound_from_kept (processors s) (step s e).0 k.kept (tickets-conserved s (step s e).0 (step s e).2 k.later k.conserves before.tickets))
 
--- an occupied slot is left, and one that holds a ticket is occupied
+-- an occupied slot is left unchanged, and one that holds a ticket is occupied
 pub slot-left : (s : State) (e : Event) (p i : ℕ) → IsSound s → PayloadFits e → IsApart p e → p < processors s → i < 16 → is_slot_empty s p i ≡ false → LeavesSlot s (step s e).0 p i
 unfolding step
 slot-left s e p i sound fits apart below under full = by e fits apart

@@ -28,13 +28,13 @@ use Rattle.synic_board.proofs.keeping.Wholes.{IsIntact, KeepsMessages, KeepsMess
 use Rattle.synic_board.proofs.keeping.Requests.{either}
 use Rattle.synic_board.proofs.keeping.Placements.{page_of}
 
--- the slots of processor p from number i on may be empty and hold a ticket still
+-- the slots of processor p from number i on may be empty and still hold a ticket
 record IsPartly (n p i : ℕ) (s : State) : Type 0 where
   count : processors s ≡ n
   whole : IsWhole n s
   empty : (q j : ℕ) → q < n → j < 16 → (q ≡ p → j < i) → IsFree s q j
 
--- what was done for the slots below i
+-- after the slots below i were processed
 record Consumes (n p i : ℕ) (s : State) (e : Effect) : Type 0 where
   partly : IsPartly n p i e.0
   next : e.0.next_ticket ≡ s.next_ticket
@@ -115,7 +115,7 @@ keeps-consumed n s now p same h below =
       conserves = conserves-after s (now, []) (consumed_below now p 16) (omega (arith, same.next)) (omega (arith, all.next)) (still s now [] same (λ t. refl)) all.conserves;
     }
 
--- the bytes that are stored leave a page as long as it was
+-- a store does not change the length of a page
 length-overwritten : (page bytes : List ℕ) (at : ℕ) → length page ≡ 4096 → at + length bytes ≤ 4096 → length (overwritten page at bytes) ≡ 4096
 length-overwritten page bytes at l fits =
     omega (arith, length-append (take at page ++ bytes) (drop (at + length bytes) page), length-append (take at page) bytes, length-take at page, length-drop (at + length bytes) page)
@@ -168,7 +168,7 @@ guest-kept n s pages h = record {
   empty = h.empty;
 }
 
--- a store that is not refused, where that overlay is visible or none
+-- an accepted store to that visible overlay, or to the guest page
 abbrev store_at : State → ℕ → ℕ → List ℕ → Option ℕ → Space
 store_at s page at bytes o =
     let stored : List ℕ = overwritten (option_map_or (λ overlay. slice_index_or s.own overlay []) o (slice_index_or s.pages page [])) at bytes in

@@ -1,4 +1,4 @@
--- How many buffers are in use where a queue is written.
+-- How many buffers are in use after a queue is written.
 use Rattle.std.proofs.Common.{◌≡◌, ◌≢◌, ◌⊎◌, inl, inr, ℕ, zero, suc, ◌+◌, ◌<◌, ◌≤◌, Bool, true, false, cond, ◌&&◌, List, [], ◌∷◌, ◌++◌, length, set, get_or, refl, ap, sym, ◌∙◌, subst, arith}
 use Rattle.std.specs.Prelude.{Option, None, Some, not, ◌==◌, sum_by, count_by, slice_index_or}
 use Rattle.std.specs.Option.{option_map_or}
@@ -29,7 +29,7 @@ alike s now queues ports h = record {
   shapes = λ k p e. h.shapes k p (ap (λ xs. slice_index_or xs k None) (sym ports) ∙ e);
 }
 
--- how many messages that a test finds are queued
+-- how many queued messages satisfy a predicate
 abbrev pub found_in : (Message → Bool) → Queues → ℕ
 found_in f qs = sum_by (count_by f) qs
 
@@ -52,7 +52,7 @@ home-set qs j q new home p i below = split (cases_eq (source_number p i) j) (cas
     split (inr other) _ = subst (All (IsHome p)) (sym (get_or-set_other qs j (source_number p i) q [] other)) (home p i below)
     split _ (inr past) = subst (λ xs. All (IsHome p) (queue_of xs p i)) (sym (set_past qs j q past)) (home p i below)
 
--- messages of a queue, some of which may be missing
+-- messages of a queue, of which some may be missing
 pub record IsPart (q whole : List Message) : Type 0 where
   pub counts : (f : Message → Bool) → count_by f q ≤ count_by f whole
   pub home : (p : ℕ) → All (IsHome p) whole → All (IsHome p) q
@@ -127,7 +127,7 @@ timer-fits s t i ticket expiration under index free = record {
 abbrev one_if : Bool → ℕ
 one_if b = cond b 1 0
 
--- one message more that the test finds, if it finds the new one
+-- one more message that satisfies the predicate, if the new one does
 more-found : (f : Message → Bool) (s : State) (p i : ℕ) (m : Message) (d : ℕ) → found_in f s.queues ≤ d → (f m ≡ true → found_in f s.queues < d) → found_in f (accepted s p i m).0.queues ≤ d
 more-found f s p i m d few free = elim (f m) as (λ b. f m ≡ b → found_in f (accepted s p i m).0.queues ≤ d) [
   | true ↦ λ e. omega (arith, more, ap one_if e, free e)
@@ -146,7 +146,7 @@ buffers-accepted s p i m fit h = record {
   shapes = h.shapes;
 }
 
--- a processor whose slots and queues are emptied
+-- emptying the slots and queues of a processor
 pub buffers-slot : (s : State) (p i : ℕ) → HasBuffers s → HasBuffers (slot_emptied s p i).0
 buffers-slot s p i h = held (slot_of s p i)
   where

@@ -1,4 +1,4 @@
--- Effects that keep a state sound and conserve its messages.
+-- Effects that preserve soundness and conserve the messages.
 use Rattle.std.proofs.Common.{◌≡◌, ◌⊎◌, inl, inr, ℕ, ◌<◌, ◌≤◌, List, ◌++◌, refl, ap, sym, subst, ◌∙◌, arith, length-set}
 use Rattle.std.proofs.lemmas.Bool.{cases_lt}
 use Rattle.board_terms.specs.declared.notices.Notice.{Notice}
@@ -11,7 +11,7 @@ use Rattle.synic_board.specs.Sound.{IsWhole, IsFree, IsSound}
 use Rattle.synic_board.proofs.keeping.Left.{Leaves, leaves-after, leaves-same}
 use Rattle.synic_board.proofs.keeping.Counts.{in_queues, in_slots, times-places, ended-append, given-after, given-none, given-low, given-high, given-le}
 
--- a state with n processors is sound, apart from its tickets
+-- a state with n processors is sound, except for its tickets
 pub record IsIntact (n : ℕ) (s : State) : Type 0 where
   pub count : processors s ≡ n
   pub whole : IsWhole n s
@@ -23,13 +23,13 @@ kept_from_sound s h = record { count = refl; whole = h.whole; empty = h.empty }
 pub sound_from_kept : (n : ℕ) (s : State) → IsIntact n s → AreTickets s → IsSound s
 sound_from_kept n s kept tickets = let h = subst (λ k. IsIntact k s) (sym kept.count) kept in record { whole = h.whole; empty = h.empty; tickets = tickets }
 
--- an effect conserves the messages and keeps the rest
+-- an effect conserves the messages and preserves the rest
 pub record KeepsMessages (n : ℕ) (s : State) (e : Effect) : Type 0 where
   pub kept : IsIntact n e.0
   pub later : s.next_ticket ≤ e.0.next_ticket
   pub conserves : Conserves s e.0 e.1
 
--- and it leaves the slots that are occupied
+-- and leaves the occupied slots unchanged
 pub record Keeps (n : ℕ) (s : State) (e : Effect) : Type 0 where
   pub kept : IsIntact n e.0
   pub later : s.next_ticket ≤ e.0.next_ticket
@@ -59,7 +59,7 @@ keeps-still n s e h same left none = record { kept = h; later = omega (arith, sa
 pub keeps-nothing : (n : ℕ) (s : State) → IsIntact n s → Keeps n s (nothing s)
 keeps-nothing n s h = keeps-still n s (nothing s) h (record { queues = refl; slots = refl; next = refl }) (leaves-same n s s refl refl) (λ t. refl)
 
--- an outcome, apart from its reply
+-- an outcome, without its reply
 abbrev pub KeepsOutcome : ℕ → State → Outcome → Type 0
 KeepsOutcome n s o = Keeps n s (o.0, o.2)
 
@@ -84,7 +84,7 @@ keeps-after n s e f first second = record {
   leaves = leaves-after n s e.0 f.0 first.leaves second.leaves;
 }
 
--- what conserves the messages keeps each ticket in one place
+-- an effect that conserves the messages keeps each ticket in one place
 pub tickets-conserved : (s now : State) (notices : List Notice) → s.next_ticket ≤ now.next_ticket → Conserves s now notices → AreTickets s → AreTickets now
 tickets-conserved s now notices later conserves tickets = record { once = once; given_before = given_before }
   where

@@ -1,4 +1,4 @@
--- How values are coded in contracts that compare them whole: as their parts.
+-- How contracts encode values that they compare whole: as tuples of their parts.
 use Rattle.std.specs.Prelude.{ℕ, Bool, List, Option, refl}
 use Rattle.std.specs.FinSet as set
 use Rattle.std.specs.Coded.{Coded, code_by, coded×, coded_ℕ, coded_bool, coded_list, coded_option}

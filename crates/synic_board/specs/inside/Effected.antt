@@ -1,4 +1,4 @@
--- What a call on a machine leaves when it has an effect.
+-- The machine after a call with an effect.
 use Rattle.std.specs.Prelude.{◌≡◌, ◌≤◌, ◌+◌, ◌++◌, List, length}
 use Rattle.board_terms.specs.declared.notices.Notice.{Notice}
 use Rattle.synic_board.specs.State.{Held}
@@ -8,7 +8,7 @@ use Rattle.synic_board.specs.Effects.{Effect}
 abbrev pub preceded : List Notice → Effect → Effect
 preceded before e = (e.0, before ++ e.1)
 
--- from `before` with the notices `told` the call leads to `now` with the notices `telling`: the effect e, whose notices stand behind, and no more writes of the summary than notices
+-- from `before` with the notices `told`, the call leads to `now` with the notices `telling`: the effect e, whose notices are appended, with at most as many writes of the summary as notices
 pub record Effected (before : Held) (told : List Notice) (now : Held) (telling : List Notice) (e : Effect) : Type 0 where
   pub effect : (now.state, telling) ≡ preceded told e
   pub rises : before.writes ≤ now.writes

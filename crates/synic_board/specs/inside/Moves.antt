@@ -1,4 +1,4 @@
--- Overlays that move, and what that changes of the summary.
+-- Moving overlays, and the effect on the summary.
 use Rattle.std.specs.Prelude.{ℕ, nat_lt, List, length, slice_set, if◌then◌else◌}
 use Rattle.board_terms.specs.declared.pages.Owner.{Owner}
 use Rattle.board_terms.specs.declared.pages.Kind.{Kind}
@@ -8,12 +8,12 @@ use Rattle.synic_regs.specs.declared.register.Register.TheVariants as register
 use Rattle.gpa_space.specs.Space.{Space, owner_of}
 use Rattle.synic_board.specs.Scratch.{Values}
 
--- the register that says where an overlay lies
+-- the register of an overlay
 abbrev pub overlay_register : Kind → Register
 overlay_register kind.Sim = register.Sim
 overlay_register kind.Sief = register.Sief
 
--- the owner of one page is looked up again, where there is such a page
+-- the owner of one page is recomputed, if there is such a page
 abbrev pub looked_up : Space → List Owner → ℕ → List Owner
 looked_up s owners page = if nat_lt page (length s.pages) then slice_set owners page (owner_of s page) else owners
 

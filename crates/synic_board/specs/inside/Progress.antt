@@ -1,4 +1,4 @@
--- How far a run has come.
+-- The progress of a run.
 use Rattle.std.specs.Prelude.{◌≡◌, ◌≤◌, ℕ, List, take}
 use Rattle.board_terms.specs.declared.notices.Notice.{Notice}
 use Rattle.synic_board.specs.declared.event.Event.{Event}
@@ -7,7 +7,7 @@ use Rattle.synic_board.specs.State.{State}
 use Rattle.synic_board.specs.Places.{Conserves}
 use Rattle.synic_board.specs.Run.{run_of, told_behind}
 
--- the first i events are behind: the board, the replies and the notices are those of their run, which conserves the messages
+-- the first i events were performed: the board, the replies and the notices are those of their run, which conserves the messages
 pub record AreBehind (s : State) (es : List Event) (i : ℕ) (before : List Notice) (now : State) (replies : List Reply) (told : List Notice) : Type 0 where
   pub is : (now, replies, told) ≡ told_behind before (run_of s (take i es))
   pub conserves : Conserves s now (run_of s (take i es)).2

@@ -13,7 +13,7 @@ use Rattle.board_terms.specs.declared.messages.Message.TheVariants.{FromPort}
 abbrev pub AllOn : State → List TimerId → Type 0
 AllOn s ts = (k : ℕ) → k < length ts → (slice_index_or ts k (0, 0)).0 < processors s
 
--- the earliest timer is due at the moment, so that some timer is
+-- the earliest deadline has been reached, so some timer is due
 abbrev pub is_any_due : Option (Moment × TimerId) → Moment → Bool
 is_any_due first moment = option_map_or (λ e. nat_le e.0 moment) first false
 

@@ -1,4 +1,4 @@
--- What the machine's fields stand for, and what they keep.
+-- The abstract view of the machine's fields, and their invariant.
 use Rattle.std.specs.Prelude.{◌≡◌, ◌≤◌, ◌*◌, ℕ, length, None, slice_index_or}
 use Rattle.stimer_bank.specs.Bank.{dues}
 use Rattle.synic_board.specs.State.{State, Held, overlay_registers}
@@ -35,7 +35,7 @@ pub record IsKept (b : Inside) : Type 0 where
   pub ports : b.ports.processors ≡ length b.lapics.items
   pub queues : length b.queues ≡ 16 * length b.lapics.items
   pub slots : length b.slots.items ≡ 16 * length b.lapics.items
-  -- no timer of a processor that is not on the board is due
+  -- no timer of a processor that is not on the board has a deadline
   pub idle : (n : ℕ) → 4 * length b.lapics.items ≤ n → slice_index_or (dues b.timers) n None ≡ None
-  -- the stored summary is the one computed from scratch
+  -- the cached summary equals the one computed from scratch
   pub summary : b.summary.values ≡ scratch (state_of b)

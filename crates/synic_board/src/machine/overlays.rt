@@ -1,4 +1,4 @@
-// Overlay pages that are enabled, disabled and moved.
+// Enabling, disabling and moving overlay pages.
 ghost use Rattle.std.specs.Prelude.{◌≡◌, ◌<◌, ◌≤◌, ◌+◌, length};
 ghost use Rattle.synic_regs.specs.Regs.{after_write};
 ghost use Rattle.synic_board.specs.State.{processors, regs_of, with_regs};
@@ -21,8 +21,8 @@ fn overlay_register(kind: Kind) -> Register
 }
 
 impl Machine {
-    /// Writes SIMP or SIEFP. Only the page that it left and the page that it reached can have another
-    /// owner.
+    /// Writes SIMP or SIEFP. Only the page that the overlay left and the page that it reached can
+    /// get another owner.
     #[inline(always)]
     pub(crate) fn write_overlay(&mut self, vp: Vp, kind: Kind, value: u64)
         requires { vp < processors self.old.state }
@@ -49,7 +49,7 @@ impl Machine {
     }
 }
 
-/// Writes the owner of a page into the summary, where there is such a page and it has another one.
+/// Updates the owner of a page in the summary, if there is such a page and its owner has changed.
 fn look_up(space: &Space, pages: u8, summary: &mut Summary, page: u64)
     requires pages { pages ≡ length space.now.pages }
     requires owners { length summary.old.values.owners ≡ length space.now.pages }

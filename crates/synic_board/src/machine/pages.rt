@@ -16,7 +16,7 @@ use board_terms::{Kind, Notice, Notices, Owner, Sint, Vp, source_number};
 /// The number of bytes of a page.
 const PAGE_SIZE: u64 = 4096;
 
-/// The number of bytes of a message slot, and of the type in front of it (TLFS, "SynIC Message").
+/// The size of a message slot in bytes, and of the type at its front (TLFS, "SynIC Message").
 const SLOT_SIZE: usize = 256;
 
 const TYPE_SIZE: usize = 4;
@@ -30,7 +30,7 @@ impl Machine {
         self.space.own_page(vp, kind)
     }
 
-    /// A guest page, without what lies above it.
+    /// A guest page, without the overlays that obscure it.
     pub(crate) fn guest_page(&self, number: u64) -> Option<&[u8]>
         ensures value { option_copied result ≡ slice_get self.now.state.pages number }
         ensures len { IfSome result (λ page. length page.now ≡ 4096) }
@@ -48,8 +48,8 @@ impl Machine {
         }
     }
 
-    /// Stores bytes in the page that the guest sees at the address. The board keeps that a slot is
-    /// empty only where it holds no ticket, so only the slot whose type was written may hold one still.
+    /// Stores bytes in the page that the guest sees at the address. Invariant: a slot that is empty
+    /// holds no ticket. So only the slot whose type was written can violate it.
     pub(crate) fn store(&mut self, address: u64, bytes: &[u8], notices: &mut Notices) -> Reply
         requires none { notices.old ≡ [] }
         requires sound { IsSound self.old.state }
@@ -65,8 +65,8 @@ impl Machine {
         Reply::Done
     }
 
-    /// The message of the slot that was touched is consumed if the slot is empty now, where the page
-    /// is one of messages.
+    /// If the page is a message page and the slot is now empty, the message of the slot is
+    /// consumed.
     fn consume_in(&mut self, owner: Owner, slot: Option<Sint>, notices: &mut Notices)
         requires on { IsOn self.old.state owner }
         requires others { OthersFree self.old.state owner slot }
@@ -86,7 +86,7 @@ impl Machine {
         }
     }
 
-    /// A slot that is empty loses its ticket.
+    /// Removes the ticket of an empty slot.
     #[tactic(auto, using(crate::proofs::Rules::lists), unfolding(crate::specs::Stores::consumed))]
     fn consume(&mut self, vp: Vp, sint: Sint, notices: &mut Notices)
         requires on { vp < processors self.old.state }
@@ -108,8 +108,8 @@ impl Machine {
     }
 }
 
-/// The source whose slot a store may have emptied: the last that its bytes reach, if they begin no
-/// later than the slot's type. At most 8 bytes reach the type of no other slot.
+/// The source whose slot a store may have emptied: the last slot that its bytes reach, if they
+/// begin no later than the slot's type. At most 8 bytes reach the type of only one slot.
 fn touched(at: usize, count: usize) -> Option<Sint>
     requires some { 0 < count }
     requires inside { at + count ≤ 4096 }

@@ -1,4 +1,4 @@
-// Ports that are opened and closed, posts and signals.
+// Opening and closing ports, posts and signals.
 ghost use Rattle.std.specs.Prelude.{◌≡◌, ◌<◌, ◌≤◌, ◌+◌, [], ◌++◌, length, map, true, IfNone};
 ghost use Rattle.event_ports.specs.Shapes.{fits, takes_messages};
 ghost use Rattle.message_queues.specs.Queues.{port_used};
@@ -133,7 +133,7 @@ impl Machine {
     }
 }
 
-/// A notice for each message that was withdrawn.
+/// Emits a notice for each withdrawn message.
 pub(crate) fn tell_withdrawn(vp: Vp, sint: Sint, tickets: &[Ticket], notices: &mut Notices)
     requires { length notices.old + length tickets.now ≤ 320 }
     ensures { notices.new ≡ notices.old ++ map (λ t. Notice.Withdrawn t vp sint) tickets.now }

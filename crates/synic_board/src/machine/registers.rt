@@ -10,7 +10,7 @@ use crate::summary::Entry;
 use board_terms::{Kind, Notices, Sint, TimerId, Vp};
 use synic_regs::{Outcome, Register, decode};
 
-/// The version of the SynIC that SVERSION reads.
+/// The SynIC version in SVERSION.
 const VERSION: u64 = 1;
 
 impl Machine {
@@ -54,7 +54,7 @@ impl Machine {
         let _ = self.regs[vp.number() as usize].write(Register::Control, value);
     }
 
-    /// Writes a source, and the vectors that now end by themselves.
+    /// Writes a source, and updates the auto-EOI vectors.
     #[tactic(auto, using(crate::proofs::Rules::lists))]
     fn write_source(&mut self, vp: Vp, sint: Sint, value: u64) -> Reply
         requires { vp < processors self.old.state }

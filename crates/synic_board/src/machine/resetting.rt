@@ -1,4 +1,4 @@
-// A processor that is reset.
+// Resetting a processor.
 ghost use Rattle.std.specs.Prelude.{◌≡◌, ◌<◌, ◌≤◌, ◌+◌, [], length, sum_by};
 ghost use Rattle.lapic_core.specs.Apic.{empty_apic};
 ghost use Rattle.synic_regs.specs.Regs.{reset_regs};
@@ -18,8 +18,8 @@ use lapic_core::{Lapic, VectorSet};
 use synic_regs::SynicRegs;
 
 impl Machine {
-    /// Resets a processor: the messages in its slots and queues are withdrawn, and then it is as it
-    /// was opened.
+    /// Resets a processor: withdraws the messages in its slots and queues, and then restores its
+    /// initial state.
     pub(crate) fn reset(&mut self, vp: Vp, notices: &mut Notices) -> Reply
         requires on { vp < processors self.old.state }
         requires none { notices.old ≡ [] }
@@ -32,8 +32,8 @@ impl Machine {
         Reply::Done
     }
 
-    /// Withdraws the messages in the slots and queues of a processor. It stands apart, as `clear` does, so
-    /// that no other event makes room for its tickets.
+    /// Withdraws the messages in the slots and queues of a processor. It is out of line, as `clear`
+    /// is, so that other events need no stack space for its tickets.
     #[inline(never)]
     fn empty(&mut self, vp: Vp, notices: &mut Notices)
         requires on { vp < processors self.old.state }
@@ -76,7 +76,7 @@ impl Machine {
         tell_withdrawn(vp, sint, tickets.as_slice(), notices);
     }
 
-    /// A processor is as it was opened, but for its slots and queues, which are empty.
+    /// Restores the initial state of a processor, except for its slots and queues, which are empty.
     #[inline(never)]
     fn clear(&mut self, vp: Vp)
         requires { vp < processors self.old.state }
@@ -84,8 +84,8 @@ impl Machine {
         ensures rises { self.old.writes ≤ self.new.writes }
         ensures few { self.new.writes ≤ self.old.writes + 7 }
     {
-        // The overlays leave the pages at which they lay before the registers are replaced, so that
-        // the space has the registers' values all along.
+        // The overlays leave their pages before the registers are replaced, so that the space
+        // always has the registers' values.
         self.write_overlay(vp, Kind::Sim, 0);
         self.write_overlay(vp, Kind::Sief, 0);
         self.clear_registers(vp);
@@ -94,8 +94,8 @@ impl Machine {
         self.clear_pages(vp);
     }
 
-    /// The registers of a processor are those at reset. Its overlays are disabled already, so that no
-    /// page has another owner.
+    /// Resets the registers of a processor. Its overlays are already disabled, so no page gets
+    /// another owner.
     fn clear_registers(&mut self, vp: Vp)
         requires on { vp < processors self.old.state }
         requires sim { (regs_of self.old.state vp).sim ≡ 0 }
@@ -107,7 +107,7 @@ impl Machine {
         self.summary.write(Entry::Auto(vp, VectorSet::new()));
     }
 
-    /// The local APIC of a processor has nothing requested and nothing in service.
+    /// Clears the requests and the vectors in service of a processor's local APIC.
     #[tactic(auto, using(crate::proofs::Rules::lists))]
     fn clear_lapic(&mut self, vp: Vp)
         requires { vp < processors self.old.state }
@@ -118,7 +118,7 @@ impl Machine {
         self.summary.write(Entry::Next(vp, None));
     }
 
-    /// No timer of a processor is configured.
+    /// Resets the timers of a processor.
     fn clear_timers(&mut self, vp: Vp)
         requires { vp < processors self.old.state }
         ensures state { self.new.state ≡ with_bank self.old.state (bank_reset (bank_of self.old.state) vp) }
@@ -128,7 +128,7 @@ impl Machine {
         self.summary.write(Entry::Earliest(self.timers.earliest()));
     }
 
-    /// Both own pages of a processor are zero.
+    /// Sets both own pages of a processor to zero.
     fn clear_pages(&mut self, vp: Vp)
         requires { vp < processors self.old.state }
         ensures state { self.new.state ≡ with_space self.old.state (after_clearing (space_of self.old.state) vp) }

@@ -1,4 +1,4 @@
-// Processors that are suspended, and go on.
+// Suspending and resuming processors.
 ghost use Rattle.std.specs.Prelude.{◌≡◌, ◌<◌, ◌≤◌, ◌+◌, []};
 ghost use Rattle.lapic_core.specs.Apic.{with_suspension as apic_with_suspension};
 ghost use Rattle.stimer_bank.specs.Bank.{with_suspension as bank_with_suspension};
@@ -13,7 +13,7 @@ use lapic_core::Lapic;
 use stimer_bank::TimerBank;
 
 impl Machine {
-    /// Suspends a processor: its local APIC gives no vector, and its timers are not tried.
+    /// Suspends a processor: its local APIC has no next vector, and its timers are not tried.
     pub(crate) fn suspend(&mut self, vp: Vp) -> Reply
         requires { vp < processors self.old.state }
         ensures step { (self.new.state, result, []) ≡ suspended self.old.state vp }
@@ -27,7 +27,7 @@ impl Machine {
         Reply::Done
     }
 
-    /// Lets a suspended processor go on. Nothing is tried.
+    /// Resumes a suspended processor. This tries no timer.
     pub(crate) fn resume(&mut self, vp: Vp) -> Reply
         requires { vp < processors self.old.state }
         ensures step { (self.new.state, result, []) ≡ resumed self.old.state vp }
@@ -49,7 +49,7 @@ impl Machine {
         self.lapics[vp.number() as usize].is_suspended()
     }
 
-    /// A processor gets the mark, or loses it.
+    /// Sets or clears the suspension of a processor.
     fn set_suspended(&mut self, vp: Vp, suspended: bool)
         requires { vp < processors self.old.state }
         ensures state { self.new.state ≡ with_suspension self.old.state vp suspended }

@@ -1,4 +1,4 @@
--- What the heap's field stands for, and what it keeps.
+-- The abstract view of the heap's field, and its invariant.
 use Rattle.std.specs.Prelude.{◌≡◌, ◌+◌, ℕ, is_none, count_by}
 use Rattle.board_terms.specs.Dues.{Dues}
 use Rattle.timer_heap.specs.Heap.{HeapModel}
@@ -8,14 +8,14 @@ use Rattle.timer_heap.specs.declared.heap.TimerHeap.TheInside.{Inside}
 abbrev pub heap_of : Inside → HeapModel
 heap_of a = record { dues = dues a.table; compared = a.comparer.total.number }
 
--- how many timers are not due
+-- how many timers have no deadline
 abbrev pub idle : Dues → ℕ
 idle m = count_by is_none m
 
 pub record IsKept (a : Inside) : Type 0 where
-  -- the entry at each place has that place in the table back, and each place in it is that of the timer's entry
+  -- the maps of the table are inverse
   pub inverse : IsInverse a.table
-  -- no entry comes before its parent
+  -- no entry precedes its parent
   pub ordered : IsOrdered (key a.table) (size a.table)
-  -- there is an entry for each timer that is due
+  -- there is an entry for each timer with a deadline
   pub full : idle (dues a.table) + size a.table ≡ 32

@@ -1,4 +1,4 @@
-// The one place where entries are compared.
+// The only place where entries are compared.
 ghost use Rattle.std.specs.Prelude.{◌≡◌, ◌+◌, ◌/◌, ◌%◌, ◌^◌, ◌<◌};
 ghost use Rattle.timer_heap.specs.inside.Table.{is_before};
 
@@ -15,14 +15,14 @@ pub(crate) struct Comparer {
     total: Count,
 }
 
-/// The upper word of a due moment, which is 0 in most.
+/// The upper word of a deadline, usually 0.
 pub(crate) fn high(due: u128) -> u64
     ensures { result ≡ due / 2 ^ 64 }
 {
     (due >> 64) as u64
 }
 
-/// The lower word of a due moment.
+/// The lower word of a deadline.
 pub(crate) fn low(due: u128) -> u64
     ensures { result ≡ due % 2 ^ 64 }
 {
@@ -30,7 +30,7 @@ pub(crate) fn low(due: u128) -> u64
 }
 
 impl Comparer {
-    /// No comparison was made.
+    /// A comparer that has made no comparison.
     pub(super) fn new() -> Comparer
         ensures made { result.made ≡ 0 }
         ensures total { result.total.number ≡ 0 }
@@ -50,7 +50,7 @@ impl Comparer {
         self.made = 0;
     }
 
-    /// Whether `a` comes before `b`: by due moment, then by processor, then by index.
+    /// Whether `a` precedes `b`: by deadline, then by processor, then by index.
     #[inline]
     pub(crate) fn is_before(&mut self, a: Entry, b: Entry) -> bool
         requires { self.old.made < 255 }

@@ -35,7 +35,7 @@ outcome_of-requires-clause-step g c =
     let over : crew_of s ≡ finished (crew_of c.args.script.now) = search rules in
     λ bad. both_ways (has_bad_step s.setup s.scripts) (none-bad s (subst IsGood (sym over) c.requires.good)) (c.run_crew.ensures.step.0 (c.in-Err.is ∙ ap Err bad)).1
 
--- what was told, or nothing
+-- what was written, or nothing
 told : (outcome : Outcome) (setup : Setup) (ended : Ended) (crew : Crew) (text : List ℕ) → IsTold outcome setup ended [] text → (All (IsEntry Two) ended.history.items → text ≡ text_of (trace_lines Two setup.processors setup.pages setup.first_ticket ended.history.items ended.board.state.next_ticket) → Report crew Done text) → Prepares outcome crew text
 told outcomes.Done setup ended crew text is report = report is.0 is.1
 told outcomes.Memory setup ended crew text is report = tt

@@ -11,7 +11,7 @@ use Rattle.board_threads.specs.inside.Ending.{IsEnd}
 use Rattle.board_threads.proofs.Absorbs.{are-absorbed}
 use Rattle.board_threads.proofs.shared.SharedBoard.settle.Goals as goal
 
--- what follows from what the board ended with, where it did
+-- consequences of the result of settling, if it succeeded
 at_end : {F : Type 0} (r : Result Ended F) (Same : Type 0) (Is So : Ended → Type 0) → ((e : Ended) → Same → Is e → So e) → OnOk r Same → IfOk r Is → IfOk r So
 at_end (Ok e) Same Is So so same is = so e same is
 at_end (Err f) Same Is So so same is = tt

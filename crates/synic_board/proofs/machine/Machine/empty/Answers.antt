@@ -6,7 +6,7 @@ use Rattle.synic_board.specs.Resetting.{slot_emptied, emptied_below}
 use Rattle.synic_board.proofs.Emptying.{emptied_none, emptied_more, same_left, slot-same, slot-fits, queue-fits, all-in, total}
 use Rattle.synic_board.proofs.machine.Machine.empty.Goals as goal
 
--- a source of a number is that number
+-- the source with a number is that number
 numbered : (o : Option ℕ) (v n : ℕ) → o ≡ Some v → IfSome o (λ x. x ≡ n) → v ≡ n
 numbered o v n is value = subst (λ x. IfSome x (λ y. y ≡ n)) is value
 
