@@ -1,4 +1,4 @@
--- The mark of a processor that its local APIC has is the one that its timers have.
+-- The local APIC and the timers of a processor have the same suspension flag.
 use Rattle.std.proofs.Common.{◌≡◌, ◌≢◌, ◌⊎◌, inl, inr, ℕ, ◌<◌, ◌≤◌, get_or, set, Bool, false, List, [], ◌∷◌, length, replicate, refl, sym, ap, ◌∙◌, arith, zero, suc}
 use Rattle.std.specs.Prelude.{Option, None, Some, nat_lt}
 use Rattle.std.proofs.lemmas.Bool.{cases_eq, cases_lt}
@@ -21,7 +21,7 @@ use Rattle.board_laws.specs.Suspension.{HasOneSuspension}
 use Rattle.synic_board.proofs.keeping.Requests.{either}
 use Rattle.board_laws.proofs.Throughout.{OfEffects, throughout}
 
--- an effect leaves both marks of each processor
+-- an effect leaves both flags of each processor unchanged
 record Leaves (s : State) (e : Effect) : Type 0 where
   pub many : processors e.0 ≡ processors s
   pub timers : e.0.suspended ≡ s.suspended
@@ -30,7 +30,7 @@ record Leaves (s : State) (e : Effect) : Type 0 where
 mute : (s : State) (e : Effect) → e.0.apics ≡ s.apics → e.0.suspended ≡ s.suspended → Leaves s e
 mute s e same timers = record { many = ap (λ (l : List Apic). length l) same; timers = timers; apics = λ p. ap (λ (l : List Apic). (get_or l p empty_apic).suspended) same }
 
--- an APIC that is suspended as it was
+-- an APIC with the same suspension flag
 marked-same : (s : State) (p : ℕ) (a : Apic) → a.suspended ≡ (apic_of s p).suspended → (q : ℕ) → (apic_of (with_apic s p a) q).suspended ≡ (apic_of s q).suspended
 marked-same s p a is q = by (cases_eq q p) (cases_lt p (processors s))
   where
@@ -56,7 +56,7 @@ left = record {
   expires = λ s t _. mute s _ refl refl;
 }
 
--- the marks agree, of at most eight processors
+-- the flags agree, for at most eight processors
 record Agrees (s : State) : Type 0 where
   pub few : processors s ≤ 8
   pub eight : length s.suspended ≡ 8
@@ -65,7 +65,7 @@ record Agrees (s : State) : Type 0 where
 abbrev Keeps : State → Event → Outcome → Type 0
 Keeps s event outcome = Agrees s → Agrees outcome.0
 
--- an effect from a state with the same processors and marks
+-- an effect from a state with the same processors and flags
 from : (s t : State) (e : Effect) → t.apics ≡ s.apics → t.suspended ≡ s.suspended → Leaves t e → Agrees s → Agrees e.0
 from s t e apics timers h a = record {
   few = let n = h.many in let m = ap (λ (l : List Apic). length l) apics in omega (arith, a.few, n, m);
@@ -73,7 +73,7 @@ from s t e apics timers h a = record {
   same = λ p. ap (λ (l : List Bool). get_or l p false) (h.timers ∙ timers) ∙ a.same p ∙ sym (h.apics p ∙ ap (λ (l : List Apic). (get_or l p empty_apic).suspended) apics);
 }
 
--- one mark of both is written
+-- both flags of a processor are written
 written : (s t : State) (p : ℕ) (x : Apic) → t.apics ≡ set s.apics p x → t.suspended ≡ set s.suspended p x.suspended → p < processors s → Agrees s → Agrees t
 written s t p x apics timers on a = record {
   few = let n = ap (λ (l : List Apic). length l) apics ∙ length-set s.apics p x in omega (arith, a.few, n);

@@ -209,7 +209,7 @@ pub record OfAnswers (P : State → Effect → Type 0) (Q : State → Event → 
   pub reads : (s : State) (p number : ℕ) → Q s (Read p number) (unchanged s (read s p number))
   pub loads : (s : State) (address count : ℕ) → Q s (Load address count) (unchanged s (read_bytes s address count))
   pub acts : (s : State) (event : Event) (reply : Reply) (moment : ℕ) (ports : List (Option Port)) (regs : List Regs) (e : Effect) → IsAnswer event reply → P (with_settings s moment ports regs) e → Q s event (answered reply e)
-  -- an APIC in which no more vectors are requested, and which is suspended as it was
+  -- an APIC without new requests, and with the same suspension flag
   pub eases : (s : State) (event : Event) (reply : Reply) (p : ℕ) (a : Apic) → IsAnswer event reply → ((v : ℕ) → set.contains a.requested v ≡ true → is_requested s p v ≡ true) → a.suspended ≡ is_suspended s p → Q s event (unchanged (with_apic s p a) reply)
   pub stores : (s : State) (address : ℕ) (bytes : ArrayVec ℕ) (e : Effect) → P (with_bytes s address bytes.items) e → Q s (Store address bytes) (answered replies.Done e)
   pub configures : (s : State) (p n number value : ℕ) (e : Effect) → register_of number ≡ Some (TimerConfig n) → P (with_bank s (with_config (bank_of s) (p, n) value s.moment)) e → Q s (Write p number value) (answered replies.Done e)
@@ -226,7 +226,7 @@ pub record OfAnswers (P : State → Effect → Type 0) (Q : State → Event → 
 on_board : (R : Outcome → Type 0) (s : State) (p : ℕ) (outcome : Outcome) → ((r : Refusal) → R (refused s r)) → R outcome → R (at_processor s p outcome)
 on_board R s p outcome refuses h = either R (nat_lt p (processors s)) outcome (refused s NoSuchProcessor) (λ _. h) (λ _. refuses NoSuchProcessor)
 
--- and where its place on the board is asked for
+-- and where its place on the board is queried
 at_place : (R : Outcome → Type 0) (s : State) (p : ℕ) (outcome : Outcome) → ((r : Refusal) → R (refused s r)) → (p < processors s → R outcome) → R (at_processor s p outcome)
 at_place R s p outcome refuses h = either R (nat_lt p (processors s)) outcome (refused s NoSuchProcessor) (λ is. h ((Decides-ltb p (processors s)).0 is)) (λ _. refuses NoSuchProcessor)
 

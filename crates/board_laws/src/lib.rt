@@ -51,8 +51,8 @@ pub fn each_event_gives_few_notices()
     ensures { (processors pages first : ℕ) (events : List Event) (event : Event) → length (step (run_of (opened processors pages first) events).0 event).2 ≤ most_notices event }
 {}
 
-/// Whatever the events, from an opened board: the timers of a processor are suspended exactly if its local
-/// APIC is. So the state has one mark for each processor, which it holds twice.
+/// For any events from an opened board: the timers of a processor are suspended iff its local APIC is. So
+/// the two suspension flags of a processor always agree.
 pub fn a_processor_has_one_suspension()
     ensures { (processors pages first : ℕ) (events : List Event) → processors ≤ 8 → HasOneSuspension (run_of (opened processors pages first) events).0 }
 {}

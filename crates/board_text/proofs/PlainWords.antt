@@ -102,7 +102,7 @@ short-words [] = omega arith
 short-words (f ∷ []) = omega arith
 short-words (f ∷ g ∷ fields) = let h = short-words (g ∷ fields) in omega (arith, h, length-append f (32 ∷ spaced (g ∷ fields)))
 
--- a line as it is written
+-- a line in its written form
 pub record IsWritten (fields : List (List ℕ)) : Type 0 where
   pub one : IsOneLine (spaced fields)
   pub short : length (spaced fields) ≤ 640

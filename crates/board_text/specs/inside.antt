@@ -1,3 +1,3 @@
--- How the fields stand for what the contracts speak of, and what they keep: nothing that a caller reads.
+-- Definitions for private functions and their proofs. Callers do not need them.
 pub mod Filling
 pub mod Parsing

@@ -96,7 +96,7 @@ crewed name n setup scripts h main place served own each many =
       all = omega (arith, many, ap (λ (l : List Call). length l) served.calls, length-append served.before served.after, before, after);
     }
 
--- the actors' calls are as many as were handed out
+-- the actors' calls are as many as were returned
 pub calls-add-up : (ended : List ActorCalls) (actors : List Acting) → map calls_given ended ≡ map calls_held actors → sum_by (λ (a : ActorCalls). length a.calls.items) ended ≡ sum_by (λ (a : Acting). length a.calls) actors
 calls-add-up [] [] is = refl
 calls-add-up [] (a ∷ actors) is = absurd (cc)

@@ -76,5 +76,5 @@ pub record IsCrewed (processors : ℕ) (setup : List Event) (scripts : List (Lis
   pub ends : AreMain (last_steps processors) last
   pub main : calls_by 0 between ≡ []
   pub others : EachFollows 1 scripts between
-  -- and no one else has an entry
+  -- and no other actor has an entry
   pub all : length history ≡ length setup + sum_by (λ (s : List Step). length s) scripts + 4 * processors

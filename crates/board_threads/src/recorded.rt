@@ -85,8 +85,8 @@ impl Recorded {
         Ok(self.perform(actor, event))
     }
 
-    /// Sweeps a word, and performs the absorb of its bits for an actor that has room for one more call.
-    /// Faults are those of `enter`, then `WrongBoard`; nothing is swept then.
+    /// Sweeps a word, and performs the absorb of its bits for an actor with capacity for one more call.
+    /// The faults are those of `enter`, and then `WrongBoard`; on a fault nothing is swept.
     pub(crate) fn absorb(
         &mut self,
         has_room: bool,
@@ -107,7 +107,7 @@ impl Recorded {
         ensures event { ¬ (IsErrOf result CallFault.AbsorbEvent) }
     {
         self.make_room(has_room)?;
-        // A lock guarantees only the invariant of what it guards, and that does not name the posted words.
+        // A lock guarantees only the invariant of its value, which does not mention the posted words.
         if self.board.processors() != words.processors() {
             return Err(CallFault::WrongBoard);
         }

@@ -34,7 +34,7 @@ over (InLine raises) crew = record crew { lines = crew.lines ++ raises ∷ []; s
 abbrev pub finished : Crew → Crew
 finished crew = over crew.section crew
 
--- how many entries its history has, all sections being over: the setup, the steps, and the last absorbs
+-- the number of entries of its history, with all sections closed: the setup, the steps, and the last absorbs
 abbrev pub entries_of : Crew → ℕ
 entries_of crew = length crew.setup + sum_by (λ (s : List Step). length s) crew.actors + 4 * crew.processors
 

@@ -17,8 +17,8 @@ use Rattle.crew_script.specs.Reading.{script_asks}
 use Rattle.crew_script.specs.declared.running.CrewRun.{CrewRun}
 use Rattle.crew_script.specs.declared.running.CrewRun.TheVariants.{Done, Script, Unsettled, Memory, NoThread, Reading, Writing}
 
--- A history of a crew, by whatever schedule: a run of one thread that has the setup, the actors' scripts and the last absorbs in their places and no
--- other entry, and in which each raise of a line that was answered Fresh was absorbed once, or is pending at the end.
+-- A history of a crew under any schedule: a run of one thread that has the setup, the actors' scripts and the last absorbs in their places and no
+-- other entry, and in which each Fresh raise of a line was absorbed once, or its bit is set at the end.
 pub record IsHistory (crew : Crew) (history : List Entry) : Type 0 where
   pub legal : IsLegal (opened crew.processors crew.pages crew.first_ticket) history
   pub crewed : IsCrewed crew.processors crew.setup crew.actors history
@@ -27,7 +27,7 @@ pub record IsHistory (crew : Crew) (history : List Entry) : Type 0 where
   pub each : AllZip HasEach crew.lines answers
   pub raises : AreAbsorbed (4 * crew.processors) (logs_of crew.lines answers) history standing
 
--- The trace of a history of a crew, in format 2, which is the trace of a legal history of as many entries as the script asks for.
+-- The trace of a history of a crew, in format 2. It is the trace of a legal history with as many entries as the script has.
 pub record IsCrewTrace (crew : Crew) (text : List ℕ) : Type 0 where
   pub history : List Entry
   pub is : IsHistory crew history
@@ -38,7 +38,7 @@ pub record IsCrewTrace (crew : Crew) (text : List ℕ) : Type 0 where
 abbrev pub Asks : List ℕ → Crew → Type 0
 Asks input crew = (last : Crew) × (script_asks input ≡ Ok (Some last)) × (crew ≡ finished last)
 
--- the text for an input at each end
+-- the output for an input at each end
 abbrev pub IsOutput : List ℕ → CrewRun → List ℕ → Type 0
 IsOutput input Done text = (crew : Crew) × Asks input crew × IsCrewTrace crew text
 IsOutput input (Script line fault) text = (script_asks input ≡ Err (line, fault)) × (text ≡ fault_text (Some (line, fault)))
@@ -48,7 +48,7 @@ IsOutput input Memory text = text ≡ []
 IsOutput input Reading text = text ≡ []
 IsOutput input Writing text = text ≡ []
 
--- The text of an end was written; where a write failed, a beginning of the text of some end.
+-- The output of an end was written; if a write failed, a prefix of the output of some end.
 abbrev pub Writes : (CrewRun → List ℕ → Type 0) → CrewRun → Option (List ℕ) → Option (List ℕ) → Type 0
 Writes texts Writing w0 w1 = (end : CrewRun) × (sent : List ℕ) × (unsent : List ℕ) × texts end (sent ++ unsent) × Appends w0 w1 sent
 Writes texts end w0 w1 = (text : List ℕ) × texts end text × Appends w0 w1 text
@@ -57,7 +57,7 @@ Writes texts end w0 w1 = (text : List ℕ) × texts end text × Appends w0 w1 te
 abbrev pub Crews : CrewRun → Option (List ℕ) → Option (List ℕ) → Option (List ℕ) → Type 0
 Crews end r0 w0 w1 = Writes (λ (e : CrewRun) (text : List ℕ). IfSome r0 (λ input. IsOutput input e text)) end w0 w1
 
--- how many bytes are read at most: the byte after the limit only where reading ends for it
+-- the greatest number of bytes read: the byte beyond the limit only if reading ends there
 abbrev pub most_read : CrewRun → ℕ
 most_read Reading = 1073741825
 most_read end = 1073741824

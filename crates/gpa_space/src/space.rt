@@ -133,8 +133,8 @@ impl Space {
         }
     }
 
-    /// Stores bytes at an address in the page that a guest sees there, and returns its owner. It is
-    /// refused as a load is, and then changes nothing.
+    /// Stores bytes at an address in the page that a guest sees there, and returns the owner of that
+    /// page. Refused as a load is, and then changes nothing.
     #[inline]
     pub fn store(&mut self, address: u64, bytes: &Bytes8) -> Result<Owner, Refusal>
         ensures answer { result ≡ store_answer self.old address bytes.now.items }
@@ -143,8 +143,7 @@ impl Space {
         self.store_slice(address, bytes.as_slice())
     }
 
-    /// `store` of bytes that the caller has as a slice. No bytes, or more than 8, are refused with
-    /// `BadLength`.
+    /// `store` of bytes in a slice. No bytes, or more than 8, are refused with `BadLength`.
     pub fn store_slice(&mut self, address: u64, bytes: &[u8]) -> Result<Owner, Refusal>
         ensures answer { result ≡ store_answer self.old address bytes.now }
         ensures after { self.new ≡ after_store self.old address bytes.now }

@@ -79,15 +79,15 @@ HasRaise w b ds = (later before : List Did) × (g : Bool) × (ds ≡ later ++ Ra
 before-it : (d : Did) (w b : ℕ) (ds : List Did) → HasRaise w b ds → HasRaise w b (d ∷ ds)
 before-it d w b ds r = (d ∷ r.0, r.1, r.2, ap (λ (l : List Did). d ∷ l) r.3)
 
--- a bit that a token raised, it raised at some step
+-- a bit that a token raised was raised at some step
 raise-found : (w b : ℕ) (ds : List Did) → 0 < times_raised w b ds → HasRaise w b ds
 raise-found w b [] some = absurd (omega arith)
 raise-found w b (Sweep word bits ∷ ds) some = before-it (Sweep word bits) w b ds (raise-found w b ds (omega (arith, some)))
 raise-found w b (Raise word bit g ∷ ds) some =
     let later = λ (none : raises_at w b (Raise word bit g) ≡ false).
-    let zero : one_if (raises_at w b (Raise word bit g)) ≡ 0 = ap one_if none in
-    let r = raise-found w b ds (omega (arith, some, zero)) in
-    before-it (Raise word bit g) w b ds r in
+        let zero : one_if (raises_at w b (Raise word bit g)) ≡ 0 = ap one_if none in
+        let r = raise-found w b ds (omega (arith, some, zero)) in
+        before-it (Raise word bit g) w b ds r in
     dite (ℕ_discrete w word)
     (λ p. dite (ℕ_discrete b bit) (λ q. ([], ds, g, (λ i. Raise (sym p i) (sym q i) g ∷ ds))) (λ q. later (grind (arith, nat_tests))))
     (λ p. later (grind (arith, nat_tests)))

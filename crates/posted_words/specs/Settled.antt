@@ -13,9 +13,9 @@ all_fresh logs w b = sum_by (fresh w b) logs
 abbrev pub all_taken : List (List Did) → ℕ → ℕ → ℕ
 all_taken logs w b = sum_by (times_taken w b) logs
 
--- The lower bounds of one token. F and T say how often all tokens together were answered Fresh at a bit, and took it.
--- At each raise of a bit the bit is pending then, so it was Fresh once more often than the token had taken it before.
--- At each sweep of a word the word is empty then, so each Fresh answer that the token had got there before was taken.
+-- The lower bounds of one token. F and T count how often all tokens together were Fresh at a bit, and took it.
+-- After each raise of a bit the bit is set, so it was Fresh once more than the token had taken it before.
+-- After each sweep of a word the word is 0, so each Fresh raise that the token had made there before was taken.
 pub record Bounded (F T : ℕ → ℕ → ℕ) (log : List Did) : Type 0 where
   pub raises : (w b : ℕ) (later before : List Did) (is_fresh : Bool) → log ≡ later ++ Raise w b is_fresh ∷ before → times_taken w b before + 1 ≤ F w b
   pub sweeps : (w b bits : ℕ) (later before : List Did) → log ≡ later ++ Sweep w bits ∷ before → fresh w b before ≤ T w b

@@ -22,15 +22,15 @@ delivers s p = has (regs_of s p).control enable && has (regs_of s p).sim enable
 abbrev pub is_slot_empty : State → Processor → Source → Bool
 is_slot_empty s p i = slot_type (own_page (space_of s) p Sim) i == 0
 
--- the slot of a source with the image of a message, which has MessagePending set if more are queued
+-- the slot of a source with the image of a message; MessagePending is set if more messages are queued
 abbrev pub with_image : State → Processor → Source → Message → Bool → State
 with_image s p i m more = with_space s (after_slot (space_of s) p i (image m more s.moment))
 
--- the queue of a source replaced
+-- the state with another queue of a source
 abbrev pub with_messages : State → Processor → Source → List Message → State
 with_messages s p i messages = record s { queues = with_queue s.queues p i messages }
 
--- the head of the queue is placed: its image is in the slot, the rest stays queued, and the slot holds its ticket
+-- the head of the queue is placed: its image is in the slot, the slot holds its ticket, and the rest stays queued
 abbrev pub placed_state : State → Processor → Source → Message → List Message → State
 placed_state s p i m rest =
     let imaged = with_image s p i m (nat_lt 0 (length rest)) in

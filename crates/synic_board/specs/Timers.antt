@@ -58,7 +58,7 @@ expired_state s t = with_bank s (after_expiry_of (bank_of s) t s.moment).0
 abbrev pub expiry_at : State → TimerId → Expiry
 expiry_at s t = (after_expiry_of (bank_of s) t s.moment).1
 
--- it is written, with the notices of its expiry and of what it skipped; then it signals
+-- the timer is written, with the notices of its expiry and of skipped deadlines; then it signals
 abbrev pub fired : State → TimerId → Mode → Effect
 fired s t mode =
     let expiry = expiry_at s t in

@@ -4,7 +4,7 @@ use Rattle.std.specs.Option.{option_map_or}
 use Rattle.std.specs.Int.{bit_at}
 use Rattle.board_terms.specs.Dues.{Dues, number_of, due_of, least}
 
--- when the timers are due, and how many comparisons of entries were made since the heap was new
+-- the deadlines of the timers, and the number of comparisons since the heap was created
 pub record HeapModel : Type 0 where
   pub dues : Dues
   pub compared : ℕ

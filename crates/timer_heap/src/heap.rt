@@ -11,11 +11,12 @@ use arrayvec::ArrayVec;
 use board_terms::{TimerId, Vp};
 use std::marker::Model;
 
-/// The timers that have deadlines, and these deadlines (TLFS, "Synthetic Timers").
+/// The timers that have deadlines, and these deadlines (TLFS, "Synthetic Timers"). The contract also
+/// shows how many comparisons of entries the heap has made.
 #[derive(Drop)]
 pub struct TimerHeap {
     table: Table,
-    /// Counts each comparison of entries.
+    /// Makes and counts all comparisons of entries.
     comparer: Comparer,
 }
 

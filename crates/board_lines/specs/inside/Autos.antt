@@ -1,4 +1,4 @@
--- A line of auto-EOI vectors, as far as it is written.
+-- A partly written line of auto-EOI vectors.
 use Rattle.std.specs.Prelude.{ℕ, ◌+◌, List, [], ◌∷◌, ◌++◌, Bool, true, false, if◌then◌else◌, codes, decimal}
 use Rattle.board_text.specs.Numbers.{two_digits}
 use Rattle.board_text.specs.Fields.{spaced}

@@ -1,4 +1,4 @@
--- A field of bytes that is taken.
+-- Taking a field of bytes.
 use Rattle.std.specs.Prelude.{◌≡◌, ℕ, Option, None, Some}
 use Rattle.arrayvec.specs.ArrayVec.{ArrayVec}
 use Rattle.board_lines.specs.Reading.{Fields, first_read, bytes_at}

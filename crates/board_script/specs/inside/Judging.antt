@@ -1,4 +1,4 @@
--- How a replay goes from line to line, and what it writes at its end.
+-- The steps of a replay from line to line, and its output at the end.
 use Rattle.std.specs.Prelude.{◌≡◌, ℕ, List, [], ◌++◌, Bool, if◌then◌else◌, Option, None, Some, is_some, Result, Ok, Err}
 use Rattle.std.specs.Option.{option_map}
 use Rattle.std.specs.Io.KnownBytes.{Appends}

@@ -1,4 +1,4 @@
--- How a source fills its buffer and finds a line in it.
+-- Filling the buffer of a source, and finding a line in it.
 use Rattle.std.specs.Prelude.{◌≡◌, ℕ, ◌+◌, ◌≤◌, ◌<◌, List, [], ◌∷◌, ◌++◌, length, take, Option, None, Some}
 use Rattle.board_text.specs.Lines.{IsOneLine}
 use Rattle.board_text.specs.Buffered.{Buffered}

@@ -20,7 +20,7 @@ pub record IsEnd (board : Held) (history : List Entry) (called : List ActorCalls
   pub standing : e.standing ≡ left
   pub all : AreAllOf e.history.items e.actors.items
 
--- why the work of a crew stops where an allocation fails, where a call fails, or where its board is not settled
+-- why the work of a crew stops: an allocation fails, a call fails, or its board cannot be settled
 abbrev pub no_memory : WorkFault
 no_memory = works.Memory
 

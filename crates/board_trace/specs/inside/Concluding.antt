@@ -1,4 +1,4 @@
--- From the end of the reading to the verdict that is written.
+-- The verdict that is written when reading ends.
 use Rattle.std.specs.Prelude.{◌≡◌, ℕ, ◌+◌, List, ◌++◌, Option, None, Some, Result, Ok, Err}
 use Rattle.std.specs.Io.KnownBytes.{Appends}
 use Rattle.line_driver.specs.declared.driving.End.{End}

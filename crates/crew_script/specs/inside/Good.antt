@@ -1,4 +1,4 @@
--- What every script keeps that was read.
+-- The invariant of a parsed script.
 use Rattle.std.specs.Prelude.{◌≡◌, ◌≤◌, length, false}
 use Rattle.std.specs.List.{list_any}
 use Rattle.synic_board.specs.State.{AreSizes}

@@ -1,4 +1,4 @@
--- What the parts of a run write: the line of a fault, or the report of a crew.
+-- The output of a run: the line of a fault, or the report of a crew.
 use Rattle.std.specs.Prelude.{◌≡◌, ℕ, List, [], Option, Some, codes}
 use Rattle.board_lines.specs.Faults.{fault_text}
 use Rattle.board_lines.specs.declared.fault.ScriptFault.{ScriptFault}
@@ -9,7 +9,7 @@ use Rattle.crew_script.specs.declared.running.Outcome.TheVariants as outcomes
 use Rattle.crew_script.specs.declared.running.CrewRun.{CrewRun}
 use Rattle.crew_script.specs.declared.running.CrewRun.TheVariants.{Done, Script, Unsettled, Memory, NoThread}
 
--- the text where a line has a fault
+-- the output if a line has a fault
 abbrev pub Refusal : ℕ → ScriptFault → CrewRun → List ℕ → Type 0
 Refusal line fault (Script l f) text = (l ≡ line) × (f ≡ fault) × (text ≡ fault_text (Some (line, fault)))
 Refusal line fault Memory text = text ≡ []
@@ -18,7 +18,7 @@ Refusal line fault end text = ⊥
 abbrev pub Refuses : CrewRun → ℕ → ScriptFault → Option (List ℕ) → Option (List ℕ) → Type 0
 Refuses end line fault w0 w1 = Writes (Refusal line fault) end w0 w1
 
--- the text where a script asks for a crew
+-- the output if a script has a crew
 abbrev pub Report : Crew → CrewRun → List ℕ → Type 0
 Report crew Done text = IsCrewTrace crew text
 Report crew Unsettled text = text ≡ codes "! settle\n"

@@ -42,7 +42,7 @@ onto d (log ∷ logs) = (d ∷ log) ∷ logs
 abbrev pub with_step : Did → View → View
 with_step d v = view_of v.parts (onto d v.logs)
 
--- the mask of a bit of 64, as it is computed
+-- the mask of a bit of 64, as the code computes it
 abbrev pub mask_of : ℕ → ℕ
 mask_of k = 1 * 2 ^ k % 2 ^ 64
 

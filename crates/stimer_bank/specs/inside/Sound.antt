@@ -1,4 +1,4 @@
--- What every timer keeps.
+-- The invariant of a timer.
 use Rattle.std.specs.Prelude.{◌≡◌, ℕ, ◌<◌, ◌≤◌, true, false, Some}
 use Rattle.stimer_bank.specs.declared.timer.Timer.{Timer}
 use Rattle.stimer_bank.specs.Timer.{is_enabled, is_periodic, is_mute, enabled, ruled}

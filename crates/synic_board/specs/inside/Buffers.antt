@@ -1,4 +1,4 @@
--- What the queues and the ports of every board keep: each owner has its buffers, and each message is where its owner may post.
+-- The invariant of the queues and ports: each owner stays within its buffers, and each message is in a queue that its owner may post to.
 use Rattle.std.specs.Prelude.{◌≡◌, ◌≤◌, ◌<◌, ℕ, true, length, Some}
 use Rattle.std.specs.List.{All}
 use Rattle.board_terms.specs.declared.messages.Message.{Message}

@@ -4,7 +4,7 @@ use Rattle.board_terms.specs.declared.notices.Notice.{Notice}
 use Rattle.synic_board.specs.State.{Held}
 use Rattle.synic_board.specs.Effects.{Effect}
 
--- an effect whose notices follow others
+-- an effect with notices before its own
 abbrev pub preceded : List Notice → Effect → Effect
 preceded before e = (e.0, before ++ e.1)
 

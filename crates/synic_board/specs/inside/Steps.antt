@@ -1,4 +1,4 @@
--- What the clauses of private functions say of one event.
+-- Definitions for the clauses of private functions that perform one event.
 use Rattle.std.specs.Prelude.{ℕ, Bool, false, ◌<◌, nat_le, List, length, slice_index_or, Option}
 use Rattle.std.specs.Option.{option_map_or}
 use Rattle.board_terms.specs.Quantities.{TimerId, Moment}

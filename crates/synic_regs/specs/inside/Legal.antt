@@ -1,4 +1,4 @@
--- What every set of registers keeps.
+-- The invariant of the registers.
 use Rattle.std.specs.Prelude.{ℕ, ◌<◌, List, IsTrue, slice_index_or}
 use Rattle.synic_regs.specs.Regs.{is_legal}
 

@@ -1,4 +1,4 @@
--- How what the contracts see of a heap is coded where it is compared whole.
+-- How contracts encode the abstract state of a heap that they compare whole.
 use Rattle.std.specs.Prelude.{ℕ, List, Option, refl}
 use Rattle.std.specs.Coded.{Coded, code_by, coded×, coded_ℕ, coded_list, coded_option}
 use Rattle.timer_heap.specs.Heap.{HeapModel}

@@ -5,13 +5,13 @@ ghost use Rattle.timer_heap.specs.inside.Table.{is_before};
 use crate::entry::Entry;
 use counter::Count;
 
-/// Compares entries, and counts how often. Only the heap can make one, so that what moves a timer has no
-/// second one whose comparisons are lost.
+/// Compares entries, and counts the comparisons. Only the heap can create one, so code that moves a timer
+/// cannot use a second one whose comparisons are not counted.
 #[derive(Drop)]
 pub(crate) struct Comparer {
-    /// The comparisons of the present call.
+    /// The comparisons of the current call.
     made: u8,
-    /// All comparisons, for contracts alone.
+    /// Ghost: all comparisons.
     total: Count,
 }
 
@@ -41,7 +41,7 @@ impl Comparer {
         }
     }
 
-    /// Begins the count of a call.
+    /// Resets the count for a new call.
     #[inline]
     pub(crate) fn begin(&mut self)
         ensures made { self.new.made ≡ 0 }
@@ -71,7 +71,7 @@ impl Comparer {
         a.number < b.number
     }
 
-    /// How many comparisons the present call made.
+    /// The number of comparisons in the current call.
     pub(crate) fn made(&self) -> u8
         ensures { result ≡ self.now.made }
     {

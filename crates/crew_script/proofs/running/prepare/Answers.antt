@@ -42,7 +42,7 @@ told outcomes.Memory setup ended crew text is report = tt
 told outcomes.Unsettled setup ended crew text is report = tt
 told outcomes.NoThread setup ended crew text is report = tt
 
--- what was written of its history is a trace that is legal
+-- the printed history is a legal trace
 traced : (crew : Crew) (history : List Entry) (text : List ℕ) → IsHistory crew history → AreSizes crew.processors crew.pages → crew.first_ticket < 2 ^ 64 → All (IsEntry Two) history → text ≡ trace Two crew.processors crew.pages crew.first_ticket history → IsCrewTrace crew text
 traced crew history text is sizes given fits written = record {
   history = history;
