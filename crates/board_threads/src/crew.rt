@@ -26,8 +26,8 @@ use std::sync::Wait;
 use std::thread::Threads;
 use thiserror::Error;
 
-/// Why a crew has no result. The first two are checked first; tests show that no thread is started
-/// then.
+/// Why a crew has no result. `BadSize` is checked first, then `BadStep`; that no thread is started
+/// then is shown by tests.
 #[derive(Clone, Copy, PartialEq, Eq, Debug, Drop, Error)]
 pub enum CrewFault {
     /// A board's size is outside its limits, or there are more than 15 actors' scripts, more than 16

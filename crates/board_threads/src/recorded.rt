@@ -68,7 +68,7 @@ impl Recorded {
     }
 
     /// Performs an event for an actor with capacity for one more call. The faults are checked in
-    /// this order: `Full`, `Memory`; then no event is performed.
+    /// this order: `Full`, `Memory`. On a fault no event is performed.
     pub(crate) fn enter(
         &mut self,
         has_room: bool,
@@ -85,8 +85,8 @@ impl Recorded {
         Ok(self.perform(actor, event))
     }
 
-    /// Sweeps a word, and performs the absorb of its bits for an actor with capacity for one more call.
-    /// The faults are those of `enter`, and then `WrongBoard`; on a fault nothing is swept.
+    /// Sweeps a word, and performs the absorb of its bits for an actor with capacity for one more
+    /// call. The faults are those of `enter`, and then `WrongBoard`. On a fault nothing is swept.
     pub(crate) fn absorb(
         &mut self,
         has_room: bool,

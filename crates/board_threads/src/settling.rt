@@ -16,9 +16,8 @@ use thiserror::Error;
 /// Why a board could not be settled. The board, the actors and the lines are dropped.
 #[derive(Clone, Copy, PartialEq, Eq, Debug, Drop, Error)]
 pub enum SettleFault {
-    /// An actor or a line is missing, or the history is not exactly the calls of these actors. This
-    /// is also found if an actor performed on a board that is not its own, where the lists of calls
-    /// or their totals then differ.
+    /// An actor or a line is missing, or the history is not exactly the calls of these actors. An
+    /// actor's call on another board is found only where the lists of calls or their totals differ.
     #[error("the actors are not those of the board")]
     Mismatch = 1,
     /// An allocation failed.

@@ -146,8 +146,8 @@ impl SharedBoard {
     /// Sweeps a word of the board's posted words, and performs the absorb of its bits, under the
     /// lock. If the absorb is refused, since the board has no processor `vp` or `part` is above 3,
     /// nothing is swept and its bits are 0. The sweep happens under the lock, so the history has
-    /// the sweeps of a word in the order in which they happened. The faults are those of `perform`.
-    /// Requires an actor of this board.
+    /// the sweeps of a word in the order in which they happened. The faults are `Full`, `Memory` and
+    /// `WrongBoard`. Requires an actor of this board.
     pub fn absorb<R: Wait>(
         &self,
         rt: &R,

@@ -122,7 +122,7 @@ impl Summary {
         Sint::new(from + left.trailing_zeros() as u8)
     }
 
-    /// The next vector of a processor; `None` if it is not on the board.
+    /// The next vector of a processor; `None` if it has none, or is not on the board.
     pub fn next(&self, vp: Vp) -> Option<Vector>
         ensures { result ≡ slice_index_or self.now.values.nexts vp None }
     {
