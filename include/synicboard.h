@@ -12,7 +12,7 @@
  *
  * Threads. At most one call at a time may use a `synicboard` or a `synicboard_line`, so threads that
  * share one need a lock of their own. Any number of threads may use one `synicboard_shared` at the
- * same time, except while it is opened or closed. Different handles are independent.
+ * same time, except while it is opened or closed. Calls on different handles may run at the same time.
  *
  * Memory. Only these calls allocate: the open and split calls, the calls on texts, and the calls that
  * append to the history of a shared board or write it. No event on a `synicboard` allocates. No call
@@ -101,22 +101,22 @@ enum {
 
 /* Why the board refused an event (docs/MACHINE.md, "Refusals"). */
 enum {
-    SYNICBOARD_UNKNOWN_PORT = 1,
-    SYNICBOARD_PORT_OPEN = 2,
-    SYNICBOARD_WRONG_KIND = 3,
-    SYNICBOARD_BAD_TARGET = 4,
-    SYNICBOARD_BAD_TYPE = 5,
-    SYNICBOARD_BAD_FLAG = 6,
-    SYNICBOARD_SYNIC_OFF = 7,
-    SYNICBOARD_NO_BUFFERS = 8,
-    SYNICBOARD_TICKETS_SPENT = 9,
-    SYNICBOARD_CLOCK_BACK = 10,
-    SYNICBOARD_OUTSIDE_SPACE = 11,
-    SYNICBOARD_CROSSES_PAGE = 12,
-    SYNICBOARD_BAD_LENGTH = 13,
-    SYNICBOARD_NO_SUCH_PROCESSOR = 14,
-    SYNICBOARD_ALREADY_SUSPENDED = 15,
-    SYNICBOARD_NOT_SUSPENDED = 16
+    SYNICBOARD_UNKNOWN_PORT = 1,        /* the port is not open, or its number is above 15 */
+    SYNICBOARD_PORT_OPEN = 2,           /* the port to open is already open */
+    SYNICBOARD_WRONG_KIND = 3,          /* a post to a flag port, or a signal to a message port */
+    SYNICBOARD_BAD_TARGET = 4,          /* the target or shape of a port to open, or a part, is out of range */
+    SYNICBOARD_BAD_TYPE = 5,            /* the message type is 0 or has bit 31 set */
+    SYNICBOARD_BAD_FLAG = 6,            /* the flag is not below the port's count */
+    SYNICBOARD_SYNIC_OFF = 7,           /* the target's SynIC or event flags page is disabled */
+    SYNICBOARD_NO_BUFFERS = 8,          /* all buffers of the port are in use */
+    SYNICBOARD_TICKETS_SPENT = 9,       /* no ticket is left */
+    SYNICBOARD_CLOCK_BACK = 10,         /* the time is before the present one */
+    SYNICBOARD_OUTSIDE_SPACE = 11,      /* the first byte is in no page */
+    SYNICBOARD_CROSSES_PAGE = 12,       /* the last byte is in another page than the first */
+    SYNICBOARD_BAD_LENGTH = 13,         /* the length is 0 or above 8 */
+    SYNICBOARD_NO_SUCH_PROCESSOR = 14,  /* the processor is not on the board */
+    SYNICBOARD_ALREADY_SUSPENDED = 15,  /* the processor is suspended */
+    SYNICBOARD_NOT_SUSPENDED = 16       /* the processor is not suspended */
 };
 
 /* A reply. Fields that its kind does not use are 0, except `value` in a reply of
@@ -153,44 +153,79 @@ enum {
  * One call for each kind of event. Each performs the event on the board and returns the reply. It
  * allocates nothing. With SYNICBOARD_NOT_PERFORMED, SYNICBOARD_REFUSED or
  * SYNICBOARD_GENERAL_PROTECTION, the board is unchanged. If the handle is closed, the fault is
- * SYNICBOARD_NO_BOARD; each call names the arguments that yield SYNICBOARD_NO_EVENT. Every other
- * argument out of range is refused by the board. `vp` is the number of a processor, from 0. */
+ * SYNICBOARD_NO_BOARD; each call names the arguments that yield SYNICBOARD_NO_EVENT.
+ *
+ * `vp` is the number of a processor, from 0. If it is not on the board, the refusal is
+ * SYNICBOARD_NO_SUCH_PROCESSOR (for opening a port, SYNICBOARD_BAD_TARGET). "Replies:" lists the kinds
+ * of replies and, in parentheses, the other refusals, without the prefix SYNICBOARD_. */
 
-/* Opens port `port`, 0 to 15, for messages to source `sint` of processor `vp`, with 1 to 16 buffers. */
+/* Opens port `port`, 0 to 15, for messages to source `sint` of processor `vp`, with 1 to 16 buffers.
+ * Replies: DONE, REFUSED (UNKNOWN_PORT, PORT_OPEN, BAD_TARGET). */
 synicboard_reply synicboard_open_message_port(synicboard *board, uint8_t port, uint8_t vp, uint8_t sint, uint8_t buffers);
+
 /* Opens port `port`, 0 to 15, for the `count` event flags from `base` on, at source `sint` of processor
- * `vp`. `count` is at least 1, and `base + count` at most 2048. */
+ * `vp`. `count` is at least 1, and `base + count` at most 2048.
+ * Replies: DONE, REFUSED (UNKNOWN_PORT, PORT_OPEN, BAD_TARGET). */
 synicboard_reply synicboard_open_event_port(synicboard *board, uint8_t port, uint8_t vp, uint8_t sint, uint16_t base, uint16_t count);
-/* Closes a port and withdraws its queued messages. Messages in slots stay. */
+
+/* Closes a port and withdraws its queued messages. Messages in slots stay.
+ * Replies: DONE, REFUSED (UNKNOWN_PORT). */
 synicboard_reply synicboard_close_port(synicboard *board, uint8_t port);
-/* A guest writes a register (SYNICBOARD_MSR_..). */
+
+/* A guest writes a register (SYNICBOARD_MSR_..).
+ * Replies: DONE, GENERAL_PROTECTION, REFUSED. */
 synicboard_reply synicboard_write(synicboard *board, uint8_t vp, uint32_t msr, uint64_t value);
-/* A guest reads a register. */
+
+/* A guest reads a register.
+ * Replies: VALUE, GENERAL_PROTECTION, REFUSED. */
 synicboard_reply synicboard_read(synicboard *board, uint8_t vp, uint32_t msr);
+
 /* Posts a message with a payload of `length` bytes to a message port. SYNICBOARD_NO_EVENT if `length` is
- * above 240. */
+ * above 240.
+ * Replies: ACCEPTED, REFUSED (UNKNOWN_PORT, WRONG_KIND, BAD_TYPE, SYNIC_OFF, NO_BUFFERS, TICKETS_SPENT). */
 synicboard_reply synicboard_post(synicboard *board, uint8_t port, uint32_t message_type, const uint8_t *payload, size_t length);
-/* Sets an event flag of a flag port. `flag` counts from the base of the port. */
+
+/* Sets an event flag of a flag port. `flag` counts from the base of the port.
+ * Replies: FLAG_WAS_CLEAR, FLAG_WAS_SET, REFUSED (UNKNOWN_PORT, WRONG_KIND, BAD_FLAG, SYNIC_OFF). */
 synicboard_reply synicboard_signal(synicboard *board, uint8_t port, uint16_t flag);
-/* A device requests a vector of a processor. SYNICBOARD_NO_EVENT if `vector` is below 16. */
+
+/* A device requests a vector of a processor. SYNICBOARD_NO_EVENT if `vector` is below 16.
+ * Replies: DONE, REFUSED. */
 synicboard_reply synicboard_assert(synicboard *board, uint8_t vp, uint8_t vector);
+
 /* Requests posted vectors. Bit i of `bits` is vector 64 * part + i; `part` is 0 to 3. Vectors below 16
- * are ignored. */
+ * are ignored.
+ * Replies: DONE, REFUSED (BAD_TARGET if `part` is above 3). */
 synicboard_reply synicboard_absorb(synicboard *board, uint8_t vp, uint8_t part, uint64_t bits);
-/* A guest stores `length` bytes, 1 to 8, within one page. SYNICBOARD_NO_EVENT if `length` is above 8. */
+
+/* A guest stores `length` bytes, 1 to 8, within one page. SYNICBOARD_NO_EVENT if `length` is above 8.
+ * Replies: DONE, REFUSED (BAD_LENGTH, OUTSIDE_SPACE, CROSSES_PAGE). */
 synicboard_reply synicboard_store(synicboard *board, uint64_t address, const uint8_t *bytes, size_t length);
-/* A guest loads `length` bytes, 1 to 8, from within one page. */
+
+/* A guest loads `length` bytes, 1 to 8, from within one page.
+ * Replies: BYTES, REFUSED (BAD_LENGTH, OUTSIDE_SPACE, CROSSES_PAGE). */
 synicboard_reply synicboard_load(synicboard *board, uint64_t address, uint8_t length);
-/* Moves the clock to `moment`, in units of 100 ns, and expires the timers that are due by then. The clock
- * never goes back. */
+
+/* Moves the clock to `moment`, in units of 100 ns. If that is later than the present time, tries the timers
+ * that are due by then: each expires, unless its message cannot be sent yet.
+ * Replies: DONE, REFUSED (CLOCK_BACK). */
 synicboard_reply synicboard_tick(synicboard *board, uint64_t moment);
-/* A processor accepts its next vector. A vector that is auto-EOI does not enter service. */
+
+/* A processor accepts its next vector. A vector that is auto-EOI does not enter service.
+ * Replies: TAKEN, NONE_TAKEN, REFUSED. */
 synicboard_reply synicboard_take(synicboard *board, uint8_t vp);
-/* Suspends a processor: it has no next vector, and its timers do not expire, until it resumes. */
+
+/* Suspends a processor: it has no next vector, and its timers do not expire, until it resumes.
+ * Replies: DONE, REFUSED (ALREADY_SUSPENDED). */
 synicboard_reply synicboard_suspend(synicboard *board, uint8_t vp);
-/* Resumes a suspended processor. Its timers that are due expire at the next tick. */
+
+/* Resumes a suspended processor. Its timers that became due are tried at the next later tick.
+ * Replies: DONE, REFUSED (NOT_SUSPENDED). */
 synicboard_reply synicboard_resume(synicboard *board, uint8_t vp);
-/* Resets a processor and withdraws the messages in its queues and slots. */
+
+/* Resets a processor: withdraws the messages in its queues and slots, and resets its registers, local APIC,
+ * timers and own two pages. Ports stay open, and bits of posted words stay set.
+ * Replies: DONE, REFUSED. */
 synicboard_reply synicboard_reset(synicboard *board, uint8_t vp);
 
 /* Kinds of events. The comment names the fields of synicboard_event that the kind uses. */

@@ -299,7 +299,8 @@ impl Board {
         Reply::of(ask!(self, synicboard_load, address, length))
     }
 
-    /// Moves the clock to a time in units of 100 ns, and tries the timers that are due by then.
+    /// Moves the clock to a time in units of 100 ns. If that is later than the present time, tries the
+    /// timers that are due by then: each expires, unless its message cannot be sent yet.
     ///
     /// `Done`, or refused: `ClockBack`.
     pub fn tick(&mut self, moment: Moment) -> Reply {

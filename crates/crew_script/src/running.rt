@@ -24,7 +24,8 @@ use std::thread::Threads;
 pub enum CrewRun {
     /// The crew was run, and the trace of its history was written.
     Done,
-    /// A line of the script is wrong; no thread was started. Lines are counted from 1.
+    /// A line of the script is wrong; tests show that no thread is started then. Lines are counted
+    /// from 1.
     Script { line: u64, fault: ScriptFault },
     /// The calls of the threads are no history of the crew.
     Unsettled,
@@ -39,8 +40,9 @@ pub enum CrewRun {
 }
 
 /// Reads a whole crew script, runs its crew on a board of its own, each actor and each line in a
-/// thread of its own, and writes the trace of the run. If a line is wrong, writes only its fault,
-/// and starts no thread. The gate is called around each call of an actor or a line.
+/// thread of its own, and writes the trace of the run. If a line is wrong, writes only its fault.
+/// The gate is called around each call of an actor or a line. The script and the history are kept in
+/// memory.
 pub fn crew<T: Threads + Wait + Sync, R: Read, W: Write, G: Gate + Sync>(
     rt: &T,
     alloc: Global,
