@@ -32,7 +32,7 @@ is_from_timer timer (FromTimer ticket t expiration) = (t.0 == timer.0) && (t.1 =
 abbrev pub port_used : Queues → PortNumber → ℕ
 port_used qs port = sum_by (count_by (is_from_port port)) qs
 
--- the one buffer of a timer is in use: a message of it is queued
+-- how many messages of a timer are queued; its one buffer is free if there is none
 abbrev pub timer_used : Queues → ℕ × ℕ → ℕ
 timer_used qs timer = sum_by (count_by (is_from_timer timer)) qs
 
