@@ -1,4 +1,5 @@
--- Induction for one timer: a property of effects that leave it unchanged, of its expiry and of one effect after another holds for every effect, and with its writes for every event.
+-- Induction for one timer: a property of effects that leave it unchanged, of its expiry and of one effect after another holds for every effect, and
+-- with its writes for every event.
 use Rattle.std.proofs.Common.{◌≡◌, ◌≢◌, ◌⊎◌, inl, inr, ℕ, ◌+◌, ◌/◌, ◌<◌, ◌≤◌, ◌||◌, get_or, true, false, nat_lt, nat_le, List, [], ◌∷◌, ◌++◌, length, map, refl, sym, ap, ◌∙◌, arith}
 use Rattle.std.specs.Prelude.{Option, None, Some, ◌==◌, is_some, if◌then◌else◌}
 use Rattle.std.specs.Option.{option_map_or}

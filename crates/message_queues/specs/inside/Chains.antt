@@ -40,7 +40,9 @@ keys_from next buffers (suc n) (Some key) = key ∷ keys_from next buffers n (op
 abbrev pub ReadsBothWays : Buffers → Chain → Type 0
 ReadsBothWays buffers chain = keys_from (λ b. b.before) buffers chain.len chain.last ≡ reverse (keys_from (λ b. b.behind) buffers chain.len chain.first)
 
--- These keys follow one another from `from` on; `before` precedes the first of them, and `to` follows the last of them, which is `last`. The back link of each is the key that it follows, so from the end the keys are the same. They belong to the queue, and their ranks increase from `low` on and stay below `top`, so no key occurs twice.
+-- These keys follow one another from `from` on; `before` precedes the first of them, and `to` follows the last of them, which is `last`. The back
+-- link of each is the key that it follows, so from the end the keys are the same. They belong to the queue, and their ranks increase from `low` on
+-- and stay below `top`, so no key occurs twice.
 abbrev pub Links : Buffers → (ℕ → ℕ) → (ℕ → ℕ) → ℕ → ℕ → Option ℕ → Option ℕ → List ℕ → Option ℕ → Option ℕ → ℕ → Type 0
 Links buffers owner rank queue low before from [] to last top = (from ≡ to) × (last ≡ before) × (low ≤ top)
 Links buffers owner rank queue low before from (key ∷ keys) to last top = (b : Buffer) × (from ≡ Some key) × (owner key ≡ queue) × (low ≤ rank key) × (buffers key ≡ Some b) × (b.before ≡ before) × Links buffers owner rank queue (suc (rank key)) (Some key) b.behind keys to last top

@@ -16,7 +16,8 @@ queues_of a = queues_at (get a.buffers) a.chains.items
 abbrev pub total_of : List Chain → ℕ
 total_of chains = sum_by (λ (c : Chain). c.len) chains
 
--- No key occurs in two chains or twice in one, and there are as many buffers as keys in the chains. So each key of the slab occurs in exactly one chain, once. There is capacity for the shares of all owners.
+-- No key occurs in two chains or twice in one, and there are as many buffers as keys in the chains. So each key of the slab occurs in exactly one
+-- chain, once. There is capacity for the shares of all owners.
 pub record IsKept (a : Inside) : Type 0 where
   pub linked : Kept (get a.buffers) a.chains.items
   pub held : slab_len a.buffers ≡ total_of a.chains.items

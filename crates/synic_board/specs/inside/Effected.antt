@@ -8,7 +8,8 @@ use Rattle.synic_board.specs.Effects.{Effect}
 abbrev pub preceded : List Notice → Effect → Effect
 preceded before e = (e.0, before ++ e.1)
 
--- from `before` with the notices `told`, the call leads to `now` with the notices `telling`: the effect e, whose notices are appended, with at most as many writes of the summary as notices
+-- from `before` with the notices `told`, the call leads to `now` with the notices `telling`: the effect e, whose notices are appended, with at most
+-- as many writes of the summary as notices
 pub record Effected (before : Held) (told : List Notice) (now : Held) (telling : List Notice) (e : Effect) : Type 0 where
   pub effect : (now.state, telling) ≡ preceded told e
   pub rises : before.writes ≤ now.writes
