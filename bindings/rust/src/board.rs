@@ -86,10 +86,10 @@ impl Error for OpenFault {}
 /// # Threads
 ///
 /// A board is `Send`, and threads that share one put it under a lock, as in `Mutex<Board>`. It is not
-/// `Sync`, since the library allows one call at a time for a handle, including queries. That what a
-/// handle owns is `Send` is proved with the library. The bindings add, without proof, that the
-/// handle is only in this value, and that no second thread makes a call at the same time. A device that
-/// raises vectors without the lock uses a [`Line`].
+/// `Sync`, since the library allows one call at a time for a handle, including queries. It is proved
+/// with the library that what a handle owns is `Send`. The bindings add, without proof, that the handle
+/// is only in this value, and that no second thread makes a call at the same time. A device that raises
+/// vectors without the lock uses a [`Line`].
 ///
 /// ```compile_fail,E0277
 /// # let board = synicboard::Board::open(1, 1, 0).unwrap();

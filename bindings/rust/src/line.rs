@@ -86,7 +86,7 @@ pub enum Raised {
 ///
 /// # Threads
 ///
-/// A line is `Send`: that what its handle owns is `Send` is proved with the library. The bindings add,
+/// A line is `Send`. It is proved with the library that what its handle owns is `Send`. The bindings add,
 /// without proof, that the handle is only in this value, and that one call at a time uses it: each call
 /// borrows the line mutably, and a line is not `Sync`. Lines of the same words may be used at the same
 /// time, each by its own thread.
