@@ -32,6 +32,7 @@ fn main(rt: HostRuntime) -> ExitCode {
 /// Runs what the command line selects.
 fn run(rt: &HostRuntime) -> Result<ExitCode, Fault> {
     let names = Workload::ALL.map(|workload| workload.name());
+    // README bench_line: begin
     let program = Program {
         name: "board_bench",
         about: "Performs events on a board, and tells what one costs",
@@ -41,10 +42,13 @@ fn run(rt: &HostRuntime) -> Result<ExitCode, Fault> {
         few: 10_000,
         output: OUTPUT,
     };
+    // README bench_line: end
+    // README bench_line: begin
     let (chosen, events) = match program.asked(rt)? {
         Asked::Nothing(code) => return Ok(code),
         Asked::Measurements(chosen, events) => (chosen, events),
     };
+    // README bench_line: end
     for (place, workload) in Workload::ALL.iter().enumerate() {
         if chosen.is_none_or(|chosen| chosen == place) {
             show(rt, *workload, events)?;

@@ -17,6 +17,7 @@ pub(crate) struct ScriptJudge {
     pub(crate) notices: Notices,
 }
 
+// README line_driver: begin
 impl Judge for ScriptJudge {
     type Fault = ScriptFault;
 
@@ -35,3 +36,4 @@ impl Judge for ScriptJudge {
         )
     }
 }
+// README line_driver: end

@@ -120,8 +120,10 @@ fn perform(
     ensures state { board.new.state ≡ (step board.old.state event.now).0 }
     ensures written { OnOk result (out.new.items ≡ out.old.items ++ told (step board.old.state event.now)) }
 {
+    // README board_lines: begin
     let reply = board.perform(event, notices);
     put_reply(out, &reply)?;
     out.push(b'\n')?;
     put_notices(out, notices.as_slice())
+    // README board_lines: end
 }

@@ -44,8 +44,10 @@ pub fn replay<R: Read, W: Write>(alloc: Global, reader: &mut R, writer: &mut W) 
         event: Event::Take { vp: 0 },
         notices,
     };
+    // README line_driver: begin
     let mut out = Vec::new(alloc);
     let end = drive(alloc, reader, writer, &mut judge, &mut out);
+    // README line_driver: end
     conclude(writer, &mut out, end, judge.board.is_some())
 }
 

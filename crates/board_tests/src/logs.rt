@@ -137,12 +137,14 @@ fn calls_of_all(alloc: Global) -> Result<Vec<(Event, Reply)>, AllocError> {
 
 /// Pushes calls, by actors with descending numbers.
 fn enter(log: &mut EntryLog, calls: &[(Event, Reply)]) -> Result<(), AllocError> {
+    // README entry_log: begin
     let mut actor = 255u8;
     for (event, reply) in calls {
         log.reserve()?;
         log.push(actor, event, reply);
         actor = actor.saturating_sub(1);
     }
+    // README entry_log: end
     Ok(())
 }
 
@@ -161,10 +163,12 @@ fn count_alike(entries: &[Entry], calls: &[(Event, Reply)]) -> usize {
 #[test]
 fn each_kind_reads_back(rt: HostRuntime) -> Result<(), Fail> {
     let calls = calls_of_all(rt.alloc())?;
+    // README entry_log: begin
     let mut log = EntryLog::new(rt.alloc());
     assert_eq!(rt; (log.len(), log.to_entries(rt.alloc())?.len()), (0, 0));
     enter(&mut log, calls.as_slice())?;
     let entries = log.to_entries(rt.alloc())?;
+    // README entry_log: end
     assert_eq!(rt; (log.len(), entries.len()), (27, 27));
     assert_eq!(rt; count_alike(entries.as_slice(), calls.as_slice()), 27);
     assert_eq!(rt; EntryLog::NUMBERS_SIZE, 40);

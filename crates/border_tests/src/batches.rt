@@ -191,12 +191,16 @@ fn events() -> [PlainEvent; 7] {
 
 /// The result of a batch on a board of two processors whose first ticket is 7.
 fn end_of(alloc: Global, asked: Asked) -> Option<Ended> {
+    // README desk_batch: begin
     let (events, mut replies, mut notices) = (events(), [no_reply(); 7], [no_notice(); 300]);
     let events = events.get(asked.first..asked.last)?;
     let replies = replies.get_mut(..asked.replies)?;
     let notices = notices.get_mut(..asked.notices)?;
+    // README board_desk: begin
     let mut desk = Desk::open(alloc, 2, 1, 7).ok()?;
+    // README board_desk: end
     let Batch { end, done, told } = perform_all(&mut desk, events, replies, notices);
+    // README desk_batch: end
     Some(Ended {
         end,
         done,

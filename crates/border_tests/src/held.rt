@@ -11,6 +11,7 @@ fn crosses<T: Send>(value: T) -> T {
 
 /// The number of processors of the desk that a handle owns: borrowed, and then taken out.
 fn processors_behind(mut handle: DeskHandle, alloc: Global) -> (Option<u8>, Option<u8>) {
+    // README handles: begin
     let lent = match handle.desk_mut() {
         Some(desk) => Some(desk.board.processors()),
         None => None,
@@ -20,6 +21,7 @@ fn processors_behind(mut handle: DeskHandle, alloc: Global) -> (Option<u8>, Opti
         None => None,
     };
     (lent, taken)
+    // README handles: end
 }
 
 /// The handle of a desk, or a closed one if an allocation fails.

@@ -112,9 +112,11 @@ const CALLS: [(Which, Call, Answer); 19] = [
 impl Lines {
     /// `None` if an allocation fails.
     fn open(alloc: Global) -> Option<Lines> {
+        // README held_line: begin
         let mut first = HeldLine::open(alloc, 2).ok()?;
         let second = first.split(alloc).ok()?;
         let apart = HeldLine::open(alloc, 2).ok()?;
+        // README held_line: end
         Some(Lines {
             first,
             second,
@@ -132,6 +134,7 @@ impl Lines {
 }
 
 fn answer_of(line: &mut HeldLine, alloc: Global, call: Call) -> Answer {
+    // README held_line: begin
     match call {
         Call::Raise { vp, vector } => Answer::Raised(line.raise(vp, vector)),
         Call::Sweep { vp, part } => Answer::Swept(line.sweep(vp, part)),
@@ -140,6 +143,7 @@ fn answer_of(line: &mut HeldLine, alloc: Global, call: Call) -> Answer {
             Err(fault) => Answer::Split(Err(fault)),
         },
     }
+    // README held_line: end
 }
 
 #[test]

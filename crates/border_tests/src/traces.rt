@@ -52,9 +52,11 @@ fn reply(kind: u8, vector: u8) -> PlainReply {
 
 #[test]
 fn an_entry_has_two_lines(rt: HostRuntime) -> Result<(), Fail> {
+    // README plain_trace: begin
     let lines = lines_of(rt.alloc(), 255, &event(POST, 0), &reply(ACCEPTED, 0))?;
     let text = b"255 post 15 7fffffff 00fe00\n= accepted 18446744073709551615\n";
     assert_eq!(rt; lines.as_slice(), text.as_slice());
+    // README plain_trace: end
     Ok(())
 }
 

@@ -62,6 +62,7 @@ pub fn perform_all(
                 told,
             };
         }
+        // README plain_terms: begin
         let Some(reply) = perform_plain(&mut desk.board, &mut desk.notices, &events[done]) else {
             return Batch {
                 end: BatchEnd::NoEvent,
@@ -72,6 +73,7 @@ pub fn perform_all(
         let given = desk.notices.as_slice();
         replies[done] = plain_reply(&reply, given.len() as u16);
         put_plain(given, &mut notices[told..]);
+        // README plain_terms: end
         told += given.len();
     }
     Batch {

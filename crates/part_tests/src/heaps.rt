@@ -62,6 +62,7 @@ impl Part for TimerHeap {
     type Answer = Answer;
 
     fn ask(&mut self, call: Call) -> Option<Answer> {
+        // README timer_heap: begin
         Some(match call {
             Set(number, due) => judged(self.set(TimerId::from_number(number)?, due), 10),
             Clear(number) => judged(self.clear(TimerId::from_number(number)?), 10),
@@ -77,6 +78,7 @@ impl Part for TimerHeap {
             },
             DueBy(moment) => Marks(self.due_by(moment)),
         })
+        // README timer_heap: end
     }
 }
 
@@ -104,6 +106,7 @@ const AN_ENTRY_ALONE: [(Call, Answer); 16] = [
     (DueBy(u128::MAX), Marks(0)),
 ];
 
+// README timer_heap: begin
 /// Of equal deadlines the least number comes first.
 const EQUALS: [(Call, Answer); 12] = [
     (Set(9, 5), NO),
@@ -119,6 +122,7 @@ const EQUALS: [(Call, Answer); 12] = [
     (Set(7, 5), FEW),
     (Least, First(5, 7)),
 ];
+// README timer_heap: end
 
 const A_FULL_HEAP: [(Call, Answer); 17] = [
     (SetAll, FEW),

@@ -78,6 +78,7 @@ impl Part for Lapic {
     type Answer = Answer;
 
     fn ask(&mut self, call: Call) -> Option<Answer> {
+        // README lapic_core: begin
         Some(match call {
             Request(number) => Is(self.request(Vector::new(number)?)),
             IsRequested(number) => Is(self.is_requested(Vector::new(number)?)),
@@ -99,6 +100,7 @@ impl Part for Lapic {
             }
             IsSuspended => Is(self.is_suspended()),
         })
+        // README lapic_core: end
     }
 }
 
@@ -201,6 +203,7 @@ const EDGES: [(Call, Answer); 14] = [
     (TAKE, Answer::Vector(0xff)),
 ];
 
+// README lapic_core: begin
 /// An auto-EOI vector is not in service after it is taken.
 const AUTO: [(Call, Answer); 9] = [
     (Request(0x50), Is(true)),
@@ -213,6 +216,7 @@ const AUTO: [(Call, Answer); 9] = [
     (End, NoVector),
     (TAKE_AUTO, NoVector),
 ];
+// README lapic_core: end
 
 /// While the processor is suspended, requests are recorded and vectors in service end, but none is
 /// next.

@@ -85,12 +85,14 @@ impl Scene {
         Ok(Scene { space })
     }
 
+    // README gpa_space: begin
     fn load(&self, address: u64, length: u8) -> Option<Answer> {
         match self.space.load(address, length) {
             Ok(bytes) => Some(Byte(*bytes.first()?)),
             Err(refusal) => Some(Refused(refusal)),
         }
     }
+    // README gpa_space: end
 
     fn load_eight(&self, address: u64) -> Option<Answer> {
         match self.space.load(address, 8) {
@@ -176,6 +178,7 @@ fn other(alloc: Global, steps: &[(Call, Answer)]) -> Result<Option<Other<Answer>
     Ok(first_other(&mut Scene::open(alloc)?, steps))
 }
 
+// README gpa_space: begin
 /// An overlay obscures the page below, and the first of several obscures the others. Obscured bytes
 /// stay.
 const OVERLAYS: [(Call, Answer); 20] = [
@@ -200,6 +203,7 @@ const OVERLAYS: [(Call, Answer); 20] = [
     (Call::Owner(3), Overlay(1, Kind::Sim)),
     (Call::Owner(4), Nothing),
 ];
+// README gpa_space: end
 
 /// The checks are in this order: the length, the page of the first byte, the page of the last byte.
 const REFUSALS: [(Call, Answer); 13] = [

@@ -39,6 +39,7 @@ impl Part for Ports {
     type Answer = Answer;
 
     fn ask(&mut self, call: Call) -> Option<Answer> {
+        // README event_ports: begin
         Some(match call {
             Open(port, vp, sint, shape) => match self.open_port(port, vp, sint, shape) {
                 Ok(()) => Opened,
@@ -52,6 +53,7 @@ impl Part for Ports {
             },
             Close(port) => told(self.close_port(port)),
         })
+        // README event_ports: end
     }
 }
 
@@ -59,6 +61,7 @@ const TWO_BUFFERS: PortShape = PortShape::Messages { buffers: 2 };
 
 const EIGHT_FLAGS: PortShape = PortShape::Flags { base: 0, count: 8 };
 
+// README event_ports: begin
 /// On a board of one processor.
 const EACH_CALL: [(Call, Answer); 20] = [
     (Open(16, 0, 2, TWO_BUFFERS), Refused(Refusal::UnknownPort)),
@@ -82,6 +85,7 @@ const EACH_CALL: [(Call, Answer); 20] = [
     (Close(3), Refused(Refusal::UnknownPort)),
     (Open(3, 0, 2, EIGHT_FLAGS), Opened),
 ];
+// README event_ports: end
 
 #[test]
 fn each_call_once(rt: HostRuntime) {

@@ -103,12 +103,14 @@ impl Scene {
 
     /// Queues a post of a port, if it has a free buffer.
     fn post(&mut self, queue: Queue, ticket: Ticket, port: u8) -> Option<Answer> {
+        // README message_queues: begin
         let (vp, sint) = (on_board(queue.0)?, Sint::new(queue.1)?);
         if port > 15 || self.queues.port_used(port) > 15 {
             return None;
         }
         self.queues.append(vp, sint, post(ticket, port));
         Some(Done)
+        // README message_queues: end
     }
 
     fn post_sixteen(&mut self, queue: Queue, port: u8) -> Option<Answer> {
@@ -199,6 +201,7 @@ const SIXTEEN: Answer = Tickets(16, [0, 1, 2, 3, 4]);
 
 const NO_TICKETS: Answer = Tickets(0, [0; 5]);
 
+// README message_queues: begin
 /// A queued message occupies a buffer, and frees it when it leaves: two posts to port 3, with the
 /// message of timer 6 between them, and a post to port 4 after them.
 const BUFFERS: [(Call, Answer); 20] = [
@@ -223,6 +226,7 @@ const BUFFERS: [(Call, Answer); 20] = [
     (Place(QUEUE), Answer::Message(10)),
     (Place(QUEUE), NoMessage),
 ];
+// README message_queues: end
 
 const SIXTEEN_OF_ONE_PORT: [(Call, Answer); 10] = [
     (Post(QUEUE, 100, 4), Done),

@@ -91,6 +91,7 @@ impl Part for SynicRegs {
     type Answer = Answer;
 
     fn ask(&mut self, call: Call) -> Option<Answer> {
+        // README synic_regs: begin
         Some(match call {
             Write(number, value) => Written(self.write(stored(number)?, value)),
             Read(number) => Word(self.read(stored(number)?)),
@@ -101,6 +102,7 @@ impl Part for SynicRegs {
             IsAuto(number) => Is(self.is_auto(Vector::new(number)?)),
             AutoSetHas(number) => Is(self.auto_set().contains(Vector::new(number)?)),
         })
+        // README synic_regs: end
     }
 }
 

@@ -90,6 +90,7 @@ fn a_refusal_has_a_number_and_words(rt: HostRuntime) -> Result<(), AllocError> {
 
 #[test]
 fn notices_keep_their_order_and_their_room(rt: HostRuntime) -> Result<(), AllocError> {
+    // README board_terms: begin
     let (vp, sint) = (Vp::new(3).unwrap(), Sint::new(2).unwrap());
     let told = [
         Notice::Pending { vp, sint },
@@ -105,6 +106,7 @@ fn notices_keep_their_order_and_their_room(rt: HostRuntime) -> Result<(), AllocE
     assert_eq!(rt; notices.as_slice(), told.as_slice());
     notices.clear();
     assert!(rt; notices.as_slice().is_empty());
+    // README board_terms: end
     Ok(())
 }
 

@@ -105,6 +105,7 @@ fn a_vector_is_fresh_until_it_is_swept(rt: HostRuntime) -> Result<(), Fail> {
     ) else {
         panic!(rt; "no token")
     };
+    // README posted_words: begin
     let (vp, vector) = (Vp::new(0).unwrap(), Vector::new(0x60).unwrap());
     assert_eq!(rt; words.raise(&mut line, vp, vector), Raised::Fresh);
     assert_eq!(rt; words.raise(&mut line, vp, vector), Raised::Already);
@@ -112,6 +113,7 @@ fn a_vector_is_fresh_until_it_is_swept(rt: HostRuntime) -> Result<(), Fail> {
     assert_eq!(rt; words.sweep(&mut sweeper, vp, 1), 1 << 32);
     assert_eq!(rt; words.sweep(&mut sweeper, vp, 1), 0);
     assert_eq!(rt; words.raise(&mut other, vp, vector), Raised::Fresh);
+    // README posted_words: end
     Ok(())
 }
 

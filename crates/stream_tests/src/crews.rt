@@ -49,10 +49,12 @@ fn written<R: Threads + Wait + Sync>(
     held: Worker,
     until: u64,
 ) -> Option<Cursor<[u8; 512]>> {
+    // README crew_script: begin
     let gate = Hold::of(held, until);
     let mut reader = script.as_bytes();
     let mut written = Cursor::new([0; 512]);
     let end = crew(rt, alloc, &mut reader, &mut written, &gate);
+    // README crew_script: end
     if end == CrewRun::Done && !gate.has_given_up(rt) {
         Some(written)
     } else {

@@ -94,6 +94,7 @@ fn reads_bytes(rt: HostRuntime) {
 
 /// Prints numbers and bytes.
 fn put(out: &mut Vec<u8>) -> Result<(), AllocError> {
+    // README board_text: begin
     put_decimal(out, 0u64)?;
     put_decimal(out, 36_893_488_147_419_103_230u128)?;
     put_hex(out, 0)?;
@@ -101,16 +102,19 @@ fn put(out: &mut Vec<u8>) -> Result<(), AllocError> {
     put_hex(out, u64::MAX)?;
     put_byte(out, 0x0f)?;
     put_bytes(out, &[0x00, 0xff])
+    // README board_text: end
 }
 
 #[test]
 fn writes_numbers_and_bytes(rt: HostRuntime) -> Result<(), AllocError> {
+    // README board_text: begin
     let mut out = Vec::new(rt.alloc());
     put(&mut out)?;
     assert_eq!(rt;
         out.as_slice(),
         b"03689348814741910323001401ffffffffffffffff0f00ff".as_slice()
     );
+    // README board_text: end
     Ok(())
 }
 

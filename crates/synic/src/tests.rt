@@ -7,6 +7,7 @@ use std::test::Fail;
 
 #[test]
 fn a_vector_is_asserted_and_taken(rt: HostRuntime) -> Result<(), Fail> {
+    // README synic_board: begin
     let mut board = Board::open(rt.alloc(), 1, 4, 0)?;
     let mut notices = Notices::open(rt.alloc())?;
     let vector = Vector::new(0x50).ok_or("vector")?;
@@ -16,6 +17,7 @@ fn a_vector_is_asserted_and_taken(rt: HostRuntime) -> Result<(), Fail> {
         board.perform(&Event::Take { vp: 0 }, &mut notices),
         Reply::Taken(Some(vector))
     );
+    // README synic_board: end
     Ok(())
 }
 
@@ -45,6 +47,7 @@ fn is_prepared(board: &mut Board, notices: &mut Notices) -> bool {
 
 #[test]
 fn a_message_reaches_its_slot(rt: HostRuntime) -> Result<(), Fail> {
+    // README synic: begin
     let mut board = Board::open(rt.alloc(), 1, 4, 0)?;
     let mut notices = Notices::open(rt.alloc())?;
     assert!(rt; is_prepared(&mut board, &mut notices));
@@ -60,25 +63,30 @@ fn a_message_reaches_its_slot(rt: HostRuntime) -> Result<(), Fail> {
         sint: Sint::new(2).ok_or("source")?,
     };
     assert!(rt; notices.as_slice().contains(&placed));
+    // README synic: end
     Ok(())
 }
 
 #[test]
 fn a_script_has_its_text(rt: HostRuntime) -> Result<(), Fail> {
+    // README board_script: begin
     let mut script: &[u8] = b"board 1 4 0\nread 0 40000081\n";
     let mut text = Vec::new(rt.alloc());
     assert_eq!(rt; replay(rt.alloc(), &mut script, &mut text), ReplayEnd::Done);
     assert_eq!(rt; text.as_slice(), b"= value 1\n".as_slice());
+    // README board_script: end
     Ok(())
 }
 
 #[test]
 fn a_trace_has_its_verdict(rt: HostRuntime) -> Result<(), Fail> {
+    // README board_trace: begin
     let mut trace: &[u8] = b"trace 1\nboard 1 4 0\n0 read 0 40000081\n= value 1\nend 1\n";
     let mut verdict = Vec::new(rt.alloc());
     assert_eq!(rt;
         check_trace(rt.alloc(), &mut trace, &mut verdict),
         CheckEnd::Legal(1)
     );
+    // README board_trace: end
     Ok(())
 }

@@ -94,7 +94,9 @@ impl Summary {
         requires { HasEntry self.old.values entry }
         ensures { self.new ≡ kept (with_entry self.old.values entry) (self.old.writes + 1) }
     {
+        // README counter: begin
         self.writes = Count::after(&self.writes);
+        // README counter: end
         match entry {
             Entry::Next(vp, next) => self.nexts[vp.number() as usize] = next,
             Entry::Auto(vp, auto) => self.autos[vp.number() as usize] = auto,

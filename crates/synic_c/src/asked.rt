@@ -12,6 +12,7 @@ use synic_board::Event;
 pub(crate) fn asked(handle: &mut DeskHandle, event: &Event) -> PlainReply
     ensures { IsAsked (Some event.now) handle.old.desk handle.new.desk result }
 {
+    // README board_desk: begin
     match handle.desk_mut() {
         Some(desk) => {
             let reply = desk.perform_inline(event);
@@ -19,6 +20,7 @@ pub(crate) fn asked(handle: &mut DeskHandle, event: &Event) -> PlainReply
         }
         None => plain_fault(Fault::Closed),
     }
+    // README board_desk: end
 }
 
 /// The reply of a call whose arguments encode no event.

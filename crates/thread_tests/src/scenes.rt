@@ -114,19 +114,23 @@ impl Scene {
         }
     }
 
+    // README board_threads: begin
     fn absorb<R: Wait>(&mut self, rt: &R, vp: u8, part: u8) -> Answer {
         let absorbed = self.board.absorb(rt, &mut self.actor, vp, part);
         answer_to_absorb(absorbed, self.actor.calls())
     }
+    // README board_threads: end
 
     fn absorb_as_other<R: Wait>(&mut self, rt: &R) -> Answer {
         let absorbed = self.board.absorb(rt, &mut self.other, 0, 1);
         answer_to_absorb(absorbed, self.other.calls())
     }
 
+    // README board_threads: begin
     fn perform<R: Wait>(&mut self, rt: &R, event: Event) -> Answer {
         answer_to(self.board.perform(rt, &mut self.actor, event))
     }
+    // README board_threads: end
 
     fn tick<R: Wait>(&mut self, rt: &R, times: u32) -> Answer {
         for _ in 0..times {
@@ -160,6 +164,7 @@ impl Scene {
             other,
             line,
         } = self;
+        // README board_threads: begin
         let Ok(mut actors) = Vec::from_array(alloc, [actor, other]) else {
             return Err(SettleFault::Memory);
         };
@@ -169,6 +174,7 @@ impl Scene {
         actors.truncate(back.actors);
         lines.truncate(back.lines);
         board.settle(actors, lines)
+        // README board_threads: end
     }
 }
 
