@@ -106,9 +106,9 @@ const AN_ENTRY_ALONE: [(Call, Answer); 16] = [
     (DueBy(u128::MAX), Marks(0)),
 ];
 
-// README timer_heap: begin
 /// Of equal deadlines the least number comes first.
 const EQUALS: [(Call, Answer); 12] = [
+    // README timer_heap: begin
     (Set(9, 5), NO),
     (Set(7, 5), FEW),
     (Set(8, 5), FEW),
@@ -121,8 +121,8 @@ const EQUALS: [(Call, Answer); 12] = [
     (Least, First(5, 9)),
     (Set(7, 5), FEW),
     (Least, First(5, 7)),
+    // README timer_heap: end
 ];
-// README timer_heap: end
 
 const A_FULL_HEAP: [(Call, Answer); 17] = [
     (SetAll, FEW),

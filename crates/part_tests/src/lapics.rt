@@ -203,9 +203,9 @@ const EDGES: [(Call, Answer); 14] = [
     (TAKE, Answer::Vector(0xff)),
 ];
 
-// README lapic_core: begin
 /// An auto-EOI vector is not in service after it is taken.
 const AUTO: [(Call, Answer); 9] = [
+    // README lapic_core: begin
     (Request(0x50), Is(true)),
     (TAKE_AUTO, Answer::Vector(0x50)),
     (IsRequested(0x50), Is(false)),
@@ -215,8 +215,8 @@ const AUTO: [(Call, Answer); 9] = [
     (TAKE_AUTO, Answer::Vector(0x50)),
     (End, NoVector),
     (TAKE_AUTO, NoVector),
+    // README lapic_core: end
 ];
-// README lapic_core: end
 
 /// While the processor is suspended, requests are recorded and vectors in service end, but none is
 /// next.

@@ -178,10 +178,10 @@ fn other(alloc: Global, steps: &[(Call, Answer)]) -> Result<Option<Other<Answer>
     Ok(first_other(&mut Scene::open(alloc)?, steps))
 }
 
-// README gpa_space: begin
 /// An overlay obscures the page below, and the first of several obscures the others. Obscured bytes
 /// stay.
 const OVERLAYS: [(Call, Answer); 20] = [
+    // README gpa_space: begin
     (Store(0x2200, 5), Guest),
     (SetOverlay(1, Kind::Sim, 0x2001), Done),
     (Load(0x2200, 1), Byte(0)),
@@ -202,8 +202,8 @@ const OVERLAYS: [(Call, Answer); 20] = [
     (Call::Owner(2), Guest),
     (Call::Owner(3), Overlay(1, Kind::Sim)),
     (Call::Owner(4), Nothing),
+    // README gpa_space: end
 ];
-// README gpa_space: end
 
 /// The checks are in this order: the length, the page of the first byte, the page of the last byte.
 const REFUSALS: [(Call, Answer); 13] = [

@@ -61,9 +61,9 @@ const TWO_BUFFERS: PortShape = PortShape::Messages { buffers: 2 };
 
 const EIGHT_FLAGS: PortShape = PortShape::Flags { base: 0, count: 8 };
 
-// README event_ports: begin
 /// On a board of one processor.
 const EACH_CALL: [(Call, Answer); 20] = [
+    // README event_ports: begin
     (Open(16, 0, 2, TWO_BUFFERS), Refused(Refusal::UnknownPort)),
     (Open(3, 0, 2, TWO_BUFFERS), Opened),
     (Open(3, 0, 2, TWO_BUFFERS), Refused(Refusal::PortOpen)),
@@ -84,8 +84,8 @@ const EACH_CALL: [(Call, Answer); 20] = [
     (Close(3), Answer::Port(0, 2, TWO_BUFFERS)),
     (Close(3), Refused(Refusal::UnknownPort)),
     (Open(3, 0, 2, EIGHT_FLAGS), Opened),
+    // README event_ports: end
 ];
-// README event_ports: end
 
 #[test]
 fn each_call_once(rt: HostRuntime) {

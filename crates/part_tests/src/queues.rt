@@ -201,10 +201,10 @@ const SIXTEEN: Answer = Tickets(16, [0, 1, 2, 3, 4]);
 
 const NO_TICKETS: Answer = Tickets(0, [0; 5]);
 
-// README message_queues: begin
 /// A queued message occupies a buffer, and frees it when it leaves: two posts to port 3, with the
 /// message of timer 6 between them, and a post to port 4 after them.
 const BUFFERS: [(Call, Answer); 20] = [
+    // README message_queues: begin
     (Post(QUEUE, 7, 3), Done),
     (TimerIsFree(6), Is(true)),
     (Expire(QUEUE, 8, 6), Done),
@@ -225,8 +225,8 @@ const BUFFERS: [(Call, Answer); 20] = [
     (TimerIsFree(6), Is(true)),
     (Place(QUEUE), Answer::Message(10)),
     (Place(QUEUE), NoMessage),
+    // README message_queues: end
 ];
-// README message_queues: end
 
 const SIXTEEN_OF_ONE_PORT: [(Call, Answer); 10] = [
     (Post(QUEUE, 100, 4), Done),

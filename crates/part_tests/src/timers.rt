@@ -38,16 +38,16 @@ pub(crate) enum Answer {
 use Answer::{Done, Expired, First, Is, Nothing, Source, Timer, Vector, Word};
 use Call::{Config, Count, Due, Earliest, Expire, IsDue, ReadConfig, ReadCount};
 
-// README stimer_bank: begin
 /// The signals of an expiry, and how many periods it skips.
 fn expired(bank: &mut TimerBank, timer: TimerId, moment: Moment) -> Answer {
+    // README stimer_bank: begin
     if !bank.is_due(timer, moment) {
         return Nothing;
     }
     let expiry = bank.expire(timer, moment);
     Expired(expiry.signal, expiry.skipped)
+    // README stimer_bank: end
 }
-// README stimer_bank: end
 
 /// The vector or the source that a due timer signals.
 fn told(bank: &TimerBank, timer: TimerId, moment: Moment) -> Answer {
@@ -113,9 +113,9 @@ impl Part for TimerBank {
     }
 }
 
-// README stimer_bank: begin
 /// A timer with period 10 and vector 64, started at 100. At most eight periods are made up.
 const A_LATE_PERIODIC_TIMER: [(Call, Answer); 17] = [
+    // README stimer_bank: begin
     (Count(0, 10, 100), Done),
     (Config(0, 0x1403, 100), Done),
     (Earliest, First(110, 0)),
@@ -133,8 +133,8 @@ const A_LATE_PERIODIC_TIMER: [(Call, Answer); 17] = [
     (Earliest, First(160, 0)),
     (ReadConfig(0), Word(0x1403)),
     (ReadCount(0), Word(10)),
+    // README stimer_bank: end
 ];
-// README stimer_bank: end
 
 /// The same timer, but lazy: it signals the latest period, or none if the next one is near.
 const A_LAZY_TIMER: [(Call, Answer); 7] = [
