@@ -85,9 +85,9 @@ raise-found w b [] some = absurd (omega arith)
 raise-found w b (Sweep word bits ∷ ds) some = before-it (Sweep word bits) w b ds (raise-found w b ds (omega (arith, some)))
 raise-found w b (Raise word bit g ∷ ds) some =
     let later = λ (none : raises_at w b (Raise word bit g) ≡ false).
-        let zero : one_if (raises_at w b (Raise word bit g)) ≡ 0 = ap one_if none in
-        let r = raise-found w b ds (omega (arith, some, zero)) in
-        before-it (Raise word bit g) w b ds r in
+    let zero : one_if (raises_at w b (Raise word bit g)) ≡ 0 = ap one_if none in
+    let r = raise-found w b ds (omega (arith, some, zero)) in
+    before-it (Raise word bit g) w b ds r in
     dite (ℕ_discrete w word)
     (λ p. dite (ℕ_discrete b bit) (λ q. ([], ds, g, (λ i. Raise (sym p i) (sym q i) g ∷ ds))) (λ q. later (grind (arith, nat_tests))))
     (λ p. later (grind (arith, nat_tests)))

@@ -103,13 +103,13 @@ raises key slots id w k ds in_words small s h _ at _ =
     let mine : Bounded (views_fresh views) (views_taken views) (d ∷ ds) =
     Bounded-cons (views_fresh views) (views_taken views) d ds
     (λ x b g is.
-        let word : x ≡ w = cc in
-        let bit : b ≡ k = cc in
-        let e = even x b (omega (arith, word)) in
-        let q = T x b in
-        let o = found-le-sum_by (taken_of x b) s.views id (own ds) at in
-        let stands : bit_at (slice_index words x) b ≡ 1 = raised_stands s.words w k x b n wide small word bit in
-        omega (arith, e, q, o, stands))
+    let word : x ≡ w = cc in
+    let bit : b ≡ k = cc in
+    let e = even x b (omega (arith, word)) in
+    let q = T x b in
+    let o = found-le-sum_by (taken_of x b) s.views id (own ds) at in
+    let stands : bit_at (slice_index words x) b ≡ 1 = raised_stands s.words w k x b n wide small word bit in
+    omega (arith, e, q, o, stands))
     (λ x b bits is. absurd (cc))
     (Bounded-more (views_fresh s.views) (views_taken s.views) (views_fresh views) (views_taken views) ds (λ x b. (let q = F x b in omega arith)) (λ x b. (let q = T x b in omega arith)) before) in (
       u,
@@ -137,12 +137,12 @@ sweeps key slots id w ds in_words s h _ at _ =
     Bounded-cons (views_fresh views) (views_taken views) d ds
     (λ x b g is. absurd (cc))
     (λ x b bits is.
-        let word : x ≡ w = cc in
-        let e = even x b (omega (arith, word)) in
-        let q = F x b in
-        let o = found-le-sum_by (fresh_of x b) s.views id (own ds) at in
-        let gone : bit_at (slice_index words x) b ≡ 0 = swept_is_clear s.words w x b wide word in
-        omega (arith, e, q, o, gone))
+    let word : x ≡ w = cc in
+    let e = even x b (omega (arith, word)) in
+    let q = F x b in
+    let o = found-le-sum_by (fresh_of x b) s.views id (own ds) at in
+    let gone : bit_at (slice_index words x) b ≡ 0 = swept_is_clear s.words w x b wide word in
+    omega (arith, e, q, o, gone))
     (Bounded-more (views_fresh s.views) (views_taken s.views) (views_fresh views) (views_taken views) ds (λ x b. (let q = F x b in omega arith)) (λ x b. (let q = T x b in omega arith)) before) in (
       u,
       keeps,

@@ -243,13 +243,7 @@ impl Table {
     }
 
     /// Sets another deadline of the timer at a place, and returns the number of comparisons.
-    pub(crate) fn change(
-        &mut self,
-        at: usize,
-        number: u8,
-        due: u128,
-        comparer: &mut Comparer,
-    ) -> u8
+    pub(crate) fn change(&mut self, at: usize, number: u8, due: u128, comparer: &mut Comparer) -> u8
         requires inverse { IsInverse self.old }
         requires ordered { IsOrdered (key self.old) (size self.old) }
         requires number { number < 32 }
