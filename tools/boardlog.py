@@ -1,7 +1,9 @@
 """The replies of a board to the events of a script or a trace, and the state after each event."""
 
+import re
 import subprocess
 
+import boardfaults
 
 # the first line of a trace, in either format
 TITLES = (["trace 1"], ["trace 2"])
@@ -60,7 +62,8 @@ def answers(program, script):
     output = done.stdout.decode()
     if done.returncode:
         last = output.splitlines()[-1:] or [done.stderr.decode().strip()]
-        raise Fault(last[0])
+        named = re.fullmatch(r"! (\d+) (\w+)", last[0])
+        raise Fault(boardfaults.explain(script, int(named[1]), named[2]) if named else last[0])
     return output.splitlines()
 
 

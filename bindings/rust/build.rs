@@ -1,17 +1,35 @@
-//! Links the static library from the folder that SYNICBOARD_LIB_DIR names, or from `build` at the
-//! root of the repository.
+//! Links the static library from the folder that SYNICBOARD_LIB_DIR names; or from `build` at the root of
+//! the repository, if it is there; or from where `./install` put it, as pkg-config tells.
 
 use std::env;
-use std::path::PathBuf;
+use std::path::{Path, PathBuf};
+use std::process::Command;
+
+/// The folder of an installed library, if pkg-config knows one.
+fn installed() -> Option<PathBuf> {
+    let asked = Command::new("pkg-config").args(["--variable=libdir", "synicboard"]).output().ok()?;
+    let folder = String::from_utf8(asked.stdout).ok()?;
+    (asked.status.success() && !folder.trim().is_empty()).then(|| PathBuf::from(folder.trim()))
+}
+
+/// The folder to link from, for the crate in `root`.
+fn folder(root: &Path) -> PathBuf {
+    if let Some(folder) = env::var_os("SYNICBOARD_LIB_DIR") {
+        // A relative path starts at the crate's folder, where cargo runs this script.
+        return root.join(folder);
+    }
+    let built = root.join("../../build");
+    if built.join("libsynicboard.a").exists() {
+        return built;
+    }
+    installed().unwrap_or(built)
+}
 
 fn main() {
     println!("cargo:rerun-if-env-changed=SYNICBOARD_LIB_DIR");
+    println!("cargo:rerun-if-env-changed=PKG_CONFIG_PATH");
     let root = env::var_os("CARGO_MANIFEST_DIR").expect("cargo names the folder of the crate");
-    let folder = match env::var_os("SYNICBOARD_LIB_DIR") {
-        // A relative path starts at the crate's folder, where cargo runs this script.
-        Some(folder) => PathBuf::from(&root).join(folder),
-        None => PathBuf::from(&root).join("../../build"),
-    };
+    let folder = folder(Path::new(&root));
     let library = folder.join("libsynicboard.a");
     println!("cargo:rerun-if-changed={}", library.display());
     if !library.exists() {

@@ -36,8 +36,8 @@ outcome_of-requires-clause-step g c =
     λ bad. both_ways (has_bad_step s.setup s.scripts) (none-bad s (subst IsGood (sym over) c.requires.good)) (c.run_crew.ensures.step.0 (c.in-Err.is ∙ ap Err bad)).1
 
 -- what was written, or nothing
-told : (outcome : Outcome) (setup : Setup) (ended : Ended) (crew : Crew) (text : List ℕ) → IsTold outcome setup ended [] text → (All (IsEntry Two) ended.history.items → text ≡ text_of (trace_lines Two setup.processors setup.pages setup.first_ticket ended.history.items ended.board.state.next_ticket) → Report crew Done text) → Prepares outcome crew text
-told outcomes.Done setup ended crew text is report = report is.0 is.1
+told : (outcome : Outcome) (setup : Setup) (ended : Ended) (crew : Crew) (text : List ℕ) → IsTold outcome setup ended [] text → (setup.first_ticket < 2 ^ 64 → All (IsEntry Two) ended.history.items → text ≡ text_of (trace_lines Two setup.processors setup.pages setup.first_ticket ended.history.items ended.board.state.next_ticket) → Report crew Done text) → Prepares outcome crew text
+told outcomes.Done setup ended crew text is report = report is.0 is.1 is.2
 told outcomes.Memory setup ended crew text is report = tt
 told outcomes.Unsettled setup ended crew text is report = tt
 told outcomes.NoThread setup ended crew text is report = tt
@@ -83,5 +83,4 @@ returns-in-Ok g c =
     let next : ended.board.state.next_ticket ≡ (leads_to (opened s.setup.processors s.setup.pages s.setup.first_ticket) h).next_ticket = ap (λ (x : State). x.next_ticket) e.settled.leads in
     let was : IsTold c.tell.result s.setup ended [] out = subst (λ (old : List ℕ). IsTold c.tell.result s.setup ended old out) c.requires.empty c.tell.ensures in
     let good : IsGood (crew_of s) = subst IsGood (sym over) c.requires.good in
-    let given : s.setup.first_ticket < 2 ^ 64 = omega arith in
-    told c.tell.result s.setup ended (finished (crew_of c.args.script.now)) out was (λ fits text. subst (λ (crew : Crew). Report crew Done out) over (traced (crew_of s) h out is good.board given fits (text ∙ ap lines next)))
+    told c.tell.result s.setup ended (finished (crew_of c.args.script.now)) out was (λ given fits text. subst (λ (crew : Crew). Report crew Done out) over (traced (crew_of s) h out is good.board given fits (text ∙ ap lines next)))
