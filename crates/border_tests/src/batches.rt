@@ -102,6 +102,13 @@ const TICK_ALONE: Asked = Asked {
     notices: 276,
 };
 
+/// The invalid event alone, with just enough capacity.
+const NONE_ALONE: Asked = Asked {
+    first: 5,
+    last: 6,
+    ..TICK_ALONE
+};
+
 /// The result of a batch that performs nothing.
 const NOTHING: Ended = Ended {
     end: BatchEnd::NoRoom,
@@ -110,7 +117,7 @@ const NOTHING: Ended = Ended {
     moment: 0,
 };
 
-const BATCHES: [(Asked, Ended); 7] = [
+const BATCHES: [(Asked, Ended); 9] = [
     // Two messages are queued and withdrawn, and the clock does not move.
     (
         ALL,
@@ -158,6 +165,21 @@ const BATCHES: [(Asked, Ended); 7] = [
         Asked {
             replies: 0,
             ..TICK_ALONE
+        },
+        NOTHING,
+    ),
+    // That there is no capacity is checked before the next event.
+    (
+        Asked {
+            replies: 0,
+            ..NONE_ALONE
+        },
+        NOTHING,
+    ),
+    (
+        Asked {
+            notices: 275,
+            ..NONE_ALONE
         },
         NOTHING,
     ),

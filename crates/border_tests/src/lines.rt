@@ -155,3 +155,19 @@ fn lines_step_at_the_same_words(rt: HostRuntime) -> Result<(), Fail> {
     }
     Ok(())
 }
+
+/// How many lines a new line splits off, and why it splits off no more.
+fn splits(alloc: Global) -> Option<(u8, SplitFault)> {
+    let mut line = HeldLine::open(alloc, 2).ok()?;
+    for count in 0..40 {
+        if let Err(fault) = line.split(alloc) {
+            return Some((count, fault));
+        }
+    }
+    None
+}
+
+#[test]
+fn a_first_line_splits_off_31_others(rt: HostRuntime) {
+    assert_eq!(rt; splits(rt.alloc()), Some((31, SplitFault::NoMore)));
+}

@@ -1,8 +1,9 @@
-// A gate that watches.
+// A gate that watches, and one that has a call looked at before its worker goes on.
 ghost use Rattle.std.specs.Prelude.{◌<◌};
 
 use board_threads::{Gate, Worker};
 use std::sync::{Mutex, Wait};
+use std::thread::yield_now;
 
 /// What a gate has observed. Actors are indexed by their numbers, lines from 16 on.
 #[derive(Clone, Copy)]
@@ -74,5 +75,64 @@ impl Gate for Watch {
         let next = call.saturating_add(1);
         seen.out_of_turn |= seen.entered[place] != next || seen.left[place] != call;
         seen.left[place] = next;
+    }
+}
+
+/// How often a waiting worker polls before it gives up.
+const TURNS: u32 = 50_000_000;
+
+/// Lets actor 2 make its first call while `first` is in `leave` of its own first call. Actor 2 has
+/// made it when it enters its second call, and only then does that `leave` return.
+#[derive(Drop)]
+pub(crate) struct Look {
+    first: Worker,
+    has_left: Mutex<bool>,
+    has_looked: Mutex<bool>,
+    given_up: Mutex<bool>,
+}
+
+impl Look {
+    pub(crate) fn at(first: Worker) -> Look {
+        Look {
+            first,
+            has_left: Mutex::new(false),
+            has_looked: Mutex::new(false),
+            given_up: Mutex::new(false),
+        }
+    }
+
+    /// Whether a worker gave up before the other one had reached its place.
+    pub(crate) fn has_given_up<R: Wait>(&self, rt: &R) -> bool {
+        *self.given_up.lock(rt)
+    }
+
+    fn wait<R: Wait>(&self, rt: &R, reached: &Mutex<bool>) {
+        for _ in 0..TURNS {
+            if *reached.lock(rt) {
+                return;
+            }
+            yield_now();
+        }
+        *self.given_up.lock(rt) = true;
+    }
+}
+
+impl Gate for Look {
+    fn enter<R: Wait>(&self, rt: &R, who: Worker, call: u64) {
+        if who != Worker::Acts(2) {
+            return;
+        }
+        if call == 0 {
+            self.wait(rt, &self.has_left);
+        } else {
+            *self.has_looked.lock(rt) = true;
+        }
+    }
+
+    fn leave<R: Wait>(&self, rt: &R, who: Worker, call: u64) {
+        if who == self.first && call == 0 {
+            *self.has_left.lock(rt) = true;
+            self.wait(rt, &self.has_looked);
+        }
     }
 }

@@ -10,6 +10,8 @@ mod ends;
 #[cfg(test)]
 mod gates;
 #[cfg(test)]
+mod leaving;
+#[cfg(test)]
 mod scenes;
 #[cfg(test)]
 mod scripts;

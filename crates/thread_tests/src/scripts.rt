@@ -50,3 +50,16 @@ pub(crate) fn posts_and_raises(alloc: Global) -> Result<Scripts, AllocError> {
         lines: Vec::from_array(alloc, [twice, once])?,
     })
 }
+
+/// An actor that posts, one that sweeps the part of vector 0x60 and then takes, and a line that
+/// raises it.
+pub(crate) fn post_look_and_raise(alloc: Global) -> Result<Scripts, AllocError> {
+    let posts = Vec::from_array(alloc, [say(0x0a)])?;
+    let take = Step::Act(Event::Take { vp: 0 });
+    let looks = Vec::from_array(alloc, [Step::Sweep { vp: 0, part: 1 }, take])?;
+    let raises = Vec::from_array(alloc, [raise_60(Vp::new(0).unwrap())])?;
+    Ok(Scripts {
+        actors: Vec::from_array(alloc, [posts, looks])?,
+        lines: Vec::from_array(alloc, [raises])?,
+    })
+}
