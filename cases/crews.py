@@ -1,7 +1,7 @@
 """What holds for a crew's trace under any schedule: it is legal; it begins with the setup and ends
-with the last absorbs of actor 0; each actor's entries are its script; each raised vector is
-absorbed at least once and at most as often as it was raised; and its end line counts the entries
-and the accepted posts."""
+with the last absorbs of actor 0; each actor's entries are its script, and there are no others; each
+raised vector is absorbed at least once and at most as often as it was raised; and its end line
+counts the entries and the accepted posts."""
 
 import collections
 import random
@@ -27,6 +27,10 @@ class Script:
                 self.lines.append(section)
             else:
                 section.append(line)
+
+    def entries(self):
+        """How many entries a history of the crew has: the setup, the scripts, and the last absorbs."""
+        return len(self.setup) + sum(map(len, self.actors)) + 4 * self.processors
 
     def raised(self):
         """How often each vector of each processor is raised."""
@@ -96,6 +100,11 @@ def complaints_of(script, trace):
     for number, steps in enumerate(script.actors, 1):
         if not is_script(steps, trace.of(number)):
             found.append("actor %d has other entries than its script" % number)
+    surplus = {number for number, _, _ in trace.entries} - {str(number) for number in range(len(script.actors) + 1)}
+    if surplus:
+        found.append("actors without a script have entries: %s" % ", ".join(sorted(surplus)))
+    if len(trace.entries) != script.entries():
+        found.append("it has %d entries, and not %d" % (len(trace.entries), script.entries()))
     raised, absorbed = script.raised(), trace.absorbed()
     for vector in raised:
         if not 1 <= absorbed[vector] <= raised[vector]:
@@ -128,6 +137,11 @@ def crowd(seed, steps):
         text += ["raise %d %02x" % (chance.randrange(8), chance.randrange(0x20, 0x40) * 4)
                  for _ in range(8 * steps)]
     return ("\n".join(text) + "\n").encode()
+
+
+def lines_alone():
+    """Sixteen lines of one raise each, and no actor."""
+    return ("board 1 1 0\n" + "line\nraise 0 60\n" * LINES).encode()
 
 
 def full(processors, more):

@@ -41,11 +41,27 @@ def out_of_memory(binary):
     return complaints
 
 
-def no_thread(binary, crowd):
+def no_thread(binary, crew):
     """If thread stacks cannot be allocated, no crew runs, and nothing is written."""
-    ended = with_memory(binary, ["crew"], crowd, 64 * MIB)
+    ended = with_memory(binary, ["crew"], crew, 64 * MIB)
     seen = (ended.returncode, ended.stdout, ended.stderr)
     return [] if seen == (4, b"", b"synicboard: no thread\n") else ["%r" % (seen,)]
+
+
+def crew_out_of_memory(binary, crew, written):
+    """As the address space shrinks, a crew of one actor first writes its trace, then reports that it
+    is out of memory, or that it has no thread, and writes nothing."""
+    complaints, wanting = [], 0
+    faults = {b"synicboard: out of memory\n": 1, b"synicboard: no thread\n": 0}
+    for most in range(64 * MIB, 2 * MIB, -2 * MIB):
+        ended = with_memory(binary, ["crew"], crew, most)
+        if ended.returncode == 4 and not ended.stdout and ended.stderr in faults:
+            wanting += faults[ended.stderr]
+        elif wanting or (ended.returncode, ended.stdout, ended.stderr) != (0, written, b""):
+            complaints.append("in %d KiB: %r" % (most // KIB, (ended.returncode, ended.stdout[:40], ended.stderr)))
+    if wanting == 0:
+        complaints.append("no address space was too small for it")
+    return complaints
 
 
 def closed_streams(binary):
@@ -92,13 +108,23 @@ def bytes_at_the_limit(binary):
 
 
 def fault_before_more(binary):
-    """A fault is written while the peer still holds the pipe open and sends nothing."""
-    program = subprocess.Popen([binary, "replay"], stdin=subprocess.PIPE, stdout=subprocess.PIPE)
-    program.stdin.write(b"board 1 1 0\ntake 0\ntake x\n")
-    program.stdin.flush()
-    written = b"".join(program.stdout.readline() for _ in range(2))
-    status = program.wait(SECONDS)
-    program.stdin.close()
-    program.stdout.close()
-    wanted = (1, b"= taken none\n! 3 form\n")
-    return [] if (status, written) == wanted else ["%r, expected %r" % ((status, written), wanted)]
+    """A fault is written, and the program ends, while the peer still holds the pipe open and sends
+    nothing."""
+    complaints = []
+    for subcommand, text, status, wanted in (
+            ("replay", b"board 1 1 0\ntake 0\ntake x\n", 1, b"= taken none\n! 3 form\n"),
+            ("check", b"trace 2\nboard 1 1 0\n0 take x\n", 3, b"refused 3\n"),
+            ("crew", b"board 1 1 0\nactor\ntake x\n", 1, b"! 3 form\n")):
+        reading, writing = os.pipe()
+        try:
+            os.write(writing, text)
+            ended = subprocess.run([binary, subcommand], stdin=reading, stdout=subprocess.PIPE, timeout=SECONDS)
+            seen = (ended.returncode, ended.stdout)
+        except subprocess.TimeoutExpired as expired:
+            seen = ("none: it waits for more input", expired.stdout)
+        finally:
+            os.close(reading)
+            os.close(writing)
+        if seen != (status, wanted):
+            complaints.append("%s: %r, expected %r" % (subcommand, seen, (status, wanted)))
+    return complaints

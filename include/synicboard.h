@@ -325,9 +325,9 @@ typedef struct synicboard_batch {
 } synicboard_batch;
 
 /* Performs events in order. Stops before an event that is invalid, or for which `replies` has no free
- * element, or `notices` fewer than SYNICBOARD_MOST_NOTICES free ones. The reply to events[i] is
- * replies[i]. The notices of all events follow one another in `notices`; the `notices` field of each
- * reply counts its own. */
+ * element, or `notices` fewer than SYNICBOARD_MOST_NOTICES free ones; if it is invalid too, the end is
+ * SYNICBOARD_BATCH_NO_ROOM. The reply to events[i] is replies[i]. The notices of all events follow one
+ * another in `notices`; the `notices` field of each reply counts its own. */
 synicboard_batch synicboard_perform_all(synicboard *board, const synicboard_event *events, size_t count, synicboard_reply *replies, size_t reply_room, synicboard_notice *notices, size_t notice_room);
 
 /* ---- Posted vectors ----

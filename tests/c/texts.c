@@ -169,6 +169,21 @@ static void test_entries(void)
     CHECK_TOLD(EVENT(.kind = SYNICBOARD_POST, .length = 241), done, 1, "");
 }
 
+/* The longest entry has as many bytes as the header says. */
+static void test_longest_entry(void)
+{
+    const synicboard_event event = { .kind = SYNICBOARD_POST, .port = 255, .message_type = UINT32_MAX, .length = 240 };
+    const synicboard_reply reply = { .kind = SYNICBOARD_ACCEPTED, .ticket = UINT64_MAX };
+    char text[600];
+    uint8_t room[600];
+    snprintf(text, sizeof text, "255 post 255 ffffffff %0480d\n= accepted 18446744073709551615\n", 0);
+    synicboard_end end = synicboard_tell(255, &event, &reply, room, sizeof room);
+    CHECK_NUMBER(strlen(text), 535);
+    CHECK_NUMBER(end.kind, SYNICBOARD_ALL_RIGHT);
+    CHECK_NUMBER(end.length, strlen(text));
+    CHECK(memcmp(room, text, strlen(text)) == 0);
+}
+
 /* ---- Refused memory ---- */
 
 /* The text grows many times, so allocations happen at many points of it. */
@@ -239,6 +254,7 @@ static const struct test tests[] = {
     { "traces", test_check },
     { "texts that are too long", test_long_texts },
     { "entries", test_entries },
+    { "the longest entry", test_longest_entry },
     { "refused memory of a replay", test_refused_replay },
     { "refused memory of a check", test_refused_check },
     { "refused memory of an entry", test_refused_entry },
