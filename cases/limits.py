@@ -49,19 +49,19 @@ def no_thread(binary, crew):
 
 
 def crew_out_of_memory(binary, crew, written):
-    """As the address space shrinks, a crew of one actor first writes its trace, then reports that it
-    is out of memory, or that it has no thread, and writes nothing."""
-    complaints, wanting = [], 0
-    faults = {b"synicboard: out of memory\n": 1, b"synicboard: no thread\n": 0}
-    for most in range(64 * MIB, 2 * MIB, -2 * MIB):
+    """As the address space shrinks, a crew first writes its trace, and then nothing: it reports that
+    it is out of memory, or that it has no thread."""
+    complaints, seen = [], set()
+    allowed = {(0, written, b""): "done", (4, b"", b"synicboard: out of memory\n"): "memory",
+               (4, b"", b"synicboard: no thread\n"): "thread"}
+    for most in range(128 * MIB, 16 * MIB, -4 * MIB):
         ended = with_memory(binary, ["crew"], crew, most)
-        if ended.returncode == 4 and not ended.stdout and ended.stderr in faults:
-            wanting += faults[ended.stderr]
-        elif wanting or (ended.returncode, ended.stdout, ended.stderr) != (0, written, b""):
+        end = (ended.returncode, ended.stdout, ended.stderr)
+        if end in allowed:
+            seen.add(allowed[end])
+        else:
             complaints.append("in %d KiB: %r" % (most // KIB, (ended.returncode, ended.stdout[:40], ended.stderr)))
-    if wanting == 0:
-        complaints.append("no address space was too small for it")
-    return complaints
+    return complaints + ["no address space has the end: %s" % end for end in ("done", "memory") if end not in seen]
 
 
 def closed_streams(binary):
