@@ -1,5 +1,5 @@
 //! Links the static library from the folder that SYNICBOARD_LIB_DIR names; or from `build` at the root of
-//! the repository, if it is there; or from where `./install` put it, as pkg-config tells.
+//! the repository, if it is there; or from where `./install` put it, as pkg-config says.
 
 use std::env;
 use std::path::{Path, PathBuf};

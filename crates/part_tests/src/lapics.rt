@@ -43,7 +43,7 @@ use Call::{
 };
 use SetCall::{Contains, Greatest, GreatestOfCopy, Insert, Remove};
 
-fn told(vector: Option<Vector>) -> Answer {
+fn answer_of(vector: Option<Vector>) -> Answer {
     match vector {
         Some(vector) => Answer::Vector(vector.number()),
         None => NoVector,
@@ -66,8 +66,8 @@ impl Part for VectorSet {
                 Done
             }
             Contains(number) => Is(self.contains(Vector::new(number)?)),
-            Greatest => told(self.greatest()),
-            GreatestOfCopy => told(self.copy().greatest()),
+            Greatest => answer_of(self.greatest()),
+            GreatestOfCopy => answer_of(self.copy().greatest()),
         })
     }
 }
@@ -82,9 +82,9 @@ impl Part for Lapic {
         Some(match call {
             Request(number) => Is(self.request(Vector::new(number)?)),
             IsRequested(number) => Is(self.is_requested(Vector::new(number)?)),
-            Next => told(self.next()),
-            Call::Take { auto } => told(self.take(auto)),
-            End => told(self.end()),
+            Next => answer_of(self.next()),
+            Call::Take { auto } => answer_of(self.take(auto)),
+            End => answer_of(self.end()),
             SetTaskPriority(value) => {
                 self.set_task_priority(value);
                 Done

@@ -26,7 +26,7 @@ pub(crate) enum Answer {
 use Answer::{Flag, Opened, Refused};
 use Call::{Close, FlagPlace, MessageTarget, Open, Target};
 
-fn told(target: Result<Port, Refusal>) -> Answer {
+fn answer_of(target: Result<Port, Refusal>) -> Answer {
     match target {
         Ok(port) => Answer::Port(port.vp.number(), port.sint.number(), port.shape),
         Err(refusal) => Refused(refusal),
@@ -45,13 +45,13 @@ impl Part for Ports {
                 Ok(()) => Opened,
                 Err(refusal) => Refused(refusal),
             },
-            Target(port) => told(self.target(port)),
-            MessageTarget(port, kind) => told(self.message_target(port, kind)),
+            Target(port) => answer_of(self.target(port)),
+            MessageTarget(port, kind) => answer_of(self.message_target(port, kind)),
             FlagPlace(port, flag) => match self.flag_place(port, flag) {
                 Ok((vp, sint, place)) => Flag(vp.number(), sint.number(), place),
                 Err(refusal) => Refused(refusal),
             },
-            Close(port) => told(self.close_port(port)),
+            Close(port) => answer_of(self.close_port(port)),
         })
         // README event_ports: end
     }

@@ -73,7 +73,7 @@ fn on_board(number: u8) -> Option<Vp>
     if number < 2 { Vp::new(number) } else { None }
 }
 
-fn told(message: Option<Message>) -> Answer {
+fn answer_of(message: Option<Message>) -> Answer {
     match message {
         Some(message) => Answer::Message(message.ticket()),
         None => NoMessage,
@@ -140,7 +140,7 @@ impl Scene {
 
     fn place(&mut self, queue: Queue) -> Option<Answer> {
         let (vp, sint) = (on_board(queue.0)?, Sint::new(queue.1)?);
-        Some(told(self.queues.place(vp, sint)))
+        Some(answer_of(self.queues.place(vp, sint)))
     }
 
     fn withdraw_port(&mut self, queue: Queue, port: u8) -> Option<Answer> {

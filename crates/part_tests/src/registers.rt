@@ -78,7 +78,7 @@ fn stored(number: u32) -> Option<Register>
     }
 }
 
-fn told(vector: Option<Vector>) -> Answer {
+fn answer_of(vector: Option<Vector>) -> Answer {
     match vector {
         Some(vector) => Answer::Vector(vector.number()),
         None => NoVector,
@@ -98,7 +98,7 @@ impl Part for SynicRegs {
             IsEnabled => Is(self.is_enabled()),
             SimIsEnabled => Is(self.sim_is_enabled()),
             SiefIsEnabled => Is(self.sief_is_enabled()),
-            Raises(number) => told(self.raises(Sint::new(number)?)),
+            Raises(number) => answer_of(self.raises(Sint::new(number)?)),
             IsAuto(number) => Is(self.is_auto(Vector::new(number)?)),
             AutoSetHas(number) => Is(self.auto_set().contains(Vector::new(number)?)),
         })

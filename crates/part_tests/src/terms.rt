@@ -92,7 +92,7 @@ fn a_refusal_has_a_number_and_words(rt: HostRuntime) -> Result<(), AllocError> {
 fn notices_keep_their_order_and_their_room(rt: HostRuntime) -> Result<(), AllocError> {
     // README board_terms: begin
     let (vp, sint) = (Vp::new(3).unwrap(), Sint::new(2).unwrap());
-    let told = [
+    let sent = [
         Notice::Pending { vp, sint },
         Notice::Expired {
             vp,
@@ -101,9 +101,9 @@ fn notices_keep_their_order_and_their_room(rt: HostRuntime) -> Result<(), AllocE
         },
     ];
     let mut notices = Notices::open(rt.alloc())?;
-    notices.push(told[0]);
-    notices.push(told[1]);
-    assert_eq!(rt; notices.as_slice(), told.as_slice());
+    notices.push(sent[0]);
+    notices.push(sent[1]);
+    assert_eq!(rt; notices.as_slice(), sent.as_slice());
     notices.clear();
     assert!(rt; notices.as_slice().is_empty());
     // README board_terms: end

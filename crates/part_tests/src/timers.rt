@@ -50,7 +50,7 @@ fn expired(bank: &mut TimerBank, timer: TimerId, moment: Moment) -> Answer {
 }
 
 /// The vector or the source that a due timer signals.
-fn told(bank: &TimerBank, timer: TimerId, moment: Moment) -> Answer {
+fn answer_of(bank: &TimerBank, timer: TimerId, moment: Moment) -> Answer {
     if !bank.is_due(timer, moment) {
         return Nothing;
     }
@@ -104,7 +104,7 @@ impl Part for TimerBank {
             ReadConfig(number) => Word(self.read_config(TimerId::from_number(number)?)),
             ReadCount(number) => Word(self.read_count(TimerId::from_number(number)?)),
             IsDue(number, moment) => Is(self.is_due(TimerId::from_number(number)?, moment)),
-            Call::Mode(number, moment) => told(self, TimerId::from_number(number)?, moment),
+            Call::Mode(number, moment) => answer_of(self, TimerId::from_number(number)?, moment),
             Expire(number, moment) => expired(self, TimerId::from_number(number)?, moment),
             Earliest => earliest(self),
             Due(place, moment) => due_at(self, place, moment),

@@ -1,4 +1,4 @@
-// A gate that watches, and one that has a call looked at before its worker goes on.
+// A gate that watches, and one that has a call looked at before its worker continues.
 ghost use Rattle.std.specs.Prelude.{◌<◌};
 
 use board_threads::{Gate, Worker};
