@@ -127,7 +127,7 @@ fn perform<T: Tally>(
     tally: &mut T,
 ) {
     for event in events.iter_mut() {
-        let reply = board.perform(event, notices);
+        let reply = board.perform_inline(event, notices);
         tally.add(&reply, notices.as_slice());
         put_off(event, span);
     }

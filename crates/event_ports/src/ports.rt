@@ -64,6 +64,7 @@ impl Ports {
 
     /// Opens a port. Refused, in this order: `UnknownPort` above 15; `PortOpen`; `BadTarget` if the
     /// processor is not on the board, the source is above 15 or the shape is out of range.
+    #[inline(never)]
     pub fn open_port(&mut self, port: u8, vp: u8, sint: u8, shape: PortShape) -> Result<(), Refusal>
         ensures answer { MatchResult result (λ _. open_refusal self.old port vp sint shape ≡ None) (λ r. open_refusal self.old port vp sint shape ≡ Some r) }
         ensures opened { IfOk result (λ _. self.new ≡ with_port self.old port (record { vp = vp; sint = sint; shape = shape })) }
@@ -89,6 +90,7 @@ impl Ports {
     }
 
     /// Closes a port and returns it. `UnknownPort` if it is not open.
+    #[inline(always)]
     pub fn close_port(&mut self, port: u8) -> Result<Port, Refusal>
         ensures answer { result ≡ target_of self.old port }
         ensures on_the_board { IfOk result (λ p. p.vp < self.old.processors) }
@@ -101,6 +103,7 @@ impl Ports {
     }
 
     /// Returns an open port. `UnknownPort` if it is not open.
+    #[inline(always)]
     pub fn target(&self, port: u8) -> Result<Port, Refusal>
         ensures answer { result ≡ target_of self.now port }
         ensures on_the_board { IfOk result (λ p. p.vp < self.now.processors) }
@@ -138,6 +141,7 @@ impl Ports {
     /// The event flag that a signal sets: the processor, the source, and the base of the port plus
     /// the number. Refused, in this order: `UnknownPort`; `WrongKind` for a port of messages;
     /// `BadFlag` for a number not below the port's count.
+    #[inline(always)]
     pub fn flag_place(&self, port: u8, flag: u16) -> Result<(Vp, Sint, u16), Refusal>
         ensures answer { result ≡ flag_place_of self.now port flag }
         ensures on_the_board { IfOk result (λ p. p.0 < self.now.processors) }

@@ -54,7 +54,33 @@ impl Page {
     }
 
     /// `count` bytes, at most 8, from the offset `at` on. They must be within the page.
+    #[inline(always)]
     pub fn load(&self, at: usize, count: u8) -> Bytes8
+        requires few { count ≤ 8 }
+        requires inside { at + count ≤ 4096 }
+        ensures { result.items ≡ take count (drop at self.now) }
+    {
+        if count == 8 {
+            self.load_word(at)
+        } else {
+            self.load_few(at, count)
+        }
+    }
+
+    /// Eight of the bytes, which are moved as one word.
+    #[inline(always)]
+    fn load_word(&self, at: usize) -> Bytes8
+        requires { at + 8 ≤ 4096 }
+        ensures { result.items ≡ take 8 (drop at self.now) }
+    {
+        let mut word = [0; 8];
+        word.copy_from_slice(&self.bytes[at..at + 8]);
+        ArrayVec::from(word)
+    }
+
+    /// Some of the bytes, of which there may be few.
+    #[inline(never)]
+    fn load_few(&self, at: usize, count: u8) -> Bytes8
         requires few { count ≤ 8 }
         requires inside { at + count ≤ 4096 }
         ensures { result.items ≡ take count (drop at self.now) }
@@ -71,7 +97,22 @@ impl Page {
         ensures after { self.new ≡ overwritten self.old at bytes.now }
         ensures len { length self.old ≡ 4096 }
     {
-        self.bytes[at..at + bytes.len()].copy_from_slice(bytes);
+        match bytes.len() {
+            8 => self.put(at, bytes, 8),
+            4 => self.put(at, bytes, 4),
+            count => self.put(at, bytes, count),
+        }
+    }
+
+    /// Replaces as many bytes as there are.
+    #[inline(always)]
+    fn put(&mut self, at: usize, bytes: &[u8], count: usize)
+        requires count { count ≡ length bytes.now }
+        requires inside { at + count ≤ 4096 }
+        ensures after { self.new ≡ overwritten self.old at bytes.now }
+        ensures len { length self.old ≡ 4096 }
+    {
+        self.bytes[at..at + count].copy_from_slice(bytes);
     }
 
     /// Replaces the slot of a source.

@@ -102,6 +102,7 @@ impl Space {
     }
 
     /// Why a load or a store of that many bytes is refused.
+    #[inline(always)]
     fn judge(&self, address: u64, length: usize) -> Option<Refusal>
         ensures { result ≡ refusal_of self.now address length }
     {
@@ -119,6 +120,7 @@ impl Space {
     /// The bytes that a guest sees at an address. Refused, in this order: `BadLength` unless there
     /// are 1 to 8 bytes; `OutsideSpace` if the first is in no page; `CrossesPage` if the last is in
     /// another page.
+    #[inline(always)]
     pub fn load(&self, address: u64, length: u8) -> Result<Bytes8, Refusal>
         ensures { result ≡ loaded self.now address length }
     {

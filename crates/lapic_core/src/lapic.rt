@@ -62,6 +62,7 @@ impl Lapic {
 
     /// Requests a vector, and returns whether its request bit was clear. A request of a requested
     /// vector merges with it.
+    #[inline(always)]
     pub fn request(&mut self, vector: Vector) -> bool
         ensures fresh { result ≡ not (set.contains self.old.requested vector) }
         ensures after { self.new ≡ request self.old vector }
@@ -92,6 +93,7 @@ impl Lapic {
 
     /// Takes the next vector, if there is one: clears its request bit, and sets its in-service bit
     /// unless it is auto-EOI (`auto`).
+    #[inline(always)]
     pub fn take(&mut self, auto: bool) -> Option<Vector>
         ensures vector { result ≡ next self.old }
         ensures after { self.new ≡ after_take auto self.old }
@@ -111,6 +113,7 @@ impl Lapic {
 
     /// Ends an interrupt (EOI): the greatest vector in service, if there is one, leaves service and
     /// is returned.
+    #[inline(always)]
     pub fn end(&mut self) -> Option<Vector>
         ensures vector { result ≡ greatest self.old.in_service }
         ensures after { self.new ≡ after_end self.old }

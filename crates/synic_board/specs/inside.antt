@@ -6,6 +6,7 @@ pub mod Moves
 pub mod Effected
 pub mod Progress
 pub mod Touches
+pub mod Unless
 pub mod View
 pub mod AtOnce
 pub mod Buffers

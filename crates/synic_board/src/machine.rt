@@ -247,6 +247,7 @@ impl Machine {
     }
 
     /// The processor with this number, if it is on the board.
+    #[inline(always)]
     fn processor(&self, number: u8) -> Option<Vp>
         ensures on { IsSome result ↔ (number < processors self.now.state) }
         ensures value { IfSome result (λ vp. vp ≡ number) }

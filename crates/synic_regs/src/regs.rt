@@ -79,6 +79,7 @@ impl SynicRegs {
         Outcome::Stored
     }
 
+    #[inline(never)]
     fn write_source(&mut self, sint: Sint, value: u64) -> Outcome
         ensures outcome { result ≡ outcome_of (Register.Source sint) value }
         ensures after { self.new ≡ after_write self.old (Register.Source sint) value }

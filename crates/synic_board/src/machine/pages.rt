@@ -7,11 +7,12 @@ ghost use Rattle.synic_board.specs.inside.Effected.{preceded};
 ghost use Rattle.synic_board.specs.Stores.{stored_bytes, read_bytes, consumed, consumed_in};
 ghost use Rattle.synic_board.specs.inside.Steps.{IsOn};
 ghost use Rattle.synic_board.specs.Sound.{IsSound};
+ghost use Rattle.synic_board.specs.inside.Unless.{unless_refused};
 ghost use Rattle.synic_board.specs.inside.Touches.{touched, OthersFree};
 
 use crate::event::Reply;
 use crate::machine::Machine;
-use board_terms::{Kind, Notice, Notices, Owner, Sint, Vp, source_number};
+use board_terms::{Kind, Notice, Notices, Owner, Refusal, Sint, Vp, source_number};
 
 /// The number of bytes of a page.
 const PAGE_SIZE: u64 = 4096;
@@ -39,6 +40,7 @@ impl Machine {
     }
 
     /// Loads bytes from the page that the guest sees at the address.
+    #[inline(always)]
     pub(crate) fn load(&self, address: u64, length: u8) -> Reply
         ensures { result ≡ read_bytes self.now.state address length }
     {
@@ -50,23 +52,39 @@ impl Machine {
 
     /// Stores bytes in the page that the guest sees at the address. Invariant: a slot that is empty
     /// holds no ticket. So only the slot whose type was written can violate it.
+    #[inline(always)]
     pub(crate) fn store(&mut self, address: u64, bytes: &[u8], notices: &mut Notices) -> Reply
         requires none { notices.old ≡ [] }
         requires sound { IsSound self.old.state }
         ensures step { (self.new.state, result, notices.new) ≡ stored_bytes self.old.state address bytes.now }
         ensures writes { self.new.writes ≡ self.old.writes }
     {
+        match self.try_store(address, bytes, notices) {
+            None => Reply::Done,
+            Some(refusal) => Reply::Refused(refusal),
+        }
+    }
+
+    /// Stores bytes, unless that is refused. It stands apart, and answers in registers.
+    #[inline(never)]
+    fn try_store(&mut self, address: u64, bytes: &[u8], notices: &mut Notices) -> Option<Refusal>
+        requires none { notices.old ≡ [] }
+        requires sound { IsSound self.old.state }
+        ensures step { (self.new.state, unless_refused Reply.Done result, notices.new) ≡ stored_bytes self.old.state address bytes.now }
+        ensures writes { self.new.writes ≡ self.old.writes }
+    {
         let owner = match self.space.store_slice(address, bytes) {
             Ok(owner) => owner,
-            Err(refusal) => return Reply::Refused(refusal),
+            Err(refusal) => return Some(refusal),
         };
         let slot = touched((address % PAGE_SIZE) as usize, bytes.len());
         self.consume_in(owner, slot, notices);
-        Reply::Done
+        None
     }
 
     /// If the page is a message page and the slot is now empty, the message of the slot is
     /// consumed.
+    #[inline(always)]
     fn consume_in(&mut self, owner: Owner, slot: Option<Sint>, notices: &mut Notices)
         requires on { IsOn self.old.state owner }
         requires others { OthersFree self.old.state owner slot }

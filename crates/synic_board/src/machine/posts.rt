@@ -4,6 +4,7 @@ ghost use Rattle.event_ports.specs.Shapes.{fits, takes_messages};
 ghost use Rattle.message_queues.specs.Queues.{port_used};
 ghost use Rattle.synic_board.specs.State.{processors};
 ghost use Rattle.synic_board.specs.inside.Effected.{preceded};
+ghost use Rattle.synic_board.specs.inside.Unless.{unless_refused};
 ghost use Rattle.synic_board.specs.Posts.{opened_port, closed, withdrawn, post_refusal, posted, signalled};
 
 use crate::event::Reply;
@@ -14,6 +15,7 @@ use event_ports::Port;
 
 impl Machine {
     /// Opens a port.
+    #[inline(always)]
     pub(crate) fn open_port(&mut self, port: u8, vp: u8, sint: u8, shape: PortShape) -> Reply
         ensures step { (self.new.state, result, []) ≡ opened_port self.old.state port vp sint shape }
         ensures writes { self.new.writes ≡ self.old.writes }
@@ -25,6 +27,7 @@ impl Machine {
     }
 
     /// Closes a port, and withdraws its queued messages, front first.
+    #[inline(always)]
     pub(crate) fn close_port(&mut self, port: u8, notices: &mut Notices) -> Reply
         requires { notices.old ≡ [] }
         ensures step { (self.new.state, result, notices.new) ≡ closed self.old.state port }
@@ -55,6 +58,7 @@ impl Machine {
     }
 
     /// Posts a message to a port.
+    #[inline(always)]
     pub(crate) fn post(
         &mut self,
         port: u8,
@@ -68,16 +72,38 @@ impl Machine {
         ensures rises { self.old.writes ≤ self.new.writes }
         ensures few { self.new.writes ≤ self.old.writes + length notices.new }
     {
+        let ticket = self.next_ticket;
+        match self.try_post(port, kind, payload, notices) {
+            None => Reply::Accepted(ticket),
+            Some(refusal) => Reply::Refused(refusal),
+        }
+    }
+
+    /// Posts a message to a port, unless it is refused. It stands apart, so that no other event makes room
+    /// for its buffer, and answers in registers.
+    #[inline(never)]
+    fn try_post(
+        &mut self,
+        port: u8,
+        kind: u32,
+        payload: &[u8],
+        notices: &mut Notices,
+    ) -> Option<Refusal>
+        requires none { notices.old ≡ [] }
+        requires fits { length payload.now ≤ 240 }
+        ensures step { (self.new.state, unless_refused (Reply.Accepted self.old.state.next_ticket) result, notices.new) ≡ posted self.old.state port kind (record { items = payload.now }) }
+        ensures rises { self.old.writes ≤ self.new.writes }
+        ensures few { self.new.writes ≤ self.old.writes + length notices.new }
+    {
         let Port { vp, sint, shape } = match self.ports.message_target(port, kind) {
             Ok(target) => target,
-            Err(refusal) => return Reply::Refused(refusal),
+            Err(refusal) => return Some(refusal),
         };
         if let Some(refusal) = self.post_refusal(port, vp, shape) {
-            return Reply::Refused(refusal);
+            return Some(refusal);
         }
-        let ticket = self.next_ticket;
         self.deliver_post(vp, sint, port, kind, payload, notices);
-        Reply::Accepted(ticket)
+        None
     }
 
     /// Why a post to an open port is refused.
@@ -106,6 +132,7 @@ impl Machine {
     }
 
     /// Signals an event flag of a port.
+    #[inline(always)]
     pub(crate) fn signal(&mut self, port: u8, flag: u16, notices: &mut Notices) -> Reply
         requires { notices.old ≡ [] }
         ensures step { (self.new.state, result, notices.new) ≡ signalled self.old.state port flag }

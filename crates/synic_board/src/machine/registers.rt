@@ -15,6 +15,7 @@ const VERSION: u64 = 1;
 
 impl Machine {
     /// Writes a register.
+    #[inline(always)]
     pub(crate) fn write(&mut self, vp: Vp, number: u32, value: u64, notices: &mut Notices) -> Reply
         requires on { vp < processors self.old.state }
         requires empty { notices.old ≡ [] }
@@ -56,6 +57,7 @@ impl Machine {
 
     /// Writes a source, and updates the auto-EOI vectors.
     #[tactic(auto, using(crate::proofs::Rules::lists))]
+    #[inline(always)]
     fn write_source(&mut self, vp: Vp, sint: Sint, value: u64) -> Reply
         requires { vp < processors self.old.state }
         ensures step { (self.new.state, result, []) ≡ stored self.old.state vp (register.Source sint) value }
@@ -73,6 +75,7 @@ impl Machine {
 
     /// Reads a register.
     #[tactic(auto, using(crate::proofs::Rules::lists))]
+    #[inline(always)]
     pub(crate) fn read(&self, vp: Vp, number: u32) -> Reply
         requires { vp < processors self.now.state }
         ensures { result ≡ read self.now.state vp number }

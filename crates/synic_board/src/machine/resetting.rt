@@ -20,6 +20,7 @@ use synic_regs::SynicRegs;
 impl Machine {
     /// Resets a processor: withdraws the messages in its slots and queues, and then restores its
     /// initial state.
+    #[inline(always)]
     pub(crate) fn reset(&mut self, vp: Vp, notices: &mut Notices) -> Reply
         requires on { vp < processors self.old.state }
         requires none { notices.old ≡ [] }

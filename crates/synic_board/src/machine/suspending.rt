@@ -14,6 +14,7 @@ use stimer_bank::TimerBank;
 
 impl Machine {
     /// Suspends a processor: its local APIC has no next vector, and its timers are not tried.
+    #[inline(always)]
     pub(crate) fn suspend(&mut self, vp: Vp) -> Reply
         requires { vp < processors self.old.state }
         ensures step { (self.new.state, result, []) ≡ suspended self.old.state vp }
@@ -28,6 +29,7 @@ impl Machine {
     }
 
     /// Resumes a suspended processor. This tries no timer.
+    #[inline(always)]
     pub(crate) fn resume(&mut self, vp: Vp) -> Reply
         requires { vp < processors self.old.state }
         ensures step { (self.new.state, result, []) ≡ resumed self.old.state vp }
@@ -50,6 +52,7 @@ impl Machine {
     }
 
     /// Sets or clears the suspension of a processor.
+    #[inline(never)]
     fn set_suspended(&mut self, vp: Vp, suspended: bool)
         requires { vp < processors self.old.state }
         ensures state { self.new.state ≡ with_suspension self.old.state vp suspended }

@@ -1,19 +1,13 @@
-use Rattle.std.proofs.Common.{◌≡◌, [], false, ap, length, ◌∙◌, subst, sym, ℕ, List}
-use Rattle.stimer_bank.specs.Bank.{dues, due_list}
+use Rattle.std.proofs.Common.{◌≡◌, [], false, ap, ◌∙◌, sym}
+use Rattle.stimer_bank.specs.Bank.{dues}
 use Rattle.board_terms.specs.Dues.{least}
 use Rattle.synic_board.specs.declared.event.Reply.TheVariants.{Done}
 use Rattle.synic_board.specs.Timers.{at_moment, ticked}
-use Rattle.synic_board.specs.inside.Steps.{AllOn, is_any_due}
+use Rattle.synic_board.specs.inside.Steps.{is_any_due}
 use Rattle.synic_board.specs.State.{State, Held, bank_of}
 use Rattle.synic_board.specs.inside.View.{state_of}
-use Rattle.synic_board.proofs.Clocks.{listed_on, ticked_before}
+use Rattle.synic_board.proofs.Clocks.{ticked_before}
 use Rattle.synic_board.proofs.machine.Machine.tick.Goals as goal
-
-pub attempt_all-requires-clause-on : goal.attempt_all-requires-clause-on
-attempt_all-requires-clause-on c =
-    let on : AllOn (state_of c.self.inside) (due_list (dues c.self.inside.timers) c.args.moment) = listed_on c.self.inside.timers c.args.moment (length c.self.inside.lapics.items) c.self.invariant.idle in
-    let same : due_list (dues c.self.inside.timers) c.args.moment ≡ c.as_slice.result.now = sym (c.as_slice.ensures.value ∙ c.due_list-due.ensures) in
-    subst (λ (ts : List (ℕ × ℕ)). AllOn (state_of c.self.inside) ts) same on
 
 pub returns-then-not-some-clause-step : goal.returns-then-not-some-clause-step
 returns-then-not-some-clause-step c =
