@@ -1,5 +1,6 @@
 use Rattle.std.proofs.Common.{◌≡◌, length, ◌∙◌, subst, sym, ℕ, List}
 use Rattle.stimer_bank.specs.Bank.{dues, due_list}
+use Rattle.synic_board.specs.State.{Held}
 use Rattle.synic_board.specs.inside.Steps.{AllOn}
 use Rattle.synic_board.specs.inside.View.{state_of}
 use Rattle.synic_board.proofs.Clocks.{listed_on}
@@ -7,6 +8,7 @@ use Rattle.synic_board.proofs.machine.Machine.try_due.Goals as goal
 
 pub attempt_all-requires-clause-on : goal.attempt_all-requires-clause-on
 attempt_all-requires-clause-on c =
-    let on : AllOn (state_of c.self.inside) (due_list (dues c.self.inside.timers) c.args.moment) = listed_on c.self.inside.timers c.args.moment (length c.self.inside.lapics.items) c.self.invariant.idle in
-    let same : due_list (dues c.self.inside.timers) c.args.moment ≡ c.as_slice.result.now = sym (c.as_slice.ensures.value ∙ c.due_list-due.ensures) in
-    subst (λ (ts : List (ℕ × ℕ)). AllOn (state_of c.self.inside) ts) same on
+    let listed : List (ℕ × ℕ) = due_list (dues c.self.inside.timers) c.args.moment in
+    let on : AllOn (state_of c.self.inside) listed = listed_on c.self.inside.timers c.args.moment (length c.self.inside.lapics.items) c.self.invariant.idle in
+    let same : listed ≡ c.as_slice.result.now = sym (c.as_slice.ensures.value ∙ c.due_list-due.ensures) in
+    subst (λ (h : Held). AllOn h.state c.as_slice.result.now) c.self.view_is (subst (λ (ts : List (ℕ × ℕ)). AllOn (state_of c.self.inside) ts) same on)
