@@ -67,7 +67,7 @@ impl Page {
         }
     }
 
-    /// Eight of the bytes, which are moved as one word.
+    /// Eight bytes, moved as one word.
     #[inline(always)]
     fn load_word(&self, at: usize) -> Bytes8
         requires { at + 8 ≤ 4096 }
@@ -78,7 +78,7 @@ impl Page {
         ArrayVec::from(word)
     }
 
-    /// Some of the bytes, of which there may be few.
+    /// Any number of bytes up to eight. Out of line: guests mostly load eight.
     #[inline(never)]
     fn load_few(&self, at: usize, count: u8) -> Bytes8
         requires few { count ≤ 8 }
@@ -91,7 +91,8 @@ impl Page {
         bytes
     }
 
-    /// Replaces the bytes from the offset `at` on. They must be within the page.
+    /// Replaces the bytes from the offset `at` on. They must be within the page. Eight or four bytes,
+    /// the usual sizes, are moved as one word each.
     pub fn store(&mut self, at: usize, bytes: &[u8])
         requires { at + length bytes.now ≤ 4096 }
         ensures after { self.new ≡ overwritten self.old at bytes.now }
@@ -104,7 +105,7 @@ impl Page {
         }
     }
 
-    /// Replaces as many bytes as there are.
+    /// Replaces `count` bytes, all that there are. If the caller knows the count, so does the copy.
     #[inline(always)]
     fn put(&mut self, at: usize, bytes: &[u8], count: usize)
         requires count { count ≡ length bytes.now }

@@ -65,7 +65,7 @@ impl Machine {
         }
     }
 
-    /// Stores bytes, unless that is refused. It stands apart, and answers in registers.
+    /// Stores bytes and returns why the store is refused, if it is. Out of line, with a result in registers.
     #[inline(never)]
     fn try_store(&mut self, address: u64, bytes: &[u8], notices: &mut Notices) -> Option<Refusal>
         requires none { notices.old ≡ [] }

@@ -79,8 +79,8 @@ impl Machine {
         }
     }
 
-    /// Posts a message to a port, unless it is refused. It stands apart, so that no other event makes room
-    /// for its buffer, and answers in registers.
+    /// Posts a message to a port and returns why the post is refused, if it is. Out of line, so that no
+    /// other event reserves stack for its buffer, with a result in registers.
     #[inline(never)]
     fn try_post(
         &mut self,
