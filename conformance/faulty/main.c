@@ -1,0 +1,228 @@
+/* main.c: the plain board as a peer.
+ *
+ *   faulty            without a fault
+ *   faulty NAME       with the fault of this name
+ *   faulty --bare     without the calls that an implementation may leave out
+ *   faulty --faults   lists the faults: the name, whether KVM has it, what it does */
+#include <stdio.h>
+#include <stdlib.h>
+#include <string.h>
+
+#include "board.h"
+
+struct board board;
+enum fault chosen = NO_FAULT;
+
+static const struct {
+    const char *name;
+    bool is_kvm;
+    const char *what;
+} faults[] = {
+    { "", false, "" },
+#define F(name, kvm, what) { #name, kvm, what },
+    FAULTS(F)
+#undef F
+};
+
+enum { FAULT_COUNT = sizeof faults / sizeof *faults };
+
+static bool is_absent(unsigned vp)
+{
+    return vp >= board.processors;
+}
+
+static struct peer_reply absent(void)
+{
+    return IS(absent_is_fault) ? peer_reply(PEER_GENERAL_PROTECTION, 0) : refused(14);
+}
+
+static int open_board(unsigned processors, unsigned pages, uint64_t ticket)
+{
+    if (processors < 1 || processors > PROCESSORS || pages < 1 || pages > PAGES)
+        return 0;
+    board = (struct board){ .processors = processors, .pages = pages, .next_ticket = IS(first_ticket_zero) ? 0 : ticket };
+    for (unsigned vp = 0; vp < processors; vp++)
+        clear_processor(vp);
+    return 1;
+}
+
+static struct peer_reply open_message_port(unsigned number, unsigned vp, unsigned sint, unsigned buffers)
+{
+    return open_port(number, (struct port){ .vp = vp, .sint = sint, .buffers = buffers });
+}
+
+static struct peer_reply open_event_port(unsigned number, unsigned vp, unsigned sint, unsigned base, unsigned count)
+{
+    return open_port(number, (struct port){ .is_flags = true, .vp = vp, .sint = sint, .base = base, .count = count });
+}
+
+static struct peer_reply write_msr(unsigned vp, uint32_t msr, uint64_t value)
+{
+    return is_absent(vp) ? absent() : write_register(vp, msr, value);
+}
+
+static struct peer_reply read_msr(unsigned vp, uint32_t msr)
+{
+    return is_absent(vp) ? absent() : read_register(vp, msr);
+}
+
+static struct peer_reply assert_irq(unsigned vp, unsigned vector)
+{
+    if (is_absent(vp))
+        return absent();
+    request(vp, vector);
+    return done();
+}
+
+static struct peer_reply absorb_posted(unsigned vp, unsigned part, uint64_t bits)
+{
+    if (is_absent(vp))
+        return absent();
+    if (part > 3)
+        return IS(part_unchecked) ? done() : refused(4);
+    for (unsigned at = 0; at < 64; at++)
+        if ((bits >> at & 1) && (64 * part + at >= 16 || IS(low_vectors)))
+            request(vp, 64 * part + at);
+    return done();
+}
+
+static struct peer_reply advance_time(uint64_t time)
+{
+    if (time < board.now && !IS(clock_back))
+        return refused(10);
+    bool is_later = time > board.now;
+    board.now = time;
+    if (is_later || IS(same_time_retries))
+        try_due();
+    return done();
+}
+
+static struct peer_reply take_interrupt(unsigned vp)
+{
+    if (is_absent(vp))
+        return absent();
+    int vector = take_next(vp);
+    return vector < 0 ? peer_reply(PEER_NONE_TAKEN, 0) : peer_reply(PEER_TAKEN, (uint64_t)vector);
+}
+
+static struct peer_reply suspend(unsigned vp)
+{
+    if (is_absent(vp))
+        return absent();
+    struct processor *p = &board.vps[vp];
+    if (p->suspended && !IS(suspend_twice))
+        return refused(15);
+    p->suspended = true;
+    for (unsigned at = 0; at < TIMERS && IS(suspend_stops_timers); at++)
+        p->timers[at].has_deadline = false;
+    if (IS(suspend_drops_requests))
+        memset(p->requested, 0, sizeof p->requested);
+    return done();
+}
+
+static struct peer_reply resume(unsigned vp)
+{
+    if (is_absent(vp))
+        return absent();
+    struct processor *p = &board.vps[vp];
+    if (!p->suspended && !IS(suspend_twice))
+        return refused(16);
+    p->suspended = false;
+    if (IS(resume_tries))
+        try_due();
+    return done();
+}
+
+static void withdraw_all(unsigned vp)
+{
+    for (unsigned s = 0; s < SOURCES; s++) {
+        struct source *source = &board.vps[vp].sources[s];
+        if (source->has_ticket && !IS(reset_keeps_slot))
+            peer_notice("withdrawn %llu %u %u", (unsigned long long)source->ticket, vp, s);
+        source->has_ticket = false;
+        free(source->repeated);
+        source->repeated = NULL;
+        if (!IS(reset_keeps_queue))
+            drop_queued(vp, s, UINT32_MAX, true);
+    }
+}
+
+/* What a reset does not clear, by a fault. */
+static void keep(struct processor *p, const struct processor *before)
+{
+    if (IS(reset_keeps_pages)) {
+        memcpy(p->sim, before->sim, sizeof p->sim);
+        memcpy(p->sief, before->sief, sizeof p->sief);
+    }
+    if (IS(reset_keeps_requests))
+        memcpy(p->requested, before->requested, sizeof p->requested);
+    if (IS(reset_keeps_service))
+        memcpy(p->serving, before->serving, sizeof p->serving);
+    if (IS(reset_keeps_timers))
+        memcpy(p->timers, before->timers, sizeof p->timers);
+    if (IS(reset_keeps_tpr))
+        p->tpr = before->tpr;
+    if (IS(reset_keeps_registers)) {
+        p->scontrol = before->scontrol;
+        p->simp = before->simp;
+        p->siefp = before->siefp;
+    }
+    if (IS(reset_suspends))
+        p->suspended = before->suspended;
+}
+
+static struct peer_reply reset(unsigned vp)
+{
+    if (is_absent(vp))
+        return absent();
+    for (unsigned other = 0; other < board.processors; other++) {
+        if (other != vp && !IS(reset_of_all))
+            continue;
+        struct processor before = board.vps[other];
+        withdraw_all(other);
+        clear_processor(other);
+        keep(&board.vps[other], &before);
+        for (unsigned at = 0; at < PORTS && IS(reset_closes_ports); at++)
+            if (board.ports[at].vp == other)
+                board.ports[at].is_open = false;
+    }
+    if (IS(reset_clock))
+        board.now = 0;
+    return done();
+}
+
+static bool choose(const char *name)
+{
+    for (int at = 1; at < FAULT_COUNT; at++)
+        if (strcmp(faults[at].name, name) == 0)
+            chosen = (enum fault)at;
+    return chosen != NO_FAULT;
+}
+
+static int list_faults(void)
+{
+    for (int at = 1; at < FAULT_COUNT; at++)
+        printf("%s\t%s\t%s\n", faults[at].name, faults[at].is_kvm ? "kvm" : "", faults[at].what);
+    return 0;
+}
+
+int main(int count, char **words)
+{
+    struct peer peer = {
+        .open_board = open_board, .open_message_port = open_message_port, .open_event_port = open_event_port,
+        .close_port = close_port, .write_msr = write_msr, .read_msr = read_msr, .post_message = post,
+        .signal_event = signal_flag, .assert_irq = assert_irq, .absorb_posted = absorb_posted,
+        .guest_store = store_bytes, .guest_load = load_bytes, .advance_time = advance_time,
+        .take_interrupt = take_interrupt, .suspend = suspend, .resume = resume, .reset = reset,
+    };
+    if (count == 2 && strcmp(words[1], "--faults") == 0)
+        return list_faults();
+    if (count == 2 && strcmp(words[1], "--bare") == 0) {
+        peer.absorb_posted = NULL;
+        peer.suspend = peer.resume = peer.reset = NULL;
+    } else if (count > 2 || (count == 2 && !choose(words[1]))) {
+        fprintf(stderr, "faulty: there is no such fault\n");
+        return 2;
+    }
+    return peer_main(&peer);
+}

@@ -1,0 +1,127 @@
+/* pages.c: guest pages and overlays. */
+#include <string.h>
+
+#include "board.h"
+
+static uint64_t page_of(uint64_t value)
+{
+    return value >> 12;
+}
+
+static bool lies_at(unsigned vp, uint64_t value, uint64_t page)
+{
+    if (IS(overlay_needs_synic) && !(board.vps[vp].scontrol & 1))
+        return false;
+    return ((value & 1) || (IS(overlay_ignores_enable) && page_of(value) > 0)) && page_of(value) == page;
+}
+
+/* The overlay that is visible at a page, or null. */
+static uint8_t *overlay_at(uint64_t page)
+{
+    for (unsigned at = 0; at < 2 * board.processors; at++) {
+        unsigned place = IS(overlay_order) ? 2 * board.processors - 1 - at : at;
+        unsigned vp = place / 2;
+        bool is_flags = (place % 2 == 1) != IS(flags_over_messages);
+        struct processor *p = &board.vps[vp];
+        if (lies_at(vp, is_flags ? p->siefp : p->simp, page))
+            return is_flags ? p->sief : p->sim;
+    }
+    return NULL;
+}
+
+uint8_t *page_at(uint64_t page)
+{
+    uint8_t *overlay = IS(no_overlays) ? NULL : overlay_at(page);
+    return overlay != NULL ? overlay : board.guest[page];
+}
+
+/* Where messages go: the overlay's own page, unless a fault says otherwise. */
+uint8_t *message_page(unsigned vp)
+{
+    struct processor *p = &board.vps[vp];
+    if (IS(no_overlays) && page_of(p->simp) < board.pages)
+        return board.guest[page_of(p->simp)];
+    return p->sim;
+}
+
+uint8_t *flags_page(unsigned vp)
+{
+    struct processor *p = &board.vps[vp];
+    if (IS(no_overlays) && page_of(p->siefp) < board.pages)
+        return board.guest[page_of(p->siefp)];
+    return p->sief;
+}
+
+void page_register(unsigned vp, bool is_messages, uint64_t value)
+{
+    struct processor *p = &board.vps[vp];
+    uint64_t *place = is_messages ? &p->simp : &p->siefp;
+    bool is_moved = page_of(*place) != page_of(value);
+    *place = IS(page_register_drops_bits) ? value & ~(uint64_t)0xffe : value;
+    if (!(value & 1))
+        return;
+    if (IS(enabling_zeroes) || (IS(moved_is_zeroed) && is_moved))
+        memset(is_messages ? message_page(vp) : flags_page(vp), 0, PAGE);
+    if (IS(overlay_wipes) && page_of(value) < board.pages)
+        memset(board.guest[page_of(value)], 0, PAGE);
+}
+
+static unsigned refusal_of(uint64_t address, size_t length)
+{
+    bool is_outside = address / PAGE >= board.pages;
+    if (IS(outside_first) && is_outside)
+        return 11;
+    if ((length == 0 && !IS(length_unchecked)) || length > 8)
+        return 13;
+    if (is_outside)
+        return 11;
+    if (address % PAGE + length > PAGE && (!IS(crossing_allowed) || address / PAGE + 1 >= board.pages))
+        return 12;
+    return 0;
+}
+
+static uint8_t *byte_at(uint64_t address, bool is_store)
+{
+    uint8_t *page = IS(store_goes_below) && is_store ? board.guest[address / PAGE] : page_at(address / PAGE);
+    return &page[address % PAGE];
+}
+
+/* A slot of this page that was emptied loses its ticket. */
+static void look_for_consumed(const uint8_t *page)
+{
+    for (unsigned vp = 0; vp < board.processors; vp++) {
+        if (message_page(vp) != page)
+            continue;
+        for (unsigned s = 0; s < SOURCES; s++) {
+            struct source *source = &board.vps[vp].sources[s];
+            if (!source->has_ticket || !is_slot_empty(vp, s))
+                continue;
+            source->has_ticket = false;
+            peer_notice("consumed %llu %u %u", (unsigned long long)source->ticket, vp, s);
+            if (IS(store_delivers))
+                try_delivery(vp, s);
+        }
+    }
+}
+
+struct peer_reply store_bytes(uint64_t address, const uint8_t *bytes, size_t length)
+{
+    unsigned why = refusal_of(address, length);
+    if (why)
+        return refused(why);
+    for (size_t at = 0; at < length; at++)
+        *byte_at(address + at, true) = bytes[at];
+    look_for_consumed(page_at(address / PAGE));
+    return done();
+}
+
+struct peer_reply load_bytes(uint64_t address, unsigned length)
+{
+    unsigned why = refusal_of(address, length);
+    if (why)
+        return refused(why);
+    struct peer_reply reply = { .kind = PEER_BYTES, .length = length };
+    for (unsigned at = 0; at < length; at++)
+        reply.bytes[at] = *byte_at(address + at, false);
+    return reply;
+}

@@ -1,0 +1,121 @@
+/* ports.c: ports, posts and signals. */
+#include "board.h"
+
+enum { MOST_PORTS = 16, MOST_BUFFERS = 16 };
+
+static bool is_number(unsigned number)
+{
+    return number < MOST_PORTS || (IS(port_range) && number < PORTS);
+}
+
+static bool is_fitting(const struct port *port)
+{
+    if (port->vp >= board.processors || port->sint >= SOURCES)
+        return false;
+    if (IS(shape_unchecked))
+        return port->is_flags || (port->buffers > 0 && port->buffers <= 255);
+    if (port->is_flags)
+        return port->count >= 1 && port->base + port->count <= FLAGS;
+    return port->buffers >= 1 && port->buffers <= MOST_BUFFERS;
+}
+
+struct peer_reply open_port(unsigned number, struct port port)
+{
+    if (!is_number(number))
+        return refused(1);
+    if (board.ports[number].is_open && !IS(open_replaces))
+        return refused(2);
+    if (!is_fitting(&port))
+        return refused(4);
+    if (IS(one_buffer))
+        port.buffers = 1;
+    port.is_open = true;
+    board.ports[number] = port;
+    return done();
+}
+
+struct peer_reply close_port(unsigned number)
+{
+    if (!is_number(number) || !board.ports[number].is_open)
+        return IS(close_unchecked) ? done() : refused(1);
+    struct port *port = &board.ports[number];
+    port->is_open = false;
+    if (!port->is_flags && !IS(close_keeps))
+        drop_queued(port->vp, port->sint, number, true);
+    return done();
+}
+
+static unsigned target_refusal(unsigned number, bool is_flags)
+{
+    if (!is_number(number) || !board.ports[number].is_open)
+        return 1;
+    if (board.ports[number].is_flags != is_flags)
+        return IS(kind_unchecked) ? 1 : 3;
+    return 0;
+}
+
+static unsigned post_refusal(unsigned number, uint32_t type)
+{
+    bool is_type = IS(any_type) || (type != 0 && type >> 31 == 0);
+    if (IS(type_before_port) && !is_type)
+        return 5;
+    unsigned why = target_refusal(number, false);
+    if (why)
+        return why;
+    const struct port *port = &board.ports[number];
+    if (!is_type)
+        return 5;
+    if (!synic_on(port->vp) || (IS(suspended_refuses) && board.vps[port->vp].suspended))
+        return 7;
+    if (queued_from(port->vp, port->sint, number) >= port->buffers)
+        return 8;
+    return are_tickets_left() ? 0 : 9;
+}
+
+struct peer_reply post(unsigned number, uint32_t type, const uint8_t *payload, size_t length)
+{
+    unsigned why = post_refusal(number, type);
+    if (why) {
+        if (IS(refused_counts) && board.next_ticket < UINT64_MAX)
+            board.next_ticket++;
+        return refused(why);
+    }
+    const struct port *port = &board.ports[number];
+    bool was_empty = board.vps[port->vp].sources[port->sint].first == NULL;
+    uint64_t ticket = enqueue(port->vp, port->sint, number, type, payload, length);
+    if (was_empty || !IS(post_tries_nothing))
+        try_delivery(port->vp, port->sint);
+    return peer_reply(PEER_ACCEPTED, ticket);
+}
+
+static unsigned signal_refusal(unsigned number, unsigned flag)
+{
+    unsigned why = target_refusal(number, true);
+    if (why)
+        return why;
+    const struct port *port = &board.ports[number];
+    if (flag >= (IS(flag_range) ? FLAGS - port->base : port->count))
+        return 6;
+    bool is_on = (board.vps[port->vp].siefp & 1) || IS(signal_when_off);
+    return synic_on(port->vp) && is_on ? 0 : 7;
+}
+
+struct peer_reply signal_flag(unsigned number, unsigned flag)
+{
+    unsigned why = signal_refusal(number, flag);
+    if (why)
+        return refused(why);
+    const struct port *port = &board.ports[number];
+    unsigned place = (flag + (IS(flag_base_ignored) ? 0 : port->base)) % FLAGS;
+    unsigned bit = IS(flag_bytes_reversed) ? 7 - place % 8 : place % 8;
+    uint8_t *byte = flags_page(port->vp) + SLOT * (IS(flags_of_first) ? 0 : port->sint) + place / 8;
+    bool was_set = *byte >> bit & 1;
+    bool is_masked = board.vps[port->vp].sint[port->sint] & MASKED;
+    if (!(IS(flag_needs_mask_clear) && is_masked))
+        *byte = (uint8_t)(*byte | 1 << bit);
+    if (!was_set)
+        peer_notice("flag %u %u %u", port->vp, port->sint, place);
+    if ((!was_set && !IS(flag_never_raises)) || IS(flag_raises_again))
+        raise_source(port->vp, port->sint);
+    return peer_reply(was_set ? PEER_SET : PEER_CLEAR, 0);
+}
