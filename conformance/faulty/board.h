@@ -48,7 +48,7 @@ struct processor {
     unsigned repeats[VECTORS];  /* by the fault queued_requests */
     uint64_t tpr;
     bool suspended;
-    bool is_enabled;            /* by the fault apic_disabled */
+    bool is_disabled;           /* by the fault apic_disabled */
     uint64_t scontrol, siefp, simp;
     uint64_t sint[SOURCES];
     struct timer timers[TIMERS];

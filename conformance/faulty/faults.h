@@ -32,7 +32,7 @@
     F(post_tries_nothing, true, "a post to a queue that is not empty attempts no delivery") \
     F(any_type, true, "a post may have any type") \
     F(close_keeps, true, "closing a port leaves its messages queued") \
-    F(apic_disabled, true, "nothing is delivered until the local APIC is enabled by a register of its own") \
+    F(apic_disabled, true, "the local APIC has a register that disables it") \
     F(vp_index, true, "the VP index can be read") \
     F(suspended_timers_run, true, "timers of suspended processors run") \
     F(eoi_ends_least, false, "EOI ends the least vector in service") \
@@ -132,6 +132,7 @@
     F(expiration_now, false, "the expiration time in a message is the present time") \
     F(delivery_deadline, false, "the delivery time in a message is its deadline") \
     F(timer_buffers, false, "a timer may have two messages queued") \
+    F(buffer_of_source, false, "a timer has one buffer at each source") \
     F(timer_needs_page, false, "a message timer waits while SIMP is off") \
     F(refused_counts, false, "a refused post uses a ticket") \
     F(last_ticket_early, false, "tickets are spent one too early") \

@@ -89,7 +89,7 @@ int take_next(unsigned vp)
     int vector = end_of(p->requested, !IS(first_vector_wins));
     if (p->suspended && !IS(suspended_takes))
         return -1;
-    if (vector < 0 || is_held_back(p, vector) || (IS(apic_disabled) && !p->is_enabled))
+    if (vector < 0 || is_held_back(p, vector) || p->is_disabled)
         return -1;
     if (IS(queued_requests) && p->repeats[vector] > 0)
         p->repeats[vector]--;

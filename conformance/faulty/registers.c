@@ -107,7 +107,7 @@ struct peer_reply write_register(unsigned vp, uint32_t msr, uint64_t word)
     case COUNTER: return IS(counter_writable) ? done() : fault();
     case APIC_BASE:
         if (IS(apic_disabled)) {
-            board.vps[vp].is_enabled = word >> 11 & 1;
+            board.vps[vp].is_disabled = !(word >> 11 & 1);
             return done();
         }
         return fault();

@@ -62,6 +62,16 @@ static void signal_timer(unsigned vp, unsigned index, uint64_t deadline)
     try_delivery(vp, sint);
 }
 
+/* How many messages of a timer are queued: also at sources that it named before. */
+static unsigned queued_of(unsigned vp, unsigned index)
+{
+    unsigned count = 0;
+    for (unsigned s = 0; s < SOURCES; s++)
+        if (!IS(buffer_of_source) || s == sint_of(&board.vps[vp].timers[index]))
+            count += queued_from(vp, s, FIRST_TIMER + index);
+    return count;
+}
+
 static bool is_ready(unsigned vp, unsigned index)
 {
     const struct timer *t = &board.vps[vp].timers[index];
@@ -70,7 +80,7 @@ static bool is_ready(unsigned vp, unsigned index)
     unsigned most = IS(timer_buffers) ? 2 : 1;
     if (IS(timer_needs_page) && !(board.vps[vp].simp & 1))
         return false;
-    return synic_on(vp) && queued_from(vp, sint_of(t), FIRST_TIMER + index) < most && are_tickets_left();
+    return synic_on(vp) && queued_of(vp, index) < most && are_tickets_left();
 }
 
 static void skip(unsigned vp, unsigned index, uint64_t count)

@@ -12,9 +12,10 @@ EVERY = 5  # seconds between lines of progress
 
 
 class Progress:
-    """What was done so far, told on standard error."""
+    """What was done so far, and a line about it now and then."""
 
-    def __init__(self):
+    def __init__(self, output=sys.stderr):
+        self.output = output
         self.started = self.told = time.monotonic()
         self.scripts = self.events = 0
         self.coverage = coverage.Coverage()
@@ -32,7 +33,7 @@ class Progress:
         if is_last or time.monotonic() - self.told >= EVERY:
             self.told = time.monotonic()
             print("fuzz: %d scripts, %d events, %d a second, %d kinds of answers" % (
-                self.scripts, self.events, self.events / max(self.seconds, 0.001), len(self.coverage.seen)), file=sys.stderr)
+                self.scripts, self.events, self.events / max(self.seconds, 0.001), len(self.coverage.seen)), file=self.output)
 
 
 def search(given, comparison, progress):

@@ -1,0 +1,313 @@
+//! The peer in Rust: answers the lines of a script (`docs/CONFORMANCE.md`). Implement [`Peer`] for
+//! your own implementation; here it is implemented for [`Board`], as its own test.
+//!
+//! A call that is left out answers `= unsupported`, and the cases that need it are skipped.
+
+use std::io::{self, BufRead, Write};
+use synicboard::{Board, Notice, Reply, Vector};
+
+/// An answer: the reply, without `= `, and the notices, without `. `.
+#[derive(Default)]
+struct Answer {
+    reply: String,
+    notices: Vec<String>,
+}
+
+fn unsupported() -> Answer {
+    Answer { reply: "unsupported".into(), notices: Vec::new() }
+}
+
+/// An implementation of the events. Numbers that it cannot have are its own to refuse.
+trait Peer: Sized {
+    fn open_board(processors: u8, pages: u8, ticket: u64) -> Option<Self>;
+
+    fn open_message_port(&mut self, _port: u8, _vp: u8, _sint: u8, _buffers: u8) -> Answer {
+        unsupported()
+    }
+
+    fn open_event_port(&mut self, _port: u8, _vp: u8, _sint: u8, _base: u16, _count: u16) -> Answer {
+        unsupported()
+    }
+
+    fn close_port(&mut self, _port: u8) -> Answer {
+        unsupported()
+    }
+
+    fn write_msr(&mut self, _vp: u8, _msr: u32, _value: u64) -> Answer {
+        unsupported()
+    }
+
+    fn read_msr(&mut self, _vp: u8, _msr: u32) -> Answer {
+        unsupported()
+    }
+
+    fn post_message(&mut self, _port: u8, _kind: u32, _payload: &[u8]) -> Answer {
+        unsupported()
+    }
+
+    fn signal_event(&mut self, _port: u8, _flag: u16) -> Answer {
+        unsupported()
+    }
+
+    fn assert_irq(&mut self, _vp: u8, _vector: u8) -> Answer {
+        unsupported()
+    }
+
+    fn absorb_posted(&mut self, _vp: u8, _part: u8, _bits: u64) -> Answer {
+        unsupported()
+    }
+
+    fn guest_store(&mut self, _address: u64, _bytes: &[u8]) -> Answer {
+        unsupported()
+    }
+
+    fn guest_load(&mut self, _address: u64, _length: u8) -> Answer {
+        unsupported()
+    }
+
+    fn advance_time(&mut self, _time: u64) -> Answer {
+        unsupported()
+    }
+
+    fn take_interrupt(&mut self, _vp: u8) -> Answer {
+        unsupported()
+    }
+
+    fn suspend(&mut self, _vp: u8) -> Answer {
+        unsupported()
+    }
+
+    fn resume(&mut self, _vp: u8) -> Answer {
+        unsupported()
+    }
+
+    fn reset(&mut self, _vp: u8) -> Answer {
+        unsupported()
+    }
+}
+
+// ---- The lines ----
+
+/// A number in hexadecimal, as far as it fits.
+fn hexadecimal<T: TryFrom<u64>>(word: &str) -> Option<T> {
+    T::try_from(u64::from_str_radix(word, 16).ok()?).ok()
+}
+
+/// Two digits for each byte, or `-` for none.
+fn bytes(word: &str) -> Option<Vec<u8>> {
+    if word == "-" {
+        return Some(Vec::new());
+    }
+    (0..word.len() / 2).map(|at| hexadecimal(word.get(2 * at..2 * at + 2)?)).collect()
+}
+
+fn host_event<P: Peer>(peer: &mut P, words: &[&str]) -> Option<Answer> {
+    Some(match *words {
+        ["open", port, "message", vp, sint, buffers] => peer.open_message_port(
+            port.parse().ok()?,
+            vp.parse().ok()?,
+            sint.parse().ok()?,
+            buffers.parse().ok()?,
+        ),
+        ["open", port, "event", vp, sint, base, count] => {
+            let (base, count) = (base.parse().ok()?, count.parse().ok()?);
+            peer.open_event_port(port.parse().ok()?, vp.parse().ok()?, sint.parse().ok()?, base, count)
+        }
+        ["close", port] => peer.close_port(port.parse().ok()?),
+        ["post", port, kind, payload] => {
+            peer.post_message(port.parse().ok()?, hexadecimal(kind)?, &bytes(payload)?)
+        }
+        ["signal", port, flag] => peer.signal_event(port.parse().ok()?, flag.parse().ok()?),
+        ["assert", vp, vector] => peer.assert_irq(vp.parse().ok()?, hexadecimal(vector)?),
+        ["absorb", vp, part, bits] => {
+            peer.absorb_posted(vp.parse().ok()?, part.parse().ok()?, hexadecimal(bits)?)
+        }
+        ["tick", time] => peer.advance_time(time.parse().ok()?),
+        ["suspend", vp] => peer.suspend(vp.parse().ok()?),
+        ["resume", vp] => peer.resume(vp.parse().ok()?),
+        ["reset", vp] => peer.reset(vp.parse().ok()?),
+        _ => return None,
+    })
+}
+
+fn guest_event<P: Peer>(peer: &mut P, words: &[&str]) -> Option<Answer> {
+    Some(match *words {
+        ["write", vp, msr, value] => peer.write_msr(vp.parse().ok()?, hexadecimal(msr)?, hexadecimal(value)?),
+        ["read", vp, msr] => peer.read_msr(vp.parse().ok()?, hexadecimal(msr)?),
+        ["store", address, stored] => peer.guest_store(hexadecimal(address)?, &bytes(stored)?),
+        ["load", address, length] => peer.guest_load(hexadecimal(address)?, length.parse().ok()?),
+        ["take", vp] => peer.take_interrupt(vp.parse().ok()?),
+        _ => return None,
+    })
+}
+
+/// Answers one line. `None` if there is no board to answer it.
+fn perform<P: Peer>(peer: &mut Option<P>, line: &str, output: &mut impl Write) -> Option<io::Result<()>> {
+    let words: Vec<&str> = line.split(' ').collect();
+    if line.is_empty() || line.starts_with('#') {
+        return Some(Ok(()));
+    }
+    if let ["board", processors, pages, ticket] = *words {
+        *peer = P::open_board(processors.parse().ok()?, pages.parse().ok()?, ticket.parse().ok()?);
+        return peer.is_some().then_some(Ok(()));
+    }
+    if line == "sync" {
+        return Some(writeln!(output, "= sync"));
+    }
+    let peer = peer.as_mut()?;
+    let answer = guest_event(peer, &words).or_else(|| host_event(peer, &words)).unwrap_or_else(unsupported);
+    let lines = answer.notices.iter().map(|notice| format!(". {notice}\n")).collect::<String>();
+    Some(write!(output, "= {}\n{lines}", answer.reply))
+}
+
+/// Answers the lines of standard input until its end.
+fn answer_all<P: Peer>() -> io::Result<()> {
+    let mut input = io::stdin().lock();
+    let mut output = io::LineWriter::new(io::stdout().lock());
+    let (mut peer, mut line): (Option<P>, String) = (None, String::new());
+    while input.read_line(&mut line)? > 0 {
+        match perform(&mut peer, line.trim_end_matches('\n'), &mut output) {
+            Some(written) => written?,
+            None => return Err(io::Error::other("no board of this size")),
+        }
+        line.clear();
+    }
+    output.flush()
+}
+
+// ---- The board as a peer ----
+
+fn hex(bytes: &[u8]) -> String {
+    bytes.iter().map(|byte| format!("{byte:02x}")).collect()
+}
+
+fn reply_text(reply: Reply) -> String {
+    match reply {
+        Reply::Done => "done".into(),
+        Reply::Value(value) => format!("value {value:x}"),
+        Reply::Bytes(bytes) => format!("bytes {}", hex(&bytes)),
+        Reply::Taken(Some(vector)) => format!("taken {:02x}", vector.number()),
+        Reply::Taken(None) => "taken none".into(),
+        Reply::Accepted(ticket) => format!("accepted {ticket}"),
+        Reply::FlagWasClear => "clear".into(),
+        Reply::FlagWasSet => "set".into(),
+        Reply::GeneralProtection => "general protection".into(),
+        Reply::Refused(refusal) => format!("refused {}", refusal.number()),
+        Reply::NoEvent => "unsupported".into(),
+    }
+}
+
+fn notice_text(notice: Notice) -> String {
+    match notice {
+        Notice::Accepted { ticket, vp, sint } => {
+            format!("accepted {ticket} {} {}", vp.number(), sint.number())
+        }
+        Notice::Placed { ticket, vp, sint } => format!("placed {ticket} {} {}", vp.number(), sint.number()),
+        Notice::Pending { vp, sint } => format!("pending {} {}", vp.number(), sint.number()),
+        Notice::Requested { vp, vector } => format!("requested {} {:02x}", vp.number(), vector.number()),
+        Notice::FlagSet { vp, sint, flag } => format!("flag {} {} {flag}", vp.number(), sint.number()),
+        Notice::Consumed { ticket, vp, sint } => {
+            format!("consumed {ticket} {} {}", vp.number(), sint.number())
+        }
+        Notice::Withdrawn { ticket, vp, sint } => {
+            format!("withdrawn {ticket} {} {}", vp.number(), sint.number())
+        }
+        Notice::Expired { vp, index, due } => format!("expired {} {index} {due}", vp.number()),
+        Notice::Skipped { vp, index, count } => format!("skipped {} {index} {count}", vp.number()),
+    }
+}
+
+fn told(board: &Board, reply: Reply) -> Answer {
+    Answer { reply: reply_text(reply), notices: board.notices().map(notice_text).collect() }
+}
+
+impl Peer for Board {
+    fn open_board(processors: u8, pages: u8, ticket: u64) -> Option<Board> {
+        Board::open(processors, pages, ticket).ok()
+    }
+
+    fn open_message_port(&mut self, port: u8, vp: u8, sint: u8, buffers: u8) -> Answer {
+        let reply = Board::open_message_port(self, port, vp, sint, buffers);
+        told(self, reply)
+    }
+
+    fn open_event_port(&mut self, port: u8, vp: u8, sint: u8, base: u16, count: u16) -> Answer {
+        let reply = Board::open_event_port(self, port, vp, sint, base, count);
+        told(self, reply)
+    }
+
+    fn close_port(&mut self, port: u8) -> Answer {
+        let reply = Board::close_port(self, port);
+        told(self, reply)
+    }
+
+    fn write_msr(&mut self, vp: u8, msr: u32, value: u64) -> Answer {
+        let reply = self.write(vp, msr, value);
+        told(self, reply)
+    }
+
+    fn read_msr(&mut self, vp: u8, msr: u32) -> Answer {
+        let reply = self.read(vp, msr);
+        told(self, reply)
+    }
+
+    fn post_message(&mut self, port: u8, kind: u32, payload: &[u8]) -> Answer {
+        let reply = self.post(port, kind, payload);
+        told(self, reply)
+    }
+
+    fn signal_event(&mut self, port: u8, flag: u16) -> Answer {
+        let reply = self.signal(port, flag);
+        told(self, reply)
+    }
+
+    fn assert_irq(&mut self, vp: u8, vector: u8) -> Answer {
+        let Some(vector) = Vector::new(vector) else { return unsupported() };
+        let reply = self.assert(vp, vector);
+        told(self, reply)
+    }
+
+    fn absorb_posted(&mut self, vp: u8, part: u8, bits: u64) -> Answer {
+        let reply = self.absorb(vp, part, bits);
+        told(self, reply)
+    }
+
+    fn guest_store(&mut self, address: u64, bytes: &[u8]) -> Answer {
+        let reply = self.store(address, bytes);
+        told(self, reply)
+    }
+
+    fn guest_load(&mut self, address: u64, length: u8) -> Answer {
+        let reply = self.load(address, length);
+        told(self, reply)
+    }
+
+    fn advance_time(&mut self, time: u64) -> Answer {
+        let reply = self.tick(time);
+        told(self, reply)
+    }
+
+    fn take_interrupt(&mut self, vp: u8) -> Answer {
+        let reply = self.take(vp);
+        told(self, reply)
+    }
+
+    fn suspend(&mut self, vp: u8) -> Answer {
+        let reply = Board::suspend(self, vp);
+        told(self, reply)
+    }
+
+    fn resume(&mut self, vp: u8) -> Answer {
+        let reply = Board::resume(self, vp);
+        told(self, reply)
+    }
+
+    fn reset(&mut self, vp: u8) -> Answer {
+        let reply = Board::reset(self, vp);
+        told(self, reply)
+    }
+}
+
+fn main() -> io::Result<()> {
+    answer_all::<Board>()
+}
