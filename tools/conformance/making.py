@@ -17,7 +17,7 @@ STRANGE = (0, 0x1B, 0x40000002, 0x40000020, 0x40000071, 0x40000073, 0x40000081, 
 EVENTS, SCENES = 60, 10
 
 OFTEN = ("consume", "look", "post", "tick", "take", "end", "timer", "source", "look")
-SELDOM = ("signal", "interrupt", "absorb", "enable", "read", "strange", "store", "load", "port", "processor", "look_below", "priority", "hostile")
+SELDOM = ("signal", "interrupt", "absorb", "enable", "read", "strange", "store", "load", "port", "processor", "look_below", "priority", "hostile", "drain", "drain", "pause")
 
 
 class Maker:
@@ -122,6 +122,29 @@ class Maker:
 
     def look_below(self):
         return "load %x 8" % (self.page() * PAGE + self.pick((0, 0x200, SLOT * self.pick(self.sources))))
+
+    def drain(self):
+        """A guest that receives what waits for one source."""
+        vp = self.pick(list(self.sims)) if self.sims else 0
+        slot = self.slot(vp) if self.sims else 0
+        for _ in range(1 + self.below(3)):
+            yield "load %x 8" % (slot + 16)
+            yield "load %x 8" % (slot + 24)
+            yield "store %x 00000000" % slot
+            yield "write %d %x 0" % (vp, EOM)
+
+    def pause(self):
+        """A periodic timer whose tick comes late, and what it makes up."""
+        vp, vector = self.below(self.processors), self.pick(self.vectors)
+        yield "write %d %x %x" % (vp, STIMER0 + 1, 10)
+        yield "write %d %x %x" % (vp, STIMER0, 0x1000 | vector << 4 | self.pick((3, 3, 7)))
+        self.now += 10 * self.pick((2, 8, 9, 10, 12)) + self.pick((0, 0, 1, 4, 5, 9))
+        for _ in range(self.pick((1, 3, 10))):
+            yield "tick %d" % self.now
+            yield "take %d" % vp
+            yield "write %d %x 0" % (vp, EOI)
+            self.now += self.pick((1, 1, 1, 2))
+        yield "tick %d" % self.now
 
     def post(self):
         kind = 1 + self.below(3) if self.dice() < 0.95 else self.pick((0, 2 ** 31 - 1, 2 ** 31, 2 ** 32 - 1, 256))
@@ -247,7 +270,11 @@ class Maker:
         for _ in range(SCENES):
             yield from self.scene()
             for _ in range(EVENTS):
-                yield self.pick(choices)()
+                made = self.pick(choices)()
+                if isinstance(made, str):
+                    yield made
+                else:
+                    yield from made
 
 
 def script(seed, number, without=()):
