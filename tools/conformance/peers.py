@@ -83,7 +83,7 @@ class Conversation:
         return bool(got) and not (self.replies >= self.wanted and not self.parts and got.endswith(b"\n"))
 
     def has_more(self):
-        """Goes on to the next lines, if all answers before them have come. Whether there are such."""
+        """Takes the next lines, if all answers before them have come. Whether there are such."""
         if self.waiting or not self.parts or self.replies < self.wanted:
             return False
         self.waiting, self.wanted = self.parts.pop(0)

@@ -15,7 +15,7 @@ def converter():
 
 
 def recorder_of(source):
-    """A converter that keeps the replies that records tell of, by the number of their line."""
+    """A converter that keeps the replies in the records, by the number of their line."""
     class Recorder(source.Converter):
         facts = {}
 
@@ -36,7 +36,7 @@ def recorder_of(source):
 
 
 def of_report(text):
-    """The events of a report, each with the reply that its record tells of, or None."""
+    """The events of a report, each with the reply in its record, or None."""
     source = converter()
     records = list(source.records_of(text))
     if not records:

@@ -3,7 +3,7 @@
 import boardlog
 import boardwords
 
-# How many events before the difference are told.
+# How many events before the difference are shown.
 BEFORE = 6
 
 
@@ -13,7 +13,7 @@ def step_of(line, answer):
 
 
 def sentences(line, answer, state):
-    """What an answer says, as far as it is one."""
+    """The sentences of an answer; of one that is malformed, its text."""
     try:
         first, *more = boardwords.explain(step_of(line, answer), state)
     except (KeyError, IndexError, ValueError):
