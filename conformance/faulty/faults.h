@@ -35,6 +35,7 @@
     F(apic_disabled, true, "the local APIC has a register that disables it") \
     F(vp_index, true, "the VP index can be read") \
     F(suspended_timers_run, true, "timers of suspended processors run") \
+    F(ends, false, "the program ends when vector ff is taken") \
     F(eoi_ends_least, false, "EOI ends the least vector in service") \
     F(eoi_needs_zero, false, "EOI with a value other than 0 raises #GP") \
     F(eoi_readable, false, "EOI can be read") \

@@ -1,4 +1,6 @@
 /* interrupts.c: requests, priorities, auto-EOI. */
+#include <stdlib.h>
+
 #include "board.h"
 
 enum { FIRST_VECTOR = 16 };
@@ -91,6 +93,8 @@ int take_next(unsigned vp)
         return -1;
     if (vector < 0 || is_held_back(p, vector) || p->is_disabled)
         return -1;
+    if (IS(ends) && vector == 0xff)
+        abort();
     if (IS(queued_requests) && p->repeats[vector] > 0)
         p->repeats[vector]--;
     else if (!IS(take_keeps_request))

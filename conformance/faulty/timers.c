@@ -221,7 +221,7 @@ static void start(unsigned vp, unsigned index, bool was_running)
     bool runs = (t->config & ENABLED) && t->count > 0;
     if (runs && was_running && IS(running_write_ignored))
         return;
-    if (!runs && was_running && IS(disable_ignored))
+    if (!runs && was_running && t->count > 0 && IS(disable_ignored))
         return;
     t->has_deadline = runs;
     bool is_relative = t->config & PERIODIC ? !IS(periodic_absolute) : IS(one_shot_relative);

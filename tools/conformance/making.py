@@ -17,7 +17,7 @@ STRANGE = (0, 0x1B, 0x40000002, 0x40000020, 0x40000071, 0x40000073, 0x40000081, 
 EVENTS, SCENES = 60, 10
 
 OFTEN = ("consume", "look", "post", "tick", "take", "end", "timer", "source", "look")
-SELDOM = ("signal", "interrupt", "absorb", "enable", "read", "strange", "store", "load", "port", "processor", "look_below", "priority", "hostile", "drain", "drain", "pause")
+SELDOM = ("signal", "interrupt", "absorb", "enable", "read", "strange", "store", "load", "port", "processor", "look_below", "priority", "hostile", "drain", "drain", "pause", "alarm")
 
 
 class Maker:
@@ -132,6 +132,18 @@ class Maker:
             yield "load %x 8" % (slot + 24)
             yield "store %x 00000000" % slot
             yield "write %d %x 0" % (vp, EOM)
+
+    def alarm(self):
+        """A one-shot, and what there is just before and at its deadline."""
+        vp, index, wait = self.below(self.processors), self.below(4), self.pick((2, 4, 10, 50))
+        target = self.pick((0x1000 | self.pick(self.vectors) << 4, self.pick(self.sources) << 16))
+        yield "write %d %x %x" % (vp, STIMER0 + 2 * index, target | self.pick((8, 8, 12)))
+        yield "write %d %x %x" % (vp, STIMER0 + 2 * index + 1, self.now + wait)
+        for time in (self.now + wait - 1, self.now + wait, self.now + wait + wait // 4):
+            yield "tick %d" % time
+            yield "take %d" % vp
+        self.now += wait + wait // 4
+        yield "read %d %x" % (vp, STIMER0 + 2 * index)
 
     def pause(self):
         """A periodic timer whose tick comes late, and what it makes up."""

@@ -1,5 +1,6 @@
 """Runs commands that answer scripts: the reference, and the peers that are compared with it."""
 
+import copy
 import os
 import selectors
 import signal
@@ -30,6 +31,19 @@ class Peer:
             is_last = first + size >= len(lines)
             replies += is_last + sum(not line.startswith("board") for line in some)
             yield "\n".join(some).encode() + b"\n" + (self.sync if is_last else b""), replies
+
+
+    def by_line(self):
+        """The same peer, with each line written after the answer to the line before: a peer that ends has
+        then written all that it answered."""
+        stepping = copy.copy(self)
+        stepping.batch = 1
+        return stepping
+
+    def greet(self):
+        """Fails unless the peer opens a board and answers."""
+        if not converse([(self, ["board 1 1 0"])])[0].startswith(b"="):
+            raise NoPeer("%s does not answer %s" % (self.command[0], self.sync.decode().strip()))
 
 
 class Conversation:

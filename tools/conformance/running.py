@@ -41,13 +41,20 @@ def peer_answers(cases, peer):
     if peer.reopens:
         output = peers.converse([(peer, [line for case in cases for line in case.lines])])[0]
         joined = answers.answers_of(output, sum(len(case.lines) - 1 for case in cases))
-        for case in cases:
-            yield joined[:len(case.lines) - 1]
-            joined = joined[len(case.lines) - 1:]
-        return
+        if answers.NO_ANSWER not in joined:
+            for case in cases:
+                yield joined[:len(case.lines) - 1]
+                joined = joined[len(case.lines) - 1:]
+            return
     for some in groups(cases):
         for case, output in zip(some, peers.converse([(peer, case.lines) for case in some])):
-            yield answers.answers_of(output, len(case.lines) - 1)
+            found = answers.answers_of(output, len(case.lines) - 1)
+            yield by_line(peer, case.lines) if answers.NO_ANSWER in found else found
+
+
+def by_line(peer, lines):
+    """The answers of a peer that ended, up to its end."""
+    return answers.answers_of(peers.converse([(peer.by_line(), lines)])[0], len(lines) - 1)
 
 
 def wanted_answers(cases, reference):

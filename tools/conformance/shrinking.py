@@ -20,13 +20,11 @@ class Comparison:
 
     def __init__(self, peer, reference, see):
         self.peer, self.reference, self.see = peer, reference, see
-        self.runs = 0
 
     def outcomes(self, scripts):
         """For each script (its lines up to the first difference, the answers of both), or None."""
         jobs = [(who, lines) for lines in scripts for who in (self.reference, self.peer)]
         outputs = peers.converse(jobs)
-        self.runs += len(scripts)
         return [self.outcome(lines, *outputs[2 * at:2 * at + 2]) for at, lines in enumerate(scripts)]
 
     def outcome(self, lines, told, other):
@@ -34,6 +32,8 @@ class Comparison:
             return None
         count = len(lines) - 1
         reference, peer = answers.answers_of(told, count), answers.answers_of(other, count)
+        if answers.NO_ANSWER in peer:
+            peer = answers.answers_of(peers.converse([(self.peer.by_line(), lines)])[0], count)
         try:
             at = answers.first_difference(lines, reference, peer, self.see)
         except answers.Unsupported:
