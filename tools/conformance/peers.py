@@ -61,7 +61,8 @@ class Conversation:
         self.from_peer, taken = os.pipe()
         actions = [(os.POSIX_SPAWN_DUP2, given, 0), (os.POSIX_SPAWN_DUP2, taken, 1)]
         try:
-            self.process = os.posix_spawnp(self.peer.command[0], self.peer.command, os.environ, file_actions=actions)
+            self.process = os.posix_spawnp(self.peer.command[0], self.peer.command, os.environ, file_actions=actions,
+                                            setsigdef=[signal.SIGPIPE])
         except OSError as error:
             os.close(self.to_peer)
             os.close(self.from_peer)
@@ -130,6 +131,15 @@ def converse(jobs):
             for talk in talks:
                 talk.end()
     return [b"".join(talk.output) for talk in talks]
+
+
+def refuse_faults(path, reference, lines):
+    """The reference's output. Fails if a line is malformed."""
+    output = converse([(reference, lines)])[0]
+    faults = [line for line in output.decode(errors="replace").splitlines() if line.startswith("!")]
+    if faults:
+        raise NoPeer("%s: %s (counted without skipped lines)" % (path, faults[0]))
+    return output
 
 
 def attend(selector, open_talks):

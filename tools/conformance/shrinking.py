@@ -3,7 +3,7 @@
 import os
 import re
 
-from conformance import answers, peers, suite, words
+from conformance import answers, peers, renaming, suite, words
 
 # How many candidates are tried at the same time.
 TOGETHER = 4
@@ -111,7 +111,7 @@ class Shrinker:
 
     def run(self):
         self.drop_lines()
-        while self.assert_instead() or self.simplify_fields() or self.drop_pairs():
+        while self.assert_instead() or self.first_of(renaming.renamed(self.lines)) or self.simplify_fields() or self.drop_pairs():
             self.drop_lines()
         return self.outcome
 
@@ -159,6 +159,7 @@ def shrink(given, peer, reference):
     """tools/conform shrink"""
     comparison = Comparison(peer, reference, given.see)
     lines = suite.events_of(suite.read(given.script))
+    peers.refuse_faults(given.script, reference, lines)
     outcome = comparison.outcomes([lines])[0]
     if outcome is None:
         print("%s: no difference" % given.script)

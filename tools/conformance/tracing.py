@@ -63,7 +63,7 @@ def trace(given, reference):
     text = suite.read(given.report)
     events = of_trace(text) if text.splitlines()[:1] in boardlog.TITLES else of_report(text)
     lines = [line for line, _ in events]
-    told = answers.answers_of(peers.converse([(reference, lines)])[0], len(lines) - 1)
+    told = answers.answers_of(peers.refuse_faults(given.report, reference, lines), len(lines) - 1)
     # Replies alone are recorded, so the notices are left out of the comparison.
     replies = [answers.reply_of(answer) for answer in told]
     recorded = [reply if fact is None else fact for (_, fact), reply in zip(events[1:], replies)]
