@@ -132,3 +132,9 @@ cut name all n m is more = let e = is ∙ ap (λ k. map (new_actor name) (range_
 pub single : (front : List Acting) (a b : Acting) → front ++ a ∷ [] ≡ b ∷ [] → (front ≡ []) × (a ≡ b)
 single [] a b e = (refl, cc)
 single (x ∷ front) a b e = absurd (omega (arith, ap (λ (l : List Acting). length l) e, length-append front (a ∷ [])))
+
+-- the first of some elements, and the others
+pub split-first : {A : Type 0} (xs front : List A) (first : A) (n : ℕ) → length xs ≡ suc n → take 1 xs ≡ front ++ first ∷ [] → (front ≡ []) × (xs ≡ first ∷ drop 1 xs)
+split-first [] front first n long is = absurd (omega arith)
+split-first (x ∷ xs) [] first n long is = let same : x ≡ first = cc in (refl, (λ i. same i ∷ xs))
+split-first {A} (x ∷ xs) (y ∷ front) first n long is = absurd (omega (arith, ap (λ (l : List A). length l) is, length-append front (first ∷ [])))

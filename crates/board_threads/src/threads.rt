@@ -1,5 +1,5 @@
 // One thread for each worker.
-ghost use Rattle.std.specs.Prelude.{◌≡◌, ◌<◌, ◌≤◌, ◌+◌, ℕ, List, IfOk, Ok, All, map, length, vec_len, Vec};
+ghost use Rattle.std.specs.Prelude.{◌≡◌, ◌∷◌, ◌<◌, ◌≤◌, ◌+◌, ℕ, List, IfOk, Ok, All, map, length, vec_len, Vec};
 ghost use Rattle.std.specs.Global.{Global};
 ghost use Rattle.posted_words.specs.Words.{Token};
 ghost use Rattle.posted_words.specs.declared.line.Raised.{Raised};
@@ -8,7 +8,7 @@ ghost use Rattle.board_threads.specs.declared.script.Step.{Step};
 ghost use Rattle.std.specs.List.{AllZip};
 ghost use Rattle.std.specs.Thread.{IsSync};
 ghost use Rattle.atomic_table.specs.Seated.{TableId};
-ghost use Rattle.board_threads.specs.inside.Work.{IsNewActor, IsNewLine, IsThere, HasActed, HasRaised};
+ghost use Rattle.board_threads.specs.inside.Work.{IsNewActor, IsNewLine, IsThere, HasActed, HasRaised, HaveRun};
 
 use crate::actor::Actor;
 use crate::fault::WorkFault;
@@ -163,37 +163,44 @@ fn start_actors<'s, E, R: Threads + Wait + Sync, G: Gate + Sync>(
     Ok(threads)
 }
 
-/// Starts a thread for each line, with the script at its index.
+/// Starts a thread for each line, with the script at its index. The gate sees the lines by their numbers,
+/// from `first` on.
 fn start_lines<'s, E, R: Threads + Wait + Sync, G: Gate + Sync>(
     rt: &'s R,
     alloc: Global,
     scope: &Scope<'s, E>,
     board: &'s SharedBoard,
     gate: &'s G,
+    first: u8,
     lines: Vec<Line>,
     scripts: &'s [Vec<(Vp, Vector)>],
 ) -> Result<Vec<RaisingThread<'s>>, WorkFault>
     requires new { All (IsNewLine board.now.words.name) lines.items }
     requires each { vec_len lines ≡ length scripts.now }
-    requires few { length scripts.now ≤ 16 }
+    requires few { first + length scripts.now ≤ 16 }
     requires there { All (λ (s : Vec (ℕ × ℕ) Global). IsThere board.now.words.processors s.items) scripts.now }
     ensures scripts { IfOk result (λ v. map {B = TableId × List (ℕ × ℕ)} (λ h. (h.promise.board.now.words.name, h.promise.script.now)) v.items ≡ map {B = TableId × List (ℕ × ℕ)} (λ s. (board.now.words.name, s.items)) scripts.now) }
 {
     let mut threads = Vec::new(alloc);
-    let mut number = 0u8;
+    let mut index = 0u8;
     for line in lines {
         if threads.reserve(1).is_err() {
             return Err(WorkFault::Memory);
         }
-        let script = scripts[usize::from(number)].as_slice();
+        let script = scripts[usize::from(index)].as_slice();
+        let number = first + index;
         threads.push_reserved(start_line(rt, alloc, scope, board, gate, number, line, script)?);
-        number += 1;
+        index += 1;
     }
     Ok(threads)
 }
 
-/// Runs each script of the actors and of the lines in a thread of its own, concurrently, and waits
-/// for all of them. If a thread cannot be started, the threads that run are joined first.
+/// The actors, and the lines with the answers to their raises.
+type Ran = (Vec<Actor>, Vec<(Line, Vec<Raised>)>);
+
+/// Runs each script of the actors and of the lines, concurrently, and waits for all of them: the first one in
+/// the caller's thread, each other in a thread of its own. If a thread cannot be started, the threads that run
+/// are joined first.
 pub(crate) fn run_all<R: Threads + Wait + Sync, G: Gate + Sync>(
     rt: &R,
     alloc: Global,
@@ -202,35 +209,192 @@ pub(crate) fn run_all<R: Threads + Wait + Sync, G: Gate + Sync>(
     scripts: &Scripts,
     actors: Vec<Actor>,
     lines: Vec<Line>,
-) -> Result<(Vec<Actor>, Vec<(Line, Vec<Raised>)>), WorkFault>
+) -> Result<Ran, WorkFault>
     requires new_actors { All (IsNewActor board.now.words.name) actors.items }
     requires new_lines { All (IsNewLine board.now.words.name) lines.items }
     requires each_actor { vec_len actors ≡ vec_len scripts.now.actors }
     requires each_line { vec_len lines ≡ vec_len scripts.now.lines }
     requires few { vec_len scripts.now.lines ≤ 16 }
     requires there { All (λ (s : Vec (ℕ × ℕ) Global). IsThere board.now.words.processors s.items) scripts.now.lines.items }
-    ensures numbers { IfOk result (λ r. map (λ (a : Acting). a.number) r.0.items ≡ map (λ (a : Acting). a.number) actors.items) }
-    ensures acted { IfOk result (λ r. AllZip (λ (s : Vec Step Global) (a : Acting). HasActed board.now.words.name a.number s.items a) scripts.now.actors.items r.0.items) }
-    ensures raised { IfOk result (λ r. AllZip (λ (s : Vec (ℕ × ℕ) Global) (x : Token × Vec Raised Global). HasRaised board.now.words.name s.items x.0 x.1.items) scripts.now.lines.items r.1.items) }
+    ensures { IfOk result (λ r. HaveRun board.now.words.name scripts.now.actors.items scripts.now.lines.items actors.items r.0.items r.1.items) }
 {
-    let acts = scripts.actors.as_slice();
     let raises = scripts.lines.as_slice();
+    match scripts.actors.as_slice() {
+        [own, acts @ ..] => {
+            run_with_actor(rt, alloc, board, gate, own, acts, raises, actors, lines)
+        }
+        [] => {
+            let ran = run_lines(rt, alloc, board, gate, raises, lines)?;
+            Ok((actors, ran))
+        }
+    }
+}
+
+/// Runs the scripts of the lines where there are no actors, that of line 0 in the caller's thread.
+fn run_lines<R: Threads + Wait + Sync, G: Gate + Sync>(
+    rt: &R,
+    alloc: Global,
+    board: &SharedBoard,
+    gate: &G,
+    scripts: &[Vec<(Vp, Vector)>],
+    lines: Vec<Line>,
+) -> Result<Vec<(Line, Vec<Raised>)>, WorkFault>
+    requires new { All (IsNewLine board.now.words.name) lines.items }
+    requires each { vec_len lines ≡ length scripts.now }
+    requires few { length scripts.now ≤ 16 }
+    requires there { All (λ (s : Vec (ℕ × ℕ) Global). IsThere board.now.words.processors s.items) scripts.now }
+    ensures { IfOk result (λ v. AllZip (λ (s : Vec (ℕ × ℕ) Global) (x : Token × Vec Raised Global). HasRaised board.now.words.name s.items x.0 x.1.items) scripts.now v.items) }
+{
+    match scripts {
+        [own, raises @ ..] => run_with_line(rt, alloc, board, gate, own, raises, lines),
+        [] => Ok(Vec::new(alloc)),
+    }
+}
+
+/// Runs the script of the first actor in the caller's thread, while all others run in theirs.
+fn run_with_actor<R: Threads + Wait + Sync, G: Gate + Sync>(
+    rt: &R,
+    alloc: Global,
+    board: &SharedBoard,
+    gate: &G,
+    own: &Vec<Step>,
+    acts: &[Vec<Step>],
+    raises: &[Vec<(Vp, Vector)>],
+    mut actors: Vec<Actor>,
+    lines: Vec<Line>,
+) -> Result<Ran, WorkFault>
+    requires new_actors { All (IsNewActor board.now.words.name) actors.items }
+    requires new_lines { All (IsNewLine board.now.words.name) lines.items }
+    requires each_actor { vec_len actors ≡ length acts.now + 1 }
+    requires each_line { vec_len lines ≡ length raises.now }
+    requires few { length raises.now ≤ 16 }
+    requires there { All (λ (s : Vec (ℕ × ℕ) Global). IsThere board.now.words.processors s.items) raises.now }
+    ensures { IfOk result (λ r. HaveRun board.now.words.name (own.now ∷ acts.now) raises.now actors.items r.0.items r.1.items) }
+{
+    let Ok(others) = actors.split_off(1) else {
+        return Err(WorkFault::Memory);
+    };
+    let Some(first) = actors.pop() else {
+        unreachable!()
+    };
+    let (first, mut others, ran) = act_beside(
+        rt, alloc, board, gate, own, acts, raises, first, others, lines,
+    )?;
+    if actors.push(first).is_err() || actors.append(&mut others).is_err() {
+        return Err(WorkFault::Memory);
+    }
+    Ok((actors, ran))
+}
+
+/// Starts a thread for each other actor and each line, runs the script of the first actor, and waits for them.
+fn act_beside<R: Threads + Wait + Sync, G: Gate + Sync>(
+    rt: &R,
+    alloc: Global,
+    board: &SharedBoard,
+    gate: &G,
+    own: &Vec<Step>,
+    acts: &[Vec<Step>],
+    raises: &[Vec<(Vp, Vector)>],
+    first: Actor,
+    others: Vec<Actor>,
+    lines: Vec<Line>,
+) -> Result<(Actor, Vec<Actor>, Vec<(Line, Vec<Raised>)>), WorkFault>
+    requires new_first { IsNewActor board.now.words.name first }
+    requires new_others { All (IsNewActor board.now.words.name) others.items }
+    requires new_lines { All (IsNewLine board.now.words.name) lines.items }
+    requires each_other { vec_len others ≡ length acts.now }
+    requires each_line { vec_len lines ≡ length raises.now }
+    requires few { length raises.now ≤ 16 }
+    requires there { All (λ (s : Vec (ℕ × ℕ) Global). IsThere board.now.words.processors s.items) raises.now }
+    ensures { IfOk result (λ r. HasActed board.now.words.name first.number own.now.items r.0
+        × HaveRun board.now.words.name acts.now raises.now others.items r.1.items r.2.items) }
+{
     thread::scope(
         thread::scope_env(),
         rt,
-        move |scope| -> Result<(Vec<Actor>, Vec<(Line, Vec<Raised>)>), WorkFault>
-            requires { All (IsNewActor board.now.words.name) actors.items × All (IsNewLine board.now.words.name) lines.items
-                × (vec_len actors ≡ length acts.now) × (vec_len lines ≡ length raises.now) × (length raises.now ≤ 16)
+        move |scope| -> Result<(Actor, Vec<Actor>, Vec<(Line, Vec<Raised>)>), WorkFault>
+            requires { IsNewActor board.now.words.name first × All (IsNewActor board.now.words.name) others.items × All (IsNewLine board.now.words.name) lines.items
+                × (vec_len others ≡ length acts.now) × (vec_len lines ≡ length raises.now) × (length raises.now ≤ 16)
                 × All (λ (s : Vec (ℕ × ℕ) Global). IsThere board.now.words.processors s.items) raises.now }
-            ensures { IfOk result (λ r. (map (λ (a : Acting). a.number) r.0.items ≡ map (λ (a : Acting). a.number) actors.items)
-                × AllZip (λ (s : Vec Step Global) (a : Acting). HasActed board.entry.now.words.name a.number s.items a) acts.entry.now r.0.items
+            ensures { IfOk result (λ r. HasActed board.entry.now.words.name first.number own.entry.now.items r.0
+                × HaveRun board.entry.now.words.name acts.entry.now raises.entry.now others.items r.1.items r.2.items) }
+        {
+            let acting = start_actors(rt, alloc, scope, board, gate, others, acts)?;
+            let raising = start_lines(rt, alloc, scope, board, gate, 0, lines, raises)?;
+            let first = act(rt, board, gate, first, own.as_slice())?;
+            let others = join_all(rt, alloc, acting)?;
+            let lines = join_all(rt, alloc, raising)?;
+            Ok((first, others, lines))
+        },
+    )
+}
+
+/// Runs the script of line 0 in the caller's thread, while all other lines run in theirs.
+fn run_with_line<R: Threads + Wait + Sync, G: Gate + Sync>(
+    rt: &R,
+    alloc: Global,
+    board: &SharedBoard,
+    gate: &G,
+    own: &Vec<(Vp, Vector)>,
+    raises: &[Vec<(Vp, Vector)>],
+    mut lines: Vec<Line>,
+) -> Result<Vec<(Line, Vec<Raised>)>, WorkFault>
+    requires new { All (IsNewLine board.now.words.name) lines.items }
+    requires each { vec_len lines ≡ length raises.now + 1 }
+    requires few { length raises.now ≤ 15 }
+    requires own_there { IsThere board.now.words.processors own.now.items }
+    requires there { All (λ (s : Vec (ℕ × ℕ) Global). IsThere board.now.words.processors s.items) raises.now }
+    ensures { IfOk result (λ v. AllZip (λ (s : Vec (ℕ × ℕ) Global) (x : Token × Vec Raised Global). HasRaised board.now.words.name s.items x.0 x.1.items) (own.now ∷ raises.now) v.items) }
+{
+    let Ok(others) = lines.split_off(1) else {
+        return Err(WorkFault::Memory);
+    };
+    let Some(first) = lines.pop() else {
+        unreachable!()
+    };
+    let (first, mut others) = raise_beside(rt, alloc, board, gate, own, raises, first, others)?;
+    let mut ran = Vec::new(alloc);
+    if ran.push(first).is_err() || ran.append(&mut others).is_err() {
+        return Err(WorkFault::Memory);
+    }
+    Ok(ran)
+}
+
+/// Starts a thread for each other line, runs the script of the first line, and waits for them.
+fn raise_beside<R: Threads + Wait + Sync, G: Gate + Sync>(
+    rt: &R,
+    alloc: Global,
+    board: &SharedBoard,
+    gate: &G,
+    own: &Vec<(Vp, Vector)>,
+    raises: &[Vec<(Vp, Vector)>],
+    first: Line,
+    others: Vec<Line>,
+) -> Result<((Line, Vec<Raised>), Vec<(Line, Vec<Raised>)>), WorkFault>
+    requires new_first { IsNewLine board.now.words.name first }
+    requires new_others { All (IsNewLine board.now.words.name) others.items }
+    requires each { vec_len others ≡ length raises.now }
+    requires few { length raises.now ≤ 15 }
+    requires own_there { IsThere board.now.words.processors own.now.items }
+    requires there { All (λ (s : Vec (ℕ × ℕ) Global). IsThere board.now.words.processors s.items) raises.now }
+    ensures { IfOk result (λ r. HasRaised board.now.words.name own.now.items r.0.0 r.0.1.items
+        × AllZip (λ (s : Vec (ℕ × ℕ) Global) (x : Token × Vec Raised Global). HasRaised board.now.words.name s.items x.0 x.1.items) raises.now r.1.items) }
+{
+    thread::scope(
+        thread::scope_env(),
+        rt,
+        move |scope| -> Result<((Line, Vec<Raised>), Vec<(Line, Vec<Raised>)>), WorkFault>
+            requires { IsNewLine board.now.words.name first × All (IsNewLine board.now.words.name) others.items
+                × (vec_len others ≡ length raises.now) × (length raises.now ≤ 15) × IsThere board.now.words.processors own.now.items
+                × All (λ (s : Vec (ℕ × ℕ) Global). IsThere board.now.words.processors s.items) raises.now }
+            ensures { IfOk result (λ r. HasRaised board.entry.now.words.name own.entry.now.items r.0.0 r.0.1.items
                 × AllZip (λ (s : Vec (ℕ × ℕ) Global) (x : Token × Vec Raised Global). HasRaised board.entry.now.words.name s.items x.0 x.1.items) raises.entry.now r.1.items) }
         {
-            let acting = start_actors(rt, alloc, scope, board, gate, actors, acts)?;
-            let raising = start_lines(rt, alloc, scope, board, gate, lines, raises)?;
-            let actors = join_all(rt, alloc, acting)?;
-            let lines = join_all(rt, alloc, raising)?;
-            Ok((actors, lines))
+            let raising = start_lines(rt, alloc, scope, board, gate, 1, others, raises)?;
+            let who = Worker::Raises(0);
+            let first = raise(rt, alloc, board, gate, who, first, own.as_slice())?;
+            let others = join_all(rt, alloc, raising)?;
+            Ok((first, others))
         },
     )
 }
