@@ -64,8 +64,9 @@ struct Worked {
 }
 
 /// Runs a crew on a board of its own. Actor 0 performs the setup; then each actor from 1 on and
-/// each line from 0 on runs its script in a thread of its own; when all have ended, actor 0 absorbs
-/// parts 0 to 3 of each processor in order. Then the board is settled.
+/// each line from 0 on runs its script, concurrently: the first of them in the caller's thread, each
+/// other in a thread of its own. When all have ended, actor 0 absorbs parts 0 to 3 of each processor
+/// in order. Then the board is settled.
 pub fn run_crew<R: Threads + Wait + Sync, G: Gate + Sync>(
     rt: &R,
     alloc: Global,

@@ -1,4 +1,4 @@
-//! Scripts of crews: actors and lines on one board, each in a thread of its own, and the trace of
+//! Scripts of crews: actors and lines on one board, run concurrently by threads, and the trace of
 //! the run.
 #![tactic(auto)]
 

@@ -39,8 +39,8 @@ pub enum CrewRun {
     Writing,
 }
 
-/// Reads a whole crew script, runs its crew on a board of its own, each actor and each line in a
-/// thread of its own, and writes the trace of the run. If a line is wrong, writes only its fault.
+/// Reads a whole crew script, runs its crew on a board of its own, the actors and lines concurrently,
+/// and writes the trace of the run. If a line is wrong, writes only its fault.
 /// The gate is called around each call of an actor or a line. The script and the history are kept in
 /// memory.
 pub fn crew<T: Threads + Wait + Sync, R: Read, W: Write, G: Gate + Sync>(
