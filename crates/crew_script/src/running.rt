@@ -170,7 +170,10 @@ fn tell(setup: &Setup, ended: &Ended, out: &mut Vec<u8>) -> Outcome
 fn outcome_of(fault: CrewFault) -> Outcome
     requires size { fault ≢ CrewFault.BadSize }
     requires step { fault ≢ CrewFault.BadStep }
-    ensures { result ≢ Outcome.Done }
+    ensures memory { fault ≡ CrewFault.Memory → result ≡ Outcome.Memory }
+    ensures unsettled { fault ≡ CrewFault.Unsettled → result ≡ Outcome.Unsettled }
+    ensures thread { fault ≡ CrewFault.NoThread → result ≡ Outcome.NoThread }
+    ensures never_done { result ≢ Outcome.Done }
 {
     match fault {
         CrewFault::BadSize | CrewFault::BadStep => unreachable!(),
