@@ -17,7 +17,7 @@ STRANGE = (0, 0x1B, 0x40000002, 0x40000020, 0x40000071, 0x40000073, 0x40000081, 
 EVENTS, SCENES = 60, 10
 
 OFTEN = ("consume", "look", "post", "tick", "take", "end", "timer", "source", "look")
-SELDOM = ("signal", "interrupt", "absorb", "enable", "read", "strange", "store", "load", "port", "processor", "look_below", "priority", "hostile", "drain", "drain", "pause", "alarm")
+SELDOM = ("signal", "interrupt", "absorb", "enable", "read", "strange", "store", "load", "port", "processor", "look_below", "priority", "hostile", "drain", "drain", "pause", "alarm", "crowd")
 
 
 class Maker:
@@ -127,7 +127,7 @@ class Maker:
         """A guest that receives what waits for one source."""
         vp = self.pick(list(self.sims)) if self.sims else 0
         slot = self.slot(vp) if self.sims else 0
-        for _ in range(1 + self.below(3)):
+        for _ in range(1 + self.below(4)):
             yield "load %x 8" % (slot + 16)
             yield "load %x 8" % (slot + 24)
             yield "store %x 00000000" % slot
@@ -144,6 +144,16 @@ class Maker:
             yield "take %d" % vp
         self.now += wait + wait // 4
         yield "read %d %x" % (vp, STIMER0 + 2 * index)
+
+    def crowd(self):
+        """Timers that send to one source, the last first, and what its guest receives."""
+        vp, target = self.below(self.processors), self.pick(self.sources) << 16 | 8
+        for index in self.pick(((2, 1, 0), (3, 2, 0), (1, 0))):
+            yield "write %d %x %x" % (vp, STIMER0 + 2 * index, target)
+            yield "write %d %x %x" % (vp, STIMER0 + 2 * index + 1, self.now + 1)
+            self.now += 1
+            yield "tick %d" % self.now
+        yield from self.drain()
 
     def pause(self):
         """A periodic timer whose tick comes late, and what it makes up."""

@@ -8,6 +8,9 @@ from conformance import answers, peers, renaming, suite, words
 # How many candidates are tried at the same time.
 TOGETHER = 4
 
+# How many lines make it worth while to try each other order of them.
+WORTH_MOVING = range(9, 25)
+
 SMALL_NUMBERS = (0, 1, 2, 16)
 
 # The fields that are hexadecimal: the word of a line, and the places in it.
@@ -90,6 +93,15 @@ class Shrinker:
                  for first in range(1, count - 1) for second in range(first + 1, count - 1)]
         return self.first_of(pairs)
 
+    def move_and_drop(self):
+        """A line that comes just before the difference may make another one needless."""
+        last = len(self.lines) - 1
+        if last not in WORTH_MOVING:
+            return False
+        return self.first_of(
+            [line for at, line in enumerate(self.lines[:last]) if at not in (moved, dropped)] + [self.lines[moved], self.lines[last]]
+            for moved in range(1, last - 1) for dropped in range(1, last) if dropped != moved)
+
     def assert_instead(self):
         """An interrupt is the same, whatever raised it."""
         candidates = []
@@ -98,6 +110,9 @@ class Shrinker:
             if found and not line.startswith("assert"):
                 candidates.append(self.lines[:at] + ["assert %s %s" % found.groups()] + self.lines[at + 1:])
         return bool(candidates) and self.first_of(candidates)
+
+    def rename(self):
+        return self.first_of(renaming.renamed(self.lines))
 
     def simplify_fields(self):
         is_smaller, at = False, 0
@@ -111,7 +126,8 @@ class Shrinker:
 
     def run(self):
         self.drop_lines()
-        while self.assert_instead() or self.first_of(renaming.renamed(self.lines)) or self.simplify_fields() or self.drop_pairs():
+        steps = (self.assert_instead, self.rename, self.simplify_fields, self.drop_pairs, self.move_and_drop)
+        while any(step() for step in steps):
             self.drop_lines()
         return self.outcome
 
