@@ -11,6 +11,8 @@ TOGETHER = 4
 # How many lines make it worth while to try each other order of them.
 WORTH_MOVING = range(9, 25)
 
+MOST = 2 ** 64 - 1
+
 SMALL_NUMBERS = (0, 1, 2, 16)
 
 # The fields that are hexadecimal: the word of a line, and the places in it.
@@ -146,6 +148,12 @@ def number(text, base):
     return ["%x" % small if base == 16 else "%d" % small for small in smaller if small < value]
 
 
+def tickets(text):
+    """First tickets near the last make a script as short as those near 0."""
+    value = int(text)
+    return [] if value == 0 else ["0"] + ["%d" % last for last in range(MOST, MOST - 4, -1) if value < last and value > MOST // 2]
+
+
 def simpler(line):
     """Lines like this one with one field smaller."""
     fields = line.split(" ")
@@ -154,6 +162,8 @@ def simpler(line):
             choices = payload(fields[place])
         elif not re.fullmatch(r"[0-9a-f]+", fields[place]) or (fields[0] in ("write", "read") and place == 2):
             continue
+        elif fields[0] == "board" and place == 3:
+            choices = tickets(fields[3])
         elif fields[0] == "assert" and place == 2:
             choices = [] if fields[2] == "50" else ["50"]
         else:

@@ -41,11 +41,11 @@ def in_columns(left, texts, sentences_of_them):
     """Texts with their sentences at the right, the first after `left`."""
     for at, text in enumerate(texts):
         said = sentences_of_them[at] if at < len(sentences_of_them) else ""
-        yield ("%s %-36s %s" % (left if at == 0 else " " * len(left), short(text), said)).rstrip()
+        yield ("%s %-36s %s" % (left if at == 0 else " " * len(left), text, said)).rstrip()
 
 
 def event_lines(number, line, said):
-    return in_columns("%7d" % number, [line] + [""] * (len(said) - 1), said)
+    return in_columns("%7d" % number, [short(line)] + [""] * (len(said) - 1), said)
 
 
 def answer_lines(who, line, answer, state):
