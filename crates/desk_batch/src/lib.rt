@@ -35,7 +35,7 @@ pub struct Batch {
 }
 
 /// Performs events in order. Stops before an event that is invalid, or if no reply fits, or fewer
-/// than 276 notices fit. The notices of all events follow one another; each reply counts its own.
+/// than 276 notices fit, which is checked first. The notices of all events follow one another; each reply counts its own.
 pub fn perform_all(
     desk: &mut Desk,
     events: &[PlainEvent],
@@ -51,6 +51,7 @@ pub fn perform_all(
     ensures fits { (result.done ≤ length replies.old) × (result.told ≤ length notices.old) }
     ensures all { result.end ≡ BatchEnd.All → result.done ≡ length events.now }
     ensures none { result.end ≡ BatchEnd.NoEvent → MeansNone (slice_get events.now result.done) }
+    ensures room_first { result.end ≡ BatchEnd.NoEvent → (result.done < length replies.old) × (result.told + 276 ≤ length notices.old) }
     ensures room { result.end ≡ BatchEnd.NoRoom → (length replies.old ≡ result.done) ⊎ (length notices.old < result.told + 276) }
 {
     let mut told = 0;

@@ -35,6 +35,7 @@ pub extern "C" fn synicboard_perform_all(
     ensures within { result.done ≤ length events.now }
     ensures all { result.end ≡ 0 → result.done ≡ length events.now }
     ensures none { result.end ≡ 2 → MeansNone (slice_get events.now result.done) }
+    ensures room_first { result.end ≡ 2 → (result.done < length replies.old) × (result.told + 276 ≤ length notices.old) }
     ensures room { result.end ≡ 3 → (length replies.old ≡ result.done) ⊎ (length notices.old < result.told + 276) }
 {
     let Some(desk) = handle.desk_mut() else {
