@@ -6,7 +6,7 @@ use Rattle.std.proofs.KnownBytes.{Consumes-nil, Appends-nil, Appends-trans}
 use Rattle.std.proofs.lemmas.Bool.Decides.{Decides-ltb}
 use Rattle.board_text.specs.Lines.{rest_of}
 use Rattle.line_driver.specs.Judging.{Follows}
-use Rattle.line_driver.specs.Driving.{next_of, Ends, Stops, Sends, Drives}
+use Rattle.line_driver.specs.Driving.{next_of, place, Ends, Stops, Sends, Drives}
 use Rattle.line_driver.specs.declared.driving.End.{End}
 use Rattle.line_driver.specs.declared.driving.End.TheVariants as ends
 use Rattle.board_script.specs.Script.{line_fault, rest_fault, first_fault}
@@ -98,7 +98,7 @@ module _ {J : Type 0} (seen : J → Machine) (old new : J) (start : seen old ≡
       known-by (ends.Last line) answers text fault h (rw (e.2, e.3) (refl, rest-end (is_some (seen h.state)) (length h.lines + 1) ∙ rw (sym e.1, sym e.0) is))
   known (ends.Wrong line f) fault answers text is h = known-by (ends.Wrong line f) answers text fault h (by h.left h.ends)
     where
-      by : (left : List (List ℕ)) → Ends (Wrong seen) (ends.Wrong line f) (length h.lines + 1) h.state new left (rest_of text) → (output_from (seen h.state) left ≡ []) × (first_fault (length h.lines + 1) (is_some (seen h.state)) left (rest_of text) ≡ fault)
+      by : (left : List (List ℕ)) → Ends (Wrong seen) (ends.Wrong line f) (place (length h.lines + 1) h.state left (rest_of text)) new → (output_from (seen h.state) left ≡ []) × (first_fault (length h.lines + 1) (is_some (seen h.state)) left (rest_of text) ≡ fault)
       by [] e = absurd e
       by (bad ∷ left) e = (output_from-bad (seen h.state) bad left f e.2, first_fault-bad (length h.lines + 1) (is_some (seen h.state)) bad left (rest_of text) f e.2 ∙ rw (sym e.0) is)
   known (ends.Long line) fault answers text is h =

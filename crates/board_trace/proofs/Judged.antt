@@ -7,7 +7,7 @@ use Rattle.std.specs.Option.{IfSome}
 use Rattle.board_text.specs.Lines.{IsOneLine, lines_of, rest_of, joined}
 use Rattle.board_text.proofs.LineLemmas.{AreLines, lines-front, lines-behind, joined-append, joined-snoc, cut}
 use Rattle.line_driver.specs.Judging.{Follows}
-use Rattle.line_driver.specs.Driving.{next_of, Ends, Stops, Sends, Drives}
+use Rattle.line_driver.specs.Driving.{next_of, place, Ends, Stops, Sends, Drives}
 use Rattle.line_driver.specs.declared.driving.End.{End}
 use Rattle.line_driver.specs.declared.driving.End.TheVariants as ends
 use Rattle.board_trace.specs.Trace.{IsTrace, Begins}
@@ -99,7 +99,7 @@ no_long stage line rest n fits one long h = by (starts stage (line ++ 10 ∷ res
     by (inr s) = let same = ap length (first_line line rest s.line s.rest one s.one s.text).0 in omega (arith, s.short, same)
 
 -- The next line is not allowed there.
-wrong-line : (text : List ℕ) (lines left : List (List ℕ)) (stage : Stage) (k : ℕ) (fault : Unit {0}) → lines_of text ≡ lines ++ left → Leads Title stage lines → AreLines left → Ends IsWrong (ends.Wrong k fault) (length lines + 1) stage stage left (rest_of text) → FirstWrong text (length lines + 1)
+wrong-line : (text : List ℕ) (lines left : List (List ℕ)) (stage : Stage) (k : ℕ) (fault : Unit {0}) → lines_of text ≡ lines ++ left → Leads Title stage lines → AreLines left → Ends IsWrong (ends.Wrong k fault) (place (length lines + 1) stage left (rest_of text)) stage → FirstWrong text (length lines + 1)
 wrong-line text lines [] stage k fault split leads each h = absurd h
 wrong-line text lines (bad ∷ later) stage k fault split leads each h =
     first-wrong text lines (bad ∷ later) stage split leads
@@ -166,7 +166,7 @@ module _ {J : Type 0} (seen : J → Stage) (old new : J) (start : seen old ≡ T
       let each = lines-behind h.lines h.left (subst AreLines h.split (cut text).each) in
       at_line h.left h.ends (λ e. wrong-line text h.lines h.left (seen h.state) line fault h.split (led (ends.Wrong line fault) answers text h) each e)
     where
-      at_line : (left : List (List ℕ)) → Ends (Wrong seen) (ends.Wrong line fault) (length h.lines + 1) h.state new left (rest_of text) → (Ends IsWrong (ends.Wrong line fault) (length h.lines + 1) (seen h.state) (seen h.state) left (rest_of text) → FirstWrong text (length h.lines + 1)) → FirstWrong text k
+      at_line : (left : List (List ℕ)) → Ends (Wrong seen) (ends.Wrong line fault) (place (length h.lines + 1) h.state left (rest_of text)) new → (Ends IsWrong (ends.Wrong line fault) (place (length h.lines + 1) (seen h.state) left (rest_of text)) (seen h.state) → FirstWrong text (length h.lines + 1)) → FirstWrong text k
       at_line [] e f = absurd e
       at_line (bad ∷ later) e f = subst (λ (n : ℕ). FirstWrong text n) (sym e.0 ∙ is) (f e)
   refused (ends.Long line) k answers text is h =

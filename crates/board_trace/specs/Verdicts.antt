@@ -10,13 +10,18 @@ use Rattle.board_trace.specs.declared.check.Verdict.TheVariants as verdicts
 use Rattle.board_trace.specs.declared.check.CheckEnd.{CheckEnd}
 use Rattle.board_trace.specs.declared.check.CheckEnd.TheVariants.{Legal, Refused, Memory, Reading, Writing}
 
--- The text is no legal trace. The whole lines before line k are a prefix of one; line k is incomplete, or with it they are not.
+-- the first n whole lines of a text, with their line feeds
+abbrev pub first_lines : ℕ → List ℕ → List ℕ
+first_lines n text = joined (take n (lines_of text))
+
+-- Line k is the first wrong line of a text that is no trace: the lines before it begin a legal trace, and with it they begin none. If the text
+-- has no whole line k, it ends too early, in the middle of line k or before it.
 pub record FirstWrong (text : List ℕ) (k : ℕ) : Type 0 where
   pub before : ℕ
   pub number : k ≡ before + 1
   pub there : before ≤ length (lines_of text)
-  pub good : Begins (joined (take before (lines_of text)))
-  pub wrong : before < length (lines_of text) → Begins (joined (take (before + 1) (lines_of text))) → ⊥
+  pub good : Begins (first_lines before text)
+  pub wrong : before < length (lines_of text) → Begins (first_lines (before + 1) text) → ⊥
   pub none : (n : ℕ) → IsTrace text n → ⊥
 
 -- the text has this verdict

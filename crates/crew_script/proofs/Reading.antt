@@ -3,7 +3,7 @@ use Rattle.std.proofs.Common.{◌≡◌, ℕ, ◌+◌, ◌<◌, ◌≤◌, List,
 use Rattle.std.proofs.lemmas.Bool.Decides.{Decides-ltb}
 use Rattle.board_text.specs.Lines.{rest_of}
 use Rattle.line_driver.specs.Judging.{Follows}
-use Rattle.line_driver.specs.Driving.{Stops, Ends, next_of}
+use Rattle.line_driver.specs.Driving.{Stops, place, Ends, next_of}
 use Rattle.line_driver.specs.declared.driving.End.{End}
 use Rattle.line_driver.specs.declared.driving.End.TheVariants as ends
 use Rattle.board_lines.specs.Faults.{rest_fault}
@@ -55,7 +55,7 @@ module _ {J : Type 0} (seen : J → Option Crew) where
     pub wrong : (line : ℕ) (fault : ScriptFault) (answers text : List ℕ) → Stopped (ends.Wrong line fault) answers text → script_asks text ≡ Err (line, fault)
     wrong line fault answers text h = (asks (ends.Wrong line fault) answers text h).1 ∙ by h.left h.ends
       where
-        by : (left : List (List ℕ)) → Ends Wrong (ends.Wrong line fault) (length h.lines + 1) h.state new left (rest_of text) → lines_ask (length h.lines + 1) (seen h.state) left (rest_of text) ≡ Err (line, fault)
+        by : (left : List (List ℕ)) → Ends Wrong (ends.Wrong line fault) (place (length h.lines + 1) h.state left (rest_of text)) new → lines_ask (length h.lines + 1) (seen h.state) left (rest_of text) ≡ Err (line, fault)
         by [] e = absurd e
         by (bad ∷ left) e =
             ap (λ (r : Read). go_on (length h.lines + 1) r (λ (next : Option Crew). lines_ask (length h.lines + 1 + 1) next left (rest_of text))) e.2 ∙ ap (λ (k : ℕ). Err (k, fault)) (sym e.0)

@@ -9,7 +9,7 @@ use Rattle.board_text.specs.Streams.{ReadsUpTo}
 use Rattle.board_text.proofs.LineLemmas.{lines_of-line, lines_of-more, rest_of-more, lines_of-rest, rest_of-rest, before_lines, before_rest, AreLines, lines-append, joined-snoc, lines_of-joined, rest_of-joined}
 use Rattle.line_driver.proofs.Budgets.{less_left, on-input}
 use Rattle.line_driver.specs.Judging.{Follows}
-use Rattle.line_driver.specs.Driving.{next_of, Ends, Stops, Sends, Drives, ReadsNear}
+use Rattle.line_driver.specs.Driving.{next_of, place, Ends, Stops, Sends, Drives, ReadsNear}
 use Rattle.line_driver.specs.declared.driving.End.{End}
 use Rattle.line_driver.specs.declared.driving.End.TheVariants as ends
 
@@ -72,19 +72,19 @@ pub within : {J : Type 0} {good : J → List ℕ → List ℕ → J → Type 0} 
 within {source = source} r1 came most h reads few =
     (joined h.lines ++ (source.waiting ++ came), reads-on r1 came h reads, omega (arith, few, h.spent, length-append (joined h.lines) (source.waiting ++ came), length-append source.waiting came))
 
-stops : {J F : Type 0} (good : J → List ℕ → List ℕ → J → Type 0) (wrong : J → List ℕ → F → Type 0) (end : End F) (old now new : J) (lines : List (List ℕ)) (answers more : List ℕ) → AreLines lines → Follows good old lines answers now → Ends wrong end (length lines + 1) now new (lines_of more) (rest_of more) → Stops good wrong end old new answers (joined lines ++ more)
-stops good wrong end old now new lines answers more each follows is = record { lines = lines; left = lines_of more; state = now; split = lines_of-joined lines more each; follows = follows; ends = subst (λ (x : List ℕ). Ends wrong end (length lines + 1) now new (lines_of more) x) (sym (rest_of-joined lines more each)) is }
+stops : {J F : Type 0} (good : J → List ℕ → List ℕ → J → Type 0) (wrong : J → List ℕ → F → Type 0) (end : End F) (old now new : J) (lines : List (List ℕ)) (answers more : List ℕ) → AreLines lines → Follows good old lines answers now → Ends wrong end (place (length lines + 1) now (lines_of more) (rest_of more)) new → Stops good wrong end old new answers (joined lines ++ more)
+stops good wrong end old now new lines answers more each follows is = record { lines = lines; left = lines_of more; state = now; split = lines_of-joined lines more each; follows = follows; ends = subst (λ (x : List ℕ). Ends wrong end (place (length lines + 1) now (lines_of more) x) new) (sym (rest_of-joined lines more each)) is }
 
 -- For every continuation of the input.
 pub drives-on : {J F : Type 0} {good : J → List ℕ → List ℕ → J → Type 0} {wrong : J → List ℕ → F → Type 0} {end : End F} {r0 r r1 w0 w1 : Option (List ℕ)} {source : Buffered} {old now new : J} {number : ℕ} {answers : List ℕ} (came sent : List ℕ) → Progress good r0 r source old now number answers → Consumes r r1 came → Appends w0 w1 sent → Sends end answers sent →
-    ((ys : List ℕ) → Ends wrong end (number + 1) now new (lines_of ((source.waiting ++ came) ++ ys)) (rest_of ((source.waiting ++ came) ++ ys))) → Drives good wrong end old new r0 r1 w0 w1
+    ((ys : List ℕ) → Ends wrong end (place (number + 1) now (lines_of ((source.waiting ++ came) ++ ys)) (rest_of ((source.waiting ++ came) ++ ys))) new) → Drives good wrong end old new r0 r1 w0 w1
 drives-on {good = good} {wrong = wrong} {end = end} {r0 = r0} {r1 = r1} {source = source} {old = old} {now = now} {new = new} {answers = answers} came sent h reads writes sends on =
     let front = source.waiting ++ came in
     let taken = joined h.lines ++ front in
     let all : Consumes r0 r1 taken = reads-on r1 came h reads in
     let each : (ys : List ℕ) → Stops good wrong end old new answers (taken ++ ys) =
     λ ys. subst (λ (x : List ℕ). Stops good wrong end old new answers x) (sym (append_assoc (joined h.lines) front ys))
-    (stops good wrong end old now new h.lines answers (front ++ ys) h.each h.follows (subst (λ (k : ℕ). Ends wrong end (k + 1) now new (lines_of (front ++ ys)) (rest_of (front ++ ys))) h.counted (on ys))) in
+    (stops good wrong end old now new h.lines answers (front ++ ys) h.each h.follows (subst (λ (k : ℕ). Ends wrong end (place (k + 1) now (lines_of (front ++ ys)) (rest_of (front ++ ys))) new) h.counted (on ys))) in
     record {
       taken = taken;
       answers = answers;
@@ -98,12 +98,12 @@ drives-on {good = good} {wrong = wrong} {end = end} {r0 = r0} {r1 = r1} {source 
 
 -- The input is at its end.
 pub drives-end : {J F : Type 0} {good : J → List ℕ → List ℕ → J → Type 0} {wrong : J → List ℕ → F → Type 0} {end : End F} {r0 r r1 w0 w1 : Option (List ℕ)} {source : Buffered} {old now new : J} {number : ℕ} {answers : List ℕ} (came sent : List ℕ) → Progress good r0 r source old now number answers → Consumes r r1 came → IsAtEnd r1 → Appends w0 w1 sent → Sends end answers sent →
-    Ends wrong end (number + 1) now new (lines_of (source.waiting ++ came)) (rest_of (source.waiting ++ came)) → Drives good wrong end old new r0 r1 w0 w1
+    Ends wrong end (place (number + 1) now (lines_of (source.waiting ++ came)) (rest_of (source.waiting ++ came))) new → Drives good wrong end old new r0 r1 w0 w1
 drives-end {good = good} {wrong = wrong} {end = end} {r0 = r0} {r1 = r1} {source = source} {old = old} {now = now} {new = new} {answers = answers} came sent h reads at_end writes sends is =
     let front = source.waiting ++ came in
     let taken = joined h.lines ++ front in
     let all : Consumes r0 r1 taken = reads-on r1 came h reads in
-    let here : Stops good wrong end old new answers taken = stops good wrong end old now new h.lines answers front h.each h.follows (subst (λ (k : ℕ). Ends wrong end (k + 1) now new (lines_of front) (rest_of front)) h.counted is) in
+    let here : Stops good wrong end old new answers taken = stops good wrong end old now new h.lines answers front h.each h.follows (subst (λ (k : ℕ). Ends wrong end (place (k + 1) now (lines_of front) (rest_of front)) new) h.counted is) in
     record {
       taken = taken;
       answers = answers;
@@ -115,20 +115,20 @@ drives-end {good = good} {wrong = wrong} {end = end} {r0 = r0} {r1 = r1} {source
       whole = Consumes-whole r0 r1 taken (Stops good wrong end old new answers) all at_end here;
     }
 
-pub ends-wrong : {J F : Type 0} (wrong : J → List ℕ → F → Type 0) (number : ℕ) (fault : F) (now new : J) (front bad left ys : List ℕ) → front ≡ bad ++ 10 ∷ left → IsOneLine bad → length bad ≤ 640 → wrong now bad fault → Ends wrong (ends.Wrong number fault) number now new (lines_of (front ++ ys)) (rest_of (front ++ ys))
+pub ends-wrong : {J F : Type 0} (wrong : J → List ℕ → F → Type 0) (number : ℕ) (fault : F) (now new : J) (front bad left ys : List ℕ) → front ≡ bad ++ 10 ∷ left → IsOneLine bad → length bad ≤ 640 → wrong now bad fault → Ends wrong (ends.Wrong number fault) (place number now (lines_of (front ++ ys)) (rest_of (front ++ ys))) new
 ends-wrong wrong number fault now new front bad left ys split one short is = rw (split, append_assoc bad (10 ∷ left) ys, lines_of-line bad (left ++ ys) one) (refl, short, is)
 
-pub ends-long : {J F : Type 0} (wrong : J → List ℕ → F → Type 0) (number : ℕ) (now : J) (front long left ys : List ℕ) → front ≡ long ++ left → IsOneLine long → 640 < length long → Ends wrong (ends.Long number) number now now (lines_of (front ++ ys)) (rest_of (front ++ ys))
+pub ends-long : {J F : Type 0} (wrong : J → List ℕ → F → Type 0) (number : ℕ) (now : J) (front long left ys : List ℕ) → front ≡ long ++ left → IsOneLine long → 640 < length long → Ends wrong (ends.Long number) (place number now (lines_of (front ++ ys)) (rest_of (front ++ ys))) now
 ends-long wrong number now front long left ys split one many = rw (split, append_assoc long left ys, lines_of-more long (left ++ ys) one, rest_of-more long (left ++ ys) one) (refl, refl, by (lines_of (left ++ ys)) (rest_of (left ++ ys)))
   where
     by : (lines : List (List ℕ)) (rest : List ℕ) → 640 < length (next_of (before_lines long lines) (before_rest long lines rest))
     by [] rest = omega (arith, many, length-append long rest)
     by (l ∷ lines) rest = omega (arith, many, length-append long l)
 
-pub ends-last : {J F : Type 0} (wrong : J → List ℕ → F → Type 0) (number : ℕ) (now : J) (front rest : List ℕ) → front ≡ rest → rest ≡ [] → Ends wrong (ends.Last number) number now now (lines_of front) (rest_of front)
+pub ends-last : {J F : Type 0} (wrong : J → List ℕ → F → Type 0) (number : ℕ) (now : J) (front rest : List ℕ) → front ≡ rest → rest ≡ [] → Ends wrong (ends.Last number) (place number now (lines_of front) (rest_of front)) now
 ends-last wrong number now front rest split empty = rw (split, empty) (refl, refl, refl, refl)
 
-pub ends-cut : {J F : Type 0} (wrong : J → List ℕ → F → Type 0) (number : ℕ) (now : J) (front rest : List ℕ) → front ≡ rest → IsOneLine rest → 0 < length rest → length rest ≤ 640 → Ends wrong (ends.Cut number) number now now (lines_of front) (rest_of front)
+pub ends-cut : {J F : Type 0} (wrong : J → List ℕ → F → Type 0) (number : ℕ) (now : J) (front rest : List ℕ) → front ≡ rest → IsOneLine rest → 0 < length rest → length rest ≤ 640 → Ends wrong (ends.Cut number) (place number now (lines_of front) (rest_of front)) now
 ends-cut wrong number now front rest split one some short = rw (split, lines_of-rest rest one, rest_of-rest rest one) (refl, refl, refl, some, short)
 
 take-more : (n : ℕ) (lines : List (List ℕ)) → length (joined (take n lines)) ≤ length (joined (take (suc n) lines))

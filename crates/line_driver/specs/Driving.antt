@@ -11,14 +11,28 @@ abbrev pub next_of : List (List ℕ) → List ℕ → List ℕ
 next_of [] rest = rest
 next_of (line ∷ lines) rest = line
 
--- What comes first after the good lines; `here` is its number, and `state` the judge's state before it.
-abbrev pub Ends : {J F : Type 0} → (J → List ℕ → F → Type 0) → End F → ℕ → J → J → List (List ℕ) → List ℕ → Type 0
-Ends wrong (ends.Last line) here state new left rest = (line ≡ here) × (new ≡ state) × (left ≡ []) × (rest ≡ [])
-Ends wrong (ends.Wrong line fault) here state new [] rest = ⊥
-Ends wrong (ends.Wrong line fault) here state new (bad ∷ left) rest = (line ≡ here) × (length bad ≤ 640) × wrong state bad fault
-Ends wrong (ends.Long line) here state new left rest = (line ≡ here) × (new ≡ state) × (640 < length (next_of left rest))
-Ends wrong (ends.Cut line) here state new left rest = (line ≡ here) × (new ≡ state) × (left ≡ []) × (0 < length rest) × (length rest ≤ 640)
-Ends wrong end here state new left rest = Unit {0}
+-- A place in a text after some good lines: the number of the next line, the judge's state before it, the whole lines that are left, and what follows the last line feed.
+pub record Place (J : Type 0) : Type 0 where
+  pub number : ℕ
+  pub state : J
+  pub left : List (List ℕ)
+  pub rest : List ℕ
+
+abbrev pub place : {J : Type 0} → ℕ → J → List (List ℕ) → List ℕ → Place J
+place number state left rest = record { number = number; state = state; left = left; rest = rest }
+
+-- the next whole line is there, and this holds of it
+abbrev pub NextLine : List (List ℕ) → (List ℕ → Type 0) → Type 0
+NextLine [] holds = ⊥
+NextLine (line ∷ left) holds = holds line
+
+-- How a drive ends at a place: at the end of the text, or at a line that is wrong, too long or cut.
+abbrev pub Ends : {J F : Type 0} → (J → List ℕ → F → Type 0) → End F → Place J → J → Type 0
+Ends wrong (ends.Last line) p new = (line ≡ p.number) × (new ≡ p.state) × (p.left ≡ []) × (p.rest ≡ [])
+Ends wrong (ends.Wrong line fault) p new = NextLine p.left (λ bad. (line ≡ p.number) × (length bad ≤ 640) × wrong p.state bad fault)
+Ends wrong (ends.Long line) p new = (line ≡ p.number) × (new ≡ p.state) × (640 < length (next_of p.left p.rest))
+Ends wrong (ends.Cut line) p new = (line ≡ p.number) × (new ≡ p.state) × (p.left ≡ []) × (0 < length p.rest) × (length p.rest ≤ 640)
+Ends wrong end p new = Unit {0}
 
 -- The first lines of the text are good, these are their answers, and then a drive ends so.
 pub record Stops {J F : Type 0} (good : J → List ℕ → List ℕ → J → Type 0) (wrong : J → List ℕ → F → Type 0) (end : End F) (old new : J) (answers text : List ℕ) : Type 0 where
@@ -27,7 +41,7 @@ pub record Stops {J F : Type 0} (good : J → List ℕ → List ℕ → J → Ty
   pub state : J
   pub split : lines_of text ≡ lines ++ left
   pub follows : Follows good old lines answers state
-  pub ends : Ends wrong end (length lines + 1) state new left (rest_of text)
+  pub ends : Ends wrong end (place (length lines + 1) state left (rest_of text)) new
 
 -- the answers were sent; if a write failed, a prefix of them
 abbrev pub Sends : {F : Type 0} → End F → List ℕ → List ℕ → Type 0
