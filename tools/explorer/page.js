@@ -1,4 +1,4 @@
-// Brings the parts together: what is chosen, the keys, the address, and a hook for tests.
+// Brings the parts together: what is chosen, the keys and the address.
 
 class Page {
   constructor(run) {
@@ -10,6 +10,7 @@ class Page {
     this.strip = new Strip(run, go);
     const more = run.all > run.events.length ? ` (events ${run.first + 1} to ${run.last} of ${run.all})` : "";
     element("count").textContent = `${run.events.length} events${more}`;
+    element("skip").addEventListener("click", () => element("state").focus());
     element("theme").addEventListener("click", () => this.theme());
     document.addEventListener("keydown", (event) => this.key(event));
     window.addEventListener("hashchange", () => this.follow());
@@ -57,6 +58,8 @@ class Page {
     if (field || event.ctrlKey || event.metaKey || event.altKey) return undefined;
     if (event.key === "/") { event.preventDefault(); element("search").focus(); return undefined; }
     if (event.key === "+" || event.key === "-") return this.strip.zoom(event.key === "+" ? 2 : 0.5);
+    // there the other keys scroll
+    if (event.target.closest("#right") && event.key.length > 1) return undefined;
     const number = this.goal(event.key);
     if (number !== undefined) { event.preventDefault(); this.go(number); }
     return undefined;
@@ -69,24 +72,6 @@ class Page {
     if (key === "n" || key === "N") return this.list.match(key === "n");
     return { Home: this.list.rows[0], End: this.list.rows[this.list.rows.length - 1] }[key];
   }
-}
-
-/** What is shown at events, for tests/explorer: #test=1,5 writes it into the document. */
-function hook(page, started) {
-  const wanted = new URLSearchParams(location.hash.slice(1)).get("test");
-  if (!wanted) return;
-  const shown = wanted.split(",").map((number) => {
-    for (let vp = 0; vp < page.run.processors; vp++) page.panel.open.set(vp, true);
-    page.go(Number(number), false);
-    const cells = [...document.querySelectorAll("[data-key]")].map((cell) => {
-      const copy = cell.cloneNode(true);
-      for (const extra of copy.querySelectorAll(".hidden, .rule")) extra.remove();
-      return [cell.dataset.key, copy.textContent, cell.classList.contains("changed")];
-    });
-    return { event: page.chosen, words: element("event").innerText, state: page.run.state(page.chosen), cells, row: element("row-" + number) ? element("row-" + number).className : null };
-  });
-  const lives = Object.fromEntries(page.run.lives);
-  document.body.append(make("pre", { id: "hook", hidden: true }, JSON.stringify({ shown, lives, milliseconds: performance.now() - started })));
 }
 
 async function begin() {

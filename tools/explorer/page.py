@@ -4,6 +4,7 @@ import base64
 import html
 import json
 import os
+import re
 import zlib
 
 import boardlog
@@ -13,7 +14,7 @@ from .machine import Machine
 
 HERE = os.path.dirname(os.path.abspath(__file__))
 
-SCRIPTS = ("data.js", "rules.js", "sections.js", "panel.js", "list.js", "strip.js", "page.js")
+SCRIPTS = ("data.js", "rules.js", "sections.js", "panel.js", "list.js", "strip.js", "hook.js", "page.js")
 
 # the events of a page
 ROWS = 100_000
@@ -58,7 +59,4 @@ def page(name, board, steps, first, rows):
         "DATA": packed(data_of(name, board, steps, first, rows)),
         "SCRIPT": "\n".join(template(script) for script in SCRIPTS),
     }
-    text = template("page.html")
-    for key, value in parts.items():
-        text = text.replace("{{%s}}" % key, value, 1)
-    return text
+    return re.sub(r"\{\{(\w+)\}\}", lambda found: parts[found[1]], template("page.html"))
