@@ -38,5 +38,6 @@ function hook(page, started) {
   if (!wanted.has("test")) return;
   const opened = performance.now() - started;
   const shown = wanted.get("test").split(",").map((action) => shownAfter(page, action, !wanted.has("brief")));
-  document.body.append(make("pre", { id: "hook", hidden: true }, JSON.stringify({ shown, opened })));
+  const lives = wanted.has("brief") ? {} : Object.fromEntries(page.run.lives);
+  document.body.append(make("pre", { id: "hook", hidden: true }, JSON.stringify({ shown, lives, opened })));
 }

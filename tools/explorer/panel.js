@@ -45,13 +45,15 @@ class Panel {
     return element;
   }
 
+  /** A row, with the cells marked that differ from those of `old`: null for a new row, undefined if
+   * there is nothing to compare with. */
   row(section, row, old, head) {
-    const cells = row.cells.map((cell, i) => {
-      const isDistance = head && head[i] === "From now";
-      const before = old === null ? null : isDistance ? undefined : plain(old.cells[i]);
-      return this.cell(i ? "td" : "th", cell, `${section}/${row.id}/${i}`, old === undefined ? undefined : before);
-    });
-    return make("tr", {}, ...cells);
+    const before = (i) => {
+      if (!old) return old;
+      // it differs after each tick
+      return head && head[i] === "From now" ? undefined : plain(old.cells[i]);
+    };
+    return make("tr", {}, ...row.cells.map((cell, i) => this.cell(i ? "td" : "th", cell, `${section}/${row.id}/${i}`, before(i))));
   }
 
   /** A table, with the cells marked that differ from `old`, and its rows that are gone. */
