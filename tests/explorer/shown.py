@@ -64,6 +64,6 @@ ACTIONS = [
     ("key:PageDown", {"event": 11}), ("set:search:CONSUMED", {"found": "1 matches"}), ("key:n", {"event": 13}), ("key:n", {"event": 13}),
     ("set:by-kind:post", {"rows": 4, "chosen": []}), ("key:ArrowUp", {"event": 12, "chosen": [12]}), ("key:ArrowUp", {"event": 10}),
     ("check:by-refused", {"rows": 1}), ("check:by-refused", {"rows": 4}), ("set:by-kind:", {"rows": 15}), ("check:matches", {"rows": 1}),
-    ("check:matches", {"rows": 15}), ("set:by-port:3", {"rows": 6}), ("set:by-port:", {"rows": 15}), ("life:message 0", {"event": 10}),
+    ("check:matches", {"rows": 15}), ("set:by-port:3", {"rows": 7}), ("set:by-port:", {"rows": 15}), ("life:message 0", {"event": 10}),
     ("key:Escape", {"life": None}), ("999", {"event": 15}), ("0", {"event": 0}), ("key:ArrowDown", {"event": 1}),
 ]
