@@ -12,7 +12,7 @@ CELLS = {
         Q + "message1/6": "slot 2 is occupied by message 0: the guest has to empty it and to write EOM"},
     ("end-of-message", 14): {S + "slot2/1": "1", S + "slot2/4": "payload 0b", S + "slot2/5": "set", Q + "message1/1": None, Q + "message2/4": "payload 0c"},
     ("forgotten-eom", 13): {
-        I + "next/1": "none", I + "why/1": "nothing is requested", S + "slot2/1": "none", S + "slot2/2": "empty", S + "slot2/5": "set",
+        I + "next/1": "none", I + "why/1": "nothing is requested; message 1 waits at SINT2", S + "slot2/1": "none", S + "slot2/2": "empty", S + "slot2/5": "set",
         Q + "message1/6": "the slot is empty, and no delivery was attempted since: EOM is missing"},
     ("two-timers", 11): {Q + "message1/2": "timer 1", Q + "message1/4": "expiration 20", T + "timer1/3": "30", T + "timer0/4": "in 10"},
     ("two-timers", 12): {

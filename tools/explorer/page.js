@@ -77,9 +77,10 @@ class Page {
 async function begin() {
   const started = performance.now();
   const run = new Run(await unpack(element("data").textContent));
-  const page = new Page(run);
-  window.page = page;
-  hook(page, started);
+  hook(new Page(run), started);
 }
 
-begin();
+begin().catch((fault) => {
+  const old = typeof DecompressionStream === "undefined";
+  element("count").textContent = old ? "This browser cannot decompress the events: it has no DecompressionStream." : `The events cannot be shown: ${fault}`;
+});

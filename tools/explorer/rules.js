@@ -51,13 +51,19 @@ function whyNext(state, vp) {
   const greatest = requested[requested.length - 1];
   if (state[`p${vp}.suspended`]) return why(greatest ? `the processor is suspended, and ${greatest} is requested` : "the processor is suspended", "next");
   if (!greatest && auto.length) return why(`nothing is requested; ${auto.join(", ")} is auto-EOI, so it is not in service after its take`, "autoEoi");
-  if (!greatest) return why("nothing is requested", "awaited");
+  if (!greatest) return why(["nothing is requested", ...waiting(state, vp)].join("; "), "awaited");
   const priority = priorityOf(state, vp);
   if (classOf(greatest) > priority.value) return why(`class ${classOf(greatest)} of ${greatest} is above the priority ${priority.value}`, "awaited");
   const holders = [];
   if (priority.served >= classOf(greatest)) holders.push(`${priority.by} is in service, and no EOI ended it`);
   if (priority.tpr >= classOf(greatest)) holders.push(`TPR has class ${priority.tpr}`);
   return why(`${greatest} has class ${classOf(greatest)}, which is not above the priority: ${holders.join("; ")}`, "awaited");
+}
+
+/** The queues of a processor that are not empty, in words. */
+function waiting(state, vp) {
+  const queues = Array.from({ length: 16 }, (_, sint) => [sint, state[`p${vp}.queue${sint}`]]);
+  return queues.filter(([, queue]) => queue.length).map(([sint, queue]) => `message ${queue[0][0]} waits at SINT${sint}`);
 }
 
 /** Why the source of a full slot requested no vector, or nothing. */
