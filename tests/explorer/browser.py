@@ -29,12 +29,12 @@ def browser():
     return next((found for found in map(shutil.which, BROWSERS) if found), None)
 
 
-def opened(program, text, name, asked):
-    """What the hook of a page writes after these actions, and the seconds and bytes of the page."""
+def opened(program, text, name, asked, first=0, rows=explorer.ROWS):
+    """What the hook of a page writes after these actions, the seconds that takes, and the page."""
     with tempfile.TemporaryDirectory() as folder:
         path = os.path.join(folder, "page.html")
         board, _ = boardlog.events_of(text)
-        whole = explorer.page(name, board, boardlog.steps_of(program, text)[1], 0, explorer.ROWS)
+        whole = explorer.page(name, board, boardlog.steps_of(program, text)[1], first, rows)
         with open(path, "w", encoding="utf-8") as file:
             file.write(whole)
         address = "file://%s#%s" % (path, urllib.parse.urlencode(asked))
@@ -100,6 +100,22 @@ def action_complaints(program, text):
         for key, value in wanted.items():
             if key not in seen or seen[key] != value:
                 yield "after %s: %s is %r and not %r" % (action, key, seen.get(key), value)
+
+
+def part_complaints(program, name, text, first, rows):
+    """A page that does not begin with the first event has the same states and numbers."""
+    board, _ = boardlog.events_of(text)
+    steps = boardlog.steps_of(program, text)[1]
+    numbers = range(first, first + rows + 1)
+    told, _, _ = opened(program, text, name, {"test": ",".join(map(str, numbers))}, first, rows)
+    machine = Machine(board)
+    for step in steps[:first]:
+        machine.follow(step)
+    for number, seen in zip(numbers, told["shown"] if told else [{"event": None}] * len(numbers)):
+        if number > first:
+            machine.follow(steps[number - 1])
+        if seen["event"] != number or seen["state"] != json.loads(json.dumps(machine.state)):
+            yield "event %d: another state is shown" % number
 
 
 def large_complaints(program, small, large):

@@ -65,5 +65,7 @@ ACTIONS = [
     ("set:by-kind:post", {"rows": 4, "chosen": []}), ("key:ArrowUp", {"event": 12, "chosen": [12]}), ("key:ArrowUp", {"event": 10}),
     ("check:by-refused", {"rows": 1}), ("check:by-refused", {"rows": 4}), ("set:by-kind:", {"rows": 15}), ("check:matches", {"rows": 1}),
     ("check:matches", {"rows": 15}), ("set:by-port:3", {"rows": 7}), ("set:by-port:", {"rows": 15}), ("life:message 0", {"event": 10}),
-    ("key:Escape", {"life": None}), ("999", {"event": 15}), ("0", {"event": 0}), ("key:ArrowDown", {"event": 1}),
+    ("key:Escape", {"life": None}), ("hash:event=9", {"event": 9, "chosen": [9], "life": None}),
+    ("hash:event=12&life=message 2", {"event": 12, "life": "CloseLife of message 2event 10: message 2 joins the queue of SINT2 of processor 0"}),
+    ("key:Escape", {"life": None}), ("hash:event=none", {"event": 1}), ("999", {"event": 15}), ("0", {"event": 0}), ("key:ArrowDown", {"event": 1}),
 ]

@@ -9,12 +9,16 @@ function shownCells() {
   });
 }
 
-/** An action is the number of an event, key:KEY, set:ID:VALUE, check:ID or life:KEY. */
+/** An action is the number of an event, key:KEY, set:ID:VALUE, check:ID, life:KEY or hash:ADDRESS. */
 function act(page, action) {
   const [kind, id, value] = action.split(":");
   if (/^\d+$/.test(kind)) page.go(Number(kind), false);
   if (kind === "key") element("list").dispatchEvent(new KeyboardEvent("keydown", { key: id, bubbles: true }));
   if (kind === "life") page.openLife(id, false);
+  if (kind === "hash") {
+    location.hash = id;
+    page.follow();
+  }
   if (kind === "set") element(id).value = value;
   if (kind === "check") element(id).checked = !element(id).checked;
   if (kind === "set" || kind === "check") element(id).dispatchEvent(new Event("input"));

@@ -10,7 +10,7 @@ function element(id) {
 
 class List {
   constructor(run, go) {
-    Object.assign(this, { run, go, rows: [], chosen: run.first });
+    Object.assign(this, { run, go, rows: [], chosen: run.first, moved: null });
     this.box = element("list");
     this.inner = element("rows");
     this.fillFilters();
@@ -106,6 +106,15 @@ class List {
     for (let i = from; i < to; i++) rows.push(this.row(i));
     this.inner.replaceChildren(...rows);
     this.box.setAttribute("aria-activedescendant", "row-" + this.chosen);
+    this.report();
+  }
+
+  /** Says which events are visible. */
+  report() {
+    if (!this.moved || !this.rows.length) return;
+    const { scrollTop, clientHeight } = this.box, last = this.rows.length - 1;
+    const at = (y) => this.rows[Math.max(0, Math.min(last, Math.floor(y / ROW)))];
+    this.moved(at(scrollTop), at(scrollTop + clientHeight - 1));
   }
 
   row(i) {

@@ -8,6 +8,7 @@ class Page {
     this.panel = new Panel(run, go, (key) => this.openLife(key));
     this.list = new List(run, go);
     this.strip = new Strip(run, go);
+    this.list.moved = (from, to) => this.strip.follow(from, to);
     const more = run.all > run.events.length ? ` (events ${run.first + 1} to ${run.last} of ${run.all})` : "";
     element("count").textContent = `${run.events.length} events${more}`;
     element("skip").addEventListener("click", () => element("state").focus());

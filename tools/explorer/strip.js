@@ -6,7 +6,7 @@ const LANES = ["vectors", "messages", "timers"];
 
 class Strip {
   constructor(run, go) {
-    Object.assign(this, { run, go, chosen: run.first, scale: 0 });
+    Object.assign(this, { run, go, chosen: run.first, middle: run.first, seen: null, scale: 0 });
     this.canvas = element("strip");
     this.canvas.addEventListener("click", (event) => this.go(this.numberAt(event.offsetX)));
     this.canvas.addEventListener("wheel", (event) => { event.preventDefault(); this.zoom(event.deltaY < 0 ? 1.25 : 0.8); }, { passive: false });
@@ -30,14 +30,22 @@ class Strip {
   }
 
   choose(number) {
-    this.chosen = number;
+    this.chosen = this.middle = number;
     this.draw();
   }
 
-  /** The first event at the left end, so that the chosen one is in the middle where that is possible. */
+  /** The list was moved to these events. */
+  follow(from, to) {
+    if (this.seen && this.seen[0] === from && this.seen[1] === to) return;
+    this.seen = [from, to];
+    this.middle = this.chosen >= from && this.chosen <= to ? this.chosen : (from + to) / 2;
+    this.draw();
+  }
+
+  /** The first event at the left end, so that the one that the list shows is in the middle where that is possible. */
   start() {
     const room = this.wide / this.scale;
-    const middle = this.chosen - this.run.first - room / 2;
+    const middle = this.middle - this.run.first - room / 2;
     return Math.max(0, Math.min(this.run.events.length - room, middle));
   }
 
@@ -95,7 +103,12 @@ class Strip {
     });
   }
 
+  /** The events that the list shows, and the chosen one. */
   drawChosen(pen, from, high) {
+    if (this.seen) {
+      pen.fillStyle = this.colours.quiet;
+      pen.fillRect(LEFT + Math.max(0, this.seen[0] - this.run.first - 1 - from) * this.scale, high - 3, Math.max(2, (this.seen[1] - Math.max(this.seen[0], this.run.first + 1 + from) + 1) * this.scale), 3);
+    }
     if (this.chosen === this.run.first) return;
     pen.strokeStyle = this.colours.ink;
     pen.strokeRect(LEFT + (this.chosen - this.run.first - 1 - from) * this.scale - 0.5, 0.5, Math.max(2, this.scale), high - 1);
