@@ -24,6 +24,9 @@ SECONDS = 120
 # of a page of 10,000 events: the seconds to open it, more than a small one takes, and its bytes
 LONGER, MOST = 2, 20_000_000
 
+# a busy machine may be slow once
+TRIES = 3
+
 
 def browser():
     return next((found for found in map(shutil.which, BROWSERS) if found), None)
@@ -121,12 +124,16 @@ def part_complaints(program, name, text, first, rows):
 def large_complaints(program, small, large):
     """A page of 10,000 events opens soon, is small, and draws only the rows that are visible."""
     asked = {"test": "1,key:End", "brief": "1"}
-    _, least, _ = opened(program, small, "small", asked)
-    told, seconds, whole = opened(program, large, "large", asked)
+    for _ in range(TRIES):
+        _, least, _ = opened(program, small, "small", asked)
+        told, seconds, whole = opened(program, large, "large", asked)
+        if seconds <= least + LONGER:
+            break
+    else:
+        yield "it takes %.1f seconds more than a small page" % (seconds - least)
+    if len(whole) > MOST:
+        yield "it has %d bytes" % len(whole)
     if told is None or told["shown"][1]["event"] < 9000:
         yield "the page does not answer"
-        return
-    if seconds > least + LONGER or len(whole) > MOST:
-        yield "it takes %.1f seconds more than a small one, and %d bytes" % (seconds - least, len(whole))
-    if any(seen["drawn"] > 100 for seen in told["shown"]):
+    elif any(seen["drawn"] > 100 for seen in told["shown"]):
         yield "more rows are drawn than are visible"
