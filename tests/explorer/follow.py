@@ -19,6 +19,10 @@ REGISTERS = ([0x40000020, 0x40000072] + list(range(0x40000080, 0x40000085))
              + list(range(0x40000090, 0x400000A0)) + list(range(0x400000B0, 0x400000B8)))
 
 
+# each has a greater class than the one before
+NESTED = ("2f", "4f", "80", "f0")
+
+
 def next_of(state, vp):
     """The next vector, by the rules for priorities."""
     if state["p%d.suspended" % vp]:
@@ -90,8 +94,9 @@ def answer(state, words, processors):
     return None
 
 
-def summary_complaints(state, summary, processors):
-    for vp in range(processors):
+def summary_complaints(state, summary, processors, changed):
+    """The differences from a summary, as to next and auto-EOI vectors of the processors of changed keys."""
+    for vp in {int(key[1]) for key in changed if key[0] == "p" and key[2] == "."}:
         told = summary.next[vp]
         if next_of(state, vp) != (None if told is None else "%02x" % told):
             yield "processor %d: next is %s" % (vp, next_of(state, vp))
@@ -114,8 +119,10 @@ def complaints_of(board, steps):
             foretold = answer(machine.state, step.words, processors)
             if foretold is not None and foretold != step.reply:
                 yield "event %d, %s: %s was foretold, the program answers %s" % (number, step.line, foretold, step.reply)
-        machine.follow(step)
-        for complaint in summary_complaints(machine.state, step.summary, processors):
+        changed = machine.follow(step)
+        if not changed and step.words[0] in ("read", "load"):
+            continue
+        for complaint in summary_complaints(machine.state, step.summary, processors, changed):
             yield "event %d, %s: %s" % (number, step.line, complaint)
 
 
@@ -141,7 +148,8 @@ def look(state, processors):
 
 
 def last_look(state, processors):
-    """Shows the registers and all own pages, takes all vectors, and lets all timers run."""
+    """Shows the registers and all own pages, takes all vectors, some of them nested, writes all bits of a
+    configuration, and lets all timers run."""
     lines = look(state, processors)
     for vp in range(processors):
         lines += ["write %d 40000083 0" % vp, "write %d 40000082 0" % vp]
@@ -150,8 +158,11 @@ def last_look(state, processors):
             lines += ["write %d %x 1" % (vp, register), *loads(state, kind, vp, 0), "write %d %x 0" % (vp, register)]
         lines += ["resume %d" % vp] if state["p%d.suspended" % vp] else []
         lines += ["take %d" % vp, "write %d 40000072 0" % vp]
-        rounds = len(state["p%d.requested" % vp]) + len(state["p%d.serving" % vp]) + 1
+        for vector in NESTED:
+            lines += ["assert %d %s" % (vp, vector), "take %d" % vp]
+        rounds = len(state["p%d.requested" % vp]) + len(state["p%d.serving" % vp]) + len(NESTED) + 1
         lines += ["take %d" % vp, "take %d" % vp, "write %d 40000070 0" % vp] * rounds
+        lines += ["write %d 400000b6 ffffffffffffffff" % vp, "read %d 400000b6" % vp]
     lines += ["tick %d" % min(2 ** 64 - 1, int(state["time"]) + step) for step in (1, 1000, 2 ** 64)]
     return lines + reads(processors)
 
