@@ -1,4 +1,4 @@
--- The timers of all processors.
+-- The timers of all processors (TLFS, "Synthetic Timers").
 use Rattle.std.specs.Prelude.{ℕ, zero, suc, ◌/◌, Bool, false, nat_lt, nat_le, List, [], map, replicate, slice_index_or, slice_set, Option, None, if◌then◌else◌}
 use Rattle.std.specs.List.{insert, position_or_len, range_with_len}
 use Rattle.std.specs.Option.{option_map_or}

@@ -1,4 +1,4 @@
--- Guest loads and stores, and the messages that a store consumes.
+-- Guest loads and stores, and the messages that a store consumes (TLFS, "SIM Page" and "Message Delivery").
 use Rattle.std.specs.Prelude.{ℕ, zero, suc, ◌/◌, List, [], ◌∷◌, length, Option, None, Some, Result, Ok, Err, if◌then◌else◌}
 use Rattle.std.specs.Option.{option_map_or}
 use Rattle.board_terms.specs.Quantities.{Processor, Source, Ticket, Address}
