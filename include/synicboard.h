@@ -11,8 +11,9 @@
  * it or access its fields. The open and split calls below open a handle; its close call frees it.
  *
  * Threads. At most one call at a time may use a `synicboard` or a `synicboard_line`, so threads that
- * share one need a lock of their own. Any number of threads may use one `synicboard_shared` at the
- * same time, except while it is opened or closed. Calls on different handles may run at the same time.
+ * share one need a lock of their own, for queries too, although these take a `const synicboard *` and
+ * change nothing. Any number of threads may use one `synicboard_shared` at the same time, except while
+ * it is opened or closed. Calls on different handles may run at the same time.
  *
  * Memory. Only these calls allocate: the open and split calls, the calls on texts, and the calls that
  * append to the history of a shared board or write it. No event on a `synicboard` allocates. No call
@@ -41,8 +42,8 @@ extern "C" {
 #endif
 
 /* The version of these declarations. The Rust bindings have the same version. */
-#define SYNICBOARD_VERSION_MAJOR 1
-#define SYNICBOARD_VERSION_MINOR 4
+#define SYNICBOARD_VERSION_MAJOR 2
+#define SYNICBOARD_VERSION_MINOR 0
 
 /* A handle of a board. */
 typedef struct synicboard {
@@ -53,21 +54,28 @@ typedef struct synicboard {
 /* The initial value of a handle: closed. */
 #define SYNICBOARD_CLOSED { 0, false }
 
-/* Results of the open and split calls. On any result except SYNICBOARD_OPENED, no handle has changed. */
+/* Outcomes. One outcome has one name and one number, whichever call returns it. Each call says which ones
+ * it returns. */
 enum {
-    SYNICBOARD_OPENED = 0,
+    SYNICBOARD_OK = 0,
     SYNICBOARD_BAD_SIZE = 1,            /* not 1 to 8 processors, or not 1 to 64 pages */
-    SYNICBOARD_NO_MEMORY = 2,
+    SYNICBOARD_NO_MEMORY = 2,           /* an allocation failed */
     SYNICBOARD_IS_OPEN = 3,             /* the handle to open is already open */
-    SYNICBOARD_IS_CLOSED = 4,           /* the line to split from is closed */
+    SYNICBOARD_IS_CLOSED = 4,           /* the handle is closed */
     SYNICBOARD_NO_MORE_LINES = 5,       /* the line has no lines left to split off */
-    SYNICBOARD_NO_HANDLE = 6            /* the pointer to the handle to open is null */
+    SYNICBOARD_NO_HANDLE = 6,           /* the pointer to the handle to open is null */
+    SYNICBOARD_NO_LINE = 7,             /* the handle of the line is closed, and that of the board is not */
+    SYNICBOARD_NO_EVENT = 8,            /* a vector below 16, too many bytes, or an unknown kind */
+    SYNICBOARD_NO_ROOM = 9,             /* one more reply, or SYNICBOARD_MOST_NOTICES more notices, might not fit */
+    SYNICBOARD_WRONG_LINE = 10,         /* `line` is the first wrong line, counted from 1 */
+    SYNICBOARD_TOO_LONG = 11,           /* more than 1,073,741,824 bytes, and no line of these is wrong */
+    SYNICBOARD_NO_TEXT = 12             /* the text is null, and its length is not 0 */
 };
 
 /* Opens a board at time 0. The first message that it accepts gets the ticket `first_ticket`. Allocates
  * all memory that the events of this board need.
  *
- * Returns SYNICBOARD_OPENED; SYNICBOARD_NO_HANDLE if `board` is null; SYNICBOARD_IS_OPEN if it is
+ * Returns SYNICBOARD_OK; SYNICBOARD_NO_HANDLE if `board` is null; SYNICBOARD_IS_OPEN if it is
  * open; SYNICBOARD_BAD_SIZE unless `processors` is 1 to 8 and `pages` is 1 to 64; or
  * SYNICBOARD_NO_MEMORY if an allocation fails. */
 uint8_t synicboard_open(synicboard *board, uint8_t processors, uint8_t pages, uint64_t first_ticket);
@@ -78,7 +86,8 @@ void synicboard_close(synicboard *board);
 
 /* Kinds of replies. The comment names the fields of synicboard_reply that the kind uses. */
 enum {
-    SYNICBOARD_NOT_PERFORMED = 0,       /* `fault` is the reason; nothing has changed */
+    SYNICBOARD_NOT_PERFORMED = 0,       /* `fault` is the outcome: IS_CLOSED, NO_LINE, NO_EVENT, or NO_MEMORY if the
+                                           history of a shared board cannot grow; nothing has changed */
     SYNICBOARD_DONE = 1,
     SYNICBOARD_VALUE = 2,               /* `value` */
     SYNICBOARD_BYTES = 3,               /* the first `length` of `bytes` */
@@ -89,14 +98,6 @@ enum {
     SYNICBOARD_FLAG_WAS_SET = 8,        /* `signal` changed nothing */
     SYNICBOARD_GENERAL_PROTECTION = 9,  /* inject #GP; nothing has changed */
     SYNICBOARD_REFUSED = 10             /* `refusal`; nothing has changed */
-};
-
-/* Why a call performed no event. */
-enum {
-    SYNICBOARD_NO_BOARD = 1,            /* the handle of the board is closed */
-    SYNICBOARD_NO_EVENT = 2,            /* a vector below 16, too many bytes, or an unknown kind */
-    SYNICBOARD_NO_LINE = 3,             /* the handle of the line is closed */
-    SYNICBOARD_NO_ENTRY = 4             /* the history of the shared board cannot grow: out of memory */
 };
 
 /* Why the board refused an event (docs/MACHINE.md, "Refusals"). */
@@ -153,7 +154,7 @@ enum {
  * One call for each kind of event. Each performs the event on the board and returns the reply. It
  * allocates nothing. With SYNICBOARD_NOT_PERFORMED, SYNICBOARD_REFUSED or
  * SYNICBOARD_GENERAL_PROTECTION, the board is unchanged. If the handle is closed, the fault is
- * SYNICBOARD_NO_BOARD; each call names the arguments that yield SYNICBOARD_NO_EVENT.
+ * SYNICBOARD_IS_CLOSED; each call names the arguments that yield SYNICBOARD_NO_EVENT.
  *
  * `vp` is the number of a processor, from 0. If it is not on the board, the refusal is
  * SYNICBOARD_NO_SUCH_PROCESSOR (for opening a port, SYNICBOARD_BAD_TARGET). "Replies:" lists the kinds
@@ -306,27 +307,19 @@ typedef struct synicboard_notice {
 /* Copies the notices of the last event, in order, as many as fit into `length` elements, and returns
  * how many there are; 0 if the handle is closed. An event that is refused or raises #GP has none. A call
  * that performs no event keeps the notices of the event before. */
-size_t synicboard_notices(synicboard *board, synicboard_notice *room, size_t length);
+size_t synicboard_notices(const synicboard *board, synicboard_notice *room, size_t length);
 
 /* ---- Batches ---- */
-
-/* Why a batch stopped. */
-enum {
-    SYNICBOARD_ALL_PERFORMED = 0,
-    SYNICBOARD_BATCH_NO_BOARD = 1,      /* the handle is closed */
-    SYNICBOARD_BATCH_NO_EVENT = 2,      /* the next event is invalid, as for synicboard_perform */
-    SYNICBOARD_BATCH_NO_ROOM = 3        /* one more reply, or SYNICBOARD_MOST_NOTICES more notices, might not fit */
-};
 
 typedef struct synicboard_batch {
     uint8_t end;
     size_t done;                        /* number of events performed */
-    size_t told;                        /* number of notices that they emitted */
+    size_t emitted;                     /* number of notices that they emitted */
 } synicboard_batch;
 
 /* Performs events in order. Stops before an event that is invalid, or for which `replies` has no free
  * element, or `notices` fewer than SYNICBOARD_MOST_NOTICES free ones; if it is invalid too, the end is
- * SYNICBOARD_BATCH_NO_ROOM. The reply to events[i] is replies[i]. The notices of all events follow one
+ * SYNICBOARD_NO_ROOM. The reply to events[i] is replies[i]. The notices of all events follow one
  * another in `notices`; the `notices` field of each reply counts its own. */
 synicboard_batch synicboard_perform_all(synicboard *board, const synicboard_event *events, size_t count, synicboard_reply *replies, size_t reply_room, synicboard_notice *notices, size_t notice_room);
 
@@ -350,7 +343,7 @@ typedef struct synicboard_line {
 
 /* Opens words for that many processors, with no vector raised, and their first line.
  *
- * Returns SYNICBOARD_OPENED; SYNICBOARD_NO_HANDLE if `line` is null; SYNICBOARD_IS_OPEN if it is open,
+ * Returns SYNICBOARD_OK; SYNICBOARD_NO_HANDLE if `line` is null; SYNICBOARD_IS_OPEN if it is open,
  * which is checked before the size; SYNICBOARD_BAD_SIZE unless `processors` is 1 to 8; or
  * SYNICBOARD_NO_MEMORY if an allocation fails. */
 uint8_t synicboard_open_line(synicboard_line *line, uint8_t processors);
@@ -358,7 +351,7 @@ uint8_t synicboard_open_line(synicboard_line *line, uint8_t processors);
 /* Opens `other` as a line of the same words. Only the first line of the words can split off others, 31
  * in all. No other call may use `line` at the same time.
  *
- * Returns SYNICBOARD_OPENED; SYNICBOARD_NO_HANDLE if `other` is null; SYNICBOARD_IS_OPEN if `other` is
+ * Returns SYNICBOARD_OK; SYNICBOARD_NO_HANDLE if `other` is null; SYNICBOARD_IS_OPEN if `other` is
  * open; SYNICBOARD_IS_CLOSED if it is not and `line` is closed; SYNICBOARD_NO_MORE_LINES if `line` has
  * none left; or SYNICBOARD_NO_MEMORY if an allocation fails. */
 uint8_t synicboard_split_line(synicboard_line *line, synicboard_line *other);
@@ -381,7 +374,7 @@ uint8_t synicboard_raise(synicboard_line *line, uint8_t vp, uint8_t vector);
  * board. Bit i of the reply's `value` is vector 64 * part + i. This uses the board, so threads that
  * share it must hold its lock.
  *
- * The fault is SYNICBOARD_NO_BOARD if the board is closed, and otherwise SYNICBOARD_NO_LINE if the line
+ * The fault is SYNICBOARD_IS_CLOSED if the board is closed, and otherwise SYNICBOARD_NO_LINE if the line
  * is closed. If the board refuses, no bit is cleared. If the words do not have the processor, the board
  * absorbs no vector. */
 synicboard_reply synicboard_absorb_line(synicboard *board, synicboard_line *line, uint8_t vp, uint8_t part);
@@ -391,15 +384,15 @@ synicboard_reply synicboard_absorb_line(synicboard *board, synicboard_line *line
  * What a host reads after each event. No query changes the board. Each returns a cached value. */
 
 /* The next vector of a processor; 0 if it has none, or there is no such processor or board. */
-uint8_t synicboard_next(synicboard *board, uint8_t vp);
+uint8_t synicboard_next(const synicboard *board, uint8_t vp);
 /* Whether a vector is auto-EOI on a processor: if it is taken, it does not enter service. */
-bool synicboard_is_auto(synicboard *board, uint8_t vp, uint8_t vector);
+bool synicboard_is_auto(const synicboard *board, uint8_t vp, uint8_t vector);
 /* The number of messages that are queued for a source. */
-uint16_t synicboard_queued(synicboard *board, uint8_t vp, uint8_t sint);
+uint16_t synicboard_queued(const synicboard *board, uint8_t vp, uint8_t sint);
 /* The present time, in units of 100 ns; 0 if the handle is closed. */
-uint64_t synicboard_moment(synicboard *board);
+uint64_t synicboard_moment(const synicboard *board);
 /* The ticket that the next accepted message gets; 0 if the handle is closed. */
-uint64_t synicboard_next_ticket(synicboard *board);
+uint64_t synicboard_next_ticket(const synicboard *board);
 
 /* Which page is visible at a page number. */
 enum {
@@ -415,7 +408,7 @@ typedef struct synicboard_page_owner {
 } synicboard_page_owner;
 
 /* The page that a guest sees at page number `page`. */
-synicboard_page_owner synicboard_owner(synicboard *board, uint64_t page);
+synicboard_page_owner synicboard_owner(const synicboard *board, uint64_t page);
 
 /* The earliest deadline of a timer. If `is_due`, timer `timer` of processor `vp` is due at
  * high * 2^64 + low, in units of 100 ns. The clock never reaches a deadline with `high` above 0. */
@@ -428,7 +421,31 @@ typedef struct synicboard_due {
 } synicboard_due;
 
 /* The timer with the earliest deadline, for a host to arm its own timer with. */
-synicboard_due synicboard_earliest(synicboard *board);
+synicboard_due synicboard_earliest(const synicboard *board);
+
+/* What a run loop acts on: the next vector of each processor, 0 if it has none, and the earliest
+ * deadline. For a closed handle all is 0, and so is `next` for a processor that is not on the board. */
+typedef struct synicboard_view {
+    uint8_t next[8];
+    synicboard_due earliest;
+} synicboard_view;
+
+/* The bit for `earliest`. */
+#define SYNICBOARD_EARLIEST_CHANGED 0x100
+
+/* Updates a view, and returns what differs from before: bit p iff the next vector of processor p does
+ * (kick its thread), SYNICBOARD_EARLIEST_CHANGED iff the earliest deadline does (arm the host's timer),
+ * and no other bit. One call after an event, or after several, in place of one for each processor. */
+uint64_t synicboard_update(const synicboard *board, synicboard_view *view);
+
+/* Which page a guest sees at each page number, as synicboard_owner returns it. */
+typedef struct synicboard_owners {
+    synicboard_page_owner page[64];
+} synicboard_owners;
+
+/* Updates the owners, and returns which differ from before: bit i iff the owner of page i does (map the
+ * page again). A write of SIMP or SIEFP, or a reset, may change owners. */
+uint64_t synicboard_update_owners(const synicboard *board, synicboard_owners *owners);
 
 /* Store the address of a page of 4096 bytes in `*page`, for reading. Each returns whether there is such a
  * page; if not, `*page` is unchanged.
@@ -438,23 +455,13 @@ synicboard_due synicboard_earliest(synicboard *board);
  * of its own, so it is aligned to a host page if malloc aligns blocks of this size so
  * (examples/c/pages.c). The message and event flags pages are the processor's own, whether or not an
  * overlay makes them visible; a guest page is the page below the overlays. */
-bool synicboard_message_page(synicboard *board, uint8_t vp, const uint8_t **page);
-bool synicboard_flag_page(synicboard *board, uint8_t vp, const uint8_t **page);
-bool synicboard_guest_page(synicboard *board, uint64_t number, const uint8_t **page);
+bool synicboard_message_page(const synicboard *board, uint8_t vp, const uint8_t **page);
+bool synicboard_flag_page(const synicboard *board, uint8_t vp, const uint8_t **page);
+bool synicboard_guest_page(const synicboard *board, uint64_t number, const uint8_t **page);
 
 /* ---- Texts ----
  *
  * Scripts and traces, in the formats of docs/FORMATS.md. */
-
-/* How a call on a text ended. */
-enum {
-    SYNICBOARD_ALL_RIGHT = 0,
-    SYNICBOARD_WRONG_LINE = 1,          /* `line` is the first wrong line, counted from 1 */
-    SYNICBOARD_WANTED_MEMORY = 2,       /* an allocation failed */
-    SYNICBOARD_TOO_LONG = 3,            /* more than 1,073,741,824 bytes, and no line of these is wrong */
-    SYNICBOARD_NO_TEXT = 4              /* the text is null and its length is not 0, or the handle to
-                                           settle is closed */
-};
 
 /* The result of a call that writes a text. */
 typedef struct synicboard_end {
@@ -464,13 +471,13 @@ typedef struct synicboard_end {
 } synicboard_end;
 
 /* Performs a script on a board of its own, and writes its output to `room`, as much as fits. With
- * SYNICBOARD_WRONG_LINE the output ends with the fault line. With SYNICBOARD_WANTED_MEMORY or
+ * SYNICBOARD_WRONG_LINE the output ends with the fault line. With SYNICBOARD_NO_MEMORY or
  * SYNICBOARD_TOO_LONG nothing is written. */
 synicboard_end synicboard_replay(const uint8_t *script, size_t script_length, uint8_t *room, size_t length);
 
 /* The result of a check. */
 typedef struct synicboard_verdict {
-    uint8_t kind;                       /* SYNICBOARD_ALL_RIGHT if the trace is that of a legal history */
+    uint8_t kind;                       /* SYNICBOARD_OK if the trace is that of a legal history */
     uint64_t entries;                   /* of the legal history, or 0 */
     uint64_t line;                      /* the first wrong line, counted from 1, or 0 */
 } synicboard_verdict;
@@ -486,7 +493,7 @@ synicboard_verdict synicboard_check(const uint8_t *trace, size_t length);
  * With SYNICBOARD_WRONG_LINE, `line` is 1 if the event is invalid, and otherwise 2 if the reply is not
  * one of a board; then `room` is unchanged. Fields of the event and the reply that their kind does not
  * use are ignored. */
-synicboard_end synicboard_tell(uint8_t actor, const synicboard_event *event, const synicboard_reply *reply, uint8_t *room, size_t length);
+synicboard_end synicboard_format_entry(uint8_t actor, const synicboard_event *event, const synicboard_reply *reply, uint8_t *room, size_t length);
 
 /* ---- Shared boards ----
  *
@@ -516,7 +523,7 @@ void synicboard_close_shared(synicboard_shared *shared);
 
 /* Performs an event for an actor, as synicboard_perform does, appends the event and its reply to the
  * history, and copies the notices of the event, as many as fit into `room` elements. If the history
- * cannot grow, the fault is SYNICBOARD_NO_ENTRY, and no event is performed. */
+ * cannot grow, the fault is SYNICBOARD_NO_MEMORY, and no event is performed. */
 synicboard_reply synicboard_act(synicboard_shared *shared, uint8_t actor, const synicboard_event *event, synicboard_notice *notices, size_t room);
 
 /* The same for synicboard_absorb_line. Other threads may raise through other lines at the same time. */
@@ -533,7 +540,7 @@ void synicboard_release(synicboard_shared *shared);
 
 /* The result of synicboard_settle. */
 typedef struct synicboard_settled {
-    uint8_t kind;                       /* as of synicboard_check: SYNICBOARD_ALL_RIGHT if it is legal */
+    uint8_t kind;                       /* as of synicboard_check: SYNICBOARD_OK if it is legal */
     uint64_t entries;
     uint64_t line;
     size_t length;                      /* of the whole trace, even if it did not fit, or 0 if there is none */
@@ -541,7 +548,7 @@ typedef struct synicboard_settled {
 
 /* Writes the whole history as a trace to `room`, as much as fits, and returns what synicboard_check returns
  * for that trace. Holds the lock only while it formats the trace. Changes nothing, so it may be called
- * at any time and repeatedly. SYNICBOARD_NO_TEXT if the handle is closed. */
+ * at any time and repeatedly. SYNICBOARD_IS_CLOSED if the handle is closed. */
 synicboard_settled synicboard_settle(synicboard_shared *shared, uint8_t *room, size_t length);
 
 #ifdef __cplusplus

@@ -1,5 +1,5 @@
 //! A board in plain Rust, as fast as its author would write it without proofs. It does what
-//! board_bench does, with the same replies, notices and summary, so that times can be compared. It
+//! bench_board does, with the same replies, notices and summary, so that times can be compared. It
 //! has the events of the workloads, and suspends, resumes and resets.
 
 #[allow(dead_code)]

@@ -1,4 +1,4 @@
-//! The workloads, as board_bench has them.
+//! The workloads, as bench_board has them.
 
 use crate::board::Board;
 use crate::board::events::{

@@ -1,5 +1,5 @@
 //! A shared board in plain Rust, as fast as its author would write it without proofs. It does what
-//! thread_bench does, with the same standard output, so that times can be compared.
+//! bench_threads does, with the same standard output, so that times can be compared.
 
 #[path = "../plain/board/mod.rs"]
 #[allow(dead_code)]

@@ -6,7 +6,7 @@
 
 int main(void) {
     synicboard board = SYNICBOARD_CLOSED;
-    if (synicboard_open(&board, 1, 4, 0) != SYNICBOARD_OPENED)
+    if (synicboard_open(&board, 1, 4, 0) != SYNICBOARD_OK)
         return 1;
     synicboard_write(&board, 0, SYNICBOARD_MSR_SCONTROL, 1);        /* enable the SynIC */
     synicboard_write(&board, 0, SYNICBOARD_MSR_SIMP, 0x2001);       /* message page at page 2 */

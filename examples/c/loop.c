@@ -163,9 +163,9 @@ static void set_up(void)
 /* Opens one line for each processor thread and one for the device, all of the same words. */
 static bool open_lines(void)
 {
-    return synicboard_open_line(&lines[0], PROCESSORS) == SYNICBOARD_OPENED
-        && synicboard_split_line(&lines[0], &lines[1]) == SYNICBOARD_OPENED
-        && synicboard_split_line(&lines[0], &device_line) == SYNICBOARD_OPENED;
+    return synicboard_open_line(&lines[0], PROCESSORS) == SYNICBOARD_OK
+        && synicboard_split_line(&lines[0], &lines[1]) == SYNICBOARD_OK
+        && synicboard_split_line(&lines[0], &device_line) == SYNICBOARD_OK;
 }
 
 static void close_all(void)
@@ -180,7 +180,7 @@ int main(void)
 {
     static const uint8_t numbers[PROCESSORS] = { 0, 1 };
     pthread_t threads[PROCESSORS], device;
-    if (synicboard_open(&board, PROCESSORS, 4, 0) != SYNICBOARD_OPENED || !open_lines())
+    if (synicboard_open(&board, PROCESSORS, 4, 0) != SYNICBOARD_OK || !open_lines())
         return 1;
     if (!synicboard_message_page(&board, 1, &message_page))
         return 1;

@@ -37,7 +37,7 @@ int main(void)
     synicboard board = SYNICBOARD_CLOSED;
     unsigned mappable = 0;
     const uint8_t *page;
-    if (synicboard_open(&board, PROCESSORS, PAGES, 0) != SYNICBOARD_OPENED)
+    if (synicboard_open(&board, PROCESSORS, PAGES, 0) != SYNICBOARD_OK)
         return 1;
     for (uint64_t number = 0; number < PAGES; number++)
         mappable += synicboard_guest_page(&board, number, &page) && is_mappable(page);

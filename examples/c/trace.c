@@ -60,11 +60,11 @@ static unsigned run_device(void)
 
 static bool open_all(struct processor *processors)
 {
-    bool is_open = synicboard_open_shared(&board, PROCESSORS, 1, 0) == SYNICBOARD_OPENED
-        && synicboard_open_line(&device_line, PROCESSORS) == SYNICBOARD_OPENED;
+    bool is_open = synicboard_open_shared(&board, PROCESSORS, 1, 0) == SYNICBOARD_OK
+        && synicboard_open_line(&device_line, PROCESSORS) == SYNICBOARD_OK;
     for (uint8_t vp = 0; is_open && vp < PROCESSORS; vp++) {
         processors[vp].vp = vp;
-        is_open = synicboard_split_line(&device_line, &processors[vp].line) == SYNICBOARD_OPENED;
+        is_open = synicboard_split_line(&device_line, &processors[vp].line) == SYNICBOARD_OK;
     }
     return is_open;
 }
@@ -73,7 +73,7 @@ static bool open_all(struct processor *processors)
 static void settle(void)
 {
     synicboard_settled settled = synicboard_settle(&board, NULL, 0);
-    if (settled.kind == SYNICBOARD_ALL_RIGHT)
+    if (settled.kind == SYNICBOARD_OK)
         printf("legal %" PRIu64 "\n", settled.entries);
     else
         printf("refused %" PRIu64 "\n", settled.line);

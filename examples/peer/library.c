@@ -58,7 +58,7 @@ static struct peer_reply told(synicboard_reply reply)
 static int open_board(unsigned processors, unsigned pages, uint64_t ticket)
 {
     synicboard_close(&board);
-    return synicboard_open(&board, (uint8_t)processors, (uint8_t)pages, ticket) == SYNICBOARD_OPENED;
+    return synicboard_open(&board, (uint8_t)processors, (uint8_t)pages, ticket) == SYNICBOARD_OK;
 }
 
 static struct peer_reply open_message_port(unsigned port, unsigned vp, unsigned sint, unsigned buffers)

@@ -28,7 +28,7 @@ static void check_batch(synicboard_batch batch, uint8_t end, size_t done, size_t
 {
     check_number(batch.end, end, "the end of a batch", line);
     check_number(batch.done, done, "the events of a batch", line);
-    check_number(batch.told, told, "the notices of a batch", line);
+    check_number(batch.emitted, told, "the notices of a batch", line);
     check_rooms(done, told, line);
 }
 
@@ -45,7 +45,7 @@ static const synicboard_event asserts[EVENTS] = {
 /* Performs `count` of these on a board of two processors, with buffers of this capacity. */
 static synicboard_batch perform(synicboard *board, size_t count, size_t reply_room, size_t notice_room)
 {
-    CHECK_NUMBER(synicboard_open(board, 2, 1, 0), SYNICBOARD_OPENED);
+    CHECK_NUMBER(synicboard_open(board, 2, 1, 0), SYNICBOARD_OK);
     memset(replies, FILLER, sizeof replies);
     memset(notices, FILLER, sizeof notices);
     return synicboard_perform_all(board, asserts, count, replies, reply_room, notices, notice_room);
@@ -57,7 +57,7 @@ static void test_closed_handle(void)
     memset(replies, FILLER, sizeof replies);
     memset(notices, FILLER, sizeof notices);
     CHECK_BATCH(synicboard_perform_all(&board, asserts, EVENTS, replies, EVENTS, notices, NOTICES),
-        SYNICBOARD_BATCH_NO_BOARD, 0, 0);
+        SYNICBOARD_IS_CLOSED, 0, 0);
     CHECK(!board.is_open);
 }
 
@@ -65,7 +65,7 @@ static void test_all(void)
 {
     synicboard board = SYNICBOARD_CLOSED;
     refuse(0);
-    CHECK_BATCH(perform(&board, EVENTS, EVENTS, NOTICES), SYNICBOARD_ALL_PERFORMED, 4, 3);
+    CHECK_BATCH(perform(&board, EVENTS, EVENTS, NOTICES), SYNICBOARD_OK, 4, 3);
     for (size_t at = 0; at < EVENTS; at++)
         CHECK_REPLY(replies[at], SYNICBOARD_DONE);
     CHECK_NUMBER(replies[0].notices, 1);
@@ -85,7 +85,7 @@ static void test_all(void)
 static void test_takes_no_memory(void)
 {
     synicboard board = SYNICBOARD_CLOSED;
-    CHECK_NUMBER(synicboard_open(&board, 2, 1, 0), SYNICBOARD_OPENED);
+    CHECK_NUMBER(synicboard_open(&board, 2, 1, 0), SYNICBOARD_OK);
     refuse(1);
     CHECK_NUMBER(synicboard_perform_all(&board, asserts, EVENTS, replies, EVENTS, notices, NOTICES).done, EVENTS);
     CHECK_NUMBER(requests, 0);
@@ -102,11 +102,11 @@ static void test_no_event(void)
         synicboard board = SYNICBOARD_CLOSED;
         memcpy(events, asserts, sizeof events);
         events[place].vector = 15;
-        CHECK_NUMBER(synicboard_open(&board, 2, 1, 0), SYNICBOARD_OPENED);
+        CHECK_NUMBER(synicboard_open(&board, 2, 1, 0), SYNICBOARD_OK);
         memset(replies, FILLER, sizeof replies);
         memset(notices, FILLER, sizeof notices);
         CHECK_BATCH(synicboard_perform_all(&board, events, EVENTS, replies, EVENTS, notices, NOTICES),
-            SYNICBOARD_BATCH_NO_EVENT, place, place);
+            SYNICBOARD_NO_EVENT, place, place);
         CHECK_NUMBER(synicboard_next(&board, 0), place == 0 ? 0 : place < 3 ? 0x60 : 0x70);
         CHECK_NUMBER(synicboard_next(&board, 1), place < 2 ? 0 : 0x61);
         synicboard_close(&board);
@@ -117,16 +117,16 @@ static void test_room(void)
 {
     synicboard board = SYNICBOARD_CLOSED;
     for (size_t room = 0; room < EVENTS; room++) {
-        CHECK_BATCH(perform(&board, EVENTS, room, NOTICES), SYNICBOARD_BATCH_NO_ROOM, room, room);
+        CHECK_BATCH(perform(&board, EVENTS, room, NOTICES), SYNICBOARD_NO_ROOM, room, room);
         synicboard_close(&board);
     }
     for (size_t more = 0; more < 3; more++) {
         size_t room = SYNICBOARD_MOST_NOTICES + more;
-        CHECK_BATCH(perform(&board, EVENTS, EVENTS, room), SYNICBOARD_BATCH_NO_ROOM, more + 1, more + 1);
+        CHECK_BATCH(perform(&board, EVENTS, EVENTS, room), SYNICBOARD_NO_ROOM, more + 1, more + 1);
         CHECK_NUMBER(synicboard_next(&board, 1), more == 0 ? 0 : 0x61);
         synicboard_close(&board);
     }
-    CHECK_BATCH(perform(&board, EVENTS, EVENTS, SYNICBOARD_MOST_NOTICES - 1), SYNICBOARD_BATCH_NO_ROOM, 0, 0);
+    CHECK_BATCH(perform(&board, EVENTS, EVENTS, SYNICBOARD_MOST_NOTICES - 1), SYNICBOARD_NO_ROOM, 0, 0);
     CHECK_NUMBER(synicboard_next(&board, 0), 0);
     synicboard_close(&board);
 }
@@ -134,9 +134,9 @@ static void test_room(void)
 static void test_counts_of_zero(void)
 {
     synicboard board = SYNICBOARD_CLOSED;
-    CHECK_BATCH(perform(&board, 0, 0, 0), SYNICBOARD_ALL_PERFORMED, 0, 0);
+    CHECK_BATCH(perform(&board, 0, 0, 0), SYNICBOARD_OK, 0, 0);
     synicboard_close(&board);
-    CHECK_BATCH(perform(&board, 1, 0, 0), SYNICBOARD_BATCH_NO_ROOM, 0, 0);
+    CHECK_BATCH(perform(&board, 1, 0, 0), SYNICBOARD_NO_ROOM, 0, 0);
     synicboard_close(&board);
 }
 

@@ -43,7 +43,7 @@ static void set_up(synicboard *board, uint8_t vp)
 static void open_busy(synicboard *board, uint64_t first_ticket)
 {
     static const uint8_t payload[] = { 0x0a, 0x0b, 0x0c };
-    CHECK_NUMBER(synicboard_open(board, 2, 4, first_ticket), SYNICBOARD_OPENED);
+    CHECK_NUMBER(synicboard_open(board, 2, 4, first_ticket), SYNICBOARD_OK);
     set_up(board, 1);
     CHECK_REPLY(synicboard_tick(board, 7), SYNICBOARD_DONE);
     CHECK_REPLY(synicboard_signal(board, FLAG_PORT, 5), SYNICBOARD_FLAG_WAS_CLEAR);
@@ -134,25 +134,25 @@ static void perform_many(synicboard *board, uint64_t seed, unsigned events)
 static void check_closed_events(synicboard *board)
 {
     const uint8_t byte = 1;
-    CHECK_FAULT(synicboard_open_message_port(board, 0, 0, 2, 1), SYNICBOARD_NO_BOARD);
-    CHECK_FAULT(synicboard_open_event_port(board, 0, 0, 2, 0, 1), SYNICBOARD_NO_BOARD);
-    CHECK_FAULT(synicboard_close_port(board, 0), SYNICBOARD_NO_BOARD);
-    CHECK_FAULT(synicboard_write(board, 0, SCONTROL, 1), SYNICBOARD_NO_BOARD);
-    CHECK_FAULT(synicboard_read(board, 0, SCONTROL), SYNICBOARD_NO_BOARD);
-    CHECK_FAULT(synicboard_post(board, 0, 1, &byte, 1), SYNICBOARD_NO_BOARD);
-    CHECK_FAULT(synicboard_signal(board, 0, 0), SYNICBOARD_NO_BOARD);
-    CHECK_FAULT(synicboard_assert(board, 0, 0x60), SYNICBOARD_NO_BOARD);
-    CHECK_FAULT(synicboard_absorb(board, 0, 1, 1), SYNICBOARD_NO_BOARD);
-    CHECK_FAULT(synicboard_store(board, 0, &byte, 1), SYNICBOARD_NO_BOARD);
-    CHECK_FAULT(synicboard_load(board, 0, 1), SYNICBOARD_NO_BOARD);
-    CHECK_FAULT(synicboard_tick(board, 1), SYNICBOARD_NO_BOARD);
-    CHECK_FAULT(synicboard_take(board, 0), SYNICBOARD_NO_BOARD);
-    CHECK_FAULT(synicboard_suspend(board, 0), SYNICBOARD_NO_BOARD);
-    CHECK_FAULT(synicboard_resume(board, 0), SYNICBOARD_NO_BOARD);
-    CHECK_FAULT(synicboard_reset(board, 0), SYNICBOARD_NO_BOARD);
+    CHECK_FAULT(synicboard_open_message_port(board, 0, 0, 2, 1), SYNICBOARD_IS_CLOSED);
+    CHECK_FAULT(synicboard_open_event_port(board, 0, 0, 2, 0, 1), SYNICBOARD_IS_CLOSED);
+    CHECK_FAULT(synicboard_close_port(board, 0), SYNICBOARD_IS_CLOSED);
+    CHECK_FAULT(synicboard_write(board, 0, SCONTROL, 1), SYNICBOARD_IS_CLOSED);
+    CHECK_FAULT(synicboard_read(board, 0, SCONTROL), SYNICBOARD_IS_CLOSED);
+    CHECK_FAULT(synicboard_post(board, 0, 1, &byte, 1), SYNICBOARD_IS_CLOSED);
+    CHECK_FAULT(synicboard_signal(board, 0, 0), SYNICBOARD_IS_CLOSED);
+    CHECK_FAULT(synicboard_assert(board, 0, 0x60), SYNICBOARD_IS_CLOSED);
+    CHECK_FAULT(synicboard_absorb(board, 0, 1, 1), SYNICBOARD_IS_CLOSED);
+    CHECK_FAULT(synicboard_store(board, 0, &byte, 1), SYNICBOARD_IS_CLOSED);
+    CHECK_FAULT(synicboard_load(board, 0, 1), SYNICBOARD_IS_CLOSED);
+    CHECK_FAULT(synicboard_tick(board, 1), SYNICBOARD_IS_CLOSED);
+    CHECK_FAULT(synicboard_take(board, 0), SYNICBOARD_IS_CLOSED);
+    CHECK_FAULT(synicboard_suspend(board, 0), SYNICBOARD_IS_CLOSED);
+    CHECK_FAULT(synicboard_resume(board, 0), SYNICBOARD_IS_CLOSED);
+    CHECK_FAULT(synicboard_reset(board, 0), SYNICBOARD_IS_CLOSED);
     for (unsigned kind = 0; kind < 256; kind++) {
         synicboard_event event = { .kind = (uint8_t)kind, .vector = 0x60, .length = 1 };
-        CHECK_FAULT(synicboard_perform(board, &event), SYNICBOARD_NO_BOARD);
+        CHECK_FAULT(synicboard_perform(board, &event), SYNICBOARD_IS_CLOSED);
     }
 }
 
@@ -160,9 +160,9 @@ static void check_closed_events(synicboard *board)
 static void check_closed_faults(synicboard *board)
 {
     const uint8_t bytes[241] = { 0 };
-    CHECK_FAULT(synicboard_assert(board, 0, 15), SYNICBOARD_NO_BOARD);
-    CHECK_FAULT(synicboard_post(board, 0, 1, bytes, 241), SYNICBOARD_NO_BOARD);
-    CHECK_FAULT(synicboard_store(board, 0, bytes, 9), SYNICBOARD_NO_BOARD);
+    CHECK_FAULT(synicboard_assert(board, 0, 15), SYNICBOARD_IS_CLOSED);
+    CHECK_FAULT(synicboard_post(board, 0, 1, bytes, 241), SYNICBOARD_IS_CLOSED);
+    CHECK_FAULT(synicboard_store(board, 0, bytes, 9), SYNICBOARD_IS_CLOSED);
 }
 
 static void check_closed_looks(synicboard *board)
@@ -251,8 +251,8 @@ static void test_sizes(void)
         uint8_t processors = sizes[at / count], pages = sizes[at % count];
         bool is_good = processors >= 1 && processors <= 8 && pages >= 1 && pages <= 64;
         uint8_t opened = synicboard_open(&board, processors, pages, UINT64_MAX - 1);
-        CHECK_NUMBER(opened, is_good ? SYNICBOARD_OPENED : SYNICBOARD_BAD_SIZE);
-        if (opened == SYNICBOARD_OPENED)
+        CHECK_NUMBER(opened, is_good ? SYNICBOARD_OK : SYNICBOARD_BAD_SIZE);
+        if (opened == SYNICBOARD_OK)
             check_sizes(&board, processors, pages);
         else
             CHECK(is_blank(&board));
@@ -366,7 +366,7 @@ enum { POSTS = 17, TIMERS = 4 };
  * ticket 17 s + i. */
 static void open_full(synicboard *board)
 {
-    CHECK_NUMBER(synicboard_open(board, 1, 4, 0), SYNICBOARD_OPENED);
+    CHECK_NUMBER(synicboard_open(board, 1, 4, 0), SYNICBOARD_OK);
     CHECK_REPLY(synicboard_write(board, 0, SCONTROL, 1), SYNICBOARD_DONE);
     CHECK_REPLY(synicboard_write(board, 0, SIMP, 1), SYNICBOARD_DONE);
     for (uint8_t sint = 0; sint < SOURCES; sint++) {
@@ -423,7 +423,7 @@ static void test_notices(void)
 static void test_reopening(void)
 {
     synicboard board = SYNICBOARD_CLOSED;
-    CHECK_NUMBER(synicboard_open(&board, 2, 4, 9), SYNICBOARD_OPENED);
+    CHECK_NUMBER(synicboard_open(&board, 2, 4, 9), SYNICBOARD_OK);
     describe(&board, &before);
     for (int turn = 0; turn < 20; turn++) {
         synicboard_close(&board);
@@ -431,7 +431,7 @@ static void test_reopening(void)
         CHECK_NUMBER(blocks_out, 0);
         open_busy(&board, 1);
         synicboard_close(&board);
-        CHECK_NUMBER(synicboard_open(&board, 2, 4, 9), SYNICBOARD_OPENED);
+        CHECK_NUMBER(synicboard_open(&board, 2, 4, 9), SYNICBOARD_OK);
         describe(&board, &after);
         CHECK_SAME(&before, &after);
     }
@@ -607,7 +607,7 @@ static void test_message_images(void)
                               3, 0, 0, 0, 0, 0, 0, 0, 20, 0, 0, 0, 0, 0, 0, 0, 30 };
     const uint8_t *page = NULL, *other = NULL;
     synicboard board = SYNICBOARD_CLOSED;
-    CHECK_NUMBER(synicboard_open(&board, 2, 4, 0), SYNICBOARD_OPENED);
+    CHECK_NUMBER(synicboard_open(&board, 2, 4, 0), SYNICBOARD_OK);
     set_up(&board, 1);
     for (size_t at = 16; at < SLOT; at++)
         image[at] = (uint8_t)at;
@@ -677,7 +677,7 @@ static void test_no_such_page(void)
 {
     const uint8_t byte = 0, *page = &byte;
     synicboard board = SYNICBOARD_CLOSED;
-    CHECK_NUMBER(synicboard_open(&board, 2, 4, 0), SYNICBOARD_OPENED);
+    CHECK_NUMBER(synicboard_open(&board, 2, 4, 0), SYNICBOARD_OK);
     for (unsigned vp = 2; vp < 256; vp++) {
         CHECK(!synicboard_message_page(&board, (uint8_t)vp, &page));
         CHECK(!synicboard_flag_page(&board, (uint8_t)vp, &page));
@@ -696,7 +696,7 @@ static void test_all_pages(void)
     enum { ALL = 2 * PROCESSORS + PAGES };
     const uint8_t *pages[ALL], *again[ALL];
     synicboard board = SYNICBOARD_CLOSED;
-    CHECK_NUMBER(synicboard_open(&board, PROCESSORS, PAGES, 0), SYNICBOARD_OPENED);
+    CHECK_NUMBER(synicboard_open(&board, PROCESSORS, PAGES, 0), SYNICBOARD_OK);
     set_up(&board, 1);
     for (int turn = 0; turn < 2; turn++) {
         const uint8_t **place = turn == 0 ? pages : again;
@@ -730,10 +730,10 @@ static void check_refused_opening(uint8_t processors, uint8_t pages)
     while ((opened = synicboard_open(&board, processors, pages, 0)) == SYNICBOARD_NO_MEMORY) {
         CHECK(is_blank(&board));
         CHECK_NUMBER(blocks_out, 0);
-        CHECK_FAULT(synicboard_take(&board, 0), SYNICBOARD_NO_BOARD);
+        CHECK_FAULT(synicboard_take(&board, 0), SYNICBOARD_IS_CLOSED);
         refuse(++number);
     }
-    CHECK_NUMBER(opened, SYNICBOARD_OPENED);
+    CHECK_NUMBER(opened, SYNICBOARD_OK);
     CHECK_NUMBER(requests, number - 1);
     CHECK(number > 1);
     refuse(0);

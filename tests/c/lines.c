@@ -20,8 +20,8 @@ static bool is_blank(const synicboard_line *line)
 
 static void open_both(synicboard *board, synicboard_line *line, uint8_t board_processors, uint8_t line_processors)
 {
-    CHECK_NUMBER(synicboard_open(board, board_processors, 1, 0), SYNICBOARD_OPENED);
-    CHECK_NUMBER(synicboard_open_line(line, line_processors), SYNICBOARD_OPENED);
+    CHECK_NUMBER(synicboard_open(board, board_processors, 1, 0), SYNICBOARD_OK);
+    CHECK_NUMBER(synicboard_open_line(line, line_processors), SYNICBOARD_OK);
 }
 
 static void close_both(synicboard *board, synicboard_line *line)
@@ -63,16 +63,16 @@ static void test_closed(void)
     CHECK_NUMBER(synicboard_split_line(&line, &other), SYNICBOARD_IS_CLOSED);
     synicboard_close_line(&line);
     CHECK(is_blank(&line) && is_blank(&other));
-    CHECK_NUMBER(synicboard_open(&board, 2, 1, 5), SYNICBOARD_OPENED);
+    CHECK_NUMBER(synicboard_open(&board, 2, 1, 5), SYNICBOARD_OK);
     CHECK_REPLY(synicboard_assert(&board, 1, 0x50), SYNICBOARD_DONE);
     describe(&board, &before);
     CHECK_FAULT(synicboard_absorb_line(&board, &line, 0, 1), SYNICBOARD_NO_LINE);
     describe(&board, &after);
     CHECK_SAME(&before, &after);
-    CHECK_FAULT(synicboard_absorb_line(&closed, &line, 0, 1), SYNICBOARD_NO_BOARD);
-    CHECK_NUMBER(synicboard_open_line(&line, 2), SYNICBOARD_OPENED);
+    CHECK_FAULT(synicboard_absorb_line(&closed, &line, 0, 1), SYNICBOARD_IS_CLOSED);
+    CHECK_NUMBER(synicboard_open_line(&line, 2), SYNICBOARD_OK);
     CHECK_NUMBER(synicboard_raise(&line, 1, 0x60), SYNICBOARD_FRESH);
-    CHECK_FAULT(synicboard_absorb_line(&closed, &line, 1, 1), SYNICBOARD_NO_BOARD);
+    CHECK_FAULT(synicboard_absorb_line(&closed, &line, 1, 1), SYNICBOARD_IS_CLOSED);
     check_requests(&board, &line, 1, 1, 0x60);
     close_both(&board, &line);
 }
@@ -82,7 +82,7 @@ static void test_sizes(void)
     for (unsigned processors = 0; processors < 256; processors++) {
         synicboard_line line = SYNICBOARD_LINE_CLOSED;
         bool fits = processors >= 1 && processors <= PROCESSORS;
-        CHECK_NUMBER(synicboard_open_line(&line, (uint8_t)processors), fits ? SYNICBOARD_OPENED : SYNICBOARD_BAD_SIZE);
+        CHECK_NUMBER(synicboard_open_line(&line, (uint8_t)processors), fits ? SYNICBOARD_OK : SYNICBOARD_BAD_SIZE);
         CHECK_NUMBER(line.is_open, fits);
         for (unsigned vp = 0; vp < 256; vp++)
             CHECK_NUMBER(synicboard_raise(&line, (uint8_t)vp, 0x60),
@@ -96,8 +96,8 @@ static void test_sizes(void)
 static void test_opening_twice(void)
 {
     synicboard_line line = SYNICBOARD_LINE_CLOSED, other = SYNICBOARD_LINE_CLOSED;
-    CHECK_NUMBER(synicboard_open_line(&line, 1), SYNICBOARD_OPENED);
-    CHECK_NUMBER(synicboard_open_line(&other, 2), SYNICBOARD_OPENED);
+    CHECK_NUMBER(synicboard_open_line(&line, 1), SYNICBOARD_OK);
+    CHECK_NUMBER(synicboard_open_line(&other, 2), SYNICBOARD_OK);
     CHECK_NUMBER(synicboard_raise(&line, 0, 0x60), SYNICBOARD_FRESH);
     CHECK_NUMBER(synicboard_open_line(&line, 8), SYNICBOARD_IS_OPEN);
     CHECK_NUMBER(synicboard_open_line(&line, 9), SYNICBOARD_IS_OPEN);
@@ -106,7 +106,7 @@ static void test_opening_twice(void)
     CHECK_NUMBER(synicboard_raise(&line, 1, 0x60), SYNICBOARD_NOT_RAISED);
     CHECK_NUMBER(synicboard_raise(&other, 0, 0x60), SYNICBOARD_FRESH);
     synicboard_close_line(&line);
-    CHECK_NUMBER(synicboard_open_line(&line, 1), SYNICBOARD_OPENED);
+    CHECK_NUMBER(synicboard_open_line(&line, 1), SYNICBOARD_OK);
     CHECK_NUMBER(synicboard_raise(&line, 0, 0x60), SYNICBOARD_FRESH);
     synicboard_close_line(&line);
     synicboard_close_line(&other);
@@ -117,10 +117,10 @@ static void test_splitting(void)
 {
     synicboard_line line = SYNICBOARD_LINE_CLOSED, others[MOST_SPLITS], more = SYNICBOARD_LINE_CLOSED;
     memset(others, 0, sizeof others);
-    CHECK_NUMBER(synicboard_open_line(&line, 1), SYNICBOARD_OPENED);
+    CHECK_NUMBER(synicboard_open_line(&line, 1), SYNICBOARD_OK);
     CHECK_NUMBER(synicboard_raise(&line, 0, FIRST_VECTOR), SYNICBOARD_FRESH);
     for (unsigned at = 0; at < MOST_SPLITS; at++) {
-        CHECK_NUMBER(synicboard_split_line(&line, &others[at]), SYNICBOARD_OPENED);
+        CHECK_NUMBER(synicboard_split_line(&line, &others[at]), SYNICBOARD_OK);
         CHECK_NUMBER(synicboard_split_line(&others[at], &more), SYNICBOARD_NO_MORE_LINES);
         CHECK_NUMBER(synicboard_raise(&others[at], 0, (uint8_t)(FIRST_VECTOR + at)), SYNICBOARD_ALREADY);
         CHECK_NUMBER(synicboard_raise(&others[at], 0, (uint8_t)(FIRST_VECTOR + 1 + at)), SYNICBOARD_FRESH);
@@ -198,7 +198,7 @@ static void test_refused_memory(void)
         CHECK_NUMBER(synicboard_split_line(&line, &others[at]), SYNICBOARD_NO_MEMORY);
         CHECK(is_blank(&others[at]));
         refuse(0);
-        CHECK_NUMBER(synicboard_split_line(&line, &others[at]), SYNICBOARD_OPENED);
+        CHECK_NUMBER(synicboard_split_line(&line, &others[at]), SYNICBOARD_OK);
     }
     for (unsigned at = 0; at < MOST_SPLITS; at++)
         synicboard_close_line(&others[at]);
@@ -267,7 +267,7 @@ static void test_threads(void)
     open_both(&board, &line, PROCESSORS, PROCESSORS);
     for (unsigned at = 0; at < DEVICES; at++) {
         devices[at].first = VECTORS / DEVICES * at;
-        CHECK_NUMBER(synicboard_split_line(&line, &devices[at].line), SYNICBOARD_OPENED);
+        CHECK_NUMBER(synicboard_split_line(&line, &devices[at].line), SYNICBOARD_OK);
         CHECK(pthread_create(&devices[at].thread, NULL, raise_all, &devices[at]) == 0);
     }
     for (unsigned turn = 0; turn < TURNS; turn++)

@@ -19,7 +19,7 @@ static struct text before, after;
  * buffers. */
 static void open_board(synicboard *board)
 {
-    CHECK_NUMBER(synicboard_open(board, 1, 4, 7), SYNICBOARD_OPENED);
+    CHECK_NUMBER(synicboard_open(board, 1, 4, 7), SYNICBOARD_OK);
     CHECK_REPLY(synicboard_write(board, 0, SCONTROL, 1), SYNICBOARD_DONE);
     CHECK_REPLY(synicboard_write(board, 0, SIMP, 2 * PAGE + 1), SYNICBOARD_DONE);
     CHECK_REPLY(synicboard_write(board, 0, SINT0 + SOURCE, 0x50), SYNICBOARD_DONE);
@@ -63,38 +63,38 @@ static void test_null_board(void)
     const uint8_t byte = 1;
     const synicboard_event event = { .kind = SYNICBOARD_TICK, .moment = 1 };
     refuse(0);
-    CHECK_FAULT(synicboard_open_message_port(NULL, 0, 0, 2, 1), SYNICBOARD_NO_BOARD);
-    CHECK_FAULT(synicboard_open_event_port(NULL, 0, 0, 2, 0, 1), SYNICBOARD_NO_BOARD);
-    CHECK_FAULT(synicboard_close_port(NULL, 0), SYNICBOARD_NO_BOARD);
-    CHECK_FAULT(synicboard_write(NULL, 0, SCONTROL, 1), SYNICBOARD_NO_BOARD);
-    CHECK_FAULT(synicboard_read(NULL, 0, SCONTROL), SYNICBOARD_NO_BOARD);
-    CHECK_FAULT(synicboard_post(NULL, 0, 1, &byte, 1), SYNICBOARD_NO_BOARD);
-    CHECK_FAULT(synicboard_signal(NULL, 0, 0), SYNICBOARD_NO_BOARD);
-    CHECK_FAULT(synicboard_assert(NULL, 0, 0x60), SYNICBOARD_NO_BOARD);
-    CHECK_FAULT(synicboard_assert(NULL, 0, 15), SYNICBOARD_NO_BOARD);
-    CHECK_FAULT(synicboard_absorb(NULL, 0, 1, 1), SYNICBOARD_NO_BOARD);
-    CHECK_FAULT(synicboard_store(NULL, 0, &byte, 1), SYNICBOARD_NO_BOARD);
-    CHECK_FAULT(synicboard_load(NULL, 0, 1), SYNICBOARD_NO_BOARD);
-    CHECK_FAULT(synicboard_tick(NULL, 1), SYNICBOARD_NO_BOARD);
-    CHECK_FAULT(synicboard_take(NULL, 0), SYNICBOARD_NO_BOARD);
-    CHECK_FAULT(synicboard_suspend(NULL, 0), SYNICBOARD_NO_BOARD);
-    CHECK_FAULT(synicboard_resume(NULL, 0), SYNICBOARD_NO_BOARD);
-    CHECK_FAULT(synicboard_reset(NULL, 0), SYNICBOARD_NO_BOARD);
-    CHECK_FAULT(synicboard_perform(NULL, &event), SYNICBOARD_NO_BOARD);
+    CHECK_FAULT(synicboard_open_message_port(NULL, 0, 0, 2, 1), SYNICBOARD_IS_CLOSED);
+    CHECK_FAULT(synicboard_open_event_port(NULL, 0, 0, 2, 0, 1), SYNICBOARD_IS_CLOSED);
+    CHECK_FAULT(synicboard_close_port(NULL, 0), SYNICBOARD_IS_CLOSED);
+    CHECK_FAULT(synicboard_write(NULL, 0, SCONTROL, 1), SYNICBOARD_IS_CLOSED);
+    CHECK_FAULT(synicboard_read(NULL, 0, SCONTROL), SYNICBOARD_IS_CLOSED);
+    CHECK_FAULT(synicboard_post(NULL, 0, 1, &byte, 1), SYNICBOARD_IS_CLOSED);
+    CHECK_FAULT(synicboard_signal(NULL, 0, 0), SYNICBOARD_IS_CLOSED);
+    CHECK_FAULT(synicboard_assert(NULL, 0, 0x60), SYNICBOARD_IS_CLOSED);
+    CHECK_FAULT(synicboard_assert(NULL, 0, 15), SYNICBOARD_IS_CLOSED);
+    CHECK_FAULT(synicboard_absorb(NULL, 0, 1, 1), SYNICBOARD_IS_CLOSED);
+    CHECK_FAULT(synicboard_store(NULL, 0, &byte, 1), SYNICBOARD_IS_CLOSED);
+    CHECK_FAULT(synicboard_load(NULL, 0, 1), SYNICBOARD_IS_CLOSED);
+    CHECK_FAULT(synicboard_tick(NULL, 1), SYNICBOARD_IS_CLOSED);
+    CHECK_FAULT(synicboard_take(NULL, 0), SYNICBOARD_IS_CLOSED);
+    CHECK_FAULT(synicboard_suspend(NULL, 0), SYNICBOARD_IS_CLOSED);
+    CHECK_FAULT(synicboard_resume(NULL, 0), SYNICBOARD_IS_CLOSED);
+    CHECK_FAULT(synicboard_reset(NULL, 0), SYNICBOARD_IS_CLOSED);
+    CHECK_FAULT(synicboard_perform(NULL, &event), SYNICBOARD_IS_CLOSED);
     CHECK_NUMBER(requests + returns, 0);
 }
 
 /* A null board is reported before anything else is checked. */
 static void test_null_board_and_more(void)
 {
-    CHECK_FAULT(synicboard_post(NULL, 0, 1, NULL, 1), SYNICBOARD_NO_BOARD);
-    CHECK_FAULT(synicboard_post(NULL, 0, 1, NULL, 0), SYNICBOARD_NO_BOARD);
-    CHECK_FAULT(synicboard_store(NULL, 0, NULL, 1), SYNICBOARD_NO_BOARD);
-    CHECK_FAULT(synicboard_store(NULL, 0, NULL, 0), SYNICBOARD_NO_BOARD);
-    CHECK_FAULT(synicboard_perform(NULL, NULL), SYNICBOARD_NO_BOARD);
-    CHECK_FAULT(synicboard_absorb_line(NULL, NULL, 0, 1), SYNICBOARD_NO_BOARD);
+    CHECK_FAULT(synicboard_post(NULL, 0, 1, NULL, 1), SYNICBOARD_IS_CLOSED);
+    CHECK_FAULT(synicboard_post(NULL, 0, 1, NULL, 0), SYNICBOARD_IS_CLOSED);
+    CHECK_FAULT(synicboard_store(NULL, 0, NULL, 1), SYNICBOARD_IS_CLOSED);
+    CHECK_FAULT(synicboard_store(NULL, 0, NULL, 0), SYNICBOARD_IS_CLOSED);
+    CHECK_FAULT(synicboard_perform(NULL, NULL), SYNICBOARD_IS_CLOSED);
+    CHECK_FAULT(synicboard_absorb_line(NULL, NULL, 0, 1), SYNICBOARD_IS_CLOSED);
     CHECK_NUMBER(synicboard_notices(NULL, NULL, NOTICES), 0);
-    CHECK_NUMBER(synicboard_perform_all(NULL, NULL, 1, NULL, 1, NULL, NOTICES).end, SYNICBOARD_BATCH_NO_BOARD);
+    CHECK_NUMBER(synicboard_perform_all(NULL, NULL, 1, NULL, 1, NULL, NOTICES).end, SYNICBOARD_IS_CLOSED);
     CHECK(!synicboard_message_page(NULL, 0, NULL));
     CHECK(!synicboard_flag_page(NULL, 0, NULL));
     CHECK(!synicboard_guest_page(NULL, 0, NULL));
@@ -104,6 +104,8 @@ static void test_null_board_looks(void)
 {
     const uint8_t byte = 0, *page = &byte;
     synicboard_notice notice;
+    synicboard_view view = { .next = { 0x50 } };
+    synicboard_owners owners = { .page = { { .kind = SYNICBOARD_OWNER_GUEST } } };
     memset(&notice, FILLER, sizeof notice);
     CHECK_NUMBER(synicboard_next(NULL, 0), 0);
     CHECK(!synicboard_is_auto(NULL, 0, 0x50));
@@ -114,6 +116,12 @@ static void test_null_board_looks(void)
     CHECK_NUMBER(synicboard_owner(NULL, 0).vp, 0);
     synicboard_due due = synicboard_earliest(NULL);
     CHECK(!due.is_due && due.vp == 0 && due.timer == 0 && due.low == 0 && due.high == 0);
+    CHECK_NUMBER(synicboard_update(NULL, &view), 1);
+    CHECK(view.next[0] == 0);
+    CHECK_NUMBER(synicboard_update_owners(NULL, &owners), 1);
+    CHECK(owners.page[0].kind == SYNICBOARD_OWNER_NOTHING);
+    CHECK_NUMBER(synicboard_update(NULL, NULL), 0);
+    CHECK_NUMBER(synicboard_update_owners(NULL, NULL), 0);
     CHECK_NUMBER(synicboard_notices(NULL, &notice, 1), 0);
     CHECK(is_filled(&notice, sizeof notice));
     CHECK(!synicboard_message_page(NULL, 0, &page) && page == &byte);
@@ -150,8 +158,8 @@ static void test_null_bytes(void)
         CHECK_FAULT(synicboard_post(&board, MESSAGE_PORT, 1, NULL, sizes[at]), SYNICBOARD_NO_EVENT);
         CHECK_FAULT(synicboard_store(&board, PAGE, NULL, sizes[at]), SYNICBOARD_NO_EVENT);
         CHECK_UNCHANGED(&board);
-        CHECK_FAULT(synicboard_post(&closed, MESSAGE_PORT, 1, NULL, sizes[at]), SYNICBOARD_NO_BOARD);
-        CHECK_FAULT(synicboard_store(&closed, PAGE, NULL, sizes[at]), SYNICBOARD_NO_BOARD);
+        CHECK_FAULT(synicboard_post(&closed, MESSAGE_PORT, 1, NULL, sizes[at]), SYNICBOARD_IS_CLOSED);
+        CHECK_FAULT(synicboard_store(&closed, PAGE, NULL, sizes[at]), SYNICBOARD_IS_CLOSED);
     }
     synicboard_close(&board);
 }
@@ -190,7 +198,7 @@ static void check_batch(synicboard_batch batch, uint8_t end, int line)
 {
     check_number(batch.end, end, "the end of a batch", line);
     check_number(batch.done, 0, "the events of a batch", line);
-    check_number(batch.told, 0, "the notices of a batch", line);
+    check_number(batch.emitted, 0, "the notices of a batch", line);
     check(is_filled(replies, sizeof replies) && is_filled(notices, sizeof notices), "the rooms of a batch", line);
 }
 
@@ -202,7 +210,7 @@ static void test_null_event(void)
     open_busy(&board);
     CHECK_FAULT(synicboard_perform(&board, NULL), SYNICBOARD_NO_EVENT);
     CHECK_UNCHANGED(&board);
-    CHECK_FAULT(synicboard_perform(&closed, NULL), SYNICBOARD_NO_BOARD);
+    CHECK_FAULT(synicboard_perform(&closed, NULL), SYNICBOARD_IS_CLOSED);
     synicboard_close(&board);
 }
 
@@ -214,18 +222,18 @@ static void test_batches(void)
     memset(replies, FILLER, sizeof replies);
     memset(notices, FILLER, sizeof notices);
     CHECK_BATCH(synicboard_perform_all(NULL, events, 1, replies, EVENTS, notices, NOTICES),
-                SYNICBOARD_BATCH_NO_BOARD);
+                SYNICBOARD_IS_CLOSED);
     CHECK_BATCH(synicboard_perform_all(&closed, NULL, 1, replies, EVENTS, notices, NOTICES),
-                SYNICBOARD_BATCH_NO_BOARD);
+                SYNICBOARD_IS_CLOSED);
     open_busy(&board);
     for (size_t at = 0; at < sizeof counts / sizeof *counts; at++)
         CHECK_BATCH(synicboard_perform_all(&board, NULL, counts[at], replies, EVENTS, notices, NOTICES),
-                    SYNICBOARD_BATCH_NO_EVENT);
-    CHECK_BATCH(synicboard_perform_all(&board, NULL, 0, replies, EVENTS, notices, NOTICES), SYNICBOARD_ALL_PERFORMED);
-    CHECK_BATCH(synicboard_perform_all(&board, NULL, 0, NULL, 0, NULL, 0), SYNICBOARD_ALL_PERFORMED);
-    CHECK_BATCH(synicboard_perform_all(&board, events, 1, NULL, EVENTS, notices, NOTICES), SYNICBOARD_BATCH_NO_ROOM);
-    CHECK_BATCH(synicboard_perform_all(&board, events, 1, replies, EVENTS, NULL, NOTICES), SYNICBOARD_BATCH_NO_ROOM);
-    CHECK_BATCH(synicboard_perform_all(&board, NULL, 1, NULL, EVENTS, NULL, NOTICES), SYNICBOARD_BATCH_NO_ROOM);
+                    SYNICBOARD_NO_EVENT);
+    CHECK_BATCH(synicboard_perform_all(&board, NULL, 0, replies, EVENTS, notices, NOTICES), SYNICBOARD_OK);
+    CHECK_BATCH(synicboard_perform_all(&board, NULL, 0, NULL, 0, NULL, 0), SYNICBOARD_OK);
+    CHECK_BATCH(synicboard_perform_all(&board, events, 1, NULL, EVENTS, notices, NOTICES), SYNICBOARD_NO_ROOM);
+    CHECK_BATCH(synicboard_perform_all(&board, events, 1, replies, EVENTS, NULL, NOTICES), SYNICBOARD_NO_ROOM);
+    CHECK_BATCH(synicboard_perform_all(&board, NULL, 1, NULL, EVENTS, NULL, NOTICES), SYNICBOARD_NO_ROOM);
     CHECK_UNCHANGED(&board);
     synicboard_close(&board);
 }
@@ -267,9 +275,9 @@ static void test_null_line(void)
     CHECK_NUMBER(synicboard_raise(NULL, 0, 0x60), SYNICBOARD_NOT_RAISED);
     CHECK_FAULT(synicboard_absorb_line(&board, NULL, 0, 1), SYNICBOARD_NO_LINE);
     CHECK_UNCHANGED(&board);
-    CHECK_NUMBER(synicboard_open_line(&line, 1), SYNICBOARD_OPENED);
+    CHECK_NUMBER(synicboard_open_line(&line, 1), SYNICBOARD_OK);
     CHECK_NUMBER(synicboard_raise(&line, 0, 0x60), SYNICBOARD_FRESH);
-    CHECK_FAULT(synicboard_absorb_line(NULL, &line, 0, 1), SYNICBOARD_NO_BOARD);
+    CHECK_FAULT(synicboard_absorb_line(NULL, &line, 0, 1), SYNICBOARD_IS_CLOSED);
     CHECK_NUMBER(synicboard_raise(&line, 0, 0x60), SYNICBOARD_ALREADY);
     synicboard_close_line(&line);
     synicboard_close(&board);
@@ -280,7 +288,7 @@ static void test_splitting(void)
 {
     synicboard_line line = SYNICBOARD_LINE_CLOSED, closed = SYNICBOARD_LINE_CLOSED, others[MOST_SPLITS];
     memset(others, 0, sizeof others);
-    CHECK_NUMBER(synicboard_open_line(&line, 1), SYNICBOARD_OPENED);
+    CHECK_NUMBER(synicboard_open_line(&line, 1), SYNICBOARD_OK);
     CHECK_NUMBER(synicboard_raise(&line, 0, 0x60), SYNICBOARD_FRESH);
     refuse(0);
     CHECK_NUMBER(synicboard_split_line(&line, NULL), SYNICBOARD_NO_HANDLE);
@@ -291,7 +299,7 @@ static void test_splitting(void)
     CHECK(closed.at == NULL && !closed.is_open);
     CHECK_NUMBER(requests + returns, 0);
     for (size_t at = 0; at < MOST_SPLITS; at++)
-        CHECK_NUMBER(synicboard_split_line(&line, &others[at]), SYNICBOARD_OPENED);
+        CHECK_NUMBER(synicboard_split_line(&line, &others[at]), SYNICBOARD_OK);
     CHECK_NUMBER(synicboard_split_line(&line, &closed), SYNICBOARD_NO_MORE_LINES);
     CHECK_NUMBER(synicboard_raise(&others[0], 0, 0x60), SYNICBOARD_ALREADY);
     for (size_t at = 0; at < MOST_SPLITS; at++)
@@ -336,7 +344,7 @@ static void test_null_texts(void)
     CHECK(memcmp(room, empty, strlen(empty)) == 0 && room[strlen(empty)] == FILLER);
     CHECK_END(synicboard_replay(NULL, 0, NULL, sizeof room), SYNICBOARD_WRONG_LINE, 1, strlen(empty));
     CHECK_VERDICT(synicboard_check(NULL, 0), SYNICBOARD_WRONG_LINE, 1);
-    CHECK_END(synicboard_replay((const uint8_t *)script, strlen(script), NULL, sizeof room), SYNICBOARD_ALL_RIGHT, 0,
+    CHECK_END(synicboard_replay((const uint8_t *)script, strlen(script), NULL, sizeof room), SYNICBOARD_OK, 0,
               strlen(told));
 }
 
@@ -347,12 +355,12 @@ static void test_null_entries(void)
     const char *told = "9 take 0\n= taken none\n";
     uint8_t room[64];
     memset(room, FILLER, sizeof room);
-    CHECK_END(synicboard_tell(9, NULL, &reply, room, sizeof room), SYNICBOARD_WRONG_LINE, 1, 0);
-    CHECK_END(synicboard_tell(9, &event, NULL, room, sizeof room), SYNICBOARD_WRONG_LINE, 2, 0);
-    CHECK_END(synicboard_tell(9, NULL, NULL, NULL, sizeof room), SYNICBOARD_WRONG_LINE, 1, 0);
-    CHECK_END(synicboard_tell(9, &event, &reply, NULL, sizeof room), SYNICBOARD_ALL_RIGHT, 0, strlen(told));
+    CHECK_END(synicboard_format_entry(9, NULL, &reply, room, sizeof room), SYNICBOARD_WRONG_LINE, 1, 0);
+    CHECK_END(synicboard_format_entry(9, &event, NULL, room, sizeof room), SYNICBOARD_WRONG_LINE, 2, 0);
+    CHECK_END(synicboard_format_entry(9, NULL, NULL, NULL, sizeof room), SYNICBOARD_WRONG_LINE, 1, 0);
+    CHECK_END(synicboard_format_entry(9, &event, &reply, NULL, sizeof room), SYNICBOARD_OK, 0, strlen(told));
     CHECK(is_filled(room, sizeof room));
-    CHECK_END(synicboard_tell(9, &event, &reply, room, sizeof room), SYNICBOARD_ALL_RIGHT, 0, strlen(told));
+    CHECK_END(synicboard_format_entry(9, &event, &reply, room, sizeof room), SYNICBOARD_OK, 0, strlen(told));
     CHECK(memcmp(room, told, strlen(told)) == 0 && room[strlen(told)] == FILLER);
 }
 

@@ -5,7 +5,7 @@
  *   script --batches FILE    up to seven events at a time by synicboard_perform_all
  *   script --text FILE       the whole script by synicboard_replay, into buffers of several sizes
  *
- * With --calls and --structs, synicboard_tell also records a trace, which is then checked.
+ * With --calls and --structs, synicboard_format_entry also records a trace, which is then checked.
  *
  * Exit status: 0; 1 after a wrong line; 2 for a wrong command line; 3 if the library did not do
  * what its header says; 4 if a file could not be read or an allocation failed. */
@@ -506,7 +506,7 @@ static const char *open_board(struct script *script)
     script->processors = (uint8_t)sizes[0];
     script->pages = (uint8_t)sizes[1];
     switch (synicboard_open(&script->board, script->processors, script->pages, ticket)) {
-    case SYNICBOARD_OPENED:
+    case SYNICBOARD_OK:
         if (script->perform != NULL)
             open_trace(script, ticket);
         return NULL;
@@ -528,14 +528,14 @@ static void perform_waiting(struct script *script)
         synicboard_batch batch = synicboard_perform_all(
             &script->board, script->waiting + first, left, replies, MOST_WAITING, notices, room);
         demand(batch.done > 0 && batch.done <= left, "a batch with room performed nothing");
-        demand(batch.end == (batch.done == left ? SYNICBOARD_ALL_PERFORMED : SYNICBOARD_BATCH_NO_ROOM), "a batch ended");
-        demand(batch.done == left || batch.told > MORE_NOTICES, "a batch ended with room");
+        demand(batch.end == (batch.done == left ? SYNICBOARD_OK : SYNICBOARD_NO_ROOM), "a batch ended");
+        demand(batch.done == left || batch.emitted > MORE_NOTICES, "a batch ended with room");
         size_t told = 0;
         for (size_t at = 0; at < batch.done; at++) {
             print_told(&replies[at], notices + told);
             told += replies[at].notices;
         }
-        demand(told == batch.told, "a batch told of other notices than its replies");
+        demand(told == batch.emitted, "a batch told of other notices than its replies");
         first += batch.done;
     }
     script->count = 0;
@@ -549,13 +549,13 @@ static void tell(struct script *script, struct cursor line, const synicboard_eve
     uint8_t actor = (uint8_t)script->entries;
     char wanted[LONGEST_LINE + 8];
     int size = snprintf(wanted, sizeof wanted, "%u %.*s\n= ", actor, (int)(line.end - line.at), line.at);
-    synicboard_end end = synicboard_tell(actor, event, reply, room, sizeof room);
-    demand(end.kind == SYNICBOARD_ALL_RIGHT && end.line == 0, "an entry is not told");
+    synicboard_end end = synicboard_format_entry(actor, event, reply, room, sizeof room);
+    demand(end.kind == SYNICBOARD_OK && end.line == 0, "an entry is not told");
     demand(end.length > (size_t)size && end.length <= sizeof room, "an entry of another length is told");
     demand(memcmp(room, wanted, (size_t)size) == 0 && room[end.length - 1] == '\n', "another event is told");
     size_t fitting = script->entries % end.length;
     memset(less, FILLER, sizeof less);
-    synicboard_end again = synicboard_tell(actor, event, reply, less, fitting);
+    synicboard_end again = synicboard_format_entry(actor, event, reply, less, fitting);
     demand(again.kind == end.kind && again.length == end.length, "another room has another end");
     demand(memcmp(less, room, fitting) == 0 && less[fitting] == FILLER, "another room has another text");
     fwrite(room, 1, end.length, script->trace);
@@ -571,7 +571,7 @@ static void close_trace(struct script *script)
     if (fclose(script->trace) != 0)
         give_up(NO_FILE, "out of memory");
     synicboard_verdict verdict = synicboard_check((const uint8_t *)script->trace_bytes, script->trace_length);
-    demand(verdict.kind == SYNICBOARD_ALL_RIGHT && verdict.entries == script->entries, "what was told is no legal trace");
+    demand(verdict.kind == SYNICBOARD_OK && verdict.entries == script->entries, "what was told is no legal trace");
     free(script->trace_bytes);
 }
 
@@ -631,7 +631,7 @@ static uint8_t *replayed(const char *text, size_t length, size_t size, synicboar
     uint8_t *room = room_of(size + GUARD);
     memset(room, FILLER, size + GUARD);
     *end = synicboard_replay((const uint8_t *)text, length, room, size);
-    if (end->kind == SYNICBOARD_WANTED_MEMORY)
+    if (end->kind == SYNICBOARD_NO_MEMORY)
         give_up(NO_FILE, "out of memory");
     size_t written = end->length < size ? end->length : size;
     for (size_t at = written; at < size + GUARD; at++)
@@ -669,7 +669,7 @@ static int replay_text(const char *text, size_t length)
     if (end.kind == SYNICBOARD_WRONG_LINE)
         judge_fault(whole, end.length, end.line);
     else
-        demand(end.kind == SYNICBOARD_ALL_RIGHT && end.line == 0, "a replay with an end of no kind");
+        demand(end.kind == SYNICBOARD_OK && end.line == 0, "a replay with an end of no kind");
     free(whole);
     return end.kind == SYNICBOARD_WRONG_LINE ? WRONG_SCRIPT : 0;
 }

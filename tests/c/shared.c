@@ -65,8 +65,8 @@ enum { EVENTS = sizeof events / sizeof events[0] };
 
 static void open_both(synicboard_shared *shared, synicboard *board)
 {
-    CHECK_NUMBER(synicboard_open_shared(shared, 2, 4, FIRST_TICKET), SYNICBOARD_OPENED);
-    CHECK_NUMBER(synicboard_open(board, 2, 4, FIRST_TICKET), SYNICBOARD_OPENED);
+    CHECK_NUMBER(synicboard_open_shared(shared, 2, 4, FIRST_TICKET), SYNICBOARD_OK);
+    CHECK_NUMBER(synicboard_open(board, 2, 4, FIRST_TICKET), SYNICBOARD_OK);
 }
 
 static void close_shared(synicboard_shared *shared)
@@ -81,12 +81,12 @@ static void test_closed(void)
     for (size_t at = 0; at < 2; at++) {
         synicboard_line line = SYNICBOARD_LINE_CLOSED;
         refuse(0);
-        CHECK_FAULT(synicboard_act(handles[at], 0, &events[0], NULL, 0), SYNICBOARD_NO_BOARD);
-        CHECK_FAULT(synicboard_act_absorb(handles[at], 0, &line, 0, 0, NULL, 0), SYNICBOARD_NO_BOARD);
+        CHECK_FAULT(synicboard_act(handles[at], 0, &events[0], NULL, 0), SYNICBOARD_IS_CLOSED);
+        CHECK_FAULT(synicboard_act_absorb(handles[at], 0, &line, 0, 0, NULL, 0), SYNICBOARD_IS_CLOSED);
         CHECK(synicboard_hold(handles[at]) == NULL);
         synicboard_release(handles[at]);
         synicboard_settled settled = settle(handles[at]);
-        CHECK_NUMBER(settled.kind, SYNICBOARD_NO_TEXT);
+        CHECK_NUMBER(settled.kind, SYNICBOARD_IS_CLOSED);
         CHECK_NUMBER(settled.entries + settled.line + settled.length, 0);
         synicboard_close_shared(handles[at]);
         CHECK_NUMBER(requests, 0);
@@ -111,7 +111,7 @@ static void test_sizes(void)
 static void test_opening_twice(void)
 {
     synicboard_shared shared = SYNICBOARD_SHARED_CLOSED;
-    CHECK_NUMBER(synicboard_open_shared(&shared, 1, 1, 0), SYNICBOARD_OPENED);
+    CHECK_NUMBER(synicboard_open_shared(&shared, 1, 1, 0), SYNICBOARD_OK);
     CHECK_REPLY(act(&shared, 0, (synicboard_event){ .kind = SYNICBOARD_TICK, .moment = 9 }), SYNICBOARD_DONE);
     describe_shared(&shared, &before);
     CHECK_NUMBER(synicboard_open_shared(&shared, 2, 2, 0), SYNICBOARD_IS_OPEN);
@@ -151,7 +151,7 @@ static void test_replies(void)
     describe(&board, &before);
     CHECK_SAME(&before, &after);
     synicboard_settled settled = settle(&shared);
-    CHECK_NUMBER(settled.kind, SYNICBOARD_ALL_RIGHT);
+    CHECK_NUMBER(settled.kind, SYNICBOARD_OK);
     CHECK_NUMBER(settled.entries, EVENTS);
     synicboard_close(&board);
     close_shared(&shared);
@@ -169,7 +169,7 @@ static void test_no_event(void)
     };
     synicboard_shared shared = SYNICBOARD_SHARED_CLOSED;
     synicboard_line closed = SYNICBOARD_LINE_CLOSED;
-    CHECK_NUMBER(synicboard_open_shared(&shared, 1, 1, 0), SYNICBOARD_OPENED);
+    CHECK_NUMBER(synicboard_open_shared(&shared, 1, 1, 0), SYNICBOARD_OK);
     describe_shared(&shared, &before);
     for (size_t at = 0; at < sizeof wrong / sizeof wrong[0]; at++)
         CHECK_FAULT(synicboard_act(&shared, 0, &wrong[at], NULL, 0), SYNICBOARD_NO_EVENT);
@@ -179,7 +179,7 @@ static void test_no_event(void)
     describe_shared(&shared, &after);
     CHECK_SAME(&before, &after);
     synicboard_settled settled = settle(&shared);
-    CHECK_NUMBER(settled.kind, SYNICBOARD_ALL_RIGHT);
+    CHECK_NUMBER(settled.kind, SYNICBOARD_OK);
     CHECK(strcmp(trace, "trace 2\nboard 1 1 0\nend 0 0\n") == 0);
     close_shared(&shared);
 }
@@ -196,8 +196,8 @@ static void test_trace(void)
     synicboard_shared shared = SYNICBOARD_SHARED_CLOSED;
     synicboard_line line = SYNICBOARD_LINE_CLOSED;
     synicboard_notice notices[2];
-    CHECK_NUMBER(synicboard_open_shared(&shared, 2, 4, FIRST_TICKET), SYNICBOARD_OPENED);
-    CHECK_NUMBER(synicboard_open_line(&line, 2), SYNICBOARD_OPENED);
+    CHECK_NUMBER(synicboard_open_shared(&shared, 2, 4, FIRST_TICKET), SYNICBOARD_OK);
+    CHECK_NUMBER(synicboard_open_line(&line, 2), SYNICBOARD_OK);
     act(&shared, 0, events[0]);
     act(&shared, 200, events[3]);
     act(&shared, 1, events[6]);
@@ -210,7 +210,7 @@ static void test_trace(void)
     CHECK_NUMBER(notices[1].vector, 0x7f);
     CHECK_REFUSAL(synicboard_act_absorb(&shared, 1, &line, 2, 0, NULL, 0), SYNICBOARD_NO_SUCH_PROCESSOR);
     synicboard_settled settled = settle(&shared);
-    CHECK_NUMBER(settled.kind, SYNICBOARD_ALL_RIGHT);
+    CHECK_NUMBER(settled.kind, SYNICBOARD_OK);
     CHECK_NUMBER(settled.entries, 5);
     CHECK_NUMBER(settled.line, 0);
     CHECK_NUMBER(settled.length, sizeof wanted - 1);
@@ -229,7 +229,7 @@ static void test_beside_the_history(void)
 {
     static const synicboard_event count = { .kind = SYNICBOARD_READ, .vp = 0, .msr = REFERENCE_COUNTER };
     synicboard_shared shared = SYNICBOARD_SHARED_CLOSED;
-    CHECK_NUMBER(synicboard_open_shared(&shared, 1, 1, 0), SYNICBOARD_OPENED);
+    CHECK_NUMBER(synicboard_open_shared(&shared, 1, 1, 0), SYNICBOARD_OK);
     CHECK_NUMBER(act(&shared, 0, count).value, 0);
     CHECK_REPLY(synicboard_tick(synicboard_hold(&shared), 5), SYNICBOARD_DONE);
     synicboard_release(&shared);
@@ -247,7 +247,7 @@ static void test_opening_without_memory(void)
 {
     synicboard_shared shared = SYNICBOARD_SHARED_CLOSED;
     refuse(0);
-    CHECK_NUMBER(synicboard_open_shared(&shared, 8, 64, 0), SYNICBOARD_OPENED);
+    CHECK_NUMBER(synicboard_open_shared(&shared, 8, 64, 0), SYNICBOARD_OK);
     size_t needed = requests;
     CHECK(needed > 1);
     close_shared(&shared);
@@ -265,7 +265,7 @@ static void test_acting_without_memory(void)
 {
     synicboard_shared shared = SYNICBOARD_SHARED_CLOSED;
     unsigned refused = 0;
-    CHECK_NUMBER(synicboard_open_shared(&shared, 1, 1, 0), SYNICBOARD_OPENED);
+    CHECK_NUMBER(synicboard_open_shared(&shared, 1, 1, 0), SYNICBOARD_OK);
     for (unsigned turn = 1; turn <= LONG_HISTORY; turn++) {
         synicboard_event tick = { .kind = SYNICBOARD_TICK, .moment = turn };
         describe_shared(&shared, &before);
@@ -273,7 +273,7 @@ static void test_acting_without_memory(void)
         synicboard_reply reply = act(&shared, 0, tick);
         refuse(0);
         if (reply.kind == SYNICBOARD_NOT_PERFORMED) {
-            CHECK_FAULT(reply, SYNICBOARD_NO_ENTRY);
+            CHECK_FAULT(reply, SYNICBOARD_NO_MEMORY);
             describe_shared(&shared, &after);
             CHECK_SAME(&before, &after);
             CHECK_REPLY(act(&shared, 0, tick), SYNICBOARD_DONE);
@@ -282,7 +282,7 @@ static void test_acting_without_memory(void)
     }
     CHECK(refused > 2 && refused < 10);
     synicboard_settled settled = settle(&shared);
-    CHECK_NUMBER(settled.kind, SYNICBOARD_ALL_RIGHT);
+    CHECK_NUMBER(settled.kind, SYNICBOARD_OK);
     CHECK_NUMBER(settled.entries, LONG_HISTORY);
     close_shared(&shared);
 }
@@ -291,17 +291,17 @@ static void test_acting_without_memory(void)
 static void test_settling_without_memory(void)
 {
     synicboard_shared shared = SYNICBOARD_SHARED_CLOSED;
-    CHECK_NUMBER(synicboard_open_shared(&shared, 2, 4, FIRST_TICKET), SYNICBOARD_OPENED);
+    CHECK_NUMBER(synicboard_open_shared(&shared, 2, 4, FIRST_TICKET), SYNICBOARD_OK);
     for (size_t at = 0; at < EVENTS; at++)
         act(&shared, 0, events[at]);
     refuse(0);
-    CHECK_NUMBER(settle(&shared).kind, SYNICBOARD_ALL_RIGHT);
+    CHECK_NUMBER(settle(&shared).kind, SYNICBOARD_OK);
     size_t needed = requests, blocks = blocks_out;
     CHECK(needed > EVENTS);
     for (size_t number = 1; number <= needed; number++) {
         refuse(number);
         synicboard_settled settled = settle(&shared);
-        CHECK_NUMBER(settled.kind, SYNICBOARD_WANTED_MEMORY);
+        CHECK_NUMBER(settled.kind, SYNICBOARD_NO_MEMORY);
         CHECK_NUMBER(settled.entries + settled.line + settled.length, 0);
         CHECK_NUMBER(trace[0], 0);
         CHECK_NUMBER(blocks_out, blocks);
@@ -370,11 +370,11 @@ static void test_threads(void)
 {
     struct actor actors[ACTORS] = { 0 };
     unsigned fresh = 0, absorbed = 0;
-    CHECK_NUMBER(synicboard_open_shared(&board, ACTORS, 1, 0), SYNICBOARD_OPENED);
-    CHECK_NUMBER(synicboard_open_line(&first_line, ACTORS), SYNICBOARD_OPENED);
+    CHECK_NUMBER(synicboard_open_shared(&board, ACTORS, 1, 0), SYNICBOARD_OK);
+    CHECK_NUMBER(synicboard_open_line(&first_line, ACTORS), SYNICBOARD_OK);
     for (uint8_t vp = 0; vp < ACTORS; vp++) {
         actors[vp].vp = vp;
-        CHECK_NUMBER(synicboard_split_line(&first_line, &actors[vp].line), SYNICBOARD_OPENED);
+        CHECK_NUMBER(synicboard_split_line(&first_line, &actors[vp].line), SYNICBOARD_OK);
     }
     for (uint8_t vp = 0; vp < ACTORS; vp++)
         CHECK_NUMBER(pthread_create(&actors[vp].thread, NULL, run_actor, &actors[vp]), 0);
@@ -385,7 +385,7 @@ static void test_threads(void)
     for (uint8_t vp = 0; vp < ACTORS; vp++)
         CHECK_NUMBER(pthread_join(actors[vp].thread, NULL), 0);
     synicboard_settled settled = settle(&board);
-    CHECK_NUMBER(settled.kind, SYNICBOARD_ALL_RIGHT);
+    CHECK_NUMBER(settled.kind, SYNICBOARD_OK);
     CHECK_NUMBER(settled.entries, ACTORS * TURNS * 3);
     for (uint8_t vp = 0; vp < ACTORS; vp++)
         CHECK_NUMBER(entries_of(vp), TURNS * 3);
@@ -396,7 +396,7 @@ static void test_threads(void)
         absorbed += actors[vp].absorbed;
     CHECK(fresh > 0);
     CHECK_NUMBER(absorbed, fresh);
-    CHECK_NUMBER(settle(&board).kind, SYNICBOARD_ALL_RIGHT);
+    CHECK_NUMBER(settle(&board).kind, SYNICBOARD_OK);
     for (uint8_t vp = 0; vp < ACTORS; vp++)
         synicboard_close_line(&actors[vp].line);
     synicboard_close_line(&first_line);

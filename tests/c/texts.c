@@ -52,7 +52,7 @@ static void test_check(void)
     size_t blocks = blocks_out;
     read_trace();
     size_t length = strlen(trace);
-    CHECK_VERDICT(length, SYNICBOARD_ALL_RIGHT, 10, 0);
+    CHECK_VERDICT(length, SYNICBOARD_OK, 10, 0);
     CHECK_VERDICT(length - 1, SYNICBOARD_WRONG_LINE, 0, 23);
     CHECK_VERDICT(length - strlen("end 10\n"), SYNICBOARD_WRONG_LINE, 0, 23);
     replace("accepted 0", "accepted 7");
@@ -63,7 +63,7 @@ static void test_check(void)
     replace("end 11\n", "end 10 1\n");
     CHECK_VERDICT(length + 2, SYNICBOARD_WRONG_LINE, 0, 23);
     replace("trace 1", "trace 2");
-    CHECK_VERDICT(length + 2, SYNICBOARD_ALL_RIGHT, 10, 0);
+    CHECK_VERDICT(length + 2, SYNICBOARD_OK, 10, 0);
     replace("end 10 1", "end 10 2");
     CHECK_VERDICT(length + 2, SYNICBOARD_WRONG_LINE, 0, 23);
     replace("board 1 4", "board 9 4");
@@ -119,8 +119,8 @@ static void check_told(synicboard_event event, synicboard_reply reply, uint64_t 
 {
     uint8_t room[600];
     memset(room, FILLER, sizeof room);
-    synicboard_end end = synicboard_tell(9, &event, &reply, room, sizeof room);
-    check_number(end.kind, wrong == 0 ? SYNICBOARD_ALL_RIGHT : SYNICBOARD_WRONG_LINE, "the kind of an entry's end", line);
+    synicboard_end end = synicboard_format_entry(9, &event, &reply, room, sizeof room);
+    check_number(end.kind, wrong == 0 ? SYNICBOARD_OK : SYNICBOARD_WRONG_LINE, "the kind of an entry's end", line);
     check_number(end.line, wrong, "the line of an entry's end", line);
     check_number(end.length, strlen(text), "the length of an entry", line);
     check(memcmp(room, text, strlen(text)) == 0, "an entry has its text", line);
@@ -152,7 +152,7 @@ static void test_entries(void)
         bool is_told = kind >= SYNICBOARD_DONE && kind <= SYNICBOARD_REFUSED;
         const synicboard_reply reply = { .kind = (uint8_t)kind, .refusal = 1, .vector = 16 };
         uint8_t room[80];
-        synicboard_end end = synicboard_tell(0, &take, &reply, room, sizeof room);
+        synicboard_end end = synicboard_format_entry(0, &take, &reply, room, sizeof room);
         CHECK_NUMBER(end.line, is_told ? 0 : 2);
     }
     for (unsigned refusal = 0; refusal <= UINT8_MAX; refusal++) {
@@ -177,9 +177,9 @@ static void test_longest_entry(void)
     char text[600];
     uint8_t room[600];
     snprintf(text, sizeof text, "255 post 255 ffffffff %0480d\n= accepted 18446744073709551615\n", 0);
-    synicboard_end end = synicboard_tell(255, &event, &reply, room, sizeof room);
+    synicboard_end end = synicboard_format_entry(255, &event, &reply, room, sizeof room);
     CHECK_NUMBER(strlen(text), 535);
-    CHECK_NUMBER(end.kind, SYNICBOARD_ALL_RIGHT);
+    CHECK_NUMBER(end.kind, SYNICBOARD_OK);
     CHECK_NUMBER(end.length, strlen(text));
     CHECK(memcmp(room, text, strlen(text)) == 0);
 }
@@ -196,13 +196,13 @@ static void test_refused_replay(void)
     for (int line = 0; line < 1000; line++)
         length += (size_t)sprintf(script + length, "assert %d 60\n", line % 8);
     refuse(number);
-    while ((end = synicboard_replay((uint8_t *)script, length, room, sizeof room)).kind == SYNICBOARD_WANTED_MEMORY) {
+    while ((end = synicboard_replay((uint8_t *)script, length, room, sizeof room)).kind == SYNICBOARD_NO_MEMORY) {
         CHECK_NUMBER(end.line, 0);
         CHECK_NUMBER(end.length, 0);
         CHECK_NUMBER(blocks_out, 0);
         refuse(++number);
     }
-    CHECK_NUMBER(end.kind, SYNICBOARD_ALL_RIGHT);
+    CHECK_NUMBER(end.kind, SYNICBOARD_OK);
     CHECK_NUMBER(requests, number - 1);
     CHECK(number > 1);
     refuse(0);
@@ -215,13 +215,13 @@ static void test_refused_check(void)
     size_t number = 1;
     read_trace();
     refuse(number);
-    while ((verdict = synicboard_check((uint8_t *)trace, strlen(trace))).kind == SYNICBOARD_WANTED_MEMORY) {
+    while ((verdict = synicboard_check((uint8_t *)trace, strlen(trace))).kind == SYNICBOARD_NO_MEMORY) {
         CHECK_NUMBER(verdict.entries, 0);
         CHECK_NUMBER(verdict.line, 0);
         CHECK_NUMBER(blocks_out, 0);
         refuse(++number);
     }
-    CHECK_NUMBER(verdict.kind, SYNICBOARD_ALL_RIGHT);
+    CHECK_NUMBER(verdict.kind, SYNICBOARD_OK);
     CHECK_NUMBER(verdict.entries, 10);
     CHECK_NUMBER(requests, number - 1);
     CHECK(number > 1);
@@ -236,14 +236,14 @@ static void test_refused_entry(void)
     synicboard_end end;
     size_t number = 1;
     refuse(number);
-    while ((end = synicboard_tell(0, &event, &reply, room, sizeof room)).kind == SYNICBOARD_WANTED_MEMORY) {
+    while ((end = synicboard_format_entry(0, &event, &reply, room, sizeof room)).kind == SYNICBOARD_NO_MEMORY) {
         CHECK_NUMBER(end.line, 0);
         CHECK_NUMBER(end.length, 0);
         CHECK_NUMBER(room[0], FILLER);
         CHECK_NUMBER(blocks_out, 0);
         refuse(++number);
     }
-    CHECK_NUMBER(end.kind, SYNICBOARD_ALL_RIGHT);
+    CHECK_NUMBER(end.kind, SYNICBOARD_OK);
     CHECK_NUMBER(requests, number - 1);
     CHECK(number > 1);
     refuse(0);

@@ -2,8 +2,8 @@
 
 use crate::notice::Room;
 use crate::{
-    beyond_the_header, sys, Event, Line, Moment, Notices, Owner, PortShape, Reply, Ticket, TimerId, Vector,
-    Vp, MOST_NOTICES,
+    beyond_the_header, sys, Changes, Event, Line, Moment, Notices, Owner, Owners, PortShape, Reply, Ticket,
+    TimerId, Vector, View, Vp, MOST_NOTICES,
 };
 use core::cell::UnsafeCell;
 use core::error::Error;
@@ -26,7 +26,7 @@ impl OpenFault {
     /// The result of opening a closed handle.
     pub(crate) fn judged(answer: u8) -> Result<(), OpenFault> {
         match answer {
-            sys::SYNICBOARD_OPENED => Ok(()),
+            sys::SYNICBOARD_OK => Ok(()),
             sys::SYNICBOARD_BAD_SIZE => Err(OpenFault::BadSize),
             sys::SYNICBOARD_NO_MEMORY => Err(OpenFault::Memory),
             _ => beyond_the_header(&answer),
@@ -110,7 +110,7 @@ impl Error for OpenFault {}
 /// assert_eq!(page[0], 0);
 /// ```
 pub struct Board {
-    // Queries need a mutable pointer, as the header declares it.
+    // The library may be asked through a shared reference, and takes a mutable pointer for events.
     handle: UnsafeCell<sys::synicboard>,
     // Buffer for the notices of the last event. It costs nothing unless `notices` is called.
     room: Room,
@@ -118,8 +118,8 @@ pub struct Board {
     pages: u8,
 }
 
-// SAFETY: what the handle owns is `Send`, which is proved with the library: `DeskHandle` of its
-// crate `handles`. The handle is only in this value, so the owner of the value makes all calls; the
+// SAFETY: what the handle owns is `Send`, which is proved with the library: `BoardHandle` of its
+// crate `c_handles`. The handle is only in this value, so the owner of the value makes all calls; the
 // cell makes it not `Sync`, so no second thread makes any. The buffer holds plain numbers.
 unsafe impl Send for Board {}
 
@@ -379,15 +379,7 @@ impl Board {
 
     /// Which page a guest sees at a page number.
     pub fn owner(&self, page: u64) -> Owner {
-        let owner = ask!(self, synicboard_owner, page);
-        let meant = match owner.kind {
-            sys::SYNICBOARD_OWNER_NOTHING => Some(Owner::Nothing),
-            sys::SYNICBOARD_OWNER_GUEST => Some(Owner::Guest),
-            sys::SYNICBOARD_OWNER_MESSAGES => Vp::new(owner.vp).map(Owner::Sim),
-            sys::SYNICBOARD_OWNER_FLAGS => Vp::new(owner.vp).map(Owner::Sief),
-            _ => None,
-        };
-        meant.unwrap_or_else(|| beyond_the_header(&owner))
+        owner_of(&ask!(self, synicboard_owner, page))
     }
 
     /// The timer with the earliest deadline, and the deadline in units of 100 ns: arm the host's
@@ -395,6 +387,18 @@ impl Board {
     /// count. A deadline above 2^64 - 1 is never reached by a tick.
     pub fn earliest(&self) -> Option<(u128, TimerId)> {
         first_due(&ask!(self, synicboard_earliest))
+    }
+
+    /// Updates a view of the board, and returns what differs from before: which threads of
+    /// processors to kick, and whether to arm the host's timer again.
+    pub fn update(&self, view: &mut View) -> Changes {
+        Changes(ask!(self, synicboard_update, &mut view.0))
+    }
+
+    /// Updates the owners, and returns the pages whose owner differs from before, for a host to map
+    /// again: bit i for page i. A write of SIMP or SIEFP, or a reset, may change owners.
+    pub fn update_owners(&self, owners: &mut Owners) -> u64 {
+        ask!(self, synicboard_update_owners, &mut owners.0)
     }
 
     /// The present time, in units of 100 ns.
@@ -423,6 +427,18 @@ impl Board {
     pub fn guest_page(&self, number: u64) -> Option<&[u8; PAGE_BYTES]> {
         lent!(self, synicboard_guest_page, number)
     }
+}
+
+/// The owner of a page.
+pub(crate) fn owner_of(owner: &sys::synicboard_page_owner) -> Owner {
+    let meant = match owner.kind {
+        sys::SYNICBOARD_OWNER_NOTHING => Some(Owner::Nothing),
+        sys::SYNICBOARD_OWNER_GUEST => Some(Owner::Guest),
+        sys::SYNICBOARD_OWNER_MESSAGES => Vp::new(owner.vp).map(Owner::Sim),
+        sys::SYNICBOARD_OWNER_FLAGS => Vp::new(owner.vp).map(Owner::Sief),
+        _ => None,
+    };
+    meant.unwrap_or_else(|| beyond_the_header(owner))
 }
 
 /// The earliest deadline and its timer.

@@ -31,6 +31,7 @@ mod shared;
 pub mod sys;
 mod terms;
 mod text;
+mod view;
 
 pub use board::{Board, OpenFault, PAGE_BYTES};
 pub use event::{Bytes, Bytes8, Event, PayloadBytes, PortShape};
@@ -39,7 +40,8 @@ pub use notice::{Notice, Notices, MOST_NOTICES};
 pub use reply::{Refusal, Reply};
 pub use shared::{NoEntry, NoticeRoom, Settled, SharedBoard};
 pub use terms::{Moment, Owner, Sint, Ticket, TimerId, Vector, Vp};
-pub use text::{check, replay, tell, End, TellFault, Verdict};
+pub use text::{check, format_entry, replay, End, FormatFault, Verdict};
+pub use view::{Changes, Owners, View};
 
 /// Panics: the library returned a value that its header does not have, so their versions differ.
 #[cold]

@@ -103,7 +103,7 @@ pub struct Line {
 }
 
 // SAFETY: what the handle owns is `Send`, which is proved with the library: `LineHandle` of its
-// crate `handles`. The handle is only in this value, so the owner of the value makes all calls, and
+// crate `c_handles`. The handle is only in this value, so the owner of the value makes all calls, and
 // each borrows it mutably, so there is one at a time.
 unsafe impl Send for Line {}
 
@@ -140,7 +140,7 @@ impl Line {
     pub fn split(&mut self) -> Result<Line, SplitFault> {
         let mut other = Line::closed(self.processors);
         match ask!(self, synicboard_split_line, &mut other.handle) {
-            sys::SYNICBOARD_OPENED => Ok(other),
+            sys::SYNICBOARD_OK => Ok(other),
             sys::SYNICBOARD_NO_MORE_LINES => Err(SplitFault::NoMore),
             sys::SYNICBOARD_NO_MEMORY => Err(SplitFault::Memory),
             answer => beyond_the_header(&answer),

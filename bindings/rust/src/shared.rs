@@ -184,7 +184,7 @@ impl SharedBoard {
 /// The reply of a call that wrote notices to `room`.
 fn answered(plain: sys::synicboard_reply, room: &mut NoticeRoom) -> Result<Reply, NoEntry> {
     room.count = usize::from(plain.notices);
-    if plain.fault == sys::SYNICBOARD_NO_ENTRY {
+    if plain.fault == sys::SYNICBOARD_NO_MEMORY {
         return Err(NoEntry);
     }
     Ok(Reply::of(plain))

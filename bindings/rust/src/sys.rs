@@ -9,9 +9,9 @@ use core::ffi::c_void;
 use core::ptr;
 
 /// The first number of the version of these declarations.
-pub const SYNICBOARD_VERSION_MAJOR: u32 = 1;
+pub const SYNICBOARD_VERSION_MAJOR: u32 = 2;
 /// The second number of the version of these declarations.
-pub const SYNICBOARD_VERSION_MINOR: u32 = 4;
+pub const SYNICBOARD_VERSION_MINOR: u32 = 0;
 
 /// A handle of a board. It may be moved but not copied; its fields are private to the library.
 #[repr(C)]
@@ -26,20 +26,32 @@ pub struct synicboard {
 /// A closed handle of a board.
 pub const SYNICBOARD_CLOSED: synicboard = synicboard { at: ptr::null_mut(), is_open: false };
 
-/// A board or a line was opened.
-pub const SYNICBOARD_OPENED: u8 = 0;
-/// Not 1 to 8 processors, or not 1 to 64 pages.
+/// Outcome: all is well.
+pub const SYNICBOARD_OK: u8 = 0;
+/// Outcome: not 1 to 8 processors, or not 1 to 64 pages.
 pub const SYNICBOARD_BAD_SIZE: u8 = 1;
-/// An allocation failed.
+/// Outcome: an allocation failed.
 pub const SYNICBOARD_NO_MEMORY: u8 = 2;
-/// The handle to open is already open.
+/// Outcome: the handle to open is already open.
 pub const SYNICBOARD_IS_OPEN: u8 = 3;
-/// The line to split from is closed.
+/// Outcome: the handle is closed.
 pub const SYNICBOARD_IS_CLOSED: u8 = 4;
-/// The line has no lines left to split off.
+/// Outcome: the line has no lines left to split off.
 pub const SYNICBOARD_NO_MORE_LINES: u8 = 5;
-/// The pointer to the handle to open is null.
+/// Outcome: the pointer to the handle to open is null.
 pub const SYNICBOARD_NO_HANDLE: u8 = 6;
+/// Outcome: the handle of the line is closed, and that of the board is not.
+pub const SYNICBOARD_NO_LINE: u8 = 7;
+/// Outcome: a vector below 16, too many bytes, or an unknown kind.
+pub const SYNICBOARD_NO_EVENT: u8 = 8;
+/// Outcome: one more reply, or `SYNICBOARD_MOST_NOTICES` more notices, might not fit.
+pub const SYNICBOARD_NO_ROOM: u8 = 9;
+/// Outcome: `line` is the first wrong line, counted from 1.
+pub const SYNICBOARD_WRONG_LINE: u8 = 10;
+/// Outcome: more than 1,073,741,824 bytes, and no line of these is wrong.
+pub const SYNICBOARD_TOO_LONG: u8 = 11;
+/// Outcome: the text is null, and its length is not 0.
+pub const SYNICBOARD_NO_TEXT: u8 = 12;
 
 /// Reply: no event was performed, for the reason in `fault`; nothing changed.
 pub const SYNICBOARD_NOT_PERFORMED: u8 = 0;
@@ -63,15 +75,6 @@ pub const SYNICBOARD_FLAG_WAS_SET: u8 = 8;
 pub const SYNICBOARD_GENERAL_PROTECTION: u8 = 9;
 /// Reply: refused for the reason in `refusal`; nothing changed.
 pub const SYNICBOARD_REFUSED: u8 = 10;
-
-/// Fault: the handle of the board is closed.
-pub const SYNICBOARD_NO_BOARD: u8 = 1;
-/// Fault: a vector below 16, too many bytes, or an unknown kind.
-pub const SYNICBOARD_NO_EVENT: u8 = 2;
-/// Fault: the handle of the line is closed.
-pub const SYNICBOARD_NO_LINE: u8 = 3;
-/// Fault: the history of the shared board cannot grow.
-pub const SYNICBOARD_NO_ENTRY: u8 = 4;
 
 /// Refusal: the port is not open.
 pub const SYNICBOARD_UNKNOWN_PORT: u8 = 1;
@@ -270,15 +273,6 @@ pub struct synicboard_notice {
 /// No event emits more notices.
 pub const SYNICBOARD_MOST_NOTICES: usize = 276;
 
-/// Batch: each event was performed.
-pub const SYNICBOARD_ALL_PERFORMED: u8 = 0;
-/// Batch: the handle is closed.
-pub const SYNICBOARD_BATCH_NO_BOARD: u8 = 1;
-/// Batch: the next event has an unknown kind, a vector below 16, or too many bytes.
-pub const SYNICBOARD_BATCH_NO_EVENT: u8 = 2;
-/// Batch: one more reply, or the notices of one more event, might not fit.
-pub const SYNICBOARD_BATCH_NO_ROOM: u8 = 3;
-
 /// The result of a batch.
 #[repr(C)]
 #[derive(Clone, Copy, PartialEq, Eq, Debug)]
@@ -288,7 +282,7 @@ pub struct synicboard_batch {
     /// How many events it performed.
     pub done: usize,
     /// How many notices they emitted.
-    pub told: usize,
+    pub emitted: usize,
 }
 
 /// A handle of a line. It may be moved but not copied; its fields are private to the library.
@@ -346,16 +340,26 @@ pub struct synicboard_due {
     pub high: u64,
 }
 
-/// Text: no line is wrong.
-pub const SYNICBOARD_ALL_RIGHT: u8 = 0;
-/// Text: `line` is the first wrong line, counted from 1.
-pub const SYNICBOARD_WRONG_LINE: u8 = 1;
-/// Text: an allocation failed.
-pub const SYNICBOARD_WANTED_MEMORY: u8 = 2;
-/// Text: more than 1,073,741,824 bytes.
-pub const SYNICBOARD_TOO_LONG: u8 = 3;
-/// Text: the pointer is null, and the length is not 0.
-pub const SYNICBOARD_NO_TEXT: u8 = 4;
+/// The next vector of each processor, 0 if it has none, and the earliest deadline.
+#[repr(C)]
+#[derive(Clone, Copy, PartialEq, Eq, Debug)]
+pub struct synicboard_view {
+    /// The next vectors.
+    pub next: [u8; 8],
+    /// The earliest deadline.
+    pub earliest: synicboard_due,
+}
+
+/// The bit of `synicboard_update` for the earliest deadline.
+pub const SYNICBOARD_EARLIEST_CHANGED: u64 = 0x100;
+
+/// Which page a guest sees at each page number.
+#[repr(C)]
+#[derive(Clone, Copy, PartialEq, Eq, Debug)]
+pub struct synicboard_owners {
+    /// The owners.
+    pub page: [synicboard_page_owner; 64],
+}
 
 /// The result of a call that writes a text.
 #[repr(C)]
@@ -476,7 +480,7 @@ extern "C" {
     pub fn synicboard_perform(board: *mut synicboard, event: *const synicboard_event) -> synicboard_reply;
 
     /// Copies the notices of the last event, as many as fit, and returns how many there are.
-    pub fn synicboard_notices(board: *mut synicboard, room: *mut synicboard_notice, length: usize) -> usize;
+    pub fn synicboard_notices(board: *const synicboard, room: *mut synicboard_notice, length: usize) -> usize;
 
     /// Performs events in order, as long as each is valid and its reply and notices fit.
     pub fn synicboard_perform_all(
@@ -507,26 +511,30 @@ extern "C" {
     ) -> synicboard_reply;
 
     /// The next vector of a processor; 0 for none.
-    pub fn synicboard_next(board: *mut synicboard, vp: u8) -> u8;
+    pub fn synicboard_next(board: *const synicboard, vp: u8) -> u8;
     /// Whether a vector is auto-EOI on a processor.
-    pub fn synicboard_is_auto(board: *mut synicboard, vp: u8, vector: u8) -> bool;
+    pub fn synicboard_is_auto(board: *const synicboard, vp: u8, vector: u8) -> bool;
     /// How many messages are queued for a source.
-    pub fn synicboard_queued(board: *mut synicboard, vp: u8, sint: u8) -> u16;
+    pub fn synicboard_queued(board: *const synicboard, vp: u8, sint: u8) -> u16;
     /// The present time, in units of 100 ns.
-    pub fn synicboard_moment(board: *mut synicboard) -> u64;
+    pub fn synicboard_moment(board: *const synicboard) -> u64;
     /// The ticket that the next accepted message gets.
-    pub fn synicboard_next_ticket(board: *mut synicboard) -> u64;
+    pub fn synicboard_next_ticket(board: *const synicboard) -> u64;
     /// Which page a guest sees at a page number.
-    pub fn synicboard_owner(board: *mut synicboard, page: u64) -> synicboard_page_owner;
+    pub fn synicboard_owner(board: *const synicboard, page: u64) -> synicboard_page_owner;
     /// The timer with the earliest deadline.
-    pub fn synicboard_earliest(board: *mut synicboard) -> synicboard_due;
+    pub fn synicboard_earliest(board: *const synicboard) -> synicboard_due;
+    /// Updates a view, and returns a bit for each value that differs.
+    pub fn synicboard_update(board: *const synicboard, view: *mut synicboard_view) -> u64;
+    /// Updates the owners, and returns a bit for each page whose owner differs.
+    pub fn synicboard_update_owners(board: *const synicboard, owners: *mut synicboard_owners) -> u64;
 
     /// Stores the address of the message page of a processor, if there is one.
-    pub fn synicboard_message_page(board: *mut synicboard, vp: u8, page: *mut *const u8) -> bool;
+    pub fn synicboard_message_page(board: *const synicboard, vp: u8, page: *mut *const u8) -> bool;
     /// Stores the address of the event flags page of a processor, if there is one.
-    pub fn synicboard_flag_page(board: *mut synicboard, vp: u8, page: *mut *const u8) -> bool;
+    pub fn synicboard_flag_page(board: *const synicboard, vp: u8, page: *mut *const u8) -> bool;
     /// Stores the address of a guest page, if there is one.
-    pub fn synicboard_guest_page(board: *mut synicboard, number: u64, page: *mut *const u8) -> bool;
+    pub fn synicboard_guest_page(board: *const synicboard, number: u64, page: *mut *const u8) -> bool;
 
     /// Performs a script on a board of its own, and writes its output to a buffer, as much as fits.
     pub fn synicboard_replay(
@@ -539,7 +547,7 @@ extern "C" {
     pub fn synicboard_check(trace: *const u8, length: usize) -> synicboard_verdict;
     /// Writes the two lines of a trace entry for an event and its reply to a buffer, as much as
     /// fits.
-    pub fn synicboard_tell(
+    pub fn synicboard_format_entry(
         actor: u8,
         event: *const synicboard_event,
         reply: *const synicboard_reply,

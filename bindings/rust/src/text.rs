@@ -8,7 +8,7 @@ use core::fmt;
 #[derive(Clone, Copy, PartialEq, Eq, Debug)]
 pub enum End {
     /// No line is wrong.
-    AllRight {
+    Done {
         /// The length of the whole text in bytes, even if it did not fit.
         length: usize,
     },
@@ -20,7 +20,7 @@ pub enum End {
         length: usize,
     },
     /// An allocation failed. The buffer is unchanged.
-    WantedMemory,
+    NoMemory,
     /// The script has more than 1,073,741,824 bytes, and no line of these is wrong. The buffer is
     /// unchanged.
     TooLong,
@@ -36,7 +36,7 @@ pub enum End {
 /// let mut room = [0; 64];
 /// let end = replay(b"board 1 1 0\nassert 0 60\ntake 0\n", &mut room);
 /// let text = b"= done\n. requested 0 60\n= taken 60\n";
-/// assert_eq!(end, End::AllRight { length: text.len() });
+/// assert_eq!(end, End::Done { length: text.len() });
 /// assert_eq!(room[..text.len()], *text);
 /// ```
 pub fn replay(script: &[u8], room: &mut [u8]) -> End {
@@ -44,9 +44,9 @@ pub fn replay(script: &[u8], room: &mut [u8]) -> End {
     let end = unsafe { sys::synicboard_replay(script.as_ptr(), script.len(), room.as_mut_ptr(), room.len()) };
     let (line, length) = (end.line, end.length);
     match end.kind {
-        sys::SYNICBOARD_ALL_RIGHT => End::AllRight { length },
+        sys::SYNICBOARD_OK => End::Done { length },
         sys::SYNICBOARD_WRONG_LINE => End::WrongLine { line, length },
-        sys::SYNICBOARD_WANTED_MEMORY => End::WantedMemory,
+        sys::SYNICBOARD_NO_MEMORY => End::NoMemory,
         sys::SYNICBOARD_TOO_LONG => End::TooLong,
         _ => beyond_the_header(&end),
     }
@@ -66,7 +66,7 @@ pub enum Verdict {
         line: u64,
     },
     /// An allocation failed.
-    WantedMemory,
+    NoMemory,
     /// The trace has more than 1,073,741,824 bytes, and no line of these is wrong.
     TooLong,
 }
@@ -75,9 +75,9 @@ impl Verdict {
     /// Decodes the result of a check of a text that is not null.
     pub(crate) fn of(kind: u8, entries: u64, line: u64) -> Verdict {
         match kind {
-            sys::SYNICBOARD_ALL_RIGHT => Verdict::Legal { entries },
+            sys::SYNICBOARD_OK => Verdict::Legal { entries },
             sys::SYNICBOARD_WRONG_LINE => Verdict::Refused { line },
-            sys::SYNICBOARD_WANTED_MEMORY => Verdict::WantedMemory,
+            sys::SYNICBOARD_NO_MEMORY => Verdict::NoMemory,
             sys::SYNICBOARD_TOO_LONG => Verdict::TooLong,
             _ => beyond_the_header(&kind),
         }
@@ -103,23 +103,23 @@ pub fn check(trace: &[u8]) -> Verdict {
 
 /// Why no entry was written. The buffer is unchanged.
 #[derive(Clone, Copy, PartialEq, Eq, Debug)]
-pub enum TellFault {
+pub enum FormatFault {
     /// The reply is [`Reply::NoEvent`], so nothing was performed.
     NoEvent,
     /// An allocation failed.
     Memory,
 }
 
-impl fmt::Display for TellFault {
+impl fmt::Display for FormatFault {
     fn fmt(&self, formatter: &mut fmt::Formatter<'_>) -> fmt::Result {
         formatter.write_str(match self {
-            TellFault::NoEvent => "nothing was performed",
-            TellFault::Memory => "out of memory",
+            FormatFault::NoEvent => "nothing was performed",
+            FormatFault::Memory => "out of memory",
         })
     }
 }
 
-impl Error for TellFault {}
+impl Error for FormatFault {}
 
 /// Writes the two lines of a trace entry for an event and its reply to a buffer, as much as fits, and
 /// returns their length: at most 76 bytes for any event except a post, and 535 for a post.
@@ -128,23 +128,23 @@ impl Error for TellFault {}
 /// which they hold the lock. `actor` is the number of the thread. Allocates the lines, and frees them.
 ///
 /// ```
-/// use synicboard::{tell, Board, Event};
+/// use synicboard::{format_entry, Board, Event};
 ///
 /// let mut board = Board::open(1, 1, 0).unwrap();
 /// let event = Event::Take { vp: 0 };
 /// let reply = board.perform(&event);
 /// let mut room = [0; 535];
-/// let length = tell(7, &event, &reply, &mut room).unwrap();
+/// let length = format_entry(7, &event, &reply, &mut room).unwrap();
 /// assert_eq!(room[..length], *b"7 take 0\n= taken none\n");
 /// ```
-pub fn tell(actor: u8, event: &Event, reply: &Reply, room: &mut [u8]) -> Result<usize, TellFault> {
+pub fn format_entry(actor: u8, event: &Event, reply: &Reply, room: &mut [u8]) -> Result<usize, FormatFault> {
     let (event, reply) = (event.to_plain(), reply.to_plain());
     // SAFETY: both structs and the slice are valid, and the address of an empty slice is not null.
-    let end = unsafe { sys::synicboard_tell(actor, &event, &reply, room.as_mut_ptr(), room.len()) };
+    let end = unsafe { sys::synicboard_format_entry(actor, &event, &reply, room.as_mut_ptr(), room.len()) };
     match (end.kind, end.line) {
-        (sys::SYNICBOARD_ALL_RIGHT, _) => Ok(end.length),
-        (sys::SYNICBOARD_WRONG_LINE, 2) => Err(TellFault::NoEvent),
-        (sys::SYNICBOARD_WANTED_MEMORY, _) => Err(TellFault::Memory),
+        (sys::SYNICBOARD_OK, _) => Ok(end.length),
+        (sys::SYNICBOARD_WRONG_LINE, 2) => Err(FormatFault::NoEvent),
+        (sys::SYNICBOARD_NO_MEMORY, _) => Err(FormatFault::Memory),
         _ => beyond_the_header(&end),
     }
 }

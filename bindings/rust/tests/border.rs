@@ -7,8 +7,8 @@ use std::sync::Mutex;
 use std::thread;
 use synicboard::msr::{EOI, SCONTROL, SIEFP, SIMP, SINT0, STIMER0_CONFIG, STIMER0_COUNT, SVERSION};
 use synicboard::{
-    check, replay, tell, Board, Bytes8, End, Event, Line, Notice, OpenFault, Owner, PayloadBytes, PortShape,
-    Refusal, Reply, Sint, TellFault, TimerId, Vector, Verdict, Vp, MOST_NOTICES,
+    check, format_entry, replay, Board, Bytes8, End, Event, Line, Notice, OpenFault, Owner, PayloadBytes, PortShape,
+    Refusal, Reply, Sint, FormatFault, TimerId, Vector, Verdict, Vp, MOST_NOTICES,
 };
 
 const VP: Vp = Vp::new(0).unwrap();
@@ -440,7 +440,7 @@ fn a_text_that_does_not_fit_is_cut_and_counted() {
         assert_eq!(room[..filled], text[..filled]);
         assert!(room[filled..].iter().all(|&byte| byte == b'.'));
     }
-    assert_eq!(replay(b"board 1 1 0\n", &mut []), End::AllRight { length: 0 });
+    assert_eq!(replay(b"board 1 1 0\n", &mut []), End::Done { length: 0 });
     assert_eq!(replay(b"", &mut []), End::WrongLine { line: 1, length: 10 });
     assert_eq!(check(b""), Verdict::Refused { line: 1 });
 }
@@ -452,7 +452,7 @@ fn an_entry_that_does_not_fit_is_cut_and_counted() {
     let text = b"255 load 1000 8\n= bytes 0101010101010101\n";
     for size in 0..=text.len() + 1 {
         let mut room = vec![b'.'; size];
-        assert_eq!(tell(255, &event, &reply, &mut room), Ok(text.len()));
+        assert_eq!(format_entry(255, &event, &reply, &mut room), Ok(text.len()));
         let filled = size.min(text.len());
         assert_eq!(room[..filled], text[..filled]);
         assert!(room[filled..].iter().all(|&byte| byte == b'.'));
@@ -462,6 +462,6 @@ fn an_entry_that_does_not_fit_is_cut_and_counted() {
 #[test]
 fn what_was_not_performed_has_no_entry() {
     let mut room = [b'.'; 8];
-    assert_eq!(tell(0, &Event::Take { vp: 0 }, &Reply::NoEvent, &mut room), Err(TellFault::NoEvent));
+    assert_eq!(format_entry(0, &Event::Take { vp: 0 }, &Reply::NoEvent, &mut room), Err(FormatFault::NoEvent));
     assert_eq!(room, [b'.'; 8]);
 }

@@ -13,7 +13,7 @@ impl Handle {
         let mut handle = Handle(SYNICBOARD_CLOSED);
         // SAFETY: the handle is closed, and has no copy.
         let answer = unsafe { synicboard_open(&mut handle.0, 1, 4, 0) };
-        assert_eq!(answer, SYNICBOARD_OPENED);
+        assert_eq!(answer, SYNICBOARD_OK);
         handle
     }
 
@@ -38,7 +38,7 @@ impl Line {
         let mut line = Line(SYNICBOARD_LINE_CLOSED);
         // SAFETY: the handle is closed, and has no copy.
         let answer = unsafe { synicboard_open_line(&mut line.0, processors) };
-        assert_eq!(answer, SYNICBOARD_OPENED);
+        assert_eq!(answer, SYNICBOARD_OK);
         line
     }
 
@@ -113,7 +113,7 @@ fn a_closed_handle_has_no_board() {
             synicboard_perform(board, &event(0, |_| ())),
         ]
     };
-    assert_eq!(answers, [fault(SYNICBOARD_NO_BOARD); 19]);
+    assert_eq!(answers, [fault(SYNICBOARD_IS_CLOSED); 19]);
 }
 
 #[test]
@@ -124,7 +124,7 @@ fn a_null_pointer_is_judged() {
     unsafe {
         assert_eq!(synicboard_open(no_board, 1, 4, 0), SYNICBOARD_NO_HANDLE);
         assert_eq!(synicboard_open_line(no_line, 1), SYNICBOARD_NO_HANDLE);
-        assert_eq!(synicboard_take(no_board, 0), fault(SYNICBOARD_NO_BOARD));
+        assert_eq!(synicboard_take(no_board, 0), fault(SYNICBOARD_IS_CLOSED));
         assert_eq!(synicboard_absorb_line(&mut handle.0, no_line, 0, 1), fault(SYNICBOARD_NO_LINE));
         assert_eq!(synicboard_perform(&mut handle.0, ptr::null()), fault(SYNICBOARD_NO_EVENT));
         assert_eq!(synicboard_post(&mut handle.0, 3, 1, ptr::null(), 1), fault(SYNICBOARD_NO_EVENT));
@@ -149,6 +149,10 @@ fn looks_at_a_closed_handle_find_nothing() {
         assert_eq!(synicboard_next_ticket(board), 0);
         assert_eq!(synicboard_owner(board, 0).kind, SYNICBOARD_OWNER_NOTHING);
         assert!(!synicboard_earliest(board).is_due);
+        let mut view = synicboard_view { next: [0x50; 8], earliest: synicboard_earliest(board) };
+        assert_eq!(synicboard_update(board, &mut view), 0xff);
+        let mut owners = synicboard_owners { page: [synicboard_owner(board, 0); 64] };
+        assert_eq!(synicboard_update_owners(board, &mut owners), 0);
         assert!(!synicboard_message_page(board, 0, &mut page));
         assert!(!synicboard_flag_page(board, 0, &mut page));
         assert!(!synicboard_guest_page(board, 0, &mut page));
@@ -164,14 +168,14 @@ fn a_handle_is_opened_once_and_closed_as_often_as_one_likes() {
         assert_eq!(synicboard_tick(&mut handle.0, 9).kind, SYNICBOARD_DONE);
         assert_eq!(synicboard_open(&mut handle.0, 1, 1, 0), SYNICBOARD_IS_OPEN);
         assert_eq!(synicboard_open(&mut handle.0, 9, 1, 0), SYNICBOARD_IS_OPEN);
-        assert_eq!(synicboard_moment(&mut handle.0), 9);
+        assert_eq!(synicboard_moment(&handle.0), 9);
         synicboard_close(&mut handle.0);
         synicboard_close(&mut handle.0);
         assert!(handle.0.at.is_null() && !handle.0.is_open);
         assert_eq!(synicboard_open(&mut handle.0, 9, 1, 0), SYNICBOARD_BAD_SIZE);
         assert!(handle.0.at.is_null() && !handle.0.is_open);
-        assert_eq!(synicboard_open(&mut handle.0, 8, 64, 0), SYNICBOARD_OPENED);
-        assert_eq!(synicboard_moment(&mut handle.0), 0);
+        assert_eq!(synicboard_open(&mut handle.0, 8, 64, 0), SYNICBOARD_OK);
+        assert_eq!(synicboard_moment(&handle.0), 0);
     }
 }
 
@@ -187,7 +191,7 @@ fn a_closed_line_raises_and_gives_nothing() {
         assert_eq!(synicboard_absorb_line(&mut board.0, &mut line.0, 0, 1), fault(SYNICBOARD_NO_LINE));
         assert_eq!(synicboard_absorb_line(&mut board.0, &mut line.0, 9, 9), fault(SYNICBOARD_NO_LINE));
         // The notices are still those of the event before.
-        assert_eq!(synicboard_notices(&mut board.0, [].as_mut_ptr(), 0), 1);
+        assert_eq!(synicboard_notices(&board.0, [].as_mut_ptr(), 0), 1);
         synicboard_close_line(&mut line.0);
     }
     assert!(line.is_blank() && other.is_blank());
@@ -201,9 +205,9 @@ fn a_closed_board_absorbs_nothing() {
     // SAFETY: the handles are closed or opened, and have no copy.
     unsafe {
         let answer = synicboard_absorb_line(&mut closed.0, &mut closed_line.0, 0, 1);
-        assert_eq!(answer, fault(SYNICBOARD_NO_BOARD));
+        assert_eq!(answer, fault(SYNICBOARD_IS_CLOSED));
         assert_eq!(synicboard_raise(&mut line.0, 0, 0x60), SYNICBOARD_FRESH);
-        assert_eq!(synicboard_absorb_line(&mut closed.0, &mut line.0, 0, 1), fault(SYNICBOARD_NO_BOARD));
+        assert_eq!(synicboard_absorb_line(&mut closed.0, &mut line.0, 0, 1), fault(SYNICBOARD_IS_CLOSED));
         assert_eq!(synicboard_raise(&mut line.0, 0, 0x60), SYNICBOARD_ALREADY);
         assert_eq!(synicboard_absorb_line(&mut board.0, &mut line.0, 0, 1), absorbed(1 << (0x60 - 64)));
     }
@@ -226,7 +230,7 @@ fn a_line_is_opened_once_and_closed_as_often_as_one_likes() {
         assert!(line.is_blank());
         assert_eq!(synicboard_open_line(&mut line.0, 9), SYNICBOARD_BAD_SIZE);
         assert!(line.is_blank());
-        assert_eq!(synicboard_split_line(&mut other.0, &mut line.0), SYNICBOARD_OPENED);
+        assert_eq!(synicboard_split_line(&mut other.0, &mut line.0), SYNICBOARD_OK);
         assert_eq!(synicboard_split_line(&mut line.0, &mut other.0), SYNICBOARD_IS_OPEN);
         assert_eq!(synicboard_raise(&mut line.0, 1, 0x60), SYNICBOARD_FRESH);
         assert_eq!(synicboard_raise(&mut other.0, 1, 0x60), SYNICBOARD_ALREADY);
@@ -254,7 +258,7 @@ fn a_room_for_some_notices_gets_the_first() {
     // SAFETY: all fields are integers, for which zero is valid.
     let mut room: [synicboard_notice; 3] = unsafe { mem::zeroed() };
     // SAFETY: the handle has no copy, and the buffer is valid for two notices.
-    let count = unsafe { synicboard_notices(&mut handle.0, room.as_mut_ptr(), 2) };
+    let count = unsafe { synicboard_notices(&handle.0, room.as_mut_ptr(), 2) };
     assert_eq!(count, 3);
     assert_eq!(room.map(|notice| notice.vector), [192, 193, 0]);
     let requested = SYNICBOARD_NOTICE_REQUESTED;

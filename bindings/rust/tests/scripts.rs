@@ -104,7 +104,7 @@ fn traced(script: &[u8]) -> Option<(Vec<u8>, u64)> {
                 let reply = board.perform(&event);
                 let mut room = [0; 535];
                 let length =
-                    synicboard::tell(actor, &event, &reply, &mut room).expect("an event, and memory");
+                    synicboard::format_entry(actor, &event, &reply, &mut room).expect("an event, and memory");
                 let wanted = [actor.to_string().as_bytes(), b" ", line, b"\n= "].concat();
                 assert!(room[..length].starts_with(&wanted), "{wanted:?}");
                 trace.extend(&room[..length]);
@@ -130,7 +130,7 @@ fn a_replay_writes_the_stored_text() {
     for (path, script, stored) in scripts() {
         let mut room = vec![0; stored.len() + 1];
         let length = match replay(&script, &mut room) {
-            End::AllRight { length } => length,
+            End::Done { length } => length,
             End::WrongLine { line, length } => {
                 let last = format!("! {line} ");
                 let begins_so = |told: &[u8]| told.starts_with(last.as_bytes());

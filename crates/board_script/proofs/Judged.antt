@@ -4,17 +4,17 @@ use Rattle.std.specs.Option.{IfSome}
 use Rattle.std.specs.Io.KnownBytes.{Appends}
 use Rattle.std.proofs.KnownBytes.{Consumes-nil, Appends-nil, Appends-trans}
 use Rattle.std.proofs.lemmas.Bool.Decides.{Decides-ltb}
-use Rattle.board_text.specs.Lines.{rest_of}
-use Rattle.line_driver.specs.Judging.{Follows}
-use Rattle.line_driver.specs.Driving.{next_of, place, Ends, Stops, Sends, Drives}
-use Rattle.line_driver.specs.declared.driving.End.{End}
-use Rattle.line_driver.specs.declared.driving.End.TheVariants as ends
+use Rattle.text_base.specs.Lines.{rest_of}
+use Rattle.text_driver.specs.Judging.{Follows}
+use Rattle.text_driver.specs.Driving.{next_of, place, Ends, Stops, Sends, Drives}
+use Rattle.text_driver.specs.declared.driving.End.{End}
+use Rattle.text_driver.specs.declared.driving.End.TheVariants as ends
 use Rattle.board_script.specs.Script.{line_fault, rest_fault, first_fault}
 use Rattle.board_script.specs.Output.{Machine, output_from, output_of, fault_of, fault_text, text}
 use Rattle.board_script.specs.Streams.{BegunText, Replays}
 use Rattle.board_script.specs.inside.Judging.{conclusion, Concludes, Finishes, IsAnswered, IsFaulty}
-use Rattle.board_lines.specs.declared.fault.ScriptFault.{ScriptFault}
-use Rattle.board_lines.specs.declared.fault.ScriptFault.TheVariants as faults
+use Rattle.text_lines.specs.declared.fault.ScriptFault.{ScriptFault}
+use Rattle.text_lines.specs.declared.fault.ScriptFault.TheVariants as faults
 use Rattle.board_script.specs.declared.stream.ReplayEnd.{ReplayEnd}
 use Rattle.board_script.specs.declared.stream.ReplayEnd.TheVariants.{Done, Script, Memory, Reading, Writing}
 use Rattle.board_script.proofs.ScriptLemmas.{output_from-line, first_fault-line, output_from-bad, first_fault-bad}

@@ -1,12 +1,12 @@
 -- The greatest number of bytes read.
 use Rattle.std.proofs.Common.{◌≡◌, ℕ, Bool, true, false, List, Option, None, Some, refl, sym, subst}
-use Rattle.board_text.specs.Streams.{ReadsUpTo}
-use Rattle.line_driver.specs.Driving.{ReadsNear, most_of}
-use Rattle.line_driver.specs.Driving as driving
-use Rattle.line_driver.specs.declared.driving.End.{End}
-use Rattle.line_driver.specs.declared.driving.End.TheVariants as ends
-use Rattle.board_lines.specs.declared.fault.ScriptFault.{ScriptFault}
-use Rattle.board_lines.specs.declared.fault.ScriptFault.TheVariants as faults
+use Rattle.text_base.specs.Streams.{ReadsUpTo}
+use Rattle.text_driver.specs.Driving.{ReadsNear, most_of}
+use Rattle.text_driver.specs.Driving as driving
+use Rattle.text_driver.specs.declared.driving.End.{End}
+use Rattle.text_driver.specs.declared.driving.End.TheVariants as ends
+use Rattle.text_lines.specs.declared.fault.ScriptFault.{ScriptFault}
+use Rattle.text_lines.specs.declared.fault.ScriptFault.TheVariants as faults
 use Rattle.board_script.specs.Streams.{most_read, StopsNear}
 use Rattle.board_script.specs.inside.Judging.{conclusion, Concludes, Finishes}
 use Rattle.board_script.specs.declared.stream.ReplayEnd.{ReplayEnd}

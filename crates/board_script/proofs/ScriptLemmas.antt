@@ -5,19 +5,19 @@ use Rattle.std.specs.Option.{option_map}
 use Rattle.std.specs.Str.{bytes_eq}
 use Rattle.synic_board.specs.State.{AreSizes}
 use Rattle.synic_board.specs.declared.event.Event.{Event}
-use Rattle.board_lines.specs.Items.{Item, Opening, Performs, Summary}
-use Rattle.board_lines.specs.Reading.{Fields, none_left, opening_say, opening_item, event_say, item_say, item_at}
-use Rattle.board_lines.specs.Sizes.{are_sizes}
-use Rattle.board_lines.proofs.SizeLemmas.{sizes-are}
+use Rattle.text_lines.specs.Items.{Item, Opening, Performs, Summary}
+use Rattle.text_lines.specs.Reading.{Fields, none_left, parse_opening, opening_item, parse_event, parse_item, item_at}
+use Rattle.text_lines.specs.Sizes.{are_sizes}
+use Rattle.text_lines.proofs.SizeLemmas.{sizes-are}
 use Rattle.board_script.specs.Script.{item_in, is_skipped, item_fault, line_fault, opens, good_items, first_fault}
 use Rattle.board_script.specs.Output.{Machine, answers, output_from}
-use Rattle.board_text.specs.Fields.{fields_of}
-use Rattle.line_driver.specs.Judging.{Judges}
-use Rattle.line_driver.specs.declared.judge.Taken.{Taken}
-use Rattle.line_driver.specs.declared.judge.Taken.TheVariants as taken
+use Rattle.text_base.specs.Fields.{fields_of}
+use Rattle.text_driver.specs.Judging.{Judges}
+use Rattle.text_driver.specs.declared.judge.Taken.{Taken}
+use Rattle.text_driver.specs.declared.judge.Taken.TheVariants as taken
 use Rattle.board_script.specs.inside.Judging.{after_maybe, answer_maybe, AnswersItem, IsAnswered, IsFaulty}
-use Rattle.board_lines.specs.declared.fault.ScriptFault.{ScriptFault}
-use Rattle.board_lines.specs.declared.fault.ScriptFault.TheVariants as faults
+use Rattle.text_lines.specs.declared.fault.ScriptFault.{ScriptFault}
+use Rattle.text_lines.specs.declared.fault.ScriptFault.TheVariants as faults
 
 opens_by : (long skip : Bool) (machine : Machine) (item : Option Item) → cond long (Some faults.Long) (cond skip None (item_fault (is_some machine) item)) ≡ None → is_some (after_maybe machine (cond skip None item)) ≡ (is_some machine || not skip)
 opens_by true skip machine item e = cc
@@ -54,20 +54,20 @@ output_from-bad machine line lines fault e = rw e refl
 pub first_fault-bad : (k : ℕ) (opened : Bool) (line : List ℕ) (lines : List (List ℕ)) (rest : List ℕ) (fault : ScriptFault) → line_fault opened line ≡ Some fault → first_fault k opened (line ∷ lines) rest ≡ Some (k, fault)
 first_fault-bad k opened line lines rest fault e = rw e refl
 
-item-at : (line word : List ℕ) (rest : Fields) → fields_of line ≡ word ∷ rest → item_at line ≡ item_say (word ∷ rest)
+item-at : (line word : List ℕ) (rest : Fields) → fields_of line ≡ word ∷ rest → item_at line ≡ parse_item (word ∷ rest)
 unfolding item_at
-item-at line word rest e = ap item_say e
+item-at line word rest e = ap parse_item e
 
 judged : (opened : Bool) (line : List ℕ) (item : Option Item) → length line ≤ 640 → is_skipped line ≡ false → item_at line ≡ item → (line_fault opened line ≡ item_fault opened item) × (item_in line ≡ item)
 judged opened line item short not is = rw (le-ltb 640 (length line) short, not, is) (refl, refl)
 
 -- the answer to the item is the answer to the line
-pub answers-line : (result : Taken ScriptFault) (line word : List ℕ) (rest : Fields) (old new : Machine) (out : List ℕ) → length line ≤ 640 → is_skipped line ≡ false → fields_of line ≡ word ∷ rest → AnswersItem result (item_say (word ∷ rest)) old new out → Judges IsAnswered IsFaulty result old new line out
+pub answers-line : (result : Taken ScriptFault) (line word : List ℕ) (rest : Fields) (old new : Machine) (out : List ℕ) → length line ≤ 640 → is_skipped line ≡ false → fields_of line ≡ word ∷ rest → AnswersItem result (parse_item (word ∷ rest)) old new out → Judges IsAnswered IsFaulty result old new line out
 answers-line taken.Good line word rest old new out short not fields h =
-    let j = judged (is_some old) line (item_say (word ∷ rest)) short not (item-at line word rest fields) in
+    let j = judged (is_some old) line (parse_item (word ∷ rest)) short not (item-at line word rest fields) in
     rw (j.0, j.1) h
 answers-line (taken.Wrong fault) line word rest old new out short not fields h =
-    let j = judged (is_some old) line (item_say (word ∷ rest)) short not (item-at line word rest fields) in
+    let j = judged (is_some old) line (parse_item (word ∷ rest)) short not (item-at line word rest fields) in
     rw j.0 h
 answers-line taken.Memory line word rest old new out short not fields h = tt
 
@@ -78,16 +78,16 @@ other true (field ∷ fs) r = refl
 other false fs None = refl
 other false fs (Some event) = refl
 
-pub first-other : (word key : List ℕ) (fs : Fields) → key ≡ codes "board" → false ≡ bytes_eq word key → item_fault false (item_say (word ∷ fs)) ≡ Some faults.First
+pub first-other : (word key : List ℕ) (fs : Fields) → key ≡ codes "board" → false ≡ bytes_eq word key → item_fault false (parse_item (word ∷ fs)) ≡ Some faults.First
 first-other word key fs is e =
     let no_board : bytes_eq word (codes "board") ≡ false = ap (bytes_eq word) (sym is) ∙ sym e in
-    ap (λ (t : Bool). item_fault false (cond t (opening_item fs) (cond (bytes_eq word (codes "summary")) (none_left Summary fs) (option_map Performs (event_say (word ∷ fs)))))) no_board
-    ∙ other (bytes_eq word (codes "summary")) fs (event_say (word ∷ fs))
+    ap (λ (t : Bool). item_fault false (cond t (opening_item fs) (cond (bytes_eq word (codes "summary")) (none_left Summary fs) (option_map Performs (parse_event (word ∷ fs)))))) no_board
+    ∙ other (bytes_eq word (codes "summary")) fs (parse_event (word ∷ fs))
 
 -- an opened board has sizes within the limits
 sized : (n g f : ℕ) (t : Bool) → are_sizes n g ≡ t → ((AreSizes n g → ⊥) → ⊥) → item_fault false (Some (Opening n g f)) ≡ None
 sized n g f true is h = rw is refl
 sized n g f false is h = absurd (h (λ sizes. let yes = (sizes-are n g).1 sizes in cc))
 
-pub opened-good : (fs : Fields) (n g f : ℕ) → Some (n, g, f) ≡ opening_say fs → ((AreSizes n g → ⊥) → ⊥) → (item_fault false (opening_item fs) ≡ None) × (opening_item fs ≡ Some (Opening n g f))
+pub opened-good : (fs : Fields) (n g f : ℕ) → Some (n, g, f) ≡ parse_opening fs → ((AreSizes n g → ⊥) → ⊥) → (item_fault false (opening_item fs) ≡ None) × (opening_item fs ≡ Some (Opening n g f))
 opened-good fs n g f said h = rw (← said) (sized n g f (are_sizes n g) refl h, refl)

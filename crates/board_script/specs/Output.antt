@@ -1,15 +1,15 @@
 -- The output of a script: the machine's answers to its good lines, and then its first fault.
 use Rattle.std.specs.Prelude.{ℕ, List, [], ◌∷◌, ◌++◌, map, Option, None, Some, is_some, false}
-use Rattle.board_text.specs.Lines.{lines_of, rest_of}
+use Rattle.text_base.specs.Lines.{lines_of, rest_of}
 use Rattle.synic_board.specs.State.{State, opened}
-use Rattle.synic_board.specs.Scratch.{scratch}
+use Rattle.synic_board.specs.Summaries.{summary_of}
 use Rattle.synic_board.specs.Effects.{Outcome}
 use Rattle.synic_board.specs.Step.{step}
-pub use Rattle.board_lines.specs.Faults.{fault_word, fault_line, fault_text}
-use Rattle.board_lines.specs.Items.{Item, Opening, Performs, Summary}
-use Rattle.board_lines.specs.Printing.{text_of, reply_fields, notice_fields, summary_lines}
+pub use Rattle.text_lines.specs.Faults.{fault_word, fault_line, fault_text}
+use Rattle.text_lines.specs.Items.{Item, Opening, Performs, Summary}
+use Rattle.text_lines.specs.Printing.{text_of, reply_fields, notice_fields, summary_lines}
 use Rattle.board_script.specs.Script.{first_fault, good_items}
-use Rattle.board_lines.specs.declared.fault.ScriptFault.{ScriptFault}
+use Rattle.text_lines.specs.declared.fault.ScriptFault.{ScriptFault}
 
 -- the state of the machine, once it is open
 abbrev pub Machine : Type 0
@@ -22,15 +22,15 @@ machine_after (Some s) (Performs event) = Some (step s event).0
 machine_after machine Summary = machine
 
 -- the reply, and then a line for each notice
-abbrev pub told : Outcome → List ℕ
-told outcome = text_of (reply_fields outcome.1 ∷ map notice_fields outcome.2)
+abbrev pub outcome_text : Outcome → List ℕ
+outcome_text outcome = text_of (reply_fields outcome.1 ∷ map notice_fields outcome.2)
 
 abbrev pub answer : Machine → Item → List ℕ
 answer machine (Opening processors pages ticket) = []
 answer None (Performs event) = []
-answer (Some s) (Performs event) = told (step s event)
+answer (Some s) (Performs event) = outcome_text (step s event)
 answer None Summary = []
-answer (Some s) Summary = text_of (summary_lines (scratch s))
+answer (Some s) Summary = text_of (summary_lines (summary_of s))
 
 -- the machine's answers to a list of items
 abbrev pub answers : Machine → List Item → List ℕ

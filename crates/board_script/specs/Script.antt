@@ -1,12 +1,12 @@
 -- The faults of a script, and the first of them.
 use Rattle.std.specs.Prelude.{ℕ, ◌+◌, List, [], ◌∷◌, ◌||◌, not, Bool, true, false, if◌then◌else◌, nat_lt, length, Option, None, Some, is_some}
 use Rattle.std.specs.List.{filter_map}
-use Rattle.board_lines.specs.Items.{Item, Opening, Performs, Summary}
-use Rattle.board_lines.specs.Reading.{item_at}
-use Rattle.board_lines.specs.Sizes.{are_sizes}
-pub use Rattle.board_lines.specs.Faults.{is_skipped, rest_fault}
-use Rattle.board_lines.specs.declared.fault.ScriptFault.{ScriptFault}
-use Rattle.board_lines.specs.declared.fault.ScriptFault.TheVariants as faults
+use Rattle.text_lines.specs.Items.{Item, Opening, Performs, Summary}
+use Rattle.text_lines.specs.Reading.{item_at}
+use Rattle.text_lines.specs.Sizes.{are_sizes}
+pub use Rattle.text_lines.specs.Faults.{is_skipped, rest_fault}
+use Rattle.text_lines.specs.declared.fault.ScriptFault.{ScriptFault}
+use Rattle.text_lines.specs.declared.fault.ScriptFault.TheVariants as faults
 
 -- the item of a line, unless it is skipped
 abbrev pub item_in : List ℕ → Option Item

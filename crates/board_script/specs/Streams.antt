@@ -1,8 +1,8 @@
 -- What a replay reads and writes.
 use Rattle.std.specs.Prelude.{◌≡◌, ℕ, List, ◌++◌, Option, None, Some, IfSome}
 use Rattle.std.specs.Io.KnownBytes.{Consumes, Appends}
-use Rattle.line_driver.specs.Driving.{ReadsNear}
-use Rattle.line_driver.specs.declared.judge.Taken.TheVariants as taken
+use Rattle.text_driver.specs.Driving.{ReadsNear}
+use Rattle.text_driver.specs.declared.judge.Taken.TheVariants as taken
 use Rattle.board_script.specs.Output.{output_of, fault_of, text}
 use Rattle.board_script.specs.declared.stream.ReplayEnd.{ReplayEnd}
 use Rattle.board_script.specs.declared.stream.ReplayEnd.TheVariants.{Done, Script, Memory, Reading, Writing}

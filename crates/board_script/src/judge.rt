@@ -2,11 +2,11 @@
 ghost use Rattle.board_script.specs.inside.Judging.{IsAnswered, IsFaulty, machine_of};
 
 use crate::respond::respond;
-use board_lines::ScriptFault;
 use board_terms::Notices;
-use line_driver::{Judge, Taken};
 use std::alloc::Global;
 use synic_board::{Board, Event};
+use text_driver::{Judge, Taken};
+use text_lines::ScriptFault;
 
 /// Validates the lines of a script, and performs them on a board of its own.
 #[derive(Drop)]
@@ -17,7 +17,7 @@ pub(crate) struct ScriptJudge {
     pub(crate) notices: Notices,
 }
 
-// README line_driver: begin
+// README text_driver: begin
 impl Judge for ScriptJudge {
     type Fault = ScriptFault;
 
@@ -36,4 +36,4 @@ impl Judge for ScriptJudge {
         )
     }
 }
-// README line_driver: end
+// README text_driver: end

@@ -6,7 +6,7 @@ mod judge;
 mod respond;
 mod stream;
 
-pub use board_lines::ScriptFault;
-pub use board_trace::{CheckEnd, check_trace};
-pub use crew_script::{CrewRun, Gate, OpenGate, Worker, crew};
 pub use stream::{ReplayEnd, replay};
+pub use text_crew::{CrewRun, Gate, OpenGate, Worker, crew};
+pub use text_lines::ScriptFault;
+pub use text_trace::{CheckEnd, check_trace};

@@ -1,19 +1,17 @@
 // Performing a line, and its answer.
 ghost use Rattle.std.specs.Prelude.{◌≡◌, ◌≤◌, [], ◌∷◌, ◌++◌, length, OnOk, None, Some};
 ghost use Rattle.synic_board.specs.Step.{step};
-ghost use Rattle.board_lines.specs.Reading.{opening_item, item_say};
-ghost use Rattle.board_script.specs.Output.{told};
+ghost use Rattle.text_lines.specs.Reading.{opening_item, parse_item};
+ghost use Rattle.board_script.specs.Output.{outcome_text};
 ghost use Rattle.board_script.specs.inside.Judging.{IsAnswered, IsFaulty, AnswersItem, machine_of};
-ghost use Rattle.line_driver.specs.Judging.{Judges};
+ghost use Rattle.text_driver.specs.Judging.{Judges};
 
-use board_lines::{
-    ScriptFault, opening_of, put_notices, put_reply, put_summary, read_event, skips,
-};
 use board_terms::Notices;
-use board_text::{Fields, is_word};
-use line_driver::Taken;
 use std::alloc::{AllocError, Global};
 use synic_board::{Board, Event, OpenFault};
+use text_base::{Fields, is_word};
+use text_driver::Taken;
+use text_lines::{ScriptFault, opening_of, put_notices, put_reply, put_summary, read_event, skips};
 
 /// Validates a line, performs it, and writes the answer to `out`. `event` is scratch space: nothing
 /// in it is used by the next line.
@@ -50,7 +48,7 @@ fn open(
     fields: &mut Fields<'_>,
 ) -> Taken<ScriptFault>
     requires { board.old ≡ None }
-    ensures { AnswersItem result (item_say (word.now ∷ fields.old)) None (machine_of board.new) [] }
+    ensures { AnswersItem result (parse_item (word.now ∷ fields.old)) None (machine_of board.new) [] }
 {
     if is_word(word, b"board") {
         return open_sized(alloc, board, fields);
@@ -90,7 +88,7 @@ fn take_line(
     out: &mut Vec<u8>,
 ) -> Taken<ScriptFault>
     requires { out.old.items ≡ [] }
-    ensures { AnswersItem result (item_say (word.now ∷ fields.old)) (Some board.old.state) (Some board.new.state) out.new.items }
+    ensures { AnswersItem result (parse_item (word.now ∷ fields.old)) (Some board.old.state) (Some board.new.state) out.new.items }
 {
     if is_word(word, b"summary") {
         if !fields.is_empty() {
@@ -118,12 +116,12 @@ fn perform(
     out: &mut Vec<u8>,
 ) -> Result<(), AllocError>
     ensures state { board.new.state ≡ (step board.old.state event.now).0 }
-    ensures written { OnOk result (out.new.items ≡ out.old.items ++ told (step board.old.state event.now)) }
+    ensures written { OnOk result (out.new.items ≡ out.old.items ++ outcome_text (step board.old.state event.now)) }
 {
-    // README board_lines: begin
+    // README text_lines: begin
     let reply = board.perform(event, notices);
     put_reply(out, &reply)?;
     out.push(b'\n')?;
     put_notices(out, notices.as_slice())
-    // README board_lines: end
+    // README text_lines: end
 }

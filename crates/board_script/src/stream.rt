@@ -1,15 +1,15 @@
 // Replaying a script from a reader to a writer.
-ghost use Rattle.board_text.specs.Streams.{ReadsUpTo};
+ghost use Rattle.text_base.specs.Streams.{ReadsUpTo};
 ghost use Rattle.board_script.specs.Streams.{Replays, most_read, StopsNear};
 ghost use Rattle.board_script.specs.inside.Judging.{conclusion, Concludes, Finishes};
 
 use crate::judge::ScriptJudge;
-use board_lines::{ScriptFault, put_fault};
 use board_terms::Notices;
-use line_driver::{End, close, drive};
 use std::alloc::Global;
 use std::io::{Read, Write};
 use synic_board::Event;
+use text_driver::{End, close, drive};
+use text_lines::{ScriptFault, put_fault};
 
 /// How a replay ends.
 #[derive(Clone, Copy, PartialEq, Eq, Debug)]
@@ -44,10 +44,10 @@ pub fn replay<R: Read, W: Write>(alloc: Global, reader: &mut R, writer: &mut W) 
         event: Event::Take { vp: 0 },
         notices,
     };
-    // README line_driver: begin
+    // README text_driver: begin
     let mut out = Vec::new(alloc);
     let end = drive(alloc, reader, writer, &mut judge, &mut out);
-    // README line_driver: end
+    // README text_driver: end
     conclude(writer, &mut out, end, judge.board.is_some())
 }
 

@@ -80,7 +80,7 @@ impl Notices {
     /// The notices, in order.
     pub fn as_slice(&self) -> &[Notice]
         ensures value { result.now ≡ self.now }
-        ensures few { length result.now ≤ 320 }
+        ensures bound { length result.now ≤ 320 }
     {
         self.items.as_slice()
     }

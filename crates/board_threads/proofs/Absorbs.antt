@@ -10,12 +10,12 @@ use Rattle.synic_board.specs.declared.event.Event.{Event}
 use Rattle.synic_board.specs.declared.event.Event.TheVariants.{OpenPort, ClosePort, Write, Read, Post, Signal, Assert, Absorb, Store, Load, Tick, Take, Suspend, Resume, Reset}
 use Rattle.synic_board.specs.declared.event.Reply.{Reply}
 use Rattle.synic_board.specs.declared.history.Entry.{Entry}
-use Rattle.posted_words.specs.declared.rule.Did.{Did}
-use Rattle.posted_words.specs.declared.rule.Did.TheVariants.{Raise, Sweep}
-use Rattle.posted_words.specs.Did.{times_raised, fresh, times_taken}
+use Rattle.posted_words.specs.declared.rule.Action.{Action}
+use Rattle.posted_words.specs.declared.rule.Action.TheVariants.{Raise, Sweep}
+use Rattle.posted_words.specs.Action.{times_raised, fresh, times_taken}
 use Rattle.posted_words.specs.Settled.{Settled}
 use Rattle.posted_words.proofs.Closing.{some_fresh}
-use Rattle.posted_words.specs.Words.{Token, token, did_of, sweep_of}
+use Rattle.posted_words.specs.Words.{Token, token, actions_of, sweep_of}
 use Rattle.board_threads.specs.History.{Call}
 use Rattle.board_threads.specs.Sharing.{Acting}
 use Rattle.board_threads.specs.Sweeps.{is_refusal, sweep_in, sweeps_of}
@@ -24,7 +24,7 @@ use Rattle.board_threads.specs.declared.settling.ActorCalls.{ActorCalls}
 use Rattle.board_threads.proofs.Counting.{counted, sum-map}
 
 -- a call sweeps nothing, or a word
-one-sweep : (P : List Did → Type 0) (e : Event) (r : Reply) → P [] → ((w n : ℕ) → P (Sweep w n ∷ [])) → P (sweep_in e r)
+one-sweep : (P : List Action → Type 0) (e : Event) (r : Reply) → P [] → ((w n : ℕ) → P (Sweep w n ∷ [])) → P (sweep_in e r)
 one-sweep P (OpenPort port p i shape) r none some = none
 one-sweep P (ClosePort port) r none some = none
 one-sweep P (Write p number value) r none some = none
@@ -44,7 +44,7 @@ one-sweep P (Suspend p) r none some = none
 one-sweep P (Resume p) r none some = none
 one-sweep P (Reset p) r none some = none
 
-abbrev swept : Call → List Did
+abbrev swept : Call → List Action
 swept c = sweep_in c.0 c.1
 
 module _ (w b : ℕ) where
@@ -56,7 +56,7 @@ module _ (w b : ℕ) where
   raised-none [] = refl
   raised-none (c ∷ calls) = one-sweep (λ l. times_raised w b (l ++ flat_map swept calls) ≡ 0) c.0 c.1 (raised-none calls) (λ _ _. let r = raised-none calls in omega arith)
 
-  taken-append : (xs ys : List Did) → times_taken w b (xs ++ ys) ≡ times_taken w b xs + times_taken w b ys
+  taken-append : (xs ys : List Action) → times_taken w b (xs ++ ys) ≡ times_taken w b xs + times_taken w b ys
   taken-append [] ys = omega arith
   taken-append (x ∷ xs) ys = let r = taken-append xs ys in omega arith
 
@@ -68,16 +68,16 @@ module _ (w b : ℕ) where
   taken-all calls = taken-flat (reverse calls) ∙ sum_by-IsPermutation (λ (c : Call). times_taken w b (swept c)) calls (reverse calls) (IsPermutation-reverse calls)
 
   -- a line takes nothing
-  only-raised : (log : List Did) → only_raises log ≡ true → times_taken w b log ≡ 0
+  only-raised : (log : List Action) → only_raises log ≡ true → times_taken w b log ≡ 0
   only-raised [] only = refl
   only-raised (Raise word bit fresh ∷ log) only = let r = only-raised log only in omega arith
   only-raised (Sweep word bits ∷ log) only = absurd (cc)
 
-  lines-take : (lines : List Token) → All (λ (t : Token). only_raises t.did ≡ true) lines → sum_by (times_taken w b) (map did_of lines) ≡ 0
+  lines-take : (lines : List Token) → All (λ (t : Token). only_raises t.actions ≡ true) lines → sum_by (times_taken w b) (map actions_of lines) ≡ 0
   lines-take [] only = refl
   lines-take (t ∷ lines) only =
-      let P = λ (x : Token). only_raises x.did ≡ true in
-      omega (arith, only-raised t.did (All-head P t lines only), lines-take lines (All-tail P t lines only), sum_by-cons (times_taken w b) t.did (map did_of lines))
+      let P = λ (x : Token). only_raises x.actions ≡ true in
+      omega (arith, only-raised t.actions (All-head P t lines only), lines-take lines (All-tail P t lines only), sum_by-cons (times_taken w b) t.actions (map actions_of lines))
 
 module _ {A : Type 0} where
   none : (f : A → ℕ) (xs : List A) → ((x : A) → f x ≡ 0) → sum_by f xs ≡ 0
@@ -88,14 +88,14 @@ module _ {A : Type 0} where
   same f g [] e = refl
   same f g (x ∷ xs) e = omega (arith, e x, same f g xs e, sum_by-cons f x xs, sum_by-cons g x xs)
 
-abbrev log_of : ActorCalls → List Did
+abbrev log_of : ActorCalls → List Action
 log_of a = sweeps_of a.calls.items
 
 abbrev IsOwn : Acting → Type 0
-IsOwn a = a.did ≡ sweeps_of a.calls
+IsOwn a = a.actions ≡ sweeps_of a.calls
 
 -- the logs of the sweepers, given the returned lists
-logs-are : (actors : List Acting) (ended : List ActorCalls) → map calls_given ended ≡ map calls_held actors → All IsOwn actors → map (λ (a : Acting). a.did) actors ≡ map log_of ended
+logs-are : (actors : List Acting) (ended : List ActorCalls) → map calls_given ended ≡ map calls_held actors → All IsOwn actors → map (λ (a : Acting). a.actions) actors ≡ map log_of ended
 logs-are [] [] is own = refl
 logs-are [] (e ∷ ended) is own = absurd (cc)
 logs-are (a ∷ actors) [] is own = absurd (cc)
@@ -104,26 +104,26 @@ logs-are (a ∷ actors) (e ∷ ended) is own =
     let tail : map calls_given ended ≡ map calls_held actors = cc in
     λ i. (All-head IsOwn a actors own ∙ ap (λ (x : ℕ × List Call). sweeps_of x.1) (sym head)) i ∷ logs-are actors ended tail (All-tail IsOwn a actors own) i
 
-dids : (actors : List Acting) → map did_of (map (λ (a : Acting). token a.of a.did) actors) ≡ map (λ (a : Acting). a.did) actors
+dids : (actors : List Acting) → map actions_of (map (λ (a : Acting). token a.of a.actions) actors) ≡ map (λ (a : Acting). a.actions) actors
 dids [] = refl
-dids (a ∷ actors) = ap (λ l. a.did ∷ l) (dids actors)
+dids (a ∷ actors) = ap (λ l. a.actions ∷ l) (dids actors)
 
 pub are-absorbed : (n : ℕ) (sweepers : List Token) (actors : List Acting) (ended : List ActorCalls) (lines : List Token) (h : List Entry) (standing : List ℕ)
-    → sweepers ≡ map (λ (a : Acting). token a.of a.did) actors → map calls_given ended ≡ map calls_held actors → All IsOwn actors → All (λ (t : Token). only_raises t.did ≡ true) lines
-    → AreAllOf h ended → length standing ≡ n → Settled n (map did_of (sweepers ++ lines)) standing → AreAbsorbed n (map did_of lines) h standing
+    → sweepers ≡ map (λ (a : Acting). token a.of a.actions) actors → map calls_given ended ≡ map calls_held actors → All IsOwn actors → All (λ (t : Token). only_raises t.actions ≡ true) lines
+    → AreAllOf h ended → length standing ≡ n → Settled n (map actions_of (sweepers ++ lines)) standing → AreAbsorbed n (map actions_of lines) h standing
 are-absorbed n sweepers actors ended lines h standing are out own only all width s =
     let logs = map log_of ended in
-    let both : map did_of (sweepers ++ lines) ≡ logs ++ map did_of lines =
-    map-append did_of sweepers lines ∙ (λ i. (ap (map did_of) are ∙ dids actors ∙ logs-are actors ended out own) i ++ map did_of lines) in
-    let settled : Settled n (logs ++ map did_of lines) standing = subst (λ l. Settled n l standing) both s in
+    let both : map actions_of (sweepers ++ lines) ≡ logs ++ map actions_of lines =
+    map-append actions_of sweepers lines ∙ (λ i. (ap (map actions_of) are ∙ dids actors ∙ logs-are actors ended out own) i ++ map actions_of lines) in
+    let settled : Settled n (logs ++ map actions_of lines) standing = subst (λ l. Settled n l standing) both s in
     record {
       words = width;
       even = λ w b lt.
           omega (
             arith,
             settled.even w b lt,
-            sum_by-append (fresh w b) logs (map did_of lines),
-            sum_by-append (times_taken w b) logs (map did_of lines),
+            sum_by-append (fresh w b) logs (map actions_of lines),
+            sum_by-append (times_taken w b) logs (map actions_of lines),
             sum-map (fresh w b) log_of ended,
             none (λ a. fresh w b (log_of a)) ended (λ a. fresh-none w b (reverse a.calls.items)),
             lines-take w b lines only,
@@ -134,8 +134,8 @@ are-absorbed n sweepers actors ended lines h standing are out own only all width
       some = λ w b raise.
           omega (
             arith,
-            some_fresh _ _ w b (logs ++ map did_of lines) settled.bounded (omega (arith, raise, sum_by-append (times_raised w b) logs (map did_of lines))),
-            sum_by-append (fresh w b) logs (map did_of lines),
+            some_fresh _ _ w b (logs ++ map actions_of lines) settled.bounded (omega (arith, raise, sum_by-append (times_raised w b) logs (map actions_of lines))),
+            sum_by-append (fresh w b) logs (map actions_of lines),
             sum-map (fresh w b) log_of ended,
             none (λ a. fresh w b (log_of a)) ended (λ a. fresh-none w b (reverse a.calls.items)),
           );

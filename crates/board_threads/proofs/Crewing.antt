@@ -5,11 +5,11 @@ use Rattle.std.specs.List.{AllZip, list_any, range_with_len}
 use Rattle.std.proofs.lemmas.Bool.Decides.{nat_tests}
 use Rattle.std.proofs.lemmas.List.{reverse-append}
 use Rattle.atomic_table.specs.Seated.{TableId}
-use Rattle.posted_words.specs.declared.rule.Did.{Did}
-use Rattle.posted_words.specs.declared.rule.Did.TheVariants.{Raise, Sweep}
+use Rattle.posted_words.specs.declared.rule.Action.{Action}
+use Rattle.posted_words.specs.declared.rule.Action.TheVariants.{Raise, Sweep}
 use Rattle.posted_words.specs.declared.line.Raised.{Raised}
 use Rattle.posted_words.specs.Answers.{is_fresh}
-use Rattle.posted_words.specs.Words.{Token, token, did_of, raise_of}
+use Rattle.posted_words.specs.Words.{Token, token, actions_of, raise_of}
 use Rattle.board_threads.specs.Sharing.{Acting, new_actor}
 use Rattle.board_threads.specs.Settling.{only_raises}
 use Rattle.board_threads.specs.Sweeps.{is_absorb}
@@ -82,7 +82,7 @@ lines-of name (s ∷ scripts) (r ∷ ran) h zero d lt = h.0.of
 lines-of name (s ∷ scripts) (r ∷ ran) h (suc k) d lt = lines-of name scripts ran h.1 k d (omega arith)
 
 -- a line's log has only raises
-only-append : (xs ys : List Did) → only_raises xs ≡ true → only_raises ys ≡ true → only_raises (xs ++ ys) ≡ true
+only-append : (xs ys : List Action) → only_raises xs ≡ true → only_raises ys ≡ true → only_raises (xs ++ ys) ≡ true
 only-append [] ys h k = k
 only-append (Raise w b f ∷ xs) ys h k = only-append xs ys h k
 only-append (Sweep w n ∷ xs) ys h k = absurd (cc)
@@ -93,18 +93,18 @@ only-log (s ∷ script) [] = refl
 only-log (s ∷ script) (a ∷ answers) =
     ap only_raises (reverse-append (raise_of s.0 s.1 (is_fresh a) ∷ []) (raises_of script answers)) ∙ only-append (log_of script answers) (raise_of s.0 s.1 (is_fresh a) ∷ []) (only-log script answers) refl
 
-only-lines : (name : TableId) (scripts : List (Vec (ℕ × ℕ) Global)) (ran : List Ran) → AllZip (DidRaise name) scripts ran → All (λ (t : Token). only_raises t.did ≡ true) (map (λ (x : Ran). x.0) ran)
+only-lines : (name : TableId) (scripts : List (Vec (ℕ × ℕ) Global)) (ran : List Ran) → AllZip (DidRaise name) scripts ran → All (λ (t : Token). only_raises t.actions ≡ true) (map (λ (x : Ran). x.0) ran)
 only-lines name [] [] h k d lt = absurd (omega arith)
 only-lines name [] (r ∷ ran) h k d lt = absurd h
 only-lines name (s ∷ scripts) [] h k d lt = absurd (omega arith)
-only-lines name (s ∷ scripts) (r ∷ ran) h zero d lt = ap only_raises h.0.did ∙ only-log s.items r.1.items
+only-lines name (s ∷ scripts) (r ∷ ran) h zero d lt = ap only_raises h.0.actions ∙ only-log s.items r.1.items
 only-lines name (s ∷ scripts) (r ∷ ran) h (suc k) d lt = only-lines name scripts ran h.1 k d (omega arith)
 
-logs : (name : TableId) (scripts : List (Vec (ℕ × ℕ) Global)) (ran : List Ran) → AllZip (DidRaise name) scripts ran → map did_of (map (λ (x : Ran). x.0) ran) ≡ logs_of (lists scripts) (lists (map (λ (x : Ran). x.1) ran))
+logs : (name : TableId) (scripts : List (Vec (ℕ × ℕ) Global)) (ran : List Ran) → AllZip (DidRaise name) scripts ran → map actions_of (map (λ (x : Ran). x.0) ran) ≡ logs_of (lists scripts) (lists (map (λ (x : Ran). x.1) ran))
 logs name [] [] h = refl
 logs name [] (r ∷ ran) h = absurd h
 logs name (s ∷ scripts) [] h = absurd h
-logs name (s ∷ scripts) (r ∷ ran) h = λ i. h.0.did i ∷ logs name scripts ran h.1 i
+logs name (s ∷ scripts) (r ∷ ran) h = λ i. h.0.actions i ∷ logs name scripts ran h.1 i
 
 each : (name : TableId) (scripts : List (Vec (ℕ × ℕ) Global)) (ran : List Ran) → AllZip (DidRaise name) scripts ran → AllZip HasEach (lists scripts) (lists (map (λ (x : Ran). x.1) ran))
 each name [] [] h = tt
@@ -116,11 +116,11 @@ module _ (name : TableId) (setup : Setup) (scripts : Scripts) (actors : List Act
   pub all-lines-of : All (λ (t : Token). t.of ≡ name) lines
   all-lines-of = subst (All (λ (t : Token). t.of ≡ name)) (sym w.lines_are) (lines-of name scripts.lines.items w.ran w.did_raise)
 
-  pub all-only-raise : All (λ (t : Token). only_raises t.did ≡ true) lines
-  all-only-raise = subst (All (λ (t : Token). only_raises t.did ≡ true)) (sym w.lines_are) (only-lines name scripts.lines.items w.ran w.did_raise)
+  pub all-only-raise : All (λ (t : Token). only_raises t.actions ≡ true) lines
+  all-only-raise = subst (All (λ (t : Token). only_raises t.actions ≡ true)) (sym w.lines_are) (only-lines name scripts.lines.items w.ran w.did_raise)
 
-  pub logs-are : map did_of lines ≡ logs_of (lists scripts.lines.items) (lists raised)
-  logs-are = ap (map did_of) w.lines_are ∙ logs name scripts.lines.items w.ran w.did_raise ∙ ap (λ l. logs_of (lists scripts.lines.items) (lists l)) (sym w.answers_are)
+  pub logs-are : map actions_of lines ≡ logs_of (lists scripts.lines.items) (lists raised)
+  logs-are = ap (map actions_of) w.lines_are ∙ logs name scripts.lines.items w.ran w.did_raise ∙ ap (λ l. logs_of (lists scripts.lines.items) (lists l)) (sym w.answers_are)
 
   pub each-answered : AllZip HasEach (lists scripts.lines.items) (lists raised)
   each-answered = subst (λ l. AllZip HasEach (lists scripts.lines.items) (lists l)) (sym w.answers_are) (each name scripts.lines.items w.ran w.did_raise)

@@ -7,7 +7,7 @@ use Rattle.std.proofs.lemmas.List.FromFn.{map-range_with_len_more}
 use Rattle.synic_board.specs.declared.event.Event.{Event}
 use Rattle.synic_board.specs.declared.event.Event.TheVariants.{Absorb}
 use Rattle.synic_board.specs.declared.event.Reply.{Reply}
-use Rattle.posted_words.specs.declared.rule.Did.{Did}
+use Rattle.posted_words.specs.declared.rule.Action.{Action}
 use Rattle.posted_words.specs.declared.line.Raised.{Raised}
 use Rattle.posted_words.specs.Answers.{is_fresh}
 use Rattle.posted_words.specs.Words.{raise_of}
@@ -30,34 +30,34 @@ pub record GoesOn (steps : List Step) (start now : Acting) : Type 0 where
   pub number : now.number ≡ start.number
   pub follows : AreSteps steps now.calls
 
-went_on : (front more : List Step) (s : Step) (start old new : Acting) (e : Event) (r : Reply) (did : List Did) → more ≡ front ++ s ∷ [] → GoesOn front start old
-    → new ≡ acting old.of old.number (old.calls ++ (e, r) ∷ []) did → IsStep s (e, r) → GoesOn more start new
-went_on front more s start old new e r did is was goes step = record {
+went_on : (front more : List Step) (s : Step) (start old new : Acting) (e : Event) (r : Reply) (actions : List Action) → more ≡ front ++ s ∷ [] → GoesOn front start old
+    → new ≡ acting old.of old.number (old.calls ++ (e, r) ∷ []) actions → IsStep s (e, r) → GoesOn more start new
+went_on front more s start old new e r actions is was goes step = record {
   of = ap (λ (a : Acting). a.of) goes ∙ was.of;
   number = ap (λ (a : Acting). a.number) goes ∙ was.number;
   follows = subst (λ (z : List Step × List Call). AllZip IsStep z.0 z.1) (λ i. (sym is i, ap (λ (a : Acting). a.calls) (sym goes) i)) (zip-push IsStep front old.calls s (e, r) was.follows step);
 }
 
 -- by its script
-pub acted : (front more : List Step) (s : Step) (start old new : Acting) (e e' : Event) (r : Reply) (did : List Did) → more ≡ front ++ s ∷ [] → GoesOn front start old → s ≡ Act e' → e ≡ e'
-    → new ≡ acting old.of old.number (old.calls ++ (e, r) ∷ []) did → GoesOn more start new
-acted front more s start old new e e' r did is was step same goes = went_on front more s start old new e r did is was goes (subst (λ (x : Step). IsStep x (e, r)) (sym step) same)
+pub acted : (front more : List Step) (s : Step) (start old new : Acting) (e e' : Event) (r : Reply) (actions : List Action) → more ≡ front ++ s ∷ [] → GoesOn front start old → s ≡ Act e' → e ≡ e'
+    → new ≡ acting old.of old.number (old.calls ++ (e, r) ∷ []) actions → GoesOn more start new
+acted front more s start old new e e' r actions is was step same goes = went_on front more s start old new e r actions is was goes (subst (λ (x : Step). IsStep x (e, r)) (sym step) same)
 
-pub swept_on : (front more : List Step) (s : Step) (start old new : Acting) (vp part bits : ℕ) (r : Reply) (did : List Did) → more ≡ front ++ s ∷ [] → GoesOn front start old → s ≡ Sweep vp part
-    → new ≡ acting old.of old.number (old.calls ++ (Absorb vp part bits, r) ∷ []) did → GoesOn more start new
-swept_on front more s start old new vp part bits r did is was step goes =
-    went_on front more s start old new (Absorb vp part bits) r did is was goes (subst (λ (x : Step). IsStep x (Absorb vp part bits, r)) (sym step) (bits, refl))
+pub swept_on : (front more : List Step) (s : Step) (start old new : Acting) (vp part bits : ℕ) (r : Reply) (actions : List Action) → more ≡ front ++ s ∷ [] → GoesOn front start old → s ≡ Sweep vp part
+    → new ≡ acting old.of old.number (old.calls ++ (Absorb vp part bits, r) ∷ []) actions → GoesOn more start new
+swept_on front more s start old new vp part bits r actions is was step goes =
+    went_on front more s start old new (Absorb vp part bits) r actions is was goes (subst (λ (x : Step). IsStep x (Absorb vp part bits, r)) (sym step) (bits, refl))
 
 -- by an event of the setup
-pub performed : (front more : List Event) (e e' : Event) (start old new : Acting) (r : Reply) (did : List Did) → more ≡ front ++ e ∷ [] → GoesOn (acts front) start old
-    → new ≡ acting old.of old.number (old.calls ++ (e', r) ∷ []) did → e' ≡ e → GoesOn (acts more) start new
-performed front more e e' start old new r did is was goes same = went_on (acts front) (acts more) (Act e) start old new e' r did (ap acts is ∙ map-append (λ x. Act x) front (e ∷ [])) was goes same
+pub performed : (front more : List Event) (e e' : Event) (start old new : Acting) (r : Reply) (actions : List Action) → more ≡ front ++ e ∷ [] → GoesOn (acts front) start old
+    → new ≡ acting old.of old.number (old.calls ++ (e', r) ∷ []) actions → e' ≡ e → GoesOn (acts more) start new
+performed front more e e' start old new r actions is was goes same = went_on (acts front) (acts more) (Act e) start old new e' r actions (ap acts is ∙ map-append (λ x. Act x) front (e ∷ [])) was goes same
 
 -- by one of the last absorbs
-pub absorbed : (k : ℕ) (start old new : Acting) (calls more : List Call) (bits : ℕ) (r : Reply) (did : List Did) → old.calls ≡ calls ++ more → AreSteps (map last_step (range_with_len 0 k)) more
-    → new ≡ acting old.of old.number (old.calls ++ (Absorb (k / 4) (k % 4) bits, r) ∷ []) did
+pub absorbed : (k : ℕ) (start old new : Acting) (calls more : List Call) (bits : ℕ) (r : Reply) (actions : List Action) → old.calls ≡ calls ++ more → AreSteps (map last_step (range_with_len 0 k)) more
+    → new ≡ acting old.of old.number (old.calls ++ (Absorb (k / 4) (k % 4) bits, r) ∷ []) actions
     → (new.calls ≡ calls ++ (more ++ (Absorb (k / 4) (k % 4) bits, r) ∷ [])) × AreSteps (map last_step (range_with_len 0 (k + 1))) (more ++ (Absorb (k / 4) (k % 4) bits, r) ∷ [])
-absorbed k start old new calls more bits r did was follows goes =
+absorbed k start old new calls more bits r actions was follows goes =
     let c : Call = (Absorb (k / 4) (k % 4) bits, r) in (
       ap (λ (a : Acting). a.calls) goes ∙ ap (λ (l : List Call). l ++ c ∷ []) was ∙ append_assoc calls more (c ∷ []),
       subst (λ (l : List Step). AreSteps l (more ++ c ∷ [])) (sym (map-range_with_len_more last_step 0 k k (omega arith))) (zip-push IsStep (map last_step (range_with_len 0 k)) more (last_step k) c follows (bits, refl)),
@@ -70,7 +70,7 @@ raises-push (t ∷ script) [] s a e = absurd (omega arith)
 raises-push (t ∷ script) (b ∷ answers) s a e = ap (λ l. raise_of t.0 t.1 (is_fresh b) ∷ l) (raises-push script answers s a (omega arith))
 
 -- a line raised one more vector
-pub raised-on : (front more : List (ℕ × ℕ)) (old new : List Raised) (log longer : List Did) (s : ℕ × ℕ) (a : Raised) → more ≡ front ++ s ∷ [] → length old ≡ length front → log ≡ log_of front old
+pub raised-on : (front more : List (ℕ × ℕ)) (old new : List Raised) (log longer : List Action) (s : ℕ × ℕ) (a : Raised) → more ≡ front ++ s ∷ [] → length old ≡ length front → log ≡ log_of front old
     → new ≡ old ++ a ∷ [] → longer ≡ raise_of s.0 s.1 (is_fresh a) ∷ log → (length new ≡ length more) × (longer ≡ log_of more new)
 raised-on front more old new log longer s a is each was goes step = (
   omega (arith, each, ap (λ (l : List (ℕ × ℕ)). length l) is, ap (λ (l : List Raised). length l) goes, length-append front (s ∷ []), length-append old (a ∷ [])),

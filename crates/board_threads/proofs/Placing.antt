@@ -14,7 +14,7 @@ use Rattle.synic_board.specs.declared.history.Entry.{Entry}
 use Rattle.board_threads.specs.History.{Call, call_of, calls_by}
 use Rattle.board_threads.specs.Sharing.{Acting}
 use Rattle.board_threads.specs.Settling.{calls_held, calls_given}
-use Rattle.board_threads.specs.Crew.{AreSteps, acts, last_step, last_steps, EachFollows, IsCrewed, lists}
+use Rattle.board_threads.specs.Crew.{AreSteps, acts, last_step, last_steps, EachFollows, IsCrewHistory, lists}
 use Rattle.board_threads.specs.inside.Work.{HasActed, HasServed, InPlace}
 use Rattle.board_threads.specs.declared.script.Step.{Step}
 use Rattle.board_threads.specs.declared.script.Step.TheVariants.{Act}
@@ -72,7 +72,7 @@ others-between n (s ∷ scripts) h first between last some is f l each =
 
 -- the calls of actor 0 are at the ends, and the others' scripts between
 pub crewed : (name : TableId) (n : ℕ) (setup : List Event) (scripts : List (List Step)) (h : List Entry) (main : Acting) → InPlace (length setup) (4 * n) h → HasServed name n setup main
-    → calls_by 0 h ≡ main.calls → EachFollows 1 scripts h → length h ≡ length main.calls + sum_by (λ (s : List Step). length s) scripts → IsCrewed n setup scripts h
+    → calls_by 0 h ≡ main.calls → EachFollows 1 scripts h → length h ≡ length main.calls + sum_by (λ (s : List Step). length s) scripts → IsCrewHistory n setup scripts h
 crewed name n setup scripts h main place served own each many =
     let first = place.first in
     let between = place.between in

@@ -45,5 +45,5 @@ module _ (name name' : TableId) where
   raised script s x is h = record {
     of = h.of ∙ ap (λ (p : TableId × List (ℕ × ℕ)). p.0) is;
     each = h.each ∙ ap (λ (p : TableId × List (ℕ × ℕ)). length p.1) is;
-    did = h.did ∙ ap (λ (p : TableId × List (ℕ × ℕ)). log_of p.1 x.1.items) is;
+    actions = h.actions ∙ ap (λ (p : TableId × List (ℕ × ℕ)). log_of p.1 x.1.items) is;
   }

@@ -12,7 +12,7 @@ use Rattle.synic_board.specs.declared.event.Event.{Event}
 use Rattle.synic_board.specs.declared.event.Event.TheVariants.{OpenPort, ClosePort, Write, Read, Post, Signal, Assert, Absorb, Store, Load, Tick, Take, Suspend, Resume, Reset}
 use Rattle.synic_board.specs.declared.event.Reply.{Reply}
 use Rattle.synic_board.specs.declared.event.Reply.TheVariants.{Done}
-use Rattle.posted_words.specs.declared.rule.Did.{Did}
+use Rattle.posted_words.specs.declared.rule.Action.{Action}
 use Rattle.posted_words.specs.Words.{sweep_of}
 use Rattle.board_threads.specs.History.{Call}
 use Rattle.board_threads.specs.Sweeps.{is_absorb, is_refusal, sweep_in, sweeps_of}
@@ -38,17 +38,17 @@ none-swept (Suspend p) r h = refl
 none-swept (Resume p) r h = refl
 none-swept (Reset p) r h = refl
 
-pub perform-pushes : (old new : List Call) (e : Event) (r : Reply) (did : List Did) → did ≡ sweeps_of old → is_absorb e ≡ false → new ≡ old ++ (e, r) ∷ [] → did ≡ sweeps_of new
-perform-pushes old new e r did was other is = was ∙ sym (ap (λ ds. ds ++ sweeps_of old) (none-swept e r other)) ∙ sym (sweeps-push old e r) ∙ ap sweeps_of (sym is)
+pub perform-pushes : (old new : List Call) (e : Event) (r : Reply) (actions : List Action) → actions ≡ sweeps_of old → is_absorb e ≡ false → new ≡ old ++ (e, r) ∷ [] → actions ≡ sweeps_of new
+perform-pushes old new e r actions was other is = was ∙ sym (ap (λ ds. ds ++ sweeps_of old) (none-swept e r other)) ∙ sym (sweeps-push old e r) ∙ ap sweeps_of (sym is)
 
-by-cases : (s : State) (a b : Bool) (e : Effect) (vp part bits : ℕ) (ds : List Did)
+by-cases : (s : State) (a b : Bool) (e : Effect) (vp part bits : ℕ) (ds : List Action)
     → sweep_in (Absorb vp part bits) (if a then (if b then answered Done e else refused s BadTarget) else refused s NoSuchProcessor).1 ++ ds ≡ (if a && b then sweep_of vp part bits ∷ ds else ds)
 by-cases s true true e vp part bits ds = refl
 by-cases s true false e vp part bits ds = refl
 by-cases s false b e vp part bits ds = refl
 
 -- an absorb is refused iff no word is swept
-pub absorb-sweeps : (s : State) (n vp part bits : ℕ) (r : Reply) (ds : List Did) → r ≡ (step s (Absorb vp part bits)).1 → processors s ≡ n
+pub absorb-sweeps : (s : State) (n vp part bits : ℕ) (r : Reply) (ds : List Action) → r ≡ (step s (Absorb vp part bits)).1 → processors s ≡ n
     → sweep_in (Absorb vp part bits) r ++ ds ≡ (if nat_lt vp n && nat_le part 3 then sweep_of vp part bits ∷ ds else ds)
 unfolding step
 absorb-sweeps s n vp part bits r ds is many =

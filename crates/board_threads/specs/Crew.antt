@@ -5,7 +5,7 @@ use Rattle.std.specs.List.{AllZip, range_with_len, sum_by}
 use Rattle.synic_board.specs.declared.event.Event.{Event}
 use Rattle.synic_board.specs.declared.event.Event.TheVariants.{Absorb}
 use Rattle.synic_board.specs.declared.history.Entry.{Entry}
-use Rattle.posted_words.specs.declared.rule.Did.{Did}
+use Rattle.posted_words.specs.declared.rule.Action.{Action}
 use Rattle.posted_words.specs.declared.line.Raised.{Raised}
 use Rattle.posted_words.specs.Answers.{is_fresh}
 use Rattle.posted_words.specs.Words.{raise_of}
@@ -33,17 +33,17 @@ abbrev pub last_steps : ℕ → List Step
 last_steps processors = map last_step (range_with_len 0 (4 * processors))
 
 -- the steps of a line that raised these vectors with these results
-abbrev pub raises_of : List (ℕ × ℕ) → List Raised → List Did
+abbrev pub raises_of : List (ℕ × ℕ) → List Raised → List Action
 raises_of [] answers = []
 raises_of (s ∷ script) [] = []
 raises_of (s ∷ script) (a ∷ answers) = raise_of s.0 s.1 (is_fresh a) ∷ raises_of script answers
 
 -- the log of the line, the last step first
-abbrev pub log_of : List (ℕ × ℕ) → List Raised → List Did
+abbrev pub log_of : List (ℕ × ℕ) → List Raised → List Action
 log_of script answers = reverse (raises_of script answers)
 
 -- the logs of all lines
-abbrev pub logs_of : List (List (ℕ × ℕ)) → List (List Raised) → List (List Did)
+abbrev pub logs_of : List (List (ℕ × ℕ)) → List (List Raised) → List (List Action)
 logs_of [] answers = []
 logs_of (s ∷ scripts) [] = []
 logs_of (s ∷ scripts) (a ∷ answers) = log_of s a ∷ logs_of scripts answers
@@ -67,7 +67,7 @@ pub record AreMain (steps : List Step) (entries : List Entry) : Type 0 where
   pub follow : AreSteps steps (map call_of entries)
 
 -- the history of a crew: the setup, then the calls of all scripts in any interleaving, then the last absorbs
-pub record IsCrewed (processors : ℕ) (setup : List Event) (scripts : List (List Step)) (history : List Entry) : Type 0 where
+pub record IsCrewHistory (processors : ℕ) (setup : List Event) (scripts : List (List Step)) (history : List Entry) : Type 0 where
   pub first : List Entry
   pub between : List Entry
   pub last : List Entry

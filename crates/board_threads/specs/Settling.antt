@@ -5,9 +5,9 @@ use Rattle.std.specs.Int.{bit_at}
 use Rattle.synic_board.specs.State.{State}
 use Rattle.synic_board.specs.History.{IsLegal, leads_to}
 use Rattle.synic_board.specs.declared.history.Entry.{Entry}
-use Rattle.posted_words.specs.declared.rule.Did.{Did}
-use Rattle.posted_words.specs.declared.rule.Did.TheVariants.{Raise, Sweep}
-use Rattle.posted_words.specs.Did.{times_raised}
+use Rattle.posted_words.specs.declared.rule.Action.{Action}
+use Rattle.posted_words.specs.declared.rule.Action.TheVariants.{Raise, Sweep}
+use Rattle.posted_words.specs.Action.{times_raised}
 use Rattle.posted_words.specs.Settled.{all_fresh}
 use Rattle.board_threads.specs.History.{Call, calls_by}
 use Rattle.board_threads.specs.Sweeps.{times_absorbed}
@@ -37,7 +37,7 @@ pub record IsSettled (start : State) (e : Ended) : Type 0 where
   pub actors : AreAllOf e.history.items e.actors.items
 
 -- The raises of lines with these logs, at the n words of a board.
-pub record AreAbsorbed (n : ℕ) (logs : List (List Did)) (history : List Entry) (standing : List ℕ) : Type 0 where
+pub record AreAbsorbed (n : ℕ) (logs : List (List Action)) (history : List Entry) (standing : List ℕ) : Type 0 where
   pub words : length standing ≡ n
   -- each Fresh raise was absorbed once, or its bit is set
   pub even : (w b : ℕ) → w < n → all_fresh logs w b ≡ times_absorbed w b history + bit_at (slice_index standing w) b
@@ -45,7 +45,7 @@ pub record AreAbsorbed (n : ℕ) (logs : List (List Did)) (history : List Entry)
   pub some : (w b : ℕ) → 0 < sum_by (times_raised w b) logs → 0 < all_fresh logs w b
 
 -- a line has swept nothing
-abbrev pub only_raises : List Did → Bool
+abbrev pub only_raises : List Action → Bool
 only_raises [] = true
 only_raises (Raise word bit fresh ∷ log) = only_raises log
 only_raises (Sweep word bits ∷ log) = false

@@ -1,7 +1,7 @@
 -- The abstract state of a shared board and of an actor.
 use Rattle.std.specs.Prelude.{ℕ, List, []}
 use Rattle.atomic_table.specs.Seated.{TableId}
-use Rattle.posted_words.specs.declared.rule.Did.{Did}
+use Rattle.posted_words.specs.declared.rule.Action.{Action}
 use Rattle.posted_words.specs.Words.{Words, AreWordSizes}
 use Rattle.synic_board.specs.State.{State, opened, AreSizes as AreBoardSizes}
 use Rattle.board_threads.specs.History.{Call}
@@ -29,10 +29,10 @@ pub record Acting : Type 0 where
   pub of : TableId
   pub number : ℕ
   pub calls : List Call
-  pub did : List Did
+  pub actions : List Action
 
-abbrev pub acting : TableId → ℕ → List Call → List Did → Acting
-acting of number calls did = record { of = of; number = number; calls = calls; did = did }
+abbrev pub acting : TableId → ℕ → List Call → List Action → Acting
+acting of number calls actions = record { of = of; number = number; calls = calls; actions = actions }
 
 abbrev pub new_actor : TableId → ℕ → Acting
 new_actor of number = acting of number [] []

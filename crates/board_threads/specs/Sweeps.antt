@@ -6,8 +6,8 @@ use Rattle.synic_board.specs.declared.event.Event.TheVariants.{Absorb}
 use Rattle.synic_board.specs.declared.event.Reply.{Reply}
 use Rattle.synic_board.specs.declared.event.Reply.TheVariants.{Refused}
 use Rattle.synic_board.specs.declared.history.Entry.{Entry}
-use Rattle.posted_words.specs.declared.rule.Did.{Did}
-use Rattle.posted_words.specs.Did.{times_taken}
+use Rattle.posted_words.specs.declared.rule.Action.{Action}
+use Rattle.posted_words.specs.Action.{times_taken}
 use Rattle.posted_words.specs.Words.{sweep_of}
 use Rattle.board_threads.specs.History.{Call}
 
@@ -20,12 +20,12 @@ is_refusal (Refused refusal) = true
 is_refusal _ = false
 
 -- an absorb swept its word, unless it was refused
-abbrev pub sweep_in : Event → Reply → List Did
+abbrev pub sweep_in : Event → Reply → List Action
 sweep_in (Absorb vp part bits) reply = if is_refusal reply then [] else sweep_of vp part bits ∷ []
 sweep_in _ reply = []
 
 -- the sweeps among calls, the last first
-abbrev pub sweeps_of : List Call → List Did
+abbrev pub sweeps_of : List Call → List Action
 sweeps_of calls = flat_map (λ (c : Call). sweep_in c.0 c.1) (reverse calls)
 
 -- how often the bit b of the word w was absorbed: the absorbs with that bit that were not refused

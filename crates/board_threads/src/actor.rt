@@ -51,14 +51,14 @@ impl Model for Actor {
 
     ghost Value = { Acting };
 
-    ghost view = { λ a. acting a.sweeper.of a.number a.calls.items a.sweeper.did };
+    ghost view = { λ a. acting a.sweeper.of a.number a.calls.items a.sweeper.actions };
 
-    ghost invariant = { λ a. a.sweeper.did ≡ sweeps_of a.calls.items };
+    ghost invariant = { λ a. a.sweeper.actions ≡ sweeps_of a.calls.items };
 }
 
 impl Actor {
     pub(crate) fn new(alloc: Global, number: u8, sweeper: Sweeper) -> Actor
-        requires { sweeper.did ≡ [] }
+        requires { sweeper.actions ≡ [] }
         ensures { result ≡ acting sweeper.of number [] [] }
     {
         Actor {
@@ -79,16 +79,16 @@ impl Actor {
     /// absorbs among them that were not refused.
     pub fn calls(&self) -> &[(Event, Reply)]
         ensures calls { result.now ≡ self.now.calls }
-        ensures sweeps { self.now.did ≡ sweeps_of self.now.calls }
+        ensures sweeps { self.now.actions ≡ sweeps_of self.now.calls }
     {
         self.calls.as_slice()
     }
 
     pub(crate) fn into_parts(self) -> (Sweeper, ActorCalls)
-        ensures sweeper { result.0 ≡ token self.of self.did }
+        ensures sweeper { result.0 ≡ token self.of self.actions }
         ensures number { result.1.number ≡ self.number }
         ensures calls { result.1.calls.items ≡ self.calls }
-        ensures sweeps { self.did ≡ sweeps_of self.calls }
+        ensures sweeps { self.actions ≡ sweeps_of self.calls }
     {
         let Actor {
             number,
@@ -108,7 +108,7 @@ impl Actor {
         event: Event,
     ) -> Result<Reply, CallFault>
         requires { is_absorb event ≡ false }
-        ensures ok { IfOk result (λ r. self.new ≡ acting self.old.of self.old.number (self.old.calls ++ (event, r) ∷ []) self.old.did) }
+        ensures ok { IfOk result (λ r. self.new ≡ acting self.old.of self.old.number (self.old.calls ++ (event, r) ∷ []) self.old.actions) }
         ensures fault { OnErr result (self.new ≡ self.old) }
         ensures event { ¬ (IsErrOf result CallFault.AbsorbEvent) }
     {
@@ -133,7 +133,7 @@ impl Actor {
         part: u8,
     ) -> Result<Reply, CallFault>
         requires { self.old.of ≡ words.now.name }
-        ensures ok { IfOk result (λ r. (bits : ℕ) × (self.new ≡ acting self.old.of self.old.number (self.old.calls ++ (Absorb vp part bits, r) ∷ []) (sweep_in (Absorb vp part bits) r ++ self.old.did))) }
+        ensures ok { IfOk result (λ r. (bits : ℕ) × (self.new ≡ acting self.old.of self.old.number (self.old.calls ++ (Absorb vp part bits, r) ∷ []) (sweep_in (Absorb vp part bits) r ++ self.old.actions))) }
         ensures refused { IfOk result (λ r. is_refusal r ≡ true → self.new.calls ≡ self.old.calls ++ (Absorb vp part 0, r) ∷ []) }
         ensures fault { OnErr result (self.new ≡ self.old) }
         ensures event { ¬ (IsErrOf result CallFault.AbsorbEvent) }

@@ -8,7 +8,7 @@ ghost use Rattle.posted_words.specs.declared.line.Raised.{Raised};
 ghost use Rattle.board_threads.specs.Sharing.{new_actor};
 ghost use Rattle.board_threads.specs.Settling.{IsSettled, AreAbsorbed};
 ghost use Rattle.board_threads.specs.Judging.{IsSized, has_bad_step};
-ghost use Rattle.board_threads.specs.Crew.{IsCrewed, HasEach, lists, logs_of};
+ghost use Rattle.board_threads.specs.Crew.{IsCrewHistory, HasEach, lists, logs_of};
 ghost use Rattle.board_threads.specs.inside.Work.{IsNewLine, HaveWorked};
 
 use crate::actor::Actor;
@@ -19,7 +19,7 @@ use crate::script::{Scripts, Setup, has_bad, is_sized};
 use crate::settling::Ended;
 use crate::shared::SharedBoard;
 use crate::threads::run_all;
-use crate::workers::{absorb_all, perform_all};
+use crate::workers::{absorb_all, perform_setup};
 use posted_words::{Line, Raised};
 use std::alloc::{AllocError, Global};
 use std::sync::Wait;
@@ -78,7 +78,7 @@ pub fn run_crew<R: Threads + Wait + Sync, G: Gate + Sync>(
     ensures step { IsErrOf result CrewFault.BadStep ↔ IsSized setup.now scripts.now × (has_bad_step setup.now scripts.now ≡ true) }
     ensures settled { IfOk result (λ c. IsSettled (opened setup.now.processors setup.now.pages setup.now.first_ticket) c.ended) }
     ensures numbers { IfOk result (λ c. map (λ a. a.number) c.ended.actors.items ≡ range_with_len 0 (vec_len scripts.now.actors + 1)) }
-    ensures crewed { IfOk result (λ c. IsCrewed setup.now.processors setup.now.events.items (lists scripts.now.actors.items) c.ended.history.items) }
+    ensures crewed { IfOk result (λ c. IsCrewHistory setup.now.processors setup.now.events.items (lists scripts.now.actors.items) c.ended.history.items) }
     ensures each { IfOk result (λ c. AllZip HasEach (lists scripts.now.lines.items) (lists c.raised.items)) }
     ensures raises { IfOk result (λ c. AreAbsorbed (4 * setup.now.processors) (logs_of (lists scripts.now.lines.items) (lists c.raised.items)) c.ended.history.items c.ended.standing) }
 {
@@ -108,7 +108,7 @@ fn run_judged<R: Threads + Wait + Sync, G: Gate + Sync>(
     requires step { has_bad_step setup.now scripts.now ≡ false }
     ensures settled { IfOk result (λ c. IsSettled (opened setup.now.processors setup.now.pages setup.now.first_ticket) c.ended) }
     ensures numbers { IfOk result (λ c. map (λ a. a.number) c.ended.actors.items ≡ range_with_len 0 (vec_len scripts.now.actors + 1)) }
-    ensures crewed { IfOk result (λ c. IsCrewed setup.now.processors setup.now.events.items (lists scripts.now.actors.items) c.ended.history.items) }
+    ensures crewed { IfOk result (λ c. IsCrewHistory setup.now.processors setup.now.events.items (lists scripts.now.actors.items) c.ended.history.items) }
     ensures each { IfOk result (λ c. AllZip HasEach (lists scripts.now.lines.items) (lists c.raised.items)) }
     ensures raises { IfOk result (λ c. AreAbsorbed (4 * setup.now.processors) (logs_of (lists scripts.now.lines.items) (lists c.raised.items)) c.ended.history.items c.ended.standing) }
 {
@@ -151,7 +151,7 @@ fn work<R: Threads + Wait + Sync, G: Gate + Sync>(
     let Some(main) = actors.pop() else {
         unreachable!()
     };
-    let main = perform_all(rt, board, main, setup.events.as_slice())?;
+    let main = perform_setup(rt, board, main, setup.events.as_slice())?;
     let (mut others, ran) = run_all(rt, alloc, board, gate, scripts, others, lines)?;
     let main = absorb_all(rt, board, main)?;
     if actors.push(main).is_err() || actors.append(&mut others).is_err() {
@@ -195,10 +195,10 @@ fn finish(
     requires processors { board.words.processors ≡ setup.now.processors }
     requires pages { board.pages ≡ setup.now.pages }
     requires ticket { board.first_ticket ≡ setup.now.first_ticket }
-    requires few { setup.now.processors ≤ 8 }
+    requires bound { setup.now.processors ≤ 8 }
     ensures settled { IfOk result (λ c. IsSettled (opened setup.now.processors setup.now.pages setup.now.first_ticket) c.ended) }
     ensures numbers { IfOk result (λ c. map (λ a. a.number) c.ended.actors.items ≡ range_with_len 0 (vec_len scripts.now.actors + 1)) }
-    ensures crewed { IfOk result (λ c. IsCrewed setup.now.processors setup.now.events.items (lists scripts.now.actors.items) c.ended.history.items) }
+    ensures crewed { IfOk result (λ c. IsCrewHistory setup.now.processors setup.now.events.items (lists scripts.now.actors.items) c.ended.history.items) }
     ensures each { IfOk result (λ c. AllZip HasEach (lists scripts.now.lines.items) (lists c.raised.items)) }
     ensures raises { IfOk result (λ c. AreAbsorbed (4 * setup.now.processors) (logs_of (lists scripts.now.lines.items) (lists c.raised.items)) c.ended.history.items c.ended.standing) }
 {

@@ -98,7 +98,7 @@ impl Recorded {
     ) -> Result<(u64, Reply), CallFault>
         requires { sweeper.old.of ≡ words.now.name }
         ensures history { IfOk result (λ r. self.new.history.entries ≡ self.old.history.entries ++ entry actor (Absorb vp part r.0) r.1 ∷ []) }
-        ensures swept { IfOk result (λ r. sweeper.new ≡ token sweeper.old.of (sweep_in (Absorb vp part r.0) r.1 ++ sweeper.old.did)) }
+        ensures swept { IfOk result (λ r. sweeper.new ≡ token sweeper.old.of (sweep_in (Absorb vp part r.0) r.1 ++ sweeper.old.actions)) }
         ensures refused { IfOk result (λ r. is_refusal r.1 ≡ true → r.0 ≡ 0) }
         ensures unchanged { OnErr result (self.new.history.entries ≡ self.old.history.entries) }
         ensures kept { OnErr result (sweeper.new ≡ sweeper.old) }
@@ -196,7 +196,7 @@ impl Recorded {
 /// so its bits would be lost.
 fn sweep_if_there(words: &PostedWords, sweeper: &mut Sweeper, vp: u8, part: u8) -> u64
     requires { sweeper.old.of ≡ words.now.name }
-    ensures swept { sweeper.new ≡ token sweeper.old.of (if nat_lt vp words.now.processors && nat_le part 3 then sweep_of vp part result ∷ sweeper.old.did else sweeper.old.did) }
+    ensures swept { sweeper.new ≡ token sweeper.old.of (if nat_lt vp words.now.processors && nat_le part 3 then sweep_of vp part result ∷ sweeper.old.actions else sweeper.old.actions) }
     ensures none { (nat_lt vp words.now.processors && nat_le part 3) ≡ false → result ≡ 0 }
 {
     let processors = words.processors();

@@ -62,9 +62,9 @@ pub(crate) fn split_all(
     alloc: Global,
     actors: Vec<Actor>,
 ) -> Result<(Vec<Sweeper>, Vec<ActorCalls>), AllocError>
-    ensures sweepers { IfOk result (λ r. r.0.items ≡ map (λ (a : Acting). token a.of a.did) actors.items) }
+    ensures sweepers { IfOk result (λ r. r.0.items ≡ map (λ (a : Acting). token a.of a.actions) actors.items) }
     ensures actors { IfOk result (λ r. map calls_given r.1.items ≡ map calls_held actors.items) }
-    ensures sweeps { IfOk result (λ _. All (λ (a : Acting). a.did ≡ sweeps_of a.calls) actors.items) }
+    ensures sweeps { IfOk result (λ _. All (λ (a : Acting). a.actions ≡ sweeps_of a.calls) actors.items) }
 {
     let mut sweepers = Vec::new(alloc);
     let mut ended = Vec::new(alloc);

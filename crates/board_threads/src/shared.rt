@@ -3,7 +3,7 @@ ghost use Rattle.std.specs.Prelude.{◌≡◌, ◌↔◌, ℕ, ◌*◌, ◌<◌,
 ghost use Rattle.std.specs.List.{range_with_len};
 ghost use Rattle.atomic_table.specs.Seated.{TableId};
 ghost use Rattle.synic_board.specs.declared.event.Event.TheVariants.{Absorb};
-ghost use Rattle.posted_words.specs.Words.{shared_words, token, with_last_step, raise_of, did_of};
+ghost use Rattle.posted_words.specs.Words.{shared_words, token, with_last_step, raise_of, actions_of};
 ghost use Rattle.posted_words.specs.Answers.{is_fresh};
 ghost use Rattle.board_threads.specs.Sharing.{AreSharedSizes, sharing, start, acting, new_actor};
 ghost use Rattle.board_threads.specs.Sweeps.{is_absorb, is_refusal, sweep_in};
@@ -133,7 +133,7 @@ impl SharedBoard {
         actor: &mut Actor,
         event: Event,
     ) -> Result<Reply, CallFault>
-        ensures ok { IfOk result (λ r. actor.new ≡ acting actor.old.of actor.old.number (actor.old.calls ++ (event, r) ∷ []) actor.old.did) }
+        ensures ok { IfOk result (λ r. actor.new ≡ acting actor.old.of actor.old.number (actor.old.calls ++ (event, r) ∷ []) actor.old.actions) }
         ensures fault { OnErr result (actor.new ≡ actor.old) }
         ensures absorb { IsErrOf result CallFault.AbsorbEvent ↔ is_absorb event ≡ true }
     {
@@ -156,7 +156,7 @@ impl SharedBoard {
         part: u8,
     ) -> Result<Reply, CallFault>
         requires own { actor.old.of ≡ self.now.words.name }
-        ensures ok { IfOk result (λ r. (bits : ℕ) × (actor.new ≡ acting actor.old.of actor.old.number (actor.old.calls ++ (Absorb vp part bits, r) ∷ []) (sweep_in (Absorb vp part bits) r ++ actor.old.did))) }
+        ensures ok { IfOk result (λ r. (bits : ℕ) × (actor.new ≡ acting actor.old.of actor.old.number (actor.old.calls ++ (Absorb vp part bits, r) ∷ []) (sweep_in (Absorb vp part bits) r ++ actor.old.actions))) }
         ensures refused { IfOk result (λ r. is_refusal r ≡ true → actor.new.calls ≡ actor.old.calls ++ (Absorb vp part 0, r) ∷ []) }
         ensures fault { OnErr result (actor.new ≡ actor.old) }
         ensures event { ¬ (IsErrOf result CallFault.AbsorbEvent) }
@@ -182,10 +182,10 @@ impl SharedBoard {
     pub fn settle(self, actors: Vec<Actor>, lines: Vec<Line>) -> Result<Ended, SettleFault>
         requires actors { All (λ a. a.of ≡ self.words.name) actors.items }
         requires lines { All (λ l. l.of ≡ self.words.name) lines.items }
-        requires raises { All (λ l. only_raises l.did ≡ true) lines.items }
+        requires raises { All (λ l. only_raises l.actions ≡ true) lines.items }
         ensures settled { IfOk result (IsSettled (start self)) }
         ensures actors { IfOk result (λ e. map calls_given e.actors.items ≡ map calls_held actors.items) }
-        ensures raises { IfOk result (λ e. AreAbsorbed (4 * self.words.processors) (map did_of lines.items) e.history.items e.standing) }
+        ensures raises { IfOk result (λ e. AreAbsorbed (4 * self.words.processors) (map actions_of lines.items) e.history.items e.standing) }
     {
         let SharedBoard {
             alloc,

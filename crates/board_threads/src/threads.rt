@@ -177,7 +177,7 @@ fn start_lines<'s, E, R: Threads + Wait + Sync, G: Gate + Sync>(
 ) -> Result<Vec<RaisingThread<'s>>, WorkFault>
     requires new { All (IsNewLine board.now.words.name) lines.items }
     requires each { vec_len lines ≡ length scripts.now }
-    requires few { first + length scripts.now ≤ 16 }
+    requires bound { first + length scripts.now ≤ 16 }
     requires there { All (λ (s : Vec (ℕ × ℕ) Global). IsThere board.now.words.processors s.items) scripts.now }
     ensures scripts { IfOk result (λ v. map {B = TableId × List (ℕ × ℕ)} (λ h. (h.promise.board.now.words.name, h.promise.script.now)) v.items ≡ map {B = TableId × List (ℕ × ℕ)} (λ s. (board.now.words.name, s.items)) scripts.now) }
 {
@@ -214,7 +214,7 @@ pub(crate) fn run_all<R: Threads + Wait + Sync, G: Gate + Sync>(
     requires new_lines { All (IsNewLine board.now.words.name) lines.items }
     requires each_actor { vec_len actors ≡ vec_len scripts.now.actors }
     requires each_line { vec_len lines ≡ vec_len scripts.now.lines }
-    requires few { vec_len scripts.now.lines ≤ 16 }
+    requires bound { vec_len scripts.now.lines ≤ 16 }
     requires there { All (λ (s : Vec (ℕ × ℕ) Global). IsThere board.now.words.processors s.items) scripts.now.lines.items }
     ensures { IfOk result (λ r. HaveRun board.now.words.name scripts.now.actors.items scripts.now.lines.items actors.items r.0.items r.1.items) }
 {
@@ -241,7 +241,7 @@ fn run_lines<R: Threads + Wait + Sync, G: Gate + Sync>(
 ) -> Result<Vec<(Line, Vec<Raised>)>, WorkFault>
     requires new { All (IsNewLine board.now.words.name) lines.items }
     requires each { vec_len lines ≡ length scripts.now }
-    requires few { length scripts.now ≤ 16 }
+    requires bound { length scripts.now ≤ 16 }
     requires there { All (λ (s : Vec (ℕ × ℕ) Global). IsThere board.now.words.processors s.items) scripts.now }
     ensures { IfOk result (λ v. AllZip (λ (s : Vec (ℕ × ℕ) Global) (x : Token × Vec Raised Global). HasRaised board.now.words.name s.items x.0 x.1.items) scripts.now v.items) }
 {
@@ -267,7 +267,7 @@ fn run_with_actor<R: Threads + Wait + Sync, G: Gate + Sync>(
     requires new_lines { All (IsNewLine board.now.words.name) lines.items }
     requires each_actor { vec_len actors ≡ length acts.now + 1 }
     requires each_line { vec_len lines ≡ length raises.now }
-    requires few { length raises.now ≤ 16 }
+    requires bound { length raises.now ≤ 16 }
     requires there { All (λ (s : Vec (ℕ × ℕ) Global). IsThere board.now.words.processors s.items) raises.now }
     ensures { IfOk result (λ r. HaveRun board.now.words.name (own.now ∷ acts.now) raises.now actors.items r.0.items r.1.items) }
 {
@@ -304,7 +304,7 @@ fn act_beside<R: Threads + Wait + Sync, G: Gate + Sync>(
     requires new_lines { All (IsNewLine board.now.words.name) lines.items }
     requires each_other { vec_len others ≡ length acts.now }
     requires each_line { vec_len lines ≡ length raises.now }
-    requires few { length raises.now ≤ 16 }
+    requires bound { length raises.now ≤ 16 }
     requires there { All (λ (s : Vec (ℕ × ℕ) Global). IsThere board.now.words.processors s.items) raises.now }
     ensures { IfOk result (λ r. HasActed board.now.words.name first.number own.now.items r.0
         × HaveRun board.now.words.name acts.now raises.now others.items r.1.items r.2.items) }
@@ -341,7 +341,7 @@ fn run_with_line<R: Threads + Wait + Sync, G: Gate + Sync>(
 ) -> Result<Vec<(Line, Vec<Raised>)>, WorkFault>
     requires new { All (IsNewLine board.now.words.name) lines.items }
     requires each { vec_len lines ≡ length raises.now + 1 }
-    requires few { length raises.now ≤ 15 }
+    requires bound { length raises.now ≤ 15 }
     requires own_there { IsThere board.now.words.processors own.now.items }
     requires there { All (λ (s : Vec (ℕ × ℕ) Global). IsThere board.now.words.processors s.items) raises.now }
     ensures { IfOk result (λ v. AllZip (λ (s : Vec (ℕ × ℕ) Global) (x : Token × Vec Raised Global). HasRaised board.now.words.name s.items x.0 x.1.items) (own.now ∷ raises.now) v.items) }
@@ -374,7 +374,7 @@ fn raise_beside<R: Threads + Wait + Sync, G: Gate + Sync>(
     requires new_first { IsNewLine board.now.words.name first }
     requires new_others { All (IsNewLine board.now.words.name) others.items }
     requires each { vec_len others ≡ length raises.now }
-    requires few { length raises.now ≤ 15 }
+    requires bound { length raises.now ≤ 15 }
     requires own_there { IsThere board.now.words.processors own.now.items }
     requires there { All (λ (s : Vec (ℕ × ℕ) Global). IsThere board.now.words.processors s.items) raises.now }
     ensures { IfOk result (λ r. HasRaised board.now.words.name own.now.items r.0.0 r.0.1.items

@@ -16,7 +16,7 @@ use std::sync::Wait;
 use synic_board::Event;
 
 /// The setup: actor 0 performs its events.
-pub(crate) fn perform_all<R: Wait>(
+pub(crate) fn perform_setup<R: Wait>(
     rt: &R,
     board: &SharedBoard,
     mut actor: Actor,
@@ -40,7 +40,7 @@ pub(crate) fn absorb_all<R: Wait>(
     mut actor: Actor,
 ) -> Result<Actor, CallFault>
     requires own { actor.of ≡ board.now.words.name }
-    requires few { board.now.words.processors ≤ 8 }
+    requires bound { board.now.words.processors ≤ 8 }
     ensures of { IfOk result (λ a. a.of ≡ actor.of) }
     ensures number { IfOk result (λ a. a.number ≡ actor.number) }
     ensures calls { IfOk result (λ a. (more : List Call) × (a.calls ≡ actor.calls ++ more) × AreSteps (last_steps board.now.words.processors) more) }
@@ -88,7 +88,7 @@ pub(crate) fn raise<R: Wait, G: Gate>(
     script: &[(Vp, Vector)],
 ) -> Result<(Line, Vec<Raised>), WorkFault>
     requires own { line.of ≡ board.now.words.name }
-    requires new { line.did ≡ [] }
+    requires new { line.actions ≡ [] }
     requires there { IsThere board.now.words.processors script.now }
     ensures { IfOk result (λ r. HasRaised board.now.words.name script.now r.0 r.1.items) }
 {

@@ -96,7 +96,7 @@ pub(crate) struct CompactEntry {
 /// The bytes of an event.
 pub(crate) fn bytes_of_event(event: &Event) -> &[u8]
     ensures value { result.now ≡ event_bytes event.now }
-    ensures few { length result.now ≤ 240 }
+    ensures bound { length result.now ≤ 240 }
 {
     match event {
         Event::Post { payload, .. } => payload.as_slice(),
@@ -108,7 +108,7 @@ pub(crate) fn bytes_of_event(event: &Event) -> &[u8]
 /// The bytes of a reply.
 pub(crate) fn bytes_of_reply(reply: &Reply) -> &[u8]
     ensures value { result.now ≡ reply_bytes reply.now }
-    ensures few { length result.now ≤ 8 }
+    ensures bound { length result.now ≤ 8 }
 {
     match reply {
         Reply::Bytes(bytes) => bytes.as_slice(),
@@ -121,7 +121,7 @@ impl CompactEvent {
     pub(crate) fn of(event: &Event) -> CompactEvent
         ensures same { event_with (event_bytes event.now) result ≡ event.now }
         ensures count { event_count result ≡ length (event_bytes event.now) }
-        ensures few { event_count result ≤ event_most result }
+        ensures bound { event_count result ≤ event_most result }
     {
         match event {
             Event::OpenPort {
@@ -202,7 +202,7 @@ impl CompactEvent {
     /// The event with these bytes.
     pub(crate) fn event(self, own: &[u8]) -> Event
         requires count { length own.now ≡ event_count self }
-        requires few { event_count self ≤ event_most self }
+        requires bound { event_count self ≤ event_most self }
         ensures { result ≡ event_with own.now self }
     {
         match self {
@@ -255,7 +255,7 @@ impl CompactReply {
     pub(crate) fn of(reply: &Reply) -> CompactReply
         ensures same { reply_with (reply_bytes reply.now) result ≡ reply.now }
         ensures count { reply_count result ≡ length (reply_bytes reply.now) }
-        ensures few { reply_count result ≤ 8 }
+        ensures bound { reply_count result ≤ 8 }
     {
         match reply {
             Reply::Done => CompactReply::Done,
@@ -285,7 +285,7 @@ impl CompactReply {
     /// The reply with these bytes.
     pub(crate) fn reply(self, own: &[u8]) -> Reply
         requires count { length own.now ≡ reply_count self }
-        requires few { reply_count self ≤ 8 }
+        requires bound { reply_count self ≤ 8 }
         ensures { result ≡ reply_with own.now self }
     {
         match self {

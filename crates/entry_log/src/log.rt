@@ -24,11 +24,11 @@ impl Model for EntryLog {
 
     ghost Value = { Log };
 
-    ghost use Rattle.entry_log.specs.inside.View.{log_of, IsKept};
+    ghost use Rattle.entry_log.specs.inside.View.{log_of, LogInvariant};
 
     ghost view = { log_of };
 
-    ghost invariant = { IsKept };
+    ghost invariant = { LogInvariant };
 }
 
 impl EntryLog {

@@ -32,11 +32,11 @@ impl Model for Ports {
 
     ghost Value = { Ports };
 
-    ghost use Rattle.event_ports.specs.inside.View.{ports_of, IsKept};
+    ghost use Rattle.event_ports.specs.inside.View.{ports_of, PortsInvariant};
 
     ghost view = { ports_of };
 
-    ghost invariant = { IsKept };
+    ghost invariant = { PortsInvariant };
 }
 
 /// Whether a shape is in range: 1 to 16 buffers, or at least one flag and none from 2048 on.
@@ -53,7 +53,7 @@ impl Ports {
     /// All ports closed, on a board with that many processors, 1 to 8.
     pub fn new(processors: u8) -> Ports
         requires some { 1 ≤ processors }
-        requires few { processors ≤ 8 }
+        requires bound { processors ≤ 8 }
         ensures { result ≡ no_ports processors }
     {
         Ports {

@@ -13,5 +13,5 @@ pub bit_is_clear : (byte k : ℕ) → k < 8 → (bit_and byte (1 * 2 ^ k % 256) 
 bit_is_clear byte k h =
     let masked = ap (λ m. bit_and byte m == 0) (mask_of k h) in
     let e : bit_and byte (2 ^ k) ≡ bit_at byte k * 2 ^ k = and_pow byte k in
-    let few : bit_at byte k < 2 = bit_at-lt byte k in
+    let bound : bit_at byte k < 2 = bit_at-lt byte k in
     masked ∙ grind (arith, nat_tests)

@@ -22,7 +22,7 @@ both page x y at within =
 pub message-written : (page header payload : List ℕ) (sint : ℕ) → length page ≡ 4096 → sint < 16 → length header ≡ 16 → length payload ≤ 240
     → overwritten (overwritten (overwritten page (256 * sint) header) (256 * sint + 16) payload) (256 * sint + (16 + length payload)) (replicate (256 - (16 + length payload)) 0)
     ≡ with_slot page sint (message_bytes header payload)
-message-written page header payload sint whole low long few =
+message-written page header payload sint whole low long bound =
     let at : ℕ = 256 * sint in
     let zeros : List ℕ = replicate (240 - length payload) 0 in
     let first = subst (λ n. overwritten (overwritten page at header) (at + n) payload ≡ overwritten page at (header ++ payload)) long (both page header payload at (omega arith)) in

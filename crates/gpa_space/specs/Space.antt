@@ -41,12 +41,12 @@ abbrev pub page_of : ℕ → PageNumber
 page_of word = word / 4096
 
 -- an enabled overlay is mapped at its page number
-abbrev pub lies_at : PageNumber → ℕ → Bool
-lies_at page word = is_enabled word && (page_of word == page)
+abbrev pub is_mapped_at : PageNumber → ℕ → Bool
+is_mapped_at page word = is_enabled word && (page_of word == page)
 
 -- the overlay that is visible at a page: the first that is mapped there
 abbrev pub visible : Space → PageNumber → Option ℕ
-visible s page = position (lies_at page) s.registers
+visible s page = position (is_mapped_at page) s.registers
 
 abbrev pub overlay_owner : ℕ → Owner
 overlay_owner overlay = if overlay % 2 == 0 then Sim (overlay / 2) else Sief (overlay / 2)
@@ -56,12 +56,12 @@ abbrev pub owner_of : Space → PageNumber → Owner
 owner_of s page = if nat_lt page (length s.pages) then option_map_or overlay_owner (visible s page) Guest else Nothing
 
 -- the bytes that a guest sees at a page
-abbrev pub shown : Space → PageNumber → List ℕ
-shown s page = option_map_or (λ overlay. slice_index_or s.own overlay []) (visible s page) (slice_index_or s.pages page [])
+abbrev pub visible_page : Space → PageNumber → List ℕ
+visible_page s page = option_map_or (λ overlay. slice_index_or s.own overlay []) (visible s page) (slice_index_or s.pages page [])
 
 -- other bytes there: obscured bytes stay
-abbrev pub with_shown : Space → PageNumber → List ℕ → Space
-with_shown s page bytes = option_map_or (λ overlay. record s { own = slice_set s.own overlay bytes }) (visible s page) (record s { pages = slice_set s.pages page bytes })
+abbrev pub with_visible_page : Space → PageNumber → List ℕ → Space
+with_visible_page s page bytes = option_map_or (λ overlay. record s { own = slice_set s.own overlay bytes }) (visible s page) (record s { pages = slice_set s.pages page bytes })
 
 -- why a load or a store is refused; the checks are in this order
 abbrev pub refusal_of : Space → Address → ℕ → Option Refusal
@@ -73,7 +73,7 @@ refusal_of s address count =
 
 -- the bytes that a guest loads
 abbrev pub loaded : Space → Address → ℕ → Result (ArrayVec ℕ) Refusal
-loaded s address count = option_map_or (λ r. Err r) (refusal_of s address count) (Ok (record { items = take count (drop (address % 4096) (shown s (address / 4096))) }))
+loaded s address count = option_map_or (λ r. Err r) (refusal_of s address count) (Ok (record { items = take count (drop (address % 4096) (visible_page s (address / 4096))) }))
 
 -- the owner of the page that a guest's store writes to, and the space after it
 abbrev pub store_answer : Space → Address → List ℕ → Result Owner Refusal
@@ -82,7 +82,7 @@ store_answer s address bytes = option_map_or (λ r. Err r) (refusal_of s address
 abbrev pub after_store : Space → Address → List ℕ → Space
 after_store s address bytes =
     option_map_or (λ _. s) (refusal_of s address (length bytes))
-    (with_shown s (address / 4096) (overwritten (shown s (address / 4096)) (address % 4096) bytes))
+    (with_visible_page s (address / 4096) (overwritten (visible_page s (address / 4096)) (address % 4096) bytes))
 
 -- an overlay's own page, visible or not
 abbrev pub own_page : Space → Processor → Kind → List ℕ
@@ -106,6 +106,10 @@ is_flag_set s vp sint flag = is_set (own_page s vp kind.Sief) (flag_place sint f
 
 abbrev pub after_flag : Space → Processor → Source → Flag → Space
 after_flag s vp sint flag = with_own_page s vp kind.Sief (with_bit (own_page s vp kind.Sief) (flag_place sint flag) (flag % 8))
+
+-- a guest page has other bytes, whether it is obscured or not
+abbrev pub with_guest_page : Space → PageNumber → List ℕ → Space
+with_guest_page s page bytes = record s { pages = slice_set s.pages page bytes }
 
 -- both own pages of a processor are set to zero
 abbrev pub after_clearing : Space → Processor → Space

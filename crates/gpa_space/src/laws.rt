@@ -3,7 +3,7 @@ ghost use Rattle.gpa_space.specs.Laws.{OverlaysLieInOrder, StoredBytesAreLoaded}
 
 /// Of the overlays at one page the first is visible, the next one once it has left, and none at a
 /// page outside the space: worked cases.
-pub fn overlays_lie_in_order()
+pub fn overlays_are_in_order()
     ensures { OverlaysLieInOrder }
 {}
 

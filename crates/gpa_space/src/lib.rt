@@ -3,10 +3,10 @@
 #![tactic(auto)]
 
 mod laws;
-mod lying;
+mod mapped;
 mod overlay;
 mod page;
 mod space;
 
-pub use laws::{overlays_lie_in_order, stored_bytes_are_loaded};
+pub use laws::{overlays_are_in_order, stored_bytes_are_loaded};
 pub use space::Space;

@@ -56,7 +56,7 @@ impl Page {
     /// `count` bytes, at most 8, from the offset `at` on. They must be within the page.
     #[inline(always)]
     pub fn load(&self, at: usize, count: u8) -> Bytes8
-        requires few { count ≤ 8 }
+        requires bound { count ≤ 8 }
         requires inside { at + count ≤ 4096 }
         ensures { result.items ≡ take count (drop at self.now) }
     {
@@ -81,7 +81,7 @@ impl Page {
     /// Any number of bytes up to eight. Out of line: guests mostly load eight.
     #[inline(never)]
     fn load_few(&self, at: usize, count: u8) -> Bytes8
-        requires few { count ≤ 8 }
+        requires bound { count ≤ 8 }
         requires inside { at + count ≤ 4096 }
         ensures { result.items ≡ take count (drop at self.now) }
     {

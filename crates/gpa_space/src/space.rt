@@ -1,11 +1,12 @@
 // Guest pages, and the overlay pages that may obscure them.
-ghost use Rattle.std.specs.Prelude.{◌≡◌, ◌<◌, ◌≤◌, ◌*◌, length, not, IfOk, IfSome, replicate, slice_get};
+ghost use Rattle.std.specs.Prelude.{[], ◌≡◌, ◌+◌, ◌<◌, ◌≤◌, ◌*◌, length, slice_index_or, not, IfOk, IfSome, replicate, slice_get};
+ghost use Rattle.std.specs.List.{All};
 ghost use Rattle.std.specs.Option.{option_copied};
 ghost use Rattle.board_terms.specs.declared.pages.Kind.TheVariants as kind;
-ghost use Rattle.gpa_space.specs.Page.{zero_page, message_bytes};
-ghost use Rattle.gpa_space.specs.Space.{opened, processors_of, overlay_of, with_register, visible, overlay_owner, owner_of, refusal_of, loaded, store_answer, after_store, own_page, after_slot, is_pending, after_pending, is_flag_set, after_flag, after_clearing};
+ghost use Rattle.gpa_space.specs.Page.{zero_page, overwritten, message_bytes};
+ghost use Rattle.gpa_space.specs.Space.{opened, processors_of, overlay_of, with_register, visible, overlay_owner, owner_of, refusal_of, loaded, store_answer, after_store, own_page, with_own_page, with_guest_page, after_slot, is_pending, after_pending, is_flag_set, after_flag, after_clearing};
 
-use crate::lying::Lying;
+use crate::mapped::OverlaysAt;
 use crate::overlay::OverlayWord;
 use crate::page::{HEADER_SIZE, MESSAGE_FLAGS, Page, SIZE, SLOT_SIZE};
 use board_terms::{Bytes8, Kind, Owner, Refusal, Sint, Vp};
@@ -24,7 +25,7 @@ pub struct Space {
     own: Vec<Page>,
     // Cache: the overlays at each guest page, by their registers. Only `set_overlay` writes
     // registers, and it updates the cache.
-    lying: Lying,
+    mapped: OverlaysAt,
 }
 
 impl Model for Space {
@@ -35,11 +36,11 @@ impl Model for Space {
 
     ghost coded = { space_code };
 
-    ghost use Rattle.gpa_space.specs.inside.View.{space_of, IsKept};
+    ghost use Rattle.gpa_space.specs.inside.View.{space_of, SpaceInvariant};
 
     ghost view = { space_of };
 
-    ghost invariant = { IsKept };
+    ghost invariant = { SpaceInvariant };
 }
 
 impl Space {
@@ -47,21 +48,21 @@ impl Space {
     /// are disabled. The only call here that allocates.
     pub fn open(alloc: Global, processors: u8, pages: u8) -> Result<Space, AllocError>
         requires some_processor { 1 ≤ processors }
-        requires few_processors { processors ≤ 8 }
+        requires processor_bound { processors ≤ 8 }
         requires some_page { 1 ≤ pages }
-        requires few_pages { pages ≤ 64 }
+        requires page_bound { pages ≤ 64 }
         ensures { IfOk result (λ space. space ≡ opened processors pages) }
     {
         let overlays = 2 * processors as usize;
         let registers = vec![in alloc; 0; overlays]?;
         let own = zero_pages(alloc, overlays)?;
-        let lying = Lying::open(alloc, pages)?;
+        let mapped = OverlaysAt::open(alloc, pages)?;
         let pages = zero_pages(alloc, pages as usize)?;
         Ok(Space {
             pages,
             registers,
             own,
-            lying,
+            mapped,
         })
     }
 
@@ -76,8 +77,8 @@ impl Space {
         let word = OverlayWord::new(register);
         self.registers[overlay] = register;
         // It was mapped at no other page.
-        self.lying.mark(before.page(), overlay, false);
-        self.lying.mark(word.page(), overlay, word.is_enabled());
+        self.mapped.mark(before.page(), overlay, false);
+        self.mapped.mark(word.page(), overlay, word.is_enabled());
     }
 
     /// The number of the overlay that is visible at a guest page.
@@ -85,7 +86,7 @@ impl Space {
         requires { page < length self.now.pages }
         ensures { result ≡ visible self.now page }
     {
-        self.lying.first(page as usize)
+        self.mapped.first(page as usize)
     }
 
     /// Which page a guest sees at a page number.
@@ -103,7 +104,7 @@ impl Space {
 
     /// Why a load or a store of that many bytes is refused.
     #[inline(always)]
-    fn judge(&self, address: u64, length: usize) -> Option<Refusal>
+    fn refusal_of(&self, address: u64, length: usize) -> Option<Refusal>
         ensures { result ≡ refusal_of self.now address length }
     {
         if length == 0 || length > 8 {
@@ -124,7 +125,7 @@ impl Space {
     pub fn load(&self, address: u64, length: u8) -> Result<Bytes8, Refusal>
         ensures { result ≡ loaded self.now address length }
     {
-        if let Some(refusal) = self.judge(address, length as usize) {
+        if let Some(refusal) = self.refusal_of(address, length as usize) {
             return Err(refusal);
         }
         let page = address / SIZE as u64;
@@ -150,7 +151,7 @@ impl Space {
         ensures answer { result ≡ store_answer self.old address bytes.now }
         ensures after { self.new ≡ after_store self.old address bytes.now }
     {
-        if let Some(refusal) = self.judge(address, bytes.len()) {
+        if let Some(refusal) = self.refusal_of(address, bytes.len()) {
             return Err(refusal);
         }
         let page = address / SIZE as u64;
@@ -250,6 +251,34 @@ impl Space {
         self.own[overlay_of(vp, Kind::Sief)].set_bit(at, (flag % 8) as u8)
     }
 
+    /// What holds for the pages of every space. Does nothing.
+    pub fn facts(&self)
+        ensures pages { All (λ page. length page ≡ 4096) self.now.pages }
+        ensures own { All (λ page. length page ≡ 4096) self.now.own }
+        ensures each { length self.now.own ≡ length self.now.registers }
+    {
+        page_lengths(self.pages.as_slice());
+        page_lengths(self.own.as_slice());
+    }
+
+    /// Replaces bytes of an overlay's own page, visible or not, from offset `at` on.
+    pub fn restore_own(&mut self, vp: Vp, kind: Kind, at: usize, bytes: &[u8])
+        requires on_board { vp < processors_of self.old }
+        requires inside { at + length bytes.now ≤ 4096 }
+        ensures { self.new ≡ with_own_page self.old vp kind (overwritten (own_page self.old vp kind) at bytes.now) }
+    {
+        self.own[overlay_of(vp, kind)].store(at, bytes);
+    }
+
+    /// Replaces bytes of a guest page, from offset `at` on, without the overlays that obscure it.
+    pub fn restore_guest(&mut self, page: u64, at: usize, bytes: &[u8])
+        requires page { page < length self.old.pages }
+        requires inside { at + length bytes.now ≤ 4096 }
+        ensures { self.new ≡ with_guest_page self.old page (overwritten (slice_index_or self.old.pages page []) at bytes.now) }
+    {
+        self.pages[page as usize].store(at, bytes);
+    }
+
     /// Sets the message page and the event flags page of a processor to zero, visible or not. They
     /// stay mapped where they are.
     pub fn clear_pages(&mut self, vp: Vp)
@@ -293,4 +322,13 @@ fn zero_pages(alloc: Global, count: usize) -> Result<Vec<Page>, AllocError>
         pages.push_reserved(Page::zeros(alloc)?);
     }
     Ok(pages)
+}
+
+/// Each page has 4096 bytes.
+fn page_lengths(pages: &[Page])
+    ensures { All (λ page. length page ≡ 4096) pages.now }
+{
+    for page in pages {
+        let _ = page.as_slice();
+    }
 }

@@ -80,7 +80,7 @@ holds-set = changed bits_set (λ a b. a || b) set_bit (λ b. refl)
 holds-cleared : (words : List ℕ) (v q : ℕ) → v < 256 → length words ≡ 4 → holds (with_bit bits_cleared words v) q ≡ (not (eq_by_cmp nat_cmp q v) && holds words q)
 holds-cleared = changed bits_cleared (λ a b. not a && b) cleared_bit (λ b. refl)
 
-contains-word_members : (words : List ℕ) (q : ℕ) → set.contains (word_members words) q ≡ (nat_lt q 256 && holds words q)
+pub contains-word_members : (words : List ℕ) (q : ℕ) → set.contains (word_members words) q ≡ (nat_lt q 256 && holds words q)
 unfolding word_members
 contains-word_members words q = contains-numbers_where (holds words) 256 q
 

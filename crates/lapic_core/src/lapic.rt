@@ -37,11 +37,11 @@ impl Model for Lapic {
 
     ghost coded = { apic_code };
 
-    ghost use Rattle.lapic_core.specs.inside.View.{apic_of, IsKept};
+    ghost use Rattle.lapic_core.specs.inside.View.{apic_of, LapicInvariant};
 
     ghost view = { apic_of };
 
-    ghost invariant = { IsKept };
+    ghost invariant = { LapicInvariant };
 }
 
 impl Lapic {
@@ -58,6 +58,44 @@ impl Lapic {
             threshold: 15,
             next: None,
         }
+    }
+
+    /// A local APIC with these requested vectors, vectors in service, task priority and suspension.
+    /// Takes any combination, including one that no sequence of the other calls leads to.
+    pub fn restore(
+        requested: VectorSet,
+        in_service: VectorSet,
+        task_priority: u8,
+        suspended: bool,
+    ) -> Lapic
+        ensures { result ≡ record { requested = requested; in_service = in_service; task_priority = task_priority; suspended = suspended } }
+    {
+        let floor = floor_of(suspended, task_priority);
+        let threshold = threshold_of(&in_service, floor);
+        let next = next_above(&requested, threshold);
+        Lapic {
+            requested,
+            in_service,
+            task_priority,
+            suspended,
+            floor,
+            threshold,
+            next,
+        }
+    }
+
+    /// The requested vectors.
+    pub fn requested(&self) -> &VectorSet
+        ensures { result.now ≡ self.now.requested }
+    {
+        &self.requested
+    }
+
+    /// The vectors in service.
+    pub fn in_service(&self) -> &VectorSet
+        ensures { result.now ≡ self.now.in_service }
+    {
+        &self.in_service
     }
 
     /// Requests a vector, and returns whether its request bit was clear. A request of a requested

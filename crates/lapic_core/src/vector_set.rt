@@ -1,7 +1,7 @@
 // A set of vectors, as four words of 64 bits.
-ghost use Rattle.std.specs.Prelude.{◌≡◌};
+ghost use Rattle.std.specs.Prelude.{◌≡◌, ◌<◌};
 ghost use Rattle.std.specs.FinSet as set;
-ghost use Rattle.lapic_core.specs.Vectors.{greatest};
+ghost use Rattle.lapic_core.specs.Vectors.{greatest, word_of};
 
 use board_terms::Vector;
 use std::marker::Model;
@@ -66,6 +66,14 @@ impl VectorSet {
     {
         let number = vector.number() as usize;
         (self.words[number / 64] >> (number % 64)) & 1 == 1
+    }
+
+    /// Word `part` of the set, 0 to 3: its bit i is set iff vector 64 * part + i is a member.
+    pub fn word(&self, part: u8) -> u64
+        requires { part < 4 }
+        ensures { result ≡ word_of self.now part }
+    {
+        self.words[part as usize]
     }
 
     /// The greatest member; `None` if the set is empty.

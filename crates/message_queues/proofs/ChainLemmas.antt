@@ -13,7 +13,7 @@ use Rattle.board_terms.specs.declared.messages.Message.{Message}
 use Rattle.message_queues.specs.declared.chains.Buffer.{Buffer}
 use Rattle.message_queues.specs.declared.chains.Chain.{Chain}
 use Rattle.message_queues.specs.Queues.{Queues}
-use Rattle.message_queues.specs.inside.Chains.{Buffers, messages, queue_at, queues_at, keys_from, ReadsBothWays, Links, IsChain, Kept}
+use Rattle.message_queues.specs.inside.Chains.{Buffers, messages, queue_at, queues_at, keys_from, ReadsBothWays, Links, IsChain, AreChains}
 use Rattle.message_queues.specs.inside.Moves.{Pushed, Unlinked, with_behind, with_before, if_none}
 use Rattle.message_queues.specs.inside.View.{total_of}
 
@@ -340,11 +340,11 @@ is_or_not (Some j) k = go (nat_eq j k) refl
 
 -- The result of a change of one queue: the invariant holds, and the other queues are unchanged.
 pub record Moved (m n : Buffers) (chains : List Chain) (q : ℕ) (d : Chain) (after : List Message) : Type 0 where
-  pub kept : Kept n (slice_set chains q d)
+  pub kept : AreChains n (slice_set chains q d)
   pub view : queues_at n (slice_set chains q d) ≡ slice_set (queues_at m chains) q after
 
 -- A change of one queue moves no buffer of another.
-pub moved : (m n : Buffers) (chains : List Chain) (q : ℕ) (c d : Chain) (o' r' : ℕ → ℕ) (after : List Message) (k : Kept m chains) → slice_get chains q ≡ Some c →
+pub moved : (m n : Buffers) (chains : List Chain) (q : ℕ) (c d : Chain) (o' r' : ℕ → ℕ) (after : List Message) (k : AreChains m chains) → slice_get chains q ≡ Some c →
     ((i : ℕ) (key : ℕ) (top : ℕ) → i ≢ q → IsKey m k.owner k.rank i 0 top key → (n key ≡ m key) × (o' key ≡ i) × (r' key ≡ k.rank key)) →
     IsChain n o' r' q d → queue_at n d ≡ after → Moved m n chains q d after
 moved m n chains q c d o' r' after k at others chain view = record {
@@ -369,7 +369,7 @@ moved m n chains q c d o' r' after k at others chain view = record {
         let new : IsChain n o' r' i e = record { keys = old.keys; top = old.top; links = links-frame m n k.owner k.rank o' r' i 0 None e.first old.keys None e.last old.top (λ key w. others i key old.top ne w) old.links; len = old.len } in
         row-chain n o' r' i e new ∙ those-frame m n k.owner k.rank i 0 None e.first old.keys None e.last old.top (λ key w. ap (option_map (λ (b : Buffer). b.message)) (others i key old.top ne w).0) old.links ∙ sym (row-chain m k.owner k.rank i e old)
 
-pub push-moved : (m n : Buffers) (chains : List Chain) (q : ℕ) (c d : Chain) (message : Message) (key : ℕ) → Kept m chains → slice_get chains q ≡ Some c → Pushed m n c d message key → Moved m n chains q d (queue_at m c ++ message ∷ [])
+pub push-moved : (m n : Buffers) (chains : List Chain) (q : ℕ) (c d : Chain) (message : Message) (key : ℕ) → AreChains m chains → slice_get chains q ≡ Some c → Pushed m n c d message key → Moved m n chains q d (queue_at m c ++ message ∷ [])
 push-moved m n chains q c d message key k at move = moved m n chains q c d (at_key key q k.owner) (at_key key h.top k.rank) (queue_at m c ++ message ∷ []) k at others after.0
     (row-chain n (at_key key q k.owner) (at_key key h.top k.rank) q d after.0 ∙ ap (those n) after.1 ∙ filter_map-append (message_at n) h.keys (key ∷ []) ∙ rw (messages_same, move.here last_other) (ap (λ (x : List Message). x ++ message ∷ []) (sym (row-chain m k.owner k.rank q c h))))
   where
@@ -480,7 +480,7 @@ unlink-taken m n o r q c d key b message h xs ys split move = record { after = t
         by j w (inr not) = ap (option_map (λ (x : Buffer). x.message)) (move.others j (apart j w.above) (past j w.above) not)
 
 -- Unlinking the key between xs and ys removes its message from the queue.
-pub unlink-moved : (m n : Buffers) (chains : List Chain) (q : ℕ) (c d : Chain) (key : ℕ) (b : Buffer) (message : Message) (k : Kept m chains) (at : slice_get chains q ≡ Some c) (xs ys : List ℕ) → (k.each q c at).keys ≡ xs ++ key ∷ ys → Unlinked m n c d key b message →
+pub unlink-moved : (m n : Buffers) (chains : List Chain) (q : ℕ) (c d : Chain) (key : ℕ) (b : Buffer) (message : Message) (k : AreChains m chains) (at : slice_get chains q ≡ Some c) (xs ys : List ℕ) → (k.each q c at).keys ≡ xs ++ key ∷ ys → Unlinked m n c d key b message →
     Moved m n chains q d (those m xs ++ those m ys) × (queue_at m c ≡ those m xs ++ message ∷ those m ys)
 unlink-moved m n chains q c d key b message k at xs ys split move =
     let h = k.each q c at in
@@ -509,7 +509,7 @@ sum-queues m [] f = refl
 sum-queues m (c ∷ cs) f = let here = f 0 c refl in let more = sum-queues m cs (λ i e h. f (suc i) e h) in omega (arith, sum_by-cons (λ (c : Chain). c.len) c cs, sum_by-cons (length {A = Message}) (queue_at m c) (queues_at m cs))
 
 -- the chains have as many buffers as the queues have messages
-pub total-queues : (m : Buffers) (chains : List Chain) → Kept m chains → total_of chains ≡ sum_by (length {A = Message}) (queues_at m chains)
+pub total-queues : (m : Buffers) (chains : List Chain) → AreChains m chains → total_of chains ≡ sum_by (length {A = Message}) (queues_at m chains)
 total-queues m chains k = sum-queues m chains (λ q c at. length-chain m k.owner k.rank q c (k.each q c at))
 
 pub total-set : (chains : List Chain) (q : ℕ) (c d : Chain) → slice_get chains q ≡ Some c → total_of (slice_set chains q d) + c.len ≡ total_of chains + d.len
@@ -536,7 +536,7 @@ keys-backward m o r q low p s (k ∷ ks) t l top n h =
     ap (λ (x : ℕ). keys_from (λ b. b.before) m x l) turn ∙ more ∙ ap (λ (x : List ℕ). reverse ks ++ x) one
     ∙ sym (append_assoc (reverse ks) (k ∷ []) (keys_from (λ b. b.before) m n p)) ∙ ap (λ (x : List ℕ). x ++ keys_from (λ b. b.before) m n p) (sym (reverse-append (k ∷ []) ks))
 
-pub both-ways : (m : Buffers) (chains : List Chain) → Kept m chains → (q : ℕ) (c : Chain) → slice_get chains q ≡ Some c → ReadsBothWays m c
+pub both-ways : (m : Buffers) (chains : List Chain) → AreChains m chains → (q : ℕ) (c : Chain) → slice_get chains q ≡ Some c → ReadsBothWays m c
 both-ways m chains k q c at =
     let h = k.each q c at in
     let none : keys_from (λ b. b.before) m 0 None ≡ [] = refl in

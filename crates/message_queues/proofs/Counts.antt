@@ -204,7 +204,7 @@ buffer-left qs (FromTimer ticket timer expiration) owned h b =
 -- one queue is replaced, and one owner has more or fewer messages
 pub counted-set : (qs : Queues) (in_use : List ℕ) (q : ℕ) (r : List Message) (o v : ℕ) → IsCounted qs in_use → q < length qs → o < 48 →
     ((x : ℕ) → x ≢ o → count_of x r ≡ count_of x (slice_index_or qs q [])) → v + count_of o (slice_index_or qs q []) ≡ used_by o qs + count_of o r → v ≤ share o → IsCounted (slice_set qs q r) (slice_set in_use o v)
-counted-set qs in_use q r o v counts at below same now few = record {
+counted-set qs in_use q r o v counts at below same now bound = record {
   size = length-set in_use o v ∙ counts.size;
   counted = λ x k. counted x k (eqb_tells x o);
   within = λ x k. within x k (eqb_tells x o);
@@ -218,7 +218,7 @@ counted-set qs in_use q r o v counts at below same now few = record {
     counted x k (inr t) = get_or-set_other in_use o x v 0 t.1 ∙ counts.counted x k ∙ omega (arith, sum x, same x t.1)
 
     within : (x : ℕ) → x < 48 → ((nat_eq x o ≡ true) × (x ≡ o)) ⊎ ((nat_eq x o ≡ false) × (x ≢ o)) → used_by x (slice_set qs q r) ≤ share x
-    within x k (inl t) = rw t.1 (omega (arith, sum o, now, few))
+    within x k (inl t) = rw t.1 (omega (arith, sum o, now, bound))
     within x k (inr t) = omega (arith, sum x, same x t.1, counts.within x k)
 
 -- a message joins the end of a queue

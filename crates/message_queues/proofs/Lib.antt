@@ -1,5 +1,6 @@
 mod Counts
 mod ChainLemmas
+pub mod Reading
 mod Walks
 mod Steps
 mod Opening

@@ -10,7 +10,7 @@ use Rattle.message_queues.specs.declared.chains.Buffer.{Buffer}
 use Rattle.message_queues.specs.declared.chains.Chain.{Chain}
 use Rattle.message_queues.specs.Queues.{Queues}
 use Rattle.message_queues.specs.inside.Owners.{owner_of, HasOwner, used_by}
-use Rattle.message_queues.specs.inside.Chains.{queues_at, IsChain, Kept}
+use Rattle.message_queues.specs.inside.Chains.{queues_at, IsChain, AreChains}
 use Rattle.message_queues.specs.inside.View.{total_of}
 use Rattle.message_queues.proofs.ChainLemmas.{both-ways}
 use Rattle.message_queues.proofs.Steps.{Step}
@@ -59,5 +59,5 @@ opened new n empty room = record {
     one : (queue : ℕ) → IsChain (get new) (λ k. 0) (λ k. 0) queue empty_chain
     one queue = record { keys = []; top = 0; links = (refl, refl, omega arith); len = refl }
 
-    linked : Kept (get new) (replicate n empty_chain)
+    linked : AreChains (get new) (replicate n empty_chain)
     linked = record { owner = λ k. 0; rank = λ k. 0; each = λ queue chain at. rw (← is-empty n queue chain at) (one queue) }

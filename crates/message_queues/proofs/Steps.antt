@@ -15,16 +15,16 @@ use Rattle.message_queues.specs.declared.chains.Chain.{Chain}
 use Rattle.message_queues.specs.declared.queues.Queues.TheInside.{Inside}
 use Rattle.message_queues.specs.Queues.{Queues, HasBuffer, is_from_port, port_used, withdrawn_of, left_of}
 use Rattle.message_queues.specs.inside.Owners.{owner_of, HasOwner, used_by, share, IsCounted}
-use Rattle.message_queues.specs.inside.Chains.{Buffers, queue_at, queues_at, ReadsBothWays, Kept}
+use Rattle.message_queues.specs.inside.Chains.{Buffers, queue_at, queues_at, ReadsBothWays, AreChains}
 use Rattle.message_queues.specs.inside.Moves.{Pushed, Unlinked, Withdrawn}
-use Rattle.message_queues.specs.inside.View.{queues_of, total_of, IsKept}
+use Rattle.message_queues.specs.inside.View.{queues_of, total_of, QueuesInvariant}
 use Rattle.message_queues.proofs.Counts.{owner-below, has_room, all-within, buffer-left, share-le, each-owned, counted-append, counted-place, counted-set, head-used, at_place, at_place-other, count_of, count_of-cons, sum_by-same, is_from_port-owner, port_used-past, count-le-used}
 use Rattle.message_queues.proofs.ChainLemmas.{those, push-moved, unlink-moved, first-split, no-first, row-chain, chain_at, queue-is, length-chain, total-queues, total-set, len-le-total, both-ways}
 use Rattle.message_queues.proofs.Walks.{withdrawn-moved}
 
 -- the fields satisfy the invariant, and their view is these queues
 pub record Step (buffers : Slab Buffer) (chains : List Chain) (in_use : List ℕ) (view : Queues) : Type 0 where
-  pub linked : Kept (get buffers) chains
+  pub linked : AreChains (get buffers) chains
   pub held : slab_len buffers ≡ total_of chains
   pub both_ways : (queue : ℕ) (chain : Chain) → slice_get chains queue ≡ Some chain → ReadsBothWays (get buffers) chain
   pub room : 288 ≤ buffers.capacity
@@ -38,18 +38,18 @@ pub record Room (a : Inside) (owner : ℕ) : Type 0 where
   pub fits : slice_index_or a.in_use owner 0 < 16
   pub total : total_of a.chains.items < 288
 
-pub room-for : (a : Inside) (qs : Queues) (message : Message) (o : ℕ) → IsKept a → queues_of a ≡ qs → HasOwner message → HasBuffer qs message → o ≡ owner_of message → Room a o
+pub room-for : (a : Inside) (qs : Queues) (message : Message) (o : ℕ) → QueuesInvariant a → queues_of a ≡ qs → HasOwner message → HasBuffer qs message → o ≡ owner_of message → Room a o
 room-for a qs message o k shown own has is =
     let owned = each-owned (queues_of a) k.owned in
     let below = owner-below message own in
     let has' : HasBuffer (queues_of a) message = subst (λ (x : Queues). HasBuffer x message) (sym shown) has in
     let left = buffer-left (queues_of a) message owned own has' in
-    let few = has_room (queues_of a) a.in_use (owner_of message) owned k.counts below left in
+    let bound = has_room (queues_of a) a.in_use (owner_of message) owned k.counts below left in
     let total = total-queues (get a.buffers) a.chains.items k.linked in
     rw is (record {
       left = left;
       fits = omega (arith, left, share-le (owner_of message), k.counts.counted (owner_of message) below);
-      total = omega (arith, few, total);
+      total = omega (arith, bound, total);
     })
 
 -- What every call relies on: the chain of the queue, and the queue that is its view.
@@ -59,9 +59,9 @@ pub record Here (a : Inside) (qs : Queues) (q : ℕ) (c : Chain) : Type 0 where
   pub shown_row : slice_index_or qs q [] ≡ queue_at (get a.buffers) c
   pub within : q < length (queues_of a)
   pub len : length (queue_at (get a.buffers) c) ≡ c.len
-  pub few : c.len ≤ 288
+  pub bound : c.len ≤ 288
 
-pub here : (a : Inside) (qs : Queues) (q : ℕ) (c : Chain) → IsKept a → queues_of a ≡ qs → q < length qs → c ≡ get_or a.chains.items q c → Here a qs q c
+pub here : (a : Inside) (qs : Queues) (q : ℕ) (c : Chain) → QueuesInvariant a → queues_of a ≡ qs → q < length qs → c ≡ get_or a.chains.items q c → Here a qs q c
 here a qs q c k shown within read =
     let at = chain_at (get a.buffers) a.chains.items qs q c shown within read in
     let row = queue-is (get a.buffers) a.chains.items q c at in
@@ -73,13 +73,13 @@ here a qs q c k shown within read =
       shown_row = ap (λ (x : Queues). slice_index_or x q []) (sym shown) ∙ row;
       within = omega (arith, within, ap length shown);
       len = length-chain (get a.buffers) k.linked.owner k.linked.rank q c (k.linked.each q c at);
-      few = omega (arith, total, all, len-le-total a.chains.items q c at);
+      bound = omega (arith, total, all, len-le-total a.chains.items q c at);
     }
 
-owned-at : (a : Inside) (q : ℕ) → IsKept a → q < length (queues_of a) → All HasOwner (slice_index_or (queues_of a) q [])
+owned-at : (a : Inside) (q : ℕ) → QueuesInvariant a → q < length (queues_of a) → All HasOwner (slice_index_or (queues_of a) q [])
 owned-at a q k within = All-get_or (λ (queue : List Message). All HasOwner queue) (queues_of a) q [] within k.owned
 
-owned-set : (a : Inside) (q : ℕ) (r : List Message) → IsKept a → All HasOwner r → All (λ (queue : List Message). All HasOwner queue) (slice_set (queues_of a) q r)
+owned-set : (a : Inside) (q : ℕ) (r : List Message) → QueuesInvariant a → All HasOwner r → All (λ (queue : List Message). All HasOwner queue) (slice_set (queues_of a) q r)
 owned-set a q r k own = All-set (λ (queue : List Message). All HasOwner queue) (queues_of a) q r own k.owned
 
 one-owned : (m : Message) → HasOwner m → All HasOwner (m ∷ [])
@@ -89,7 +89,7 @@ one-owned m own = by
     by zero d below = own
     by (suc k) d below = absurd (omega arith)
 
-pub append-step : (a : Inside) (qs : Queues) (q : ℕ) (c d : Chain) (key : ℕ) (message : Message) (o : ℕ) (new : Slab Buffer) → IsKept a → queues_of a ≡ qs → q < length qs → c ≡ get_or a.chains.items q c → HasOwner message → HasBuffer qs message → o ≡ owner_of message →
+pub append-step : (a : Inside) (qs : Queues) (q : ℕ) (c d : Chain) (key : ℕ) (message : Message) (o : ℕ) (new : Slab Buffer) → QueuesInvariant a → queues_of a ≡ qs → q < length qs → c ≡ get_or a.chains.items q c → HasOwner message → HasBuffer qs message → o ≡ owner_of message →
     Pushed (get a.buffers) (get new) c d message key → slab_len new ≡ slab_len a.buffers + 1 → new.capacity ≡ a.buffers.capacity →
     Step new (slice_set a.chains.items q d) (slice_set a.in_use o (slice_index_or a.in_use o 0 + 1)) (slice_set qs q (slice_index_or qs q [] ++ message ∷ []))
 append-step a qs q c d key message o new k shown within read own has is pushed len capacity =
@@ -118,7 +118,7 @@ pub record Head (a : Inside) (qs : Queues) (q : ℕ) (c : Chain) (key : ℕ) : T
   pub own : HasOwner b.message
   pub used : 1 ≤ slice_index_or a.in_use (owner_of b.message) 0
 
-pub head-at : (a : Inside) (qs : Queues) (q : ℕ) (c : Chain) (key : ℕ) → IsKept a → queues_of a ≡ qs → q < length qs → c ≡ get_or a.chains.items q c → c.first ≡ Some key → Head a qs q c key
+pub head-at : (a : Inside) (qs : Queues) (q : ℕ) (c : Chain) (key : ℕ) → QueuesInvariant a → queues_of a ≡ qs → q < length qs → c ≡ get_or a.chains.items q c → c.first ≡ Some key → Head a qs q c key
 head-at a qs q c key k shown within read first =
     let h = here a qs q c k shown within read in
     let chain = k.linked.each q c h.at in
@@ -145,7 +145,7 @@ head-message a qs q c d key new b message h gone =
     let same : h.b ≡ b = cc in
     ap (λ (x : Buffer). x.message) same ∙ sym gone.message_is
 
-pub place-step : (a : Inside) (qs : Queues) (q : ℕ) (c d : Chain) (key : ℕ) (b : Buffer) (message : Message) (o : ℕ) (new : Slab Buffer) → IsKept a → queues_of a ≡ qs → q < length qs → c ≡ get_or a.chains.items q c → c.first ≡ Some key → o ≡ owner_of message →
+pub place-step : (a : Inside) (qs : Queues) (q : ℕ) (c d : Chain) (key : ℕ) (b : Buffer) (message : Message) (o : ℕ) (new : Slab Buffer) → QueuesInvariant a → queues_of a ≡ qs → q < length qs → c ≡ get_or a.chains.items q c → c.first ≡ Some key → o ≡ owner_of message →
     Unlinked (get a.buffers) (get new) c d key b message → slab_len new + 1 ≡ slab_len a.buffers → new.capacity ≡ a.buffers.capacity →
     Step new (slice_set a.chains.items q d) (slice_set a.in_use o (slice_index_or a.in_use o 0 - 1)) (slice_set qs q (drop 1 (slice_index_or qs q []))) × (slice_get (slice_index_or qs q []) 0 ≡ Some message)
 place-step a qs q c d key b message o new k shown within read first is gone len capacity =
@@ -171,7 +171,7 @@ place-step a qs q c d key b message o new k shown within read first is gone len 
     )
 
 -- a queue whose chain has no first key is empty
-pub place-none : (a : Inside) (qs : Queues) (q : ℕ) (c : Chain) → IsKept a → queues_of a ≡ qs → q < length qs → c ≡ get_or a.chains.items q c → c.first ≡ None → slice_index_or qs q [] ≡ []
+pub place-none : (a : Inside) (qs : Queues) (q : ℕ) (c : Chain) → QueuesInvariant a → queues_of a ≡ qs → q < length qs → c ≡ get_or a.chains.items q c → c.first ≡ None → slice_index_or qs q [] ≡ []
 place-none a qs q c k shown within read none =
     let h = here a qs q c k shown within read in
     let chain = k.linked.each q c h.at in
@@ -201,7 +201,7 @@ left-none port (m ∷ ms) below = go (left-none port ms below) (is_from_port por
         omega (arith, more, other, count_of-cons port m (left_of port ms))
 
 -- a port that has a message is below 16
-pub port-below : (a : Inside) (qs : Queues) (port : ℕ) → IsKept a → queues_of a ≡ qs → port_used qs port ≢ 0 → port < 16
+pub port-below : (a : Inside) (qs : Queues) (port : ℕ) → QueuesInvariant a → queues_of a ≡ qs → port_used qs port ≢ 0 → port < 16
 port-below a qs port k shown some = go (cases_lt port 16)
   where
     go : (port < 16) ⊎ (16 ≤ port) → port < 16
@@ -210,21 +210,21 @@ port-below a qs port k shown some = go (cases_lt port 16)
 
 -- What a withdrawal relies on: the port's messages in the queue are among its buffers in use.
 pub record Found (a : Inside) (c : Chain) (port : ℕ) : Type 0 where
-  pub few : length (withdrawn_of port (queue_at (get a.buffers) c)) ≤ slice_index_or a.in_use port 0
+  pub bound : length (withdrawn_of port (queue_at (get a.buffers) c)) ≤ slice_index_or a.in_use port 0
   pub in_use : slice_index_or a.in_use port 0 ≤ 16
 
-pub found : (a : Inside) (qs : Queues) (q : ℕ) (c : Chain) (port : ℕ) → IsKept a → queues_of a ≡ qs → q < length qs → c ≡ get_or a.chains.items q c → port < 16 → Found a c port
+pub found : (a : Inside) (qs : Queues) (q : ℕ) (c : Chain) (port : ℕ) → QueuesInvariant a → queues_of a ≡ qs → q < length qs → c ≡ get_or a.chains.items q c → port < 16 → Found a c port
 found a qs q c port k shown within read below =
     let h = here a qs q c k shown within read in
     let least = count-le-used (queues_of a) q port h.within in
     let same = ap (count_of port) h.row in
     let count = k.counts.counted port (omega arith) in
     record {
-      few = omega (arith, withdrawn-count port (queue_at (get a.buffers) c) below, same, least, count);
+      bound = omega (arith, withdrawn-count port (queue_at (get a.buffers) c) below, same, least, count);
       in_use = omega (arith, count, k.counts.within port (omega arith), share-le port);
     }
 
-pub withdrawn-step : (a : Inside) (qs : Queues) (q : ℕ) (c d : Chain) (port n : ℕ) (tickets : List ℕ) (new : Slab Buffer) (k : IsKept a) → queues_of a ≡ qs → q < length qs → c ≡ get_or a.chains.items q c → port < 16 →
+pub withdrawn-step : (a : Inside) (qs : Queues) (q : ℕ) (c d : Chain) (port n : ℕ) (tickets : List ℕ) (new : Slab Buffer) (k : QueuesInvariant a) → queues_of a ≡ qs → q < length qs → c ≡ get_or a.chains.items q c → port < 16 →
     Withdrawn (get a.buffers) (get new) k.linked.owner k.linked.rank q c d port tickets → slab_len new + length tickets ≡ slab_len a.buffers → new.capacity ≡ a.buffers.capacity → n ≡ length tickets →
     Step new (slice_set a.chains.items q d) (slice_set a.in_use port (slice_index_or a.in_use port 0 - n)) (slice_set qs q (left_of port (slice_index_or qs q [])))
 withdrawn-step a qs q c d port n tickets new k shown within read below w len capacity is =
@@ -245,7 +245,7 @@ withdrawn-step a qs q c d port n tickets new k shown within read below w len cap
       owned = rw view (owned-set a q (left_of port row) k (All-filter (λ x. not (is_from_port port x)) HasOwner row (owned-at a q k h.within)));
       counts = rw view (counted-set (queues_of a) a.in_use q (left_of port row) port (slice_index_or a.in_use port 0 - n) k.counts h.within (omega arith)
           (λ x ne. left-count port x row below ne)
-          (omega (arith, left-none port row below, f.few, is, taken, count, gone, same))
+          (omega (arith, left-none port row below, f.bound, is, taken, count, gone, same))
           (omega (arith, count, k.counts.within port (omega arith))));
       view_is = view ∙ ap (λ (x : Queues). slice_set x q (left_of port (slice_index_or x q []))) shown;
     }

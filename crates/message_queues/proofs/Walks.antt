@@ -9,7 +9,7 @@ use Rattle.board_terms.specs.declared.messages.Message.{Message}
 use Rattle.message_queues.specs.declared.chains.Buffer.{Buffer}
 use Rattle.message_queues.specs.declared.chains.Chain.{Chain}
 use Rattle.message_queues.specs.Queues.{is_from_port, withdrawn_of, left_of}
-use Rattle.message_queues.specs.inside.Chains.{Buffers, queue_at, Links, IsChain, Kept}
+use Rattle.message_queues.specs.inside.Chains.{Buffers, queue_at, Links, IsChain, AreChains}
 use Rattle.message_queues.specs.inside.Moves.{Unlinked, Withdrawn}
 use Rattle.message_queues.proofs.ChainLemmas.{message_at, those, row-chain, links-cut, unlink-taken, length-chain, Moved, moved}
 
@@ -196,5 +196,5 @@ walk-leaves m0 m o r q c0 c port next i tickets key b w is there from =
     }
 
 -- the queues after a withdrawal
-pub withdrawn-moved : (m n : Buffers) (chains : List Chain) (q : ℕ) (c d : Chain) (port : ℕ) (tickets : List ℕ) (k : Kept m chains) (at : slice_get chains q ≡ Some c) → Withdrawn m n k.owner k.rank q c d port tickets → Moved m n chains q d (left_of port (queue_at m c))
+pub withdrawn-moved : (m n : Buffers) (chains : List Chain) (q : ℕ) (c d : Chain) (port : ℕ) (tickets : List ℕ) (k : AreChains m chains) (at : slice_get chains q ≡ Some c) → Withdrawn m n k.owner k.rank q c d port tickets → Moved m n chains q d (left_of port (queue_at m c))
 withdrawn-moved m n chains q c d port tickets k at w = moved m n chains q c d k.owner k.rank (left_of port (queue_at m c)) k at (λ i j top ne key. (w.others j (λ is. ne (sym key.owned ∙ is)), key.owned, refl)) w.after w.stay

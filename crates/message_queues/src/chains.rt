@@ -1,5 +1,5 @@
 // Doubly linked chains of buffers.
-ghost use Rattle.std.specs.Prelude.{◌≡◌, ℕ, ◌+◌, ◌<◌, ◌≤◌, ◌^◌, length};
+ghost use Rattle.std.specs.Prelude.{◌≡◌, ℕ, ◌+◌, ◌<◌, ◌≤◌, ◌^◌, Some, slice_get, length};
 ghost use Rattle.slab.specs.Slab.{get, slab_len, ContainsKey, HasRoomFor};
 ghost use Rattle.message_queues.specs.declared.chains.Buffer.{Buffer};
 ghost use Rattle.message_queues.specs.Queues.{is_from_port, withdrawn_of};
@@ -63,7 +63,7 @@ fn set_before(buffers: &mut Slab<Buffer>, at: Option<usize>, to: Option<usize>)
 #[inline]
 pub(crate) fn push(buffers: &mut Slab<Buffer>, chain: &mut Chain, message: Message) -> usize
     requires room { HasRoomFor buffers.old 1 }
-    requires few { chain.old.len + 1 < 2 ^ 16 }
+    requires bound { chain.old.len + 1 < 2 ^ 16 }
     ensures pushed { Pushed (get buffers.old) (get buffers.new) chain.old chain.new message result }
     ensures len { slab_len buffers.new ≡ slab_len buffers.old + 1 }
     ensures capacity { buffers.new.capacity ≡ buffers.old.capacity }
@@ -129,7 +129,7 @@ pub(crate) fn withdraw(
     port: u8,
 ) -> ArrayVec<Ticket, 16>
     requires linked { (owner : ℕ → ℕ) × (rank : ℕ → ℕ) × (queue : ℕ) × IsChain (get buffers.old) owner rank queue chain.old }
-    requires few { length (withdrawn_of port (queue_at (get buffers.old) chain.old)) ≤ 16 }
+    requires bound { length (withdrawn_of port (queue_at (get buffers.old) chain.old)) ≤ 16 }
     ensures withdrawn { (owner rank : ℕ → ℕ) (queue : ℕ) → IsChain (get buffers.old) owner rank queue chain.old
         → Withdrawn (get buffers.old) (get buffers.new) owner rank queue chain.old chain.new port result.items }
     ensures len { slab_len buffers.new + length result.items ≡ slab_len buffers.old }
@@ -146,4 +146,17 @@ pub(crate) fn withdraw(
         }
     }
     tickets
+}
+
+/// The message at an index of a chain, counted from the front.
+pub(crate) fn message_at<'a>(buffers: &'a Slab<Buffer>, chain: &Chain, index: u16) -> &'a Message
+    requires linked { (owner : ℕ → ℕ) × (rank : ℕ → ℕ) × (queue : ℕ) × IsChain (get buffers.now) owner rank queue chain.now }
+    requires inside { index < chain.now.len }
+    ensures { slice_get (queue_at (get buffers.now) chain.now) index ≡ Some result.now }
+{
+    let mut key = chain.first.unwrap();
+    for _ in 0..index {
+        key = buffers[key].behind.unwrap();
+    }
+    &buffers[key].message
 }

@@ -1,10 +1,11 @@
 // The message queues.
-ghost use Rattle.std.specs.Prelude.{◌≡◌, ◌<◌, ◌≤◌, [], length, map, sum_by, IfOk, slice_get};
+ghost use Rattle.std.specs.Prelude.{◌≡◌, ◌↔◌, IsTrue, ◌<◌, ◌≤◌, [], length, map, sum_by, IfOk, slice_get};
+ghost use Rattle.std.specs.Option.{option_copied};
 ghost use Rattle.board_terms.specs.Messages.{ticket_of};
 ghost use Rattle.board_terms.specs.Sources.{source_number};
 ghost use Rattle.message_queues.specs.Queues.{no_messages, queue_of, with_queue, appended, after_place, after_withdrawal, withdrawn_of, port_used, is_timer_free, HasBuffer};
 
-use crate::chains::{Buffer, Chain, push, unlink, withdraw};
+use crate::chains::{Buffer, Chain, message_at, push, unlink, withdraw};
 use crate::owners::{OWNERS, PORTS, owner_of, owner_of_timer};
 use arrayvec::ArrayVec;
 use board_terms::{Message, Sint, Ticket, TimerId, Vp, source_number};
@@ -35,11 +36,11 @@ impl Model for Queues {
 
     ghost Value = { List (List Message) };
 
-    ghost use Rattle.message_queues.specs.inside.View.{queues_of, IsKept};
+    ghost use Rattle.message_queues.specs.inside.View.{queues_of, QueuesInvariant};
 
     ghost view = { queues_of };
 
-    ghost invariant = { IsKept };
+    ghost invariant = { QueuesInvariant };
 }
 
 impl Queues {
@@ -47,7 +48,7 @@ impl Queues {
     /// here that allocates.
     pub fn open(alloc: Global, processors: u8) -> Result<Queues, AllocError>
         requires some { 1 ≤ processors }
-        requires few { processors ≤ 8 }
+        requires bound { processors ≤ 8 }
         ensures { IfOk result (λ q. q ≡ no_messages processors) }
     {
         let queues = 16 * processors as usize;
@@ -140,7 +141,7 @@ impl Queues {
     pub fn count(&self, vp: Vp, sint: Sint) -> u16
         requires { source_number vp sint < length self.now }
         ensures value { result ≡ length (queue_of self.now vp sint) }
-        ensures few { result ≤ 288 }
+        ensures bound { result ≤ 288 }
         ensures in_all { sum_by length self.now ≤ 288 }
     {
         self.chains[source_number(vp, sint)].len
@@ -151,7 +152,7 @@ impl Queues {
     #[inline]
     pub fn port_used(&self, port: u8) -> u8
         ensures value { result ≡ port_used self.now port }
-        ensures few { result ≤ 16 }
+        ensures bound { result ≤ 16 }
     {
         let in_use = &self.in_use;
         if port as usize >= PORTS {
@@ -166,5 +167,27 @@ impl Queues {
         ensures { result ≡ is_timer_free self.now timer }
     {
         self.in_use[owner_of_timer(timer)] == 0
+    }
+
+    /// Whether there is a free buffer for a message.
+    pub fn has_buffer(&self, message: &Message) -> bool
+        ensures { IsTrue result ↔ HasBuffer self.now message.now }
+    {
+        match message {
+            Message::FromPort { port, .. } => *port < 16 && self.port_used(*port) < 16,
+            Message::FromTimer { timer, .. } => self.timer_buffer_free(*timer),
+        }
+    }
+
+    /// The message at an index of a queue, counted from the front; `None` if there is none.
+    pub fn message(&self, vp: Vp, sint: Sint, index: u16) -> Option<&Message>
+        requires { source_number vp sint < length self.now }
+        ensures { option_copied result ≡ slice_get (queue_of self.now vp sint) index }
+    {
+        let chain = &self.chains[source_number(vp, sint)];
+        if index >= chain.len {
+            return None;
+        }
+        Some(message_at(&self.buffers, chain, index))
     }
 }

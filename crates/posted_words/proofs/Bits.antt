@@ -7,8 +7,8 @@ use mir.Syntax.{w64}
 use Rattle.std.specs.Int.{bit_at}
 use Rattle.std.proofs.lemmas.Bool.Decides.{nat_tests}
 use Rattle.std.proofs.lemmas.Nat.Bits.{bit_at_set_same, bit_at_set_other, bit_at-lt, bit_at-zero}
-use Rattle.posted_words.specs.declared.rule.Did.TheVariants.{Raise, Sweep}
-use Rattle.posted_words.specs.Did.{is_fresh_at, takes_at, one_if}
+use Rattle.posted_words.specs.declared.rule.Action.TheVariants.{Raise, Sweep}
+use Rattle.posted_words.specs.Action.{is_fresh_at, takes_at, one_if}
 use Rattle.posted_words.specs.inside.Posted.{mask_of}
 
 -- a bit of a word is the raised one, or another

@@ -10,13 +10,13 @@ use mathlib.Core.List.{map-append}
 use mathlib.Core.Logic.{dite}
 use native.Mathlib.Decide.{ℕ_discrete}
 use Rattle.atomic_table.specs.Table.{Final, Seen}
-use Rattle.posted_words.specs.declared.rule.Did.{Did}
+use Rattle.posted_words.specs.declared.rule.Action.{Action}
 use Rattle.posted_words.specs.declared.rule.View.{View}
-use Rattle.posted_words.specs.declared.rule.Did.TheVariants.{Raise, Sweep}
-use Rattle.posted_words.specs.Did.{raises_at, times_raised, fresh, times_taken, one_if}
+use Rattle.posted_words.specs.declared.rule.Action.TheVariants.{Raise, Sweep}
+use Rattle.posted_words.specs.Action.{raises_at, times_raised, fresh, times_taken, one_if}
 use Rattle.posted_words.specs.Settled.{all_fresh, all_taken, Bounded, Settled}
 use Rattle.posted_words.specs.inside.Posted.{view_of, views_fresh, views_taken, IsIdle, IsBounded, Posted}
-use Rattle.posted_words.specs.Words.{Token, did_of}
+use Rattle.posted_words.specs.Words.{Token, actions_of}
 use Rattle.posted_words.proofs.Lists.{All-found, found-le-sum_by, Follows, sum_by-alone}
 use Rattle.posted_words.proofs.Steps.{fresh_of, taken_of, Bounded-more}
 
@@ -38,7 +38,7 @@ closes key id v words slots final whole =
     }
 
 -- the order of the tokens does not matter
-Settled-append_comm : (n : ℕ) (xs ys : List (List Did)) (words : List ℕ) → Settled n (xs ++ ys) words → Settled n (ys ++ xs) words
+Settled-append_comm : (n : ℕ) (xs ys : List (List Action)) (words : List ℕ) → Settled n (xs ++ ys) words → Settled n (ys ++ xs) words
 Settled-append_comm n xs ys words h =
     let F : (w b : ℕ) → all_fresh (xs ++ ys) w b ≡ all_fresh (ys ++ xs) w b = λ w b. (let l = sum_by-append (fresh w b) xs ys in let r = sum_by-append (fresh w b) ys xs in omega arith) in
     let T : (w b : ℕ) → all_taken (xs ++ ys) w b ≡ all_taken (ys ++ xs) w b = λ w b. (let l = sum_by-append (times_taken w b) xs ys in let r = sum_by-append (times_taken w b) ys xs in omega arith) in
@@ -54,33 +54,33 @@ Settled-append_comm n xs ys words h =
     }
 
 -- a seat that held the last of some tokens, after it took over the others
-pub stands_for_all : (seat : View) (rest all : List Token) (t : Token) (n : ℕ) → seat ≡ view_of 1 (t.did ∷ []) → all ≡ rest ++ t ∷ [] → n ≡ length rest
-    → view_of (seat.parts + n) (map did_of rest ++ seat.logs) ≡ view_of (length all) (map did_of all)
+pub stands_for_all : (seat : View) (rest all : List Token) (t : Token) (n : ℕ) → seat ≡ view_of 1 (t.actions ∷ []) → all ≡ rest ++ t ∷ [] → n ≡ length rest
+    → view_of (seat.parts + n) (map actions_of rest ++ seat.logs) ≡ view_of (length all) (map actions_of all)
 stands_for_all seat rest all t n own is many =
     let parts : seat.parts + n ≡ length all = omega (arith, ap (λ (v : View). v.parts) own, many, ap (λ (ts : List Token). length ts) is, length-append rest (t ∷ [])) in
-    let logs : map did_of rest ++ seat.logs ≡ map did_of all = ap (λ (v : View). map did_of rest ++ v.logs) own ∙ sym (map-append did_of rest (t ∷ [])) ∙ ap (map did_of) (sym is) in
+    let logs : map actions_of rest ++ seat.logs ≡ map actions_of all = ap (λ (v : View). map actions_of rest ++ v.logs) own ∙ sym (map-append actions_of rest (t ∷ [])) ∙ ap (map actions_of) (sym is) in
     λ i. view_of (parts i) (logs i)
 
 -- a seat that held all sweepers, after it took over the lines
 pub gathered : (key : ℕ × ℕ) (n tokens id : ℕ) (seat v : View) (words : List ℕ) (slots : List (Unit {0})) (sweepers lines : List Token) (m : ℕ)
     → key ≡ (n, tokens) → Final (Seen (Posted key) id v) words slots
-    → seat ≡ view_of (length sweepers) (map did_of sweepers) → v ≡ view_of (seat.parts + m) (map did_of lines ++ seat.logs) → m ≡ length lines
-    → tokens ≤ length sweepers + length lines → Settled n (map did_of (sweepers ++ lines)) words
+    → seat ≡ view_of (length sweepers) (map actions_of sweepers) → v ≡ view_of (seat.parts + m) (map actions_of lines ++ seat.logs) → m ≡ length lines
+    → tokens ≤ length sweepers + length lines → Settled n (map actions_of (sweepers ++ lines)) words
 gathered key n tokens id seat v words slots sweepers lines m is final first last many enough =
     let parts : key.1 ≤ v.parts = omega (arith, ap (λ (k : ℕ × ℕ). k.1) is, ap (λ (u : View). u.parts) first, ap (λ (u : View). u.parts) last) in
-    let logs : v.logs ≡ map did_of lines ++ map did_of sweepers = ap (λ (u : View). u.logs) last ∙ ap (λ (u : View). map did_of lines ++ u.logs) first in
-    let all : Settled n (map did_of lines ++ map did_of sweepers) words = subst (λ (z : ℕ × List (List Did)). Settled z.0 z.1 words) (λ i. ((is i).0, logs i)) (closes key id v words slots final parts) in
-    subst (λ ls. Settled n ls words) (sym (map-append did_of sweepers lines)) (Settled-append_comm n (map did_of lines) (map did_of sweepers) words all)
+    let logs : v.logs ≡ map actions_of lines ++ map actions_of sweepers = ap (λ (u : View). u.logs) last ∙ ap (λ (u : View). map actions_of lines ++ u.logs) first in
+    let all : Settled n (map actions_of lines ++ map actions_of sweepers) words = subst (λ (z : ℕ × List (List Action)). Settled z.0 z.1 words) (λ i. ((is i).0, logs i)) (closes key id v words slots final parts) in
+    subst (λ ls. Settled n ls words) (sym (map-append actions_of sweepers lines)) (Settled-append_comm n (map actions_of lines) (map actions_of sweepers) words all)
 
 -- a log has a raise of the bit
-abbrev HasRaise : ℕ → ℕ → List Did → Type 0
-HasRaise w b ds = (later before : List Did) × (g : Bool) × (ds ≡ later ++ Raise w b g ∷ before)
+abbrev HasRaise : ℕ → ℕ → List Action → Type 0
+HasRaise w b ds = (later before : List Action) × (g : Bool) × (ds ≡ later ++ Raise w b g ∷ before)
 
-before-it : (d : Did) (w b : ℕ) (ds : List Did) → HasRaise w b ds → HasRaise w b (d ∷ ds)
-before-it d w b ds r = (d ∷ r.0, r.1, r.2, ap (λ (l : List Did). d ∷ l) r.3)
+before-it : (d : Action) (w b : ℕ) (ds : List Action) → HasRaise w b ds → HasRaise w b (d ∷ ds)
+before-it d w b ds r = (d ∷ r.0, r.1, r.2, ap (λ (l : List Action). d ∷ l) r.3)
 
 -- a bit that a token raised was raised at some step
-raise-found : (w b : ℕ) (ds : List Did) → 0 < times_raised w b ds → HasRaise w b ds
+raise-found : (w b : ℕ) (ds : List Action) → 0 < times_raised w b ds → HasRaise w b ds
 raise-found w b [] some = absurd (omega arith)
 raise-found w b (Sweep word bits ∷ ds) some = before-it (Sweep word bits) w b ds (raise-found w b ds (omega (arith, some)))
 raise-found w b (Raise word bit g ∷ ds) some =
@@ -93,13 +93,13 @@ raise-found w b (Raise word bit g ∷ ds) some =
     (λ p. later (grind (arith, nat_tests)))
 
 -- if a token raised a bit at all, some raise of that bit was fresh
-pub fresh-once : (F T : ℕ → ℕ → ℕ) (w b : ℕ) (ds : List Did) → Bounded F T ds → 0 < times_raised w b ds → 0 < F w b
+pub fresh-once : (F T : ℕ → ℕ → ℕ) (w b : ℕ) (ds : List Action) → Bounded F T ds → 0 < times_raised w b ds → 0 < F w b
 fresh-once F T w b ds here some = let r = raise-found w b ds some in let p = here.raises w b r.0 r.1 r.2 r.3 in omega (arith, p)
 
-pub some_fresh : (F T : ℕ → ℕ → ℕ) (w b : ℕ) (logs : List (List Did)) → All (Bounded F T) logs → 0 < sum_by (times_raised w b) logs → 0 < F w b
+pub some_fresh : (F T : ℕ → ℕ → ℕ) (w b : ℕ) (logs : List (List Action)) → All (Bounded F T) logs → 0 < sum_by (times_raised w b) logs → 0 < F w b
 some_fresh F T w b [] all some = absurd (omega arith)
 some_fresh F T w b (ds ∷ logs) all some =
     let sum = sum_by-cons (times_raised w b) ds logs in
     dite (ℕ_discrete (times_raised w b ds) 0)
     (λ none. some_fresh F T w b logs (All-tail (Bounded F T) ds logs all) (omega (arith, sum, none, some)))
-    (λ did. fresh-once F T w b ds (All-head (Bounded F T) ds logs all) (omega (arith, did)))
+    (λ actions. fresh-once F T w b ds (All-head (Bounded F T) ds logs all) (omega (arith, actions)))

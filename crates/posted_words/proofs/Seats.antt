@@ -11,7 +11,7 @@ use lib.ListN.{get_elem?}
 use Rattle.atomic_table.specs.Table.{opening, Splits, Joins}
 use Rattle.atomic_table.proofs.Lists.{at_set}
 use Rattle.posted_words.specs.declared.rule.View.{View}
-use Rattle.posted_words.specs.Did.{times_taken, fresh}
+use Rattle.posted_words.specs.Action.{times_taken, fresh}
 use Rattle.posted_words.specs.Settled.{Bounded}
 use Rattle.posted_words.specs.inside.Posted.{view_of, views_fresh, views_taken, IsIdle, IsBounded, Posted}
 use Rattle.posted_words.proofs.Lists.{All-found, sum_by-set_found}

@@ -9,10 +9,10 @@ use native.Mathlib.Decide.{ℕ_discrete}
 use mathlib.Core.Option.{none, some}
 use lib.ListN.{get_elem?}
 use Rattle.atomic_table.specs.Table.{State, Me, step, keeps, Allows}
-use Rattle.posted_words.specs.declared.rule.Did.{Did}
-use Rattle.posted_words.specs.declared.rule.Did.TheVariants.{Raise, Sweep}
+use Rattle.posted_words.specs.declared.rule.Action.{Action}
+use Rattle.posted_words.specs.declared.rule.Action.TheVariants.{Raise, Sweep}
 use Rattle.posted_words.specs.declared.rule.View.{View}
-use Rattle.posted_words.specs.Did.{is_fresh_at, takes_at, times_taken, fresh, one_if}
+use Rattle.posted_words.specs.Action.{is_fresh_at, takes_at, times_taken, fresh, one_if}
 use Rattle.posted_words.specs.Settled.{all_fresh, all_taken, Bounded}
 use Rattle.posted_words.specs.inside.Posted.{view_of, views_fresh, views_taken, IsIdle, IsBounded, Posted, mask_of, raised_as, swept_as}
 use Rattle.posted_words.proofs.Lists.{All-found, sum_by-set_found, found-le-sum_by}
@@ -22,24 +22,24 @@ use Rattle.posted_words.proofs.Bits.{same_bit, raised_stands, raised-bit, mask_o
 pub Bounded-nil : (F T : ℕ → ℕ → ℕ) → Bounded F T []
 Bounded-nil F T = record { raises = λ w b later before f is. absurd (none later (Raise w b f) before is); sweeps = λ w b bits later before is. absurd (none later (Sweep w bits) before is) }
   where
-    none : (later : List Did) (d : Did) (before : List Did) → [] ≡ later ++ d ∷ before → ⊥
+    none : (later : List Action) (d : Action) (before : List Action) → [] ≡ later ++ d ∷ before → ⊥
     none [] d before is = cc
     none (x ∷ later) d before is = cc
 
 -- lower bounds stay true while the counts of all tokens grow
-pub Bounded-more : (F T F' T' : ℕ → ℕ → ℕ) (ds : List Did) → ((w b : ℕ) → F w b ≤ F' w b) → ((w b : ℕ) → T w b ≤ T' w b) → Bounded F T ds → Bounded F' T' ds
+pub Bounded-more : (F T F' T' : ℕ → ℕ → ℕ) (ds : List Action) → ((w b : ℕ) → F w b ≤ F' w b) → ((w b : ℕ) → T w b ≤ T' w b) → Bounded F T ds → Bounded F' T' ds
 Bounded-more F T F' T' ds f t h = record { raises = λ w b later before g is. (let p = h.raises w b later before g is in let q = f w b in omega arith); sweeps = λ w b bits later before is. (let p = h.sweeps w b bits later before is in let q = t w b in omega arith) }
 
 -- One more step: its own bounds hold, and those of the earlier steps are unchanged.
-Bounded-cons : (F T : ℕ → ℕ → ℕ) (d : Did) (ds : List Did) → ((w b : ℕ) (g : Bool) → d ≡ Raise w b g → times_taken w b ds + 1 ≤ F w b) → ((w b bits : ℕ) → d ≡ Sweep w bits → fresh w b ds ≤ T w b) → Bounded F T ds → Bounded F T (d ∷ ds)
+Bounded-cons : (F T : ℕ → ℕ → ℕ) (d : Action) (ds : List Action) → ((w b : ℕ) (g : Bool) → d ≡ Raise w b g → times_taken w b ds + 1 ≤ F w b) → ((w b bits : ℕ) → d ≡ Sweep w bits → fresh w b ds ≤ T w b) → Bounded F T ds → Bounded F T (d ∷ ds)
 Bounded-cons F T d ds raise sweep h = record { raises = raised; sweeps = swept }
   where
-    raised : (w b : ℕ) (later before : List Did) (g : Bool) → d ∷ ds ≡ later ++ Raise w b g ∷ before → times_taken w b before + 1 ≤ F w b
-    raised w b [] before g is = let here : d ≡ Raise w b g = cc in let rest : ds ≡ before = cc in subst (λ (l : List Did). times_taken w b l + 1 ≤ F w b) rest (raise w b g here)
+    raised : (w b : ℕ) (later before : List Action) (g : Bool) → d ∷ ds ≡ later ++ Raise w b g ∷ before → times_taken w b before + 1 ≤ F w b
+    raised w b [] before g is = let here : d ≡ Raise w b g = cc in let rest : ds ≡ before = cc in subst (λ (l : List Action). times_taken w b l + 1 ≤ F w b) rest (raise w b g here)
     raised w b (x ∷ later) before g is = let rest : ds ≡ later ++ Raise w b g ∷ before = cc in h.raises w b later before g rest
 
-    swept : (w b bits : ℕ) (later before : List Did) → d ∷ ds ≡ later ++ Sweep w bits ∷ before → fresh w b before ≤ T w b
-    swept w b bits [] before is = let here : d ≡ Sweep w bits = cc in let rest : ds ≡ before = cc in subst (λ (l : List Did). fresh w b l ≤ T w b) rest (sweep w b bits here)
+    swept : (w b bits : ℕ) (later before : List Action) → d ∷ ds ≡ later ++ Sweep w bits ∷ before → fresh w b before ≤ T w b
+    swept w b bits [] before is = let here : d ≡ Sweep w bits = cc in let rest : ds ≡ before = cc in subst (λ (l : List Action). fresh w b l ≤ T w b) rest (sweep w b bits here)
     swept w b bits (x ∷ later) before is = let rest : ds ≡ later ++ Sweep w bits ∷ before = cc in h.sweeps w b bits later before rest
 
 pub IsBounded-more : (F T F' T' : ℕ → ℕ → ℕ) (v : View) → ((w b : ℕ) → F w b ≤ F' w b) → ((w b : ℕ) → T w b ≤ T' w b) → IsBounded F T v → IsBounded F' T' v
@@ -53,13 +53,13 @@ abbrev pub taken_of : ℕ → ℕ → View → ℕ
 taken_of w b v = all_taken v.logs w b
 
 -- the seat of one token
-abbrev pub own : List Did → View
+abbrev pub own : List Action → View
 own ds = view_of 1 (ds ∷ [])
 
-own_bounded : (F T : ℕ → ℕ → ℕ) (ds : List Did) → IsBounded F T (own ds) → Bounded F T ds
+own_bounded : (F T : ℕ → ℕ → ℕ) (ds : List Action) → IsBounded F T (own ds) → Bounded F T ds
 own_bounded F T ds all = All-head (Bounded F T) ds [] all
 
-pub bounded_own : (F T : ℕ → ℕ → ℕ) (ds : List Did) → Bounded F T ds → IsBounded F T (own ds)
+pub bounded_own : (F T : ℕ → ℕ → ℕ) (ds : List Action) → Bounded F T ds → IsBounded F T (own ds)
 bounded_own F T ds one = All-cons (Bounded F T) ds [] one (All-nil (Bounded F T))
 
 -- a state in which one view has changed, by a step that decreases no count
@@ -87,11 +87,11 @@ module _ (key : ℕ × ℕ) (s : State (Unit {0}) View) (id : ℕ) (v w : View) 
         bounded = All-set (IsBounded F' T') s.views id w mine (All-weaker (IsBounded F T) (IsBounded F' T') (λ u. IsBounded-more F T F' T' u f t) s.views h.bounded);
       }
 
-raises : (key : ℕ × ℕ) (slots id w k : ℕ) (ds : List Did) → w < key.0 → k < 64
+raises : (key : ℕ × ℕ) (slots id w k : ℕ) (ds : List Action) → w < key.0 → k < 64
     → Allows (Posted key) slots id (own ds, []) w (λ n. bit_or n (mask_of k)) (raised_as (step slots w (mask_of k) 0 none) (own ds, []))
 raises key slots id w k ds in_words small s h _ at _ =
     let n : ℕ = slice_index s.words w in
-    let d : Did = Raise w k (bit_at n k == 0) in
+    let d : Action = Raise w k (bit_at n k == 0) in
     let u : View = own (d ∷ ds) in
     let words : List ℕ = set s.words w (bit_or n (mask_of k)) in
     let views : List View = set s.views id u in
@@ -120,11 +120,11 @@ raises key slots id w k ds in_words small s h _ at _ =
       ((λ j little e. ap (λ (i : ℕ). own (Raise w i (bit_at n i == 0) ∷ ds)) (sym (mask_of-injective k j small little e))), refl),
     )
 
-sweeps : (key : ℕ × ℕ) (slots id w : ℕ) (ds : List Did) → w < key.0
+sweeps : (key : ℕ × ℕ) (slots id w : ℕ) (ds : List Action) → w < key.0
     → Allows (Posted key) slots id (own ds, []) w (λ _. 0) (swept_as (step slots w 0 0 none) (own ds, []))
 sweeps key slots id w ds in_words s h _ at _ =
     let n : ℕ = slice_index s.words w in
-    let d : Did = Sweep w n in
+    let d : Action = Sweep w n in
     let u : View = own (d ∷ ds) in
     let words : List ℕ = set s.words w 0 in
     let views : List View = set s.views id u in
@@ -153,13 +153,13 @@ sweeps key slots id w ds in_words s h _ at _ =
     )
 
 -- a raise by a seat of one token
-pub raises_as : (key : ℕ × ℕ) (slots id w k : ℕ) (me : Me (Unit {0}) View) (ds : List Did) → me ≡ (own ds, []) → w < key.0 → k < 64
+pub raises_as : (key : ℕ × ℕ) (slots id w k : ℕ) (me : Me (Unit {0}) View) (ds : List Action) → me ≡ (own ds, []) → w < key.0 → k < 64
     → Allows (Posted key) slots id me w (λ n. bit_or n (mask_of k)) (raised_as (step slots w (mask_of k) 0 none) me)
 raises_as key slots id w k me ds is in_words small =
     subst (λ (m : Me (Unit {0}) View). Allows (Posted key) slots id m w (λ n. bit_or n (mask_of k)) (raised_as (step slots w (mask_of k) 0 none) m)) (sym is) (raises key slots id w k ds in_words small)
 
 -- a sweep by a seat of one token
-pub sweeps_as : (key : ℕ × ℕ) (slots id w : ℕ) (me : Me (Unit {0}) View) (ds : List Did) → me ≡ (own ds, []) → w < key.0
+pub sweeps_as : (key : ℕ × ℕ) (slots id w : ℕ) (me : Me (Unit {0}) View) (ds : List Action) → me ≡ (own ds, []) → w < key.0
     → Allows (Posted key) slots id me w (λ _. 0) (swept_as (step slots w 0 0 none) me)
 sweeps_as key slots id w me ds is in_words =
     subst (λ (m : Me (Unit {0}) View). Allows (Posted key) slots id m w (λ _. 0) (swept_as (step slots w 0 0 none) m)) (sym is) (sweeps key slots id w ds in_words)

@@ -1,4 +1,4 @@
-pub mod Did
+pub mod Action
 pub mod Settled
 pub mod Words
 pub mod Answers

@@ -9,6 +9,6 @@ mod standing;
 mod words;
 
 pub use line::{Line, Raised, Sweeper};
-pub use rule::Did;
+pub use rule::Action;
 pub use standing::Standing;
 pub use words::{GatherFault, PostedFault, PostedWords};

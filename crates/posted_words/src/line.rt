@@ -51,7 +51,7 @@ impl Line {
     /// The seat of the token.
     pub(crate) fn into_seat(self) -> Seat<(), View>
         ensures own { result.table_id ≡ self.of }
-        ensures alone { result.me ≡ (view_of 1 (self.did ∷ []), []) }
+        ensures alone { result.me ≡ (view_of 1 (self.actions ∷ []), []) }
     {
         let Line { seat } = self;
         seat

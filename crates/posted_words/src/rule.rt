@@ -4,7 +4,7 @@ use atomic_table::{Join, Play, Split, TableRule};
 use std::collections::LinkedList;
 
 /// One step of a token. Ghost.
-pub enum Did {
+pub enum Action {
     /// A raise of a bit of a word, and whether the bit was clear.
     Raise { word: u64, bit: u64, fresh: bool },
     /// A sweep of a word, and the bits that it took.
@@ -16,7 +16,7 @@ pub struct View {
     /// How many tokens the seat holds.
     pub parts: u64,
     /// The steps of each of them, the last one first.
-    pub logs: LinkedList<LinkedList<Did>>,
+    pub logs: LinkedList<LinkedList<Action>>,
 }
 
 /// The rule. Its key is the number of words, and of tokens.

@@ -3,7 +3,7 @@ ghost use Rattle.std.specs.Prelude.{◌≡◌, ◌+◌, ◌*◌, ◌-◌, ◌<�
 ghost use Rattle.std.specs.Mem.Slots.{slots_items, IsFull};
 ghost use Rattle.posted_words.specs.inside.Posted.{view_of};
 ghost use Rattle.posted_words.specs.Settled.{Settled};
-ghost use Rattle.posted_words.specs.Words.{shared_words, AreWordSizes, token, IsOf, with_last_step, did_of, word_of, raise_of, sweep_of};
+ghost use Rattle.posted_words.specs.Words.{shared_words, AreWordSizes, token, IsOf, with_last_step, actions_of, word_of, raise_of, sweep_of};
 ghost use Rattle.posted_words.specs.Answers.{is_fresh};
 
 use crate::line::{Line, Raised, Sweeper};
@@ -97,7 +97,7 @@ fn join_all(places: &Places, seat: &mut Seat<(), View>, mut tokens: Vec<Line>)
     requires no_slot { seat.old.me.1 ≡ [] }
     requires tokens { All (IsOf places.now.table_id) tokens.items }
     ensures own { seat.new.table_id ≡ seat.old.table_id }
-    ensures joined { seat.new.me ≡ (view_of (seat.old.me.0.parts + vec_len tokens) (map did_of tokens.items ++ seat.old.me.0.logs), []) }
+    ensures joined { seat.new.me ≡ (view_of (seat.old.me.0.parts + vec_len tokens) (map actions_of tokens.items ++ seat.old.me.0.logs), []) }
 {
     while let Some(token) = tokens.pop() {
         places.join_seat::<Gathers>(seat, token.into_seat());
@@ -174,7 +174,7 @@ impl PostedWords {
     /// The number of processors of the words, at most 8.
     pub fn processors(&self) -> u8
         ensures count { result ≡ self.now.processors }
-        ensures few { result ≤ 8 }
+        ensures bound { result ≤ 8 }
     {
         self.processors
     }
@@ -237,7 +237,7 @@ impl PostedWords {
         requires lines { All (IsOf self.name) lines.items }
         ensures missing { IsErrOf result GatherFault.Missing ↔ (vec_len sweepers < self.sweepers) ⊎ (vec_len lines < self.lines) }
         ensures width { IfOk result (λ s. length s ≡ 4 * self.processors) }
-        ensures settled { IfOk result (λ s. Settled (4 * self.processors) (map did_of (sweepers.items ++ lines.items)) s) }
+        ensures settled { IfOk result (λ s. Settled (4 * self.processors) (map actions_of (sweepers.items ++ lines.items)) s) }
     {
         if sweepers.len() < usize::from(self.sweepers) || lines.len() < usize::from(self.lines) {
             return Err(GatherFault::Missing);

@@ -7,7 +7,7 @@ use Rattle.std.proofs.lemmas.List.FromFn.{length-map-range_with_len, get_or-map-
 use Rattle.board_terms.specs.Dues.{Dues, number_of, timer_of}
 use Rattle.timer_heap.specs.Heap.{no_dues, without_processor}
 use Rattle.stimer_bank.specs.declared.timer.Timer.{Timer}
-use Rattle.stimer_bank.specs.Bank.{Bank, idle_timer, opened, timer_in, with_timer, is_suspended, with_suspension, reset, shown_due, dues, is_due_in}
+use Rattle.stimer_bank.specs.Bank.{Bank, idle_timer, opened, timer_in, with_timer, is_suspended, with_suspension, reset, active_due, dues, is_due_in}
 use Rattle.stimer_bank.specs.Timer.{is_due}
 use Rattle.std.specs.Option.{option_map_or}
 
@@ -65,25 +65,25 @@ set-default (x ∷ xs) (suc i) d = set-default xs i d
 
 pub length-dues : (b : Bank) → length (dues b) ≡ 32
 unfolding dues
-length-dues b = length-map-range_with_len (shown_due b) 0 32
+length-dues b = length-map-range_with_len (active_due b) 0 32
 
 -- the deadline of the timer with a number
-pub due_at : (b : Bank) (k : ℕ) → k < 32 → get_or (dues b) k None ≡ shown_due b k
+pub due_at : (b : Bank) (k : ℕ) → k < 32 → get_or (dues b) k None ≡ active_due b k
 unfolding dues
-due_at b k h = get_or-map-range_with_len (shown_due b) 0 32 k k None h (omega arith)
+due_at b k h = get_or-map-range_with_len (active_due b) 0 32 k k None h (omega arith)
 
 pub dues-past : (b : Bank) (k : ℕ) → 32 ≤ k → get_or (dues b) k None ≡ None
 dues-past b k h = get_or_past (dues b) k None (omega (arith, length-dues b))
 
 -- two banks that agree on a number
-pub dues-alike : (a b : Bank) (k : ℕ) → shown_due a k ≡ shown_due b k → get_or (dues a) k None ≡ get_or (dues b) k None
+pub dues-alike : (a b : Bank) (k : ℕ) → active_due a k ≡ active_due b k → get_or (dues a) k None ≡ get_or (dues b) k None
 dues-alike a b k e = elim (cases_lt k 32) as (λ _. get_or (dues a) k None ≡ get_or (dues b) k None) [
   | inl h ↦ due_at a k h ∙ e ∙ sym (due_at b k h)
   | inr h ↦ dues-past a k h ∙ sym (dues-past b k h)
 ]
 
 -- these deadlines are those of a bank
-pub dues-are : (m : Dues) (b : Bank) → length m ≡ 32 → ((k : ℕ) → k < 32 → get_or m k None ≡ shown_due b k) → dues b ≡ m
+pub dues-are : (m : Dues) (b : Bank) → length m ≡ 32 → ((k : ℕ) → k < 32 → get_or m k None ≡ active_due b k) → dues b ≡ m
 dues-are m b l h = same_lists (dues b) m (length-dues b ∙ sym l) (λ k d low.
     let less : k < 32 = omega (arith, length-dues b) in
     get_or_default (dues b) k d None low ∙ due_at b k less ∙ sym (h k less) ∙ get_or_default m k None d (omega arith))
@@ -95,7 +95,7 @@ abbrev pub due_by_number : Bank → ℕ → Option ℕ
 due_by_number b k = (get_or b.timers k idle_timer).due
 
 module _ (b : Bank) (p : ℕ) where
-  pub mark-other : (k : ℕ) (mark : Bool) → k / 4 ≢ p → shown_due (with_suspension b p mark) k ≡ shown_due b k
+  pub mark-other : (k : ℕ) (mark : Bool) → k / 4 ≢ p → active_due (with_suspension b p mark) k ≡ active_due b k
   mark-other k mark n = ap (λ o. shown o (due_by_number b k)) (get_or-set_other b.suspended p (k / 4) mark false n)
 
   pub dues-mark-other : (k : ℕ) (mark : Bool) → k / 4 ≢ p → get_or (dues (with_suspension b p mark)) k None ≡ get_or (dues b) k None
@@ -104,7 +104,7 @@ module _ (b : Bank) (p : ℕ) where
   -- a processor that is suspended
   pub dues-suspended : p < length b.suspended → dues (with_suspension b p true) ≡ without_processor (dues b) p
   dues-suspended l = dues-are (without_processor (dues b) p) (with_suspension b p true) (length-four (dues b) p (λ _. None) ∙ length-dues b) (λ k low.
-      elim (cases_eq (k / 4) p) as (λ _. get_or (without_processor (dues b) p) k None ≡ shown_due (with_suspension b p true) k) [
+      elim (cases_eq (k / 4) p) as (λ _. get_or (without_processor (dues b) p) k None ≡ active_due (with_suspension b p true) k) [
         | inl e ↦
             let mark : get_or (set b.suspended p true) (k / 4) false ≡ true = ap (λ i. get_or (set b.suspended p true) i false) e ∙ get_or-set_same b.suspended p true false l in
             four-here (dues b) p (λ _. None) k None e (omega (arith, length-dues b)) ∙ sym (ap (λ o. shown o (due_by_number b k)) mark)
@@ -114,7 +114,7 @@ module _ (b : Bank) (p : ℕ) where
   -- a processor that is resumed
   pub dues-resumed : dues (with_suspension b p false) ≡ four (dues b) p (λ i. due_by_number b (4 * p + i))
   dues-resumed = let f = λ (i : ℕ). due_by_number b (4 * p + i) in dues-are (four (dues b) p f) (with_suspension b p false) (length-four (dues b) p f ∙ length-dues b) (λ k low.
-      elim (cases_eq (k / 4) p) as (λ _. get_or (four (dues b) p f) k None ≡ shown_due (with_suspension b p false) k) [
+      elim (cases_eq (k / 4) p) as (λ _. get_or (four (dues b) p f) k None ≡ active_due (with_suspension b p false) k) [
         | inl e ↦
             let mark : get_or (set b.suspended p false) (k / 4) false ≡ false = ap (λ i. get_or (set b.suspended p false) i false) e ∙ set-default b.suspended p false in
             let same : 4 * p + k % 4 ≡ k = omega arith in
@@ -123,7 +123,7 @@ module _ (b : Bank) (p : ℕ) where
       ])
 
 module _ (b : Bank) (t : ℕ × ℕ) (x : Timer) where
-  pub timer-other : (k : ℕ) → k ≢ number_of t → shown_due (with_timer b t x) k ≡ shown_due b k
+  pub timer-other : (k : ℕ) → k ≢ number_of t → active_due (with_timer b t x) k ≡ active_due b k
   timer-other k n = ap (λ (y : Timer). shown (is_suspended b (k / 4)) y.due) (get_or-set_other b.timers (number_of t) k x idle_timer n)
 
   pub dues-timer-other : (k : ℕ) → k ≢ number_of t → get_or (dues (with_timer b t x)) k None ≡ get_or (dues b) k None
@@ -132,7 +132,7 @@ module _ (b : Bank) (t : ℕ × ℕ) (x : Timer) where
   -- a timer of a suspended processor is written
   pub dues-timer-suspended : t.1 < 4 → is_suspended b t.0 ≡ true → dues (with_timer b t x) ≡ dues b
   dues-timer-suspended four e = dues-are (dues b) (with_timer b t x) (length-dues b) (λ k low.
-      elim (cases_eq k (number_of t)) as (λ _. get_or (dues b) k None ≡ shown_due (with_timer b t x) k) [
+      elim (cases_eq k (number_of t)) as (λ _. get_or (dues b) k None ≡ active_due (with_timer b t x) k) [
         | inl i ↦
             let p : k / 4 ≡ t.0 = omega arith in
             let mark : is_suspended b (k / 4) ≡ true = ap (is_suspended b) p ∙ e in
@@ -143,7 +143,7 @@ module _ (b : Bank) (t : ℕ × ℕ) (x : Timer) where
   -- one of a processor that is not suspended
   pub dues-timer : t.1 < 4 → number_of t < length b.timers → is_suspended b t.0 ≡ false → dues (with_timer b t x) ≡ set (dues b) (number_of t) x.due
   dues-timer four l e = dues-are (set (dues b) (number_of t) x.due) (with_timer b t x) (length-set (dues b) (number_of t) x.due ∙ length-dues b) (λ k low.
-      elim (cases_eq k (number_of t)) as (λ _. get_or (set (dues b) (number_of t) x.due) k None ≡ shown_due (with_timer b t x) k) [
+      elim (cases_eq k (number_of t)) as (λ _. get_or (set (dues b) (number_of t) x.due) k None ≡ active_due (with_timer b t x) k) [
         | inl i ↦
             let p : k / 4 ≡ t.0 = omega arith in
             let mark : is_suspended b (k / 4) ≡ false = ap (is_suspended b) p ∙ e in
@@ -157,7 +157,7 @@ all-default zero k d = refl
 all-default (suc n) zero d = refl
 all-default (suc n) (suc k) d = all-default n k d
 
-opened-shown : (k : ℕ) → shown_due opened k ≡ None
+opened-shown : (k : ℕ) → active_due opened k ≡ None
 opened-shown k = (λ i. shown (all-default 8 (k / 4) false i) (all-default 32 k idle_timer i).due)
 
 -- initially no timer has a deadline

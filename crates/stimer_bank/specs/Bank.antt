@@ -46,12 +46,12 @@ abbrev pub reset : Bank → Processor → Bank
 reset b p = with_suspension (with_timer (with_timer (with_timer (with_timer b (p, 0) idle_timer) (p, 1) idle_timer) (p, 2) idle_timer) (p, 3) idle_timer) p false
 
 -- the deadline of timer n, or none if its processor is suspended
-abbrev pub shown_due : Bank → ℕ → Option Moment
-shown_due b n = if is_suspended b (n / 4) then None else (slice_index_or b.timers n idle_timer).due
+abbrev pub active_due : Bank → ℕ → Option Moment
+active_due b n = if is_suspended b (n / 4) then None else (slice_index_or b.timers n idle_timer).due
 
 -- the deadlines of all timers
 unfoldable pub dues : Bank → Dues
-dues b = map (shown_due b) (range_with_len 0 32)
+dues b = map (active_due b) (range_with_len 0 32)
 
 -- a timer is due at a time
 abbrev pub is_due_in : Bank → TimerId → Moment → Bool

@@ -1,3 +1,2 @@
 -- The abstract view of the fields, and their invariant. Callers need neither.
 pub mod View
-pub mod Sound

@@ -1,6 +1,6 @@
 // The value of STIMERn_CONFIG.
 ghost use Rattle.std.specs.Prelude.{◌≡◌, ◌<◌, bit_and};
-ghost use Rattle.stimer_bank.specs.Timer.{is_enabled, is_periodic, is_lazy, enables_itself, is_direct, vector_of, sint_of, is_mute, disabled, ruled, written_count};
+ghost use Rattle.stimer_bank.specs.Timer.{is_enabled, is_periodic, is_lazy, enables_itself, is_direct, vector_of, sint_of, has_no_target, disabled, normalized, written_count};
 
 use bitflags::{Flag, Flags, bitflag_items};
 
@@ -60,7 +60,7 @@ impl ConfigWord {
     }
 
     /// What is stored of a written value.
-    pub fn kept(value: u64) -> ConfigWord
+    pub fn stored(value: u64) -> ConfigWord
         ensures { result.0 ≡ bit_and value 0xf1fff }
     {
         ConfigWord(value & KEPT)
@@ -118,8 +118,8 @@ impl ConfigWord {
     }
 
     /// Whether the timer cannot signal.
-    fn is_mute(self) -> bool
-        ensures { result ≡ is_mute self.0 }
+    fn has_no_target(self) -> bool
+        ensures { result ≡ has_no_target self.0 }
     {
         if self.is_direct() {
             self.vector_number() < 16
@@ -136,10 +136,10 @@ impl ConfigWord {
     }
 
     /// The same configuration, disabled if the timer cannot signal.
-    pub fn ruled(self) -> ConfigWord
-        ensures { result.0 ≡ ruled self.0 }
+    pub fn normalized(self) -> ConfigWord
+        ensures { result.0 ≡ normalized self.0 }
     {
-        if self.is_mute() {
+        if self.has_no_target() {
             self.disabled()
         } else {
             self
@@ -153,7 +153,7 @@ impl ConfigWord {
         if count == 0 {
             self.disabled()
         } else if self.enables_itself() {
-            ConfigWord(self.disabled().0 + 1).ruled()
+            ConfigWord(self.disabled().0 + 1).normalized()
         } else {
             self
         }

@@ -1,7 +1,6 @@
 // One timer: its registers, its deadline, and its expiry.
-ghost use Rattle.std.specs.Prelude.{◌≡◌, true, ◌+◌, ◌*◌, ◌^◌, ◌-◌, ◌<◌, ◌≤◌, Option, Some, None, IsSome, IsTrue};
-ghost use Rattle.stimer_bank.specs.Timer.{is_periodic, started, after_config, after_count, is_due, mode_of, expired, once, catching_up, lazily, late, expiry_of, after_expiry};
-ghost use Rattle.stimer_bank.specs.inside.Sound.{IsSoundTimer, IsRuled};
+ghost use Rattle.std.specs.Prelude.{◌≡◌, ◌↔◌, true, ◌+◌, ◌*◌, ◌^◌, ◌-◌, ◌<◌, ◌≤◌, Option, Some, None, IsSome, IsTrue};
+ghost use Rattle.stimer_bank.specs.Timer.{is_periodic, started, after_config, after_count, is_due, IsSoundTimer, IsRuled, mode_of, expired, once, catching_up, lazily, late, expiry_of, after_expiry};
 ghost use Rattle.stimer_bank.specs.Bank.{idle_timer};
 
 use crate::config::ConfigWord;
@@ -64,11 +63,26 @@ impl Timer {
         }
     }
 
+    /// Whether this is the state of a timer: one that is enabled has a target; one with a deadline is
+    /// enabled and has a count, and a periodic one is due no earlier than at the end of its first period.
+    pub(crate) fn is_sound(self) -> bool
+        ensures { IsTrue result ↔ IsSoundTimer self }
+    {
+        let word = ConfigWord::new(self.config);
+        if word.normalized().bits() != self.config {
+            return false;
+        }
+        let Some(due) = self.due else {
+            return true;
+        };
+        word.is_enabled() && self.count > 0 && (!word.is_periodic() || self.count as u128 <= due)
+    }
+
     pub(crate) fn after_config(self, value: u64, moment: Moment) -> Timer
         ensures after { result ≡ after_config self value moment }
         ensures sound { IsSoundTimer result }
     {
-        let config = ConfigWord::kept(value).ruled().bits();
+        let config = ConfigWord::stored(value).normalized().bits();
         Timer {
             config,
             count: self.count,
@@ -77,7 +91,7 @@ impl Timer {
     }
 
     pub(crate) fn after_count(self, value: u64, moment: Moment) -> Timer
-        requires ruled { IsRuled self.config }
+        requires normalized { IsRuled self.config }
         ensures after { result ≡ after_count self value moment }
         ensures sound { IsSoundTimer result }
     {
@@ -135,6 +149,7 @@ impl Timer {
     }
 
     /// Expires the timer at a time. A periodic timer gets its next deadline.
+    #[inline(always)]
     pub(crate) fn expire(&mut self, moment: Moment) -> Expiry
         requires sound { IsSoundTimer self.old }
         requires is_due { IsTrue (is_due self.old moment) }

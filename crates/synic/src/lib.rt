@@ -33,5 +33,5 @@ pub use board_threads::{
     Actor, ActorCalls, CallFault, CrewEnd, CrewFault, Ended, Gate, Line, OpenGate, Raised, Scripts,
     SettleFault, Setup, SharedBoard, Standing, Step, Worker, run_crew,
 };
-pub use board_trace::{Format, put_trace};
 pub use synic_board::{Board, Entry, Event, OpenFault, Reply, Stopped, Summary, msr, run};
+pub use text_trace::{Format, put_trace};

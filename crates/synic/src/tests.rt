@@ -80,13 +80,13 @@ fn a_script_has_its_text(rt: HostRuntime) -> Result<(), Fail> {
 
 #[test]
 fn a_trace_has_its_verdict(rt: HostRuntime) -> Result<(), Fail> {
-    // README board_trace: begin
+    // README text_trace: begin
     let mut trace: &[u8] = b"trace 1\nboard 1 4 0\n0 read 0 40000081\n= value 1\nend 1\n";
     let mut verdict = Vec::new(rt.alloc());
     assert_eq!(rt;
         check_trace(rt.alloc(), &mut trace, &mut verdict),
         CheckEnd::Legal(1)
     );
-    // README board_trace: end
+    // README text_trace: end
     Ok(())
 }

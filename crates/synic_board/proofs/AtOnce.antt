@@ -49,10 +49,10 @@ at-once s p i m free within =
     let back : set a.queues (source_number p i) [] ≡ s.queues = set-set s.queues (source_number p i) (queue_of s.queues p i ++ m ∷ []) [] ∙ ap (set s.queues (source_number p i)) (sym h.none) ∙ set-get_or s.queues (source_number p i) [] in
     let tries : tried a p i ≡ after (placed_head a p i (m ∷ [])) (raised (placed_head a p i (m ∷ [])).0 p i) =
     (λ j. if h.enabled j && nat_lt 0 (length (one j)) then (if h.empty j then after (placed_head a p i (one j)) (raised (placed_head a p i (one j)).0 p i) else marked a p i) else nothing a) in
-    ap (after (accepted s p i m)) tries ∙ ap told back
+    ap (after (accepted s p i m)) tries ∙ ap emitted back
   where
-    told : Queues → Effect
-    told qs =
+    emitted : Queues → Effect
+    emitted qs =
         let t : State = with_slot_ticket (record (with_space s (after_slot (space_of s) p i (image m false s.moment))) { next_ticket = s.next_ticket + 1; queues = qs }) p i (Some (ticket_of m)) in
         ((raised t p i).0, Accepted (ticket_of m) p i ∷ Placed (ticket_of m) p i ∷ (raised t p i).1)
 

@@ -16,7 +16,7 @@ use Rattle.board_terms.specs.declared.refusal.Refusal.TheVariants.{ClockBack}
 use Rattle.synic_board.specs.declared.event.Reply.TheVariants.{Done}
 use Rattle.synic_board.specs.State.{State, bank_of}
 use Rattle.synic_board.specs.Effects.{answered, unchanged, refused}
-use Rattle.synic_board.specs.Scratch.{Values}
+use Rattle.synic_board.specs.Summaries.{Values}
 use Rattle.synic_board.specs.Timers.{at_moment, attempted_all, ticked}
 use Rattle.synic_board.specs.inside.Steps.{is_any_due}
 
@@ -32,10 +32,10 @@ pub idle-reset : (b : Bank) (p m : ℕ) → p < m → ((k : ℕ) → 4 * m ≤ k
 idle-reset b p m low idle k h = dues-reset-other b p k (λ e. omega (arith, e, low, h)) ∙ idle k h
 
 -- the summary after the earliest timer was written
-pub scratch-earliest : (nexts : List (Option ℕ)) (autos : List Vectors) (owners : List Owner) (queued : List ℕ) (was now is : Option (ℕ × (ℕ × ℕ))) (before after : Values) →
+pub summary_of-earliest : (nexts : List (Option ℕ)) (autos : List Vectors) (owners : List Owner) (queued : List ℕ) (was now is : Option (ℕ × (ℕ × ℕ))) (before after : Values) →
     before ≡ record { nexts = nexts; autos = autos; owners = owners; queued = queued; earliest = was } → after ≡ record before { earliest = now } → now ≡ is →
     after ≡ record { nexts = nexts; autos = autos; owners = owners; queued = queued; earliest = is }
-scratch-earliest nexts autos owners queued was now is before after start written same =
+summary_of-earliest nexts autos owners queued was now is before after start written same =
     written ∙ (λ i. record (start i) { earliest = same i })
 
 -- a listed due timer belongs to a processor on the board
@@ -84,7 +84,7 @@ some_due : (o : Option (ℕ × ℕ)) (d moment : ℕ) → IsBy o d → d ≤ mom
 some_due None d moment h le = absurd h
 some_due (Some r) d moment h le = let low : r.0 ≤ moment = omega (arith, h, le) in grind (arith, nat_tests)
 
-listed_due : (m : Dues) (moment k d : ℕ) → k < 32 → get_or m k None ≡ Some d → d ≤ moment → is_any_due (least m) moment ≡ true
+pub listed_due : (m : Dues) (moment k d : ℕ) → k < 32 → get_or m k None ≡ Some d → d ≤ moment → is_any_due (least m) moment ≡ true
 unfolding least
 listed_due m moment k d h e le = some_due (least_below m 32) d moment (by_due m 32 k d h e) le
 

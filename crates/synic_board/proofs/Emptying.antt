@@ -27,10 +27,10 @@ pub emptied_none : (s : State) (p : ℕ) (before : List Notice) → (s, before) 
 emptied_none s p before = fold_none (empties p) s before
 
 -- the slot of a source, and then its queue
-pub emptied_more : (s now between next : State) (p i v : ℕ) (before told half more : List Notice) → (now, told) ≡ preceded before (emptied_below s p i) → v ≡ i → (between, half) ≡ preceded told (slot_emptied now p v) →
+pub emptied_more : (s now between next : State) (p i v : ℕ) (before emitted half more : List Notice) → (now, emitted) ≡ preceded before (emptied_below s p i) → v ≡ i → (between, half) ≡ preceded emitted (slot_emptied now p v) →
     (next, more) ≡ preceded half (queue_emptied between p v) → (next, more) ≡ preceded before (emptied_below s p (i + 1))
-emptied_more s now between next p i v before told half more so_far same first second =
-    fold_more (empties p) s now next i v before told more so_far same (chained between next told half more (slot_emptied now p v) (λ t. queue_emptied t p v) first second)
+emptied_more s now between next p i v before emitted half more so_far same first second =
+    fold_more (empties p) s now next i v before emitted more so_far same (chained between next emitted half more (slot_emptied now p v) (λ t. queue_emptied t p v) first second)
 
 -- how many messages are queued in all
 abbrev pub total : State → ℕ
@@ -40,15 +40,15 @@ total s = sum_by (λ (q : List Message). length q) s.queues
 queue-room : (s : State) (p i : ℕ) → length (queue_emptied s p i).1 + total (queue_emptied s p i).0 ≡ total s
 queue-room s p i = by (cases_lt (source_number p i) (length s.queues))
   where
-    told : length (queue_emptied s p i).1 ≡ length (queue_of s.queues p i)
-    told = length-map (map ticket_of (queue_of s.queues p i)) (λ t. Withdrawn t p i) ∙ length-map (queue_of s.queues p i) ticket_of
+    emitted : length (queue_emptied s p i).1 ≡ length (queue_of s.queues p i)
+    emitted = length-map (map ticket_of (queue_of s.queues p i)) (λ t. Withdrawn t p i) ∙ length-map (queue_of s.queues p i) ticket_of
 
     by : (source_number p i < length s.queues) ⊎ (length s.queues ≤ source_number p i) → length (queue_emptied s p i).1 + total (queue_emptied s p i).0 ≡ total s
-    by (inl inside) = omega (arith, told, sum_by-set (λ (q : List Message). length q) s.queues (source_number p i) [] [] inside)
+    by (inl inside) = omega (arith, emitted, sum_by-set (λ (q : List Message). length q) s.queues (source_number p i) [] [] inside)
     by (inr past) =
         let none : queue_of s.queues p i ≡ [] = get_or-eq_default s.queues [] past in
         let same : total (queue_emptied s p i).0 ≡ total s = ap (sum_by (λ (q : List Message). length q)) (set_past s.queues (source_number p i) [] past) in
-        omega (arith, told, ap length none, same)
+        omega (arith, emitted, ap length none, same)
 
 -- a slot emits at most one notice
 slot-room : (s : State) (p i : ℕ) → length (slot_emptied s p i).1 + total (slot_emptied s p i).0 ≤ 1 + total s
@@ -82,13 +82,13 @@ first-total s p i = slot-total s p i
 -- so the notice of a slot fits, and then those of a queue
 pub slot-fits : (s : State) (p n : ℕ) → n < 16 → (0 < n → total s ≤ 288) → length (emptied_below s p n).1 < 304
 unfolding emptied_below
-slot-fits s p zero few all = omega arith
-slot-fits s p (suc i) few all = omega (arith, few, all (omega arith), emptied-room s p (suc i))
+slot-fits s p zero bound all = omega arith
+slot-fits s p (suc i) bound all = omega (arith, bound, all (omega arith), emptied-room s p (suc i))
 
 pub queue-fits : (s : State) (p n v : ℕ) → n < 16 → v ≡ n → total s ≤ 288 → length (emptied_below s p n).1 + length (slot_emptied (emptied_below s p n).0 p v).1 + total (slot_emptied (emptied_below s p n).0 p v).0 ≤ 304
-queue-fits s p n v few same all = omega (arith, few, all, emptied-room s p n, slot-room (emptied_below s p n).0 p v)
+queue-fits s p n v bound same all = omega (arith, bound, all, emptied-room s p n, slot-room (emptied_below s p n).0 p v)
 
 -- the messages queued after a slot was emptied are bounded by those queued at first
 pub all-in : (s : State) (p n v : ℕ) → total (slot_emptied (emptied_below s p n).0 p v).0 ≤ 288 → (0 < n → total s ≤ 288) → total s ≤ 288
-all-in s p zero v few all = omega (arith, few, first-total s p v)
-all-in s p (suc i) v few all = all (omega arith)
+all-in s p zero v bound all = omega (arith, bound, first-total s p v)
+all-in s p (suc i) v bound all = all (omega arith)

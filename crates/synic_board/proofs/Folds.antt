@@ -19,16 +19,16 @@ pub fold_none : {below one : State → ℕ → Effect} (f : IsFold below one) (s
 fold_none f s before = ap (λ ns. (s, ns)) (sym (append-nil before)) ∙ ap (preceded before) (sym (f.none s))
 
 -- one effect, and then another
-pub chained : (now next : State) (before told more : List Notice) (e : Effect) (f : State → Effect) → (now, told) ≡ preceded before e → (next, more) ≡ preceded told (f now) → (next, more) ≡ preceded before (after e (f e.0))
-chained now next before told more e f first second =
+pub chained : (now next : State) (before emitted more : List Notice) (e : Effect) (f : State → Effect) → (now, emitted) ≡ preceded before e → (next, more) ≡ preceded emitted (f now) → (next, more) ≡ preceded before (after e (f e.0))
+chained now next before emitted more e f first second =
     let a : now ≡ e.0 = ap (λ (x : Effect). x.0) first in
-    let b : told ≡ before ++ e.1 = ap (λ (x : Effect). x.1) first in
+    let b : emitted ≡ before ++ e.1 = ap (λ (x : Effect). x.1) first in
     second ∙ (λ j. preceded (b j) (f (a j))) ∙ ap (λ ns. ((f e.0).0, ns)) (append_assoc before e.1 (f e.0).1)
 
-pub fold_more : {below one : State → ℕ → Effect} (f : IsFold below one) (s now next : State) (i v : ℕ) (before told more : List Notice) → (now, told) ≡ preceded before (below s i) → v ≡ i → (next, more) ≡ preceded told (one now v) →
+pub fold_more : {below one : State → ℕ → Effect} (f : IsFold below one) (s now next : State) (i v : ℕ) (before emitted more : List Notice) → (now, emitted) ≡ preceded before (below s i) → v ≡ i → (next, more) ≡ preceded emitted (one now v) →
     (next, more) ≡ preceded before (below s (i + 1))
-fold_more {below} {one} f s now next i v before told more so_far same step =
-    chained now next before told more (below s i) (λ t. one t i) so_far (step ∙ ap (λ n. preceded told (one now n)) same) ∙ ap (preceded before) (sym (f.more s i)) ∙ ap (λ k. preceded before (below s k)) (sym (add-one i))
+fold_more {below} {one} f s now next i v before emitted more so_far same step =
+    chained now next before emitted more (below s i) (λ t. one t i) so_far (step ∙ ap (λ n. preceded emitted (one now n)) same) ∙ ap (preceded before) (sym (f.more s i)) ∙ ap (λ k. preceded before (below s k)) (sym (add-one i))
 
 -- steps that do nothing
 pub fold_skip : {below one : State → ℕ → Effect} (f : IsFold below one) (s : State) (i k : ℕ) → ((j : ℕ) → j < k → one (below s i).0 (i + j) ≡ nothing (below s i).0) → below s (i + k) ≡ below s i
@@ -53,9 +53,9 @@ consumes p = record { none = λ s. refl; more = λ s i. refl }
 pub tried_none : (s : State) (p : ℕ) (before : List Notice) → (s, before) ≡ preceded before (tried_below s p 0)
 tried_none s p before = fold_none (tries p) s before
 
-tried_more : (s now next : State) (p i v : ℕ) (before told more : List Notice) → (now, told) ≡ preceded before (tried_below s p i) → v ≡ i → (next, more) ≡ preceded told (tried now p v) →
+tried_more : (s now next : State) (p i v : ℕ) (before emitted more : List Notice) → (now, emitted) ≡ preceded before (tried_below s p i) → v ≡ i → (next, more) ≡ preceded emitted (tried now p v) →
     (next, more) ≡ preceded before (tried_below s p (i + 1))
-tried_more s now next p i v before told more so_far same step = fold_more (tries p) s now next i v before told more so_far same step
+tried_more s now next p i v before emitted more so_far same step = fold_more (tries p) s now next i v before emitted more so_far same step
 
 -- a source without queued messages
 untried : (s : State) (p i : ℕ) → length (queue_of s.queues p i) ≡ 0 → tried s p i ≡ nothing s
@@ -70,22 +70,22 @@ untried s p i none = rw (none, both (delivers s p)) refl
 abbrev pub NoneFrom : State → ℕ → ℕ → ℕ → Type 0
 NoneFrom s p from to = (i : ℕ) → from ≤ i → i < to → length (queue_of s.queues p i) ≡ 0
 
-tried_skip : (s now : State) (p from to : ℕ) (before told : List Notice) → from ≤ to → NoneFrom now p from to → (now, told) ≡ preceded before (tried_below s p from) → (now, told) ≡ preceded before (tried_below s p to)
-tried_skip s now p from to before told le none so_far =
+tried_skip : (s now : State) (p from to : ℕ) (before emitted : List Notice) → from ≤ to → NoneFrom now p from to → (now, emitted) ≡ preceded before (tried_below s p from) → (now, emitted) ≡ preceded before (tried_below s p to)
+tried_skip s now p from to before emitted le none so_far =
     let at : from + (to - from) ≡ to = omega arith in
     let same : now ≡ (tried_below s p from).0 = ap (λ (x : Effect). x.0) so_far in
     so_far
     ∙ ap (preceded before) (sym (fold_skip (tries p) s from (to - from) (λ j h. subst (λ t. tried t p (from + j) ≡ nothing t) same (untried now p (from + j) (none (from + j) (omega arith) (omega arith))))) ∙ ap (tried_below s p) at)
 
-pub tried_next : (s now next : State) (p from i v : ℕ) (before told more : List Notice) → from ≤ i → NoneFrom now p from i → (now, told) ≡ preceded before (tried_below s p from) → v ≡ i → (next, more) ≡ preceded told (tried now p v) →
+pub tried_next : (s now next : State) (p from i v : ℕ) (before emitted more : List Notice) → from ≤ i → NoneFrom now p from i → (now, emitted) ≡ preceded before (tried_below s p from) → v ≡ i → (next, more) ≡ preceded emitted (tried now p v) →
     (next, more) ≡ preceded before (tried_below s p (i + 1))
-tried_next s now next p from i v before told more le none so_far same step = tried_more s now next p i v before told more (tried_skip s now p from i before told le none so_far) same step
+tried_next s now next p from i v before emitted more le none so_far same step = tried_more s now next p i v before emitted more (tried_skip s now p from i before emitted le none so_far) same step
 
-pub tried_whole : (s now : State) (p from : ℕ) (before told : List Notice) → from ≤ 16 → NoneFrom now p from 16 → (now, told) ≡ preceded before (tried_below s p from) → (now, told) ≡ preceded before (tried_below s p 16)
-tried_whole s now p from before told le none so_far = tried_skip s now p from 16 before told le none so_far
+pub tried_whole : (s now : State) (p from : ℕ) (before emitted : List Notice) → from ≤ 16 → NoneFrom now p from 16 → (now, emitted) ≡ preceded before (tried_below s p from) → (now, emitted) ≡ preceded before (tried_below s p 16)
+tried_whole s now p from before emitted le none so_far = tried_skip s now p from 16 before emitted le none so_far
 
 -- timers one after another
-attempted_all-push : (s : State) (ts : List (ℕ × ℕ)) (t : ℕ × ℕ) → attempted_all s (ts ++ t ∷ []) ≡ after (attempted_all s ts) (attempted (attempted_all s ts).0 t)
+pub attempted_all-push : (s : State) (ts : List (ℕ × ℕ)) (t : ℕ × ℕ) → attempted_all s (ts ++ t ∷ []) ≡ after (attempted_all s ts) (attempted (attempted_all s ts).0 t)
 unfolding attempted_all
 attempted_all-push s [] t = ap (λ ns. ((attempted s t).0, ns)) (append-nil (attempted s t).1)
 attempted_all-push s (u ∷ ts) t =
@@ -96,12 +96,12 @@ pub attempted_none : (s : State) (ts : List (ℕ × ℕ)) (before : List Notice)
 unfolding attempted_all
 attempted_none s ts before = ap (λ ns. (s, ns)) (sym (append-nil before))
 
-pub attempted_more : (s now next : State) (ts : List (ℕ × ℕ)) (i : ℕ) (t : ℕ × ℕ) (before told more : List Notice) → i < length ts → t ≡ get_or ts i t → (now, told) ≡ preceded before (attempted_all s (take i ts)) → (next, more) ≡ preceded told (attempted now t) →
+pub attempted_more : (s now next : State) (ts : List (ℕ × ℕ)) (i : ℕ) (t : ℕ × ℕ) (before emitted more : List Notice) → i < length ts → t ≡ get_or ts i t → (now, emitted) ≡ preceded before (attempted_all s (take i ts)) → (next, more) ≡ preceded emitted (attempted now t) →
     (next, more) ≡ preceded before (attempted_all s (take (i + 1) ts))
-attempted_more s now next ts i t before told more within at so_far step =
-    chained now next before told more (attempted_all s (take i ts)) (λ u. attempted u t) so_far step
+attempted_more s now next ts i t before emitted more within at so_far step =
+    chained now next before emitted more (attempted_all s (take i ts)) (λ u. attempted u t) so_far step
     ∙ ap (preceded before) (sym (attempted_all-push s (take i ts) t))
     ∙ ap (λ xs. preceded before (attempted_all s xs)) (ap (λ x. take i ts ++ x ∷ []) at ∙ sym (take_more ts i t within))
 
-pub attempted_whole : (s now : State) (ts : List (ℕ × ℕ)) (i : ℕ) (before told : List Notice) → length ts ≤ i → (now, told) ≡ preceded before (attempted_all s (take i ts)) → (now, told) ≡ preceded before (attempted_all s ts)
-attempted_whole s now ts i before told h so_far = so_far ∙ ap (λ xs. preceded before (attempted_all s xs)) (take_all i ts h)
+pub attempted_whole : (s now : State) (ts : List (ℕ × ℕ)) (i : ℕ) (before emitted : List Notice) → length ts ≤ i → (now, emitted) ≡ preceded before (attempted_all s (take i ts)) → (now, emitted) ≡ preceded before (attempted_all s ts)
+attempted_whole s now ts i before emitted h so_far = so_far ∙ ap (λ xs. preceded before (attempted_all s xs)) (take_all i ts h)

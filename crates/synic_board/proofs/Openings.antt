@@ -16,14 +16,14 @@ use Rattle.lapic_core.proofs.Priority.{next-empty}
 use Rattle.synic_regs.specs.Regs.{Regs, reset_regs, masked, is_auto_source, auto_vectors}
 use Rattle.synic_regs.proofs.AutoVectors.{contains-auto_vectors}
 use Rattle.board_terms.specs.declared.pages.Owner.TheVariants.{Guest, Nothing}
-use Rattle.gpa_space.specs.Space.{Space, lies_at, visible, owner_of, overlay_owner, opened as opened_space}
+use Rattle.gpa_space.specs.Space.{Space, is_mapped_at, visible, owner_of, overlay_owner, opened as opened_space}
 use Rattle.event_ports.specs.Ports.{Ports, no_ports}
 use Rattle.message_queues.specs.Queues.{Queues, no_messages}
 use Rattle.board_terms.specs.Dues.{least, least_below, earlier, timer_of}
 use Rattle.stimer_bank.specs.Bank.{Bank, dues, opened as no_timers}
 use Rattle.stimer_bank.proofs.Shown.{dues-opened}
 use Rattle.synic_board.specs.State.{bank_of, opened, overlay_registers, space_of}
-use Rattle.synic_board.specs.Scratch.{Values, owners_of, scratch}
+use Rattle.synic_board.specs.Summaries.{Values, owners_of, summary_of}
 
 map-replicate : {A B : Type 0} (f : A → B) (n : ℕ) (x : A) → map f (replicate n x) ≡ replicate n (f x)
 map-replicate f zero x = refl
@@ -46,7 +46,7 @@ auto-reset = set.same_set nat_cmp_total nat_cmp-IsAntisymmetric _ _ (λ v. conta
 -- no overlay is visible if all are disabled
 none-visible : (s : Space) (n page : ℕ) → s.registers ≡ replicate n 0 → visible s page ≡ None
 none-visible s n page e =
-    let p : ℕ → Bool = lies_at page in
+    let p : ℕ → Bool = is_mapped_at page in
     ap (λ rs. cond (nat_lt (prefix_len (λ r. not (p r)) rs) (length rs)) (Some (prefix_len (λ r. not (p r)) rs)) None) e
     ∙ ap (λ b. cond b (Some (prefix_len (λ r. not (p r)) (replicate n 0))) None) (all_behind _ _ n (prefix_len-replicate (λ r. not (p r)) n 0 refl) (length-replicate n 0))
   where
@@ -74,8 +74,8 @@ unfolding least
 none-due = ap (option_map (λ (r : ℕ × ℕ). (r.0, timer_of r.1))) (none_below 32)
 
 -- the cached summary when a board is opened
-pub scratch-opened : (n pages ticket : ℕ) (v : Values) → v.nexts ≡ replicate n None → v.autos ≡ replicate n set.empty → v.owners ≡ replicate pages Guest → v.queued ≡ replicate (16 * n) 0 → v.earliest ≡ None → v ≡ scratch (opened n pages ticket)
-scratch-opened n pages ticket v nexts autos owners queued earliest =
+pub summary_of-opened : (n pages ticket : ℕ) (v : Values) → v.nexts ≡ replicate n None → v.autos ≡ replicate n set.empty → v.owners ≡ replicate pages Guest → v.queued ≡ replicate (16 * n) 0 → v.earliest ≡ None → v ≡ summary_of (opened n pages ticket)
+summary_of-opened n pages ticket v nexts autos owners queued earliest =
     let s = opened n pages ticket in
     let a : v.nexts ≡ map next s.apics = nexts ∙ ap (replicate n) (sym next-empty) ∙ sym (map-replicate next n empty_apic) in
     let b : v.autos ≡ map auto_vectors s.regs = autos ∙ ap (replicate n) (sym auto-reset) ∙ sym (map-replicate auto_vectors n reset_regs) in

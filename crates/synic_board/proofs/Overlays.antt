@@ -14,10 +14,11 @@ use Rattle.std.proofs.Math.Seq.{map-set_same}
 use Rattle.lapic_core.specs.Vectors.{Vectors}
 use Rattle.synic_regs.specs.declared.register.Register.TheVariants.{Source}
 use Rattle.synic_regs.specs.Regs.{Regs, reset_regs, stores, is_refused, with_value, after_write, value_of, auto_vectors}
-use Rattle.gpa_space.specs.Space.{Space, overlay_of, lies_at, visible, owner_of, overlay_owner}
+use Rattle.gpa_space.specs.Space.{Space, overlay_of, is_mapped_at, visible, owner_of, overlay_owner}
 use Rattle.synic_board.specs.State.{overlay_registers}
-use Rattle.synic_board.specs.Scratch.{Values, owners_of}
-use Rattle.synic_board.specs.inside.Moves.{overlay_register, looked_up, with_owners}
+use Rattle.synic_board.specs.Summaries.{Values, owners_of}
+use Rattle.synic_board.specs.inside.Moves.{looked_up, with_owners}
+use Rattle.synic_board.specs.Restoring.{overlay_register}
 
 pub length-overlays : (rs : List Regs) → length (overlay_registers rs) ≡ 2 * length rs
 length-overlays [] = refl
@@ -64,12 +65,12 @@ overlays-kept rs p r h sim sief =
     ∙ ap (set (overlay_registers rs) (2 * p + 1)) (sief ∙ sym (sief-overlay rs p h))
     ∙ set-get_or (overlay_registers rs) (2 * p + 1) 0
 
-not_there : (page x : ℕ) → x / 4096 ≢ page → lies_at page x ≡ false
+not_there : (page x : ℕ) → x / 4096 ≢ page → is_mapped_at page x ≡ false
 not_there page x n = let b : (x / 4096 == page) ≡ false = grind (arith, nat_tests) in grind (arith, nat_tests)
 
 visible-moved : (s : Space) (k u v page : ℕ) → get_or s.registers k 0 ≡ u → u / 4096 ≢ page → v / 4096 ≢ page → visible (record s { registers = set s.registers k v }) page ≡ visible s page
 visible-moved s k u v page was a b =
-    let p : ℕ → Bool = lies_at page in
+    let p : ℕ → Bool = is_mapped_at page in
     let same : p v ≡ p (get_or s.registers k 0) = not_there page v b ∙ sym (ap p was ∙ not_there page u a) in
     let at = position_or_len-set p s.registers k v 0 same in
     let l = length-set s.registers k v in
@@ -119,12 +120,12 @@ pub length-owners : (s : Space) → length (owners_of s) ≡ length s.pages
 length-owners s = length-map-range_with_len (owner_of s) 0 (length s.pages)
 
 -- the summary after a move of overlay k, from a value u to a value v of its register
-pub scratch-moved : (b t : Space) (rs : List Regs) (n k u v : ℕ) (w : Regs) (nexts : List (Option ℕ)) (queued : List ℕ) (earliest : Option (ℕ × (ℕ × ℕ))) (before between after : Values) →
+pub summary_of-moved : (b t : Space) (rs : List Regs) (n k u v : ℕ) (w : Regs) (nexts : List (Option ℕ)) (queued : List ℕ) (earliest : Option (ℕ × (ℕ × ℕ))) (before between after : Values) →
     b.registers ≡ overlay_registers rs → t ≡ record b { registers = set b.registers k v } → get_or b.registers k 0 ≡ u → t.registers ≡ overlay_registers (set rs n w) → auto_vectors w ≡ auto_vectors (get_or rs n reset_regs) →
     before ≡ record { nexts = nexts; autos = map auto_vectors rs; owners = owners_of (record { pages = b.pages; registers = overlay_registers rs; own = b.own }); queued = queued; earliest = earliest } →
     between ≡ with_owners before (looked_up t before.owners (u / 4096)) → after ≡ with_owners between (looked_up t between.owners (v / 4096)) →
     after ≡ record { nexts = nexts; autos = map auto_vectors (set rs n w); owners = owners_of (record { pages = t.pages; registers = overlay_registers (set rs n w); own = t.own }); queued = queued; earliest = earliest }
-scratch-moved b t rs n k u v w nexts queued earliest before between after tied moved was now auto start first second =
+summary_of-moved b t rs n k u v w nexts queued earliest before between after tied moved was now auto start first second =
     let r : Space = record b { registers = set b.registers k v } in
     let a : before.owners ≡ owners_of b = ap (λ (x : Values). x.owners) start ∙ ap (λ rs. owners_of (record { pages = b.pages; registers = rs; own = b.own })) (sym tied) in
     let c : between.owners ≡ looked_up r (owners_of b) (u / 4096) = ap (λ (x : Values). x.owners) first ∙ (λ i. looked_up (moved i) (a i) (u / 4096)) in
@@ -160,22 +161,22 @@ overlay-tied b t rs n v k u w h tied was now moved =
     ap (λ (s : Space). s.registers) moved ∙ ap (λ xs. set xs (overlay_of n k) v) tied ∙ sym (overlays-moved rs n v k h) ∙ ap (λ r. overlay_registers (set rs n r)) (sym (now ∙ ap (λ (r : Regs). after_write r (overlay_register k) v) was))
 
 -- the summary after a write of a register that moves no overlay
-pub scratch-kept : (pages own : List (List ℕ)) (rs : List Regs) (n : ℕ) (w : Regs) (nexts : List (Option ℕ)) (queued : List ℕ) (earliest : Option (ℕ × (ℕ × ℕ))) (before : Values) →
+pub summary_of-kept : (pages own : List (List ℕ)) (rs : List Regs) (n : ℕ) (w : Regs) (nexts : List (Option ℕ)) (queued : List ℕ) (earliest : Option (ℕ × (ℕ × ℕ))) (before : Values) →
     n < length rs → w.sim ≡ (get_or rs n reset_regs).sim → w.sief ≡ (get_or rs n reset_regs).sief → auto_vectors w ≡ auto_vectors (get_or rs n reset_regs) →
     before ≡ record { nexts = nexts; autos = map auto_vectors rs; owners = owners_of (record { pages = pages; registers = overlay_registers rs; own = own }); queued = queued; earliest = earliest } →
     before ≡ record { nexts = nexts; autos = map auto_vectors (set rs n w); owners = owners_of (record { pages = pages; registers = overlay_registers (set rs n w); own = own }); queued = queued; earliest = earliest }
-scratch-kept pages own rs n w nexts queued earliest before h sim sief auto start =
+summary_of-kept pages own rs n w nexts queued earliest before h sim sief auto start =
     let e = sym (overlays-kept rs n w h sim sief) in
     let f = sym (map-set_same auto_vectors rs n w reset_regs auto) in
     start ∙ (λ i. record { nexts = nexts; autos = f i; owners = owners_of (record { pages = pages; registers = e i; own = own }); queued = queued; earliest = earliest })
 
 -- the summary after a write of a source
-pub scratch-source : (pages own : List (List ℕ)) (rs : List Regs) (n p : ℕ) (w : Regs) (auto : Vectors) (nexts : List (Option ℕ)) (queued : List ℕ) (earliest : Option (ℕ × (ℕ × ℕ))) (before after : Values) →
+pub summary_of-source : (pages own : List (List ℕ)) (rs : List Regs) (n p : ℕ) (w : Regs) (auto : Vectors) (nexts : List (Option ℕ)) (queued : List ℕ) (earliest : Option (ℕ × (ℕ × ℕ))) (before after : Values) →
     n < length rs → w.sim ≡ (get_or rs n reset_regs).sim → w.sief ≡ (get_or rs n reset_regs).sief → n ≡ p → auto ≡ auto_vectors w →
     before ≡ record { nexts = nexts; autos = map auto_vectors rs; owners = owners_of (record { pages = pages; registers = overlay_registers rs; own = own }); queued = queued; earliest = earliest } →
     after ≡ record before { autos = set before.autos p auto } →
     after ≡ record { nexts = nexts; autos = map auto_vectors (set rs n w); owners = owners_of (record { pages = pages; registers = overlay_registers (set rs n w); own = own }); queued = queued; earliest = earliest }
-scratch-source pages own rs n p w auto nexts queued earliest before after h sim sief same is start written =
+summary_of-source pages own rs n p w auto nexts queued earliest before after h sim sief same is start written =
     let e = sym (overlays-kept rs n w h sim sief) in
     let f : set (map auto_vectors rs) p auto ≡ map auto_vectors (set rs n w) = (λ i. set (map auto_vectors rs) (sym same i) (is i)) ∙ sym (map-set auto_vectors rs n w) in
     written ∙ ap (λ (v : Values). record v { autos = set v.autos p auto }) start

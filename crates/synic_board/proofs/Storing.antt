@@ -6,7 +6,7 @@ use Rattle.std.proofs.lemmas.List.Quantifiers.{position-Some}
 use Rattle.board_terms.specs.declared.refusal.Refusal.{Refusal}
 use Rattle.board_terms.specs.declared.pages.Owner.{Owner}
 use Rattle.board_terms.specs.declared.pages.Owner.TheVariants.{Guest, Sim, Sief, Nothing}
-use Rattle.gpa_space.specs.Space.{Space, refusal_of, owner_of, visible, lies_at, overlay_owner, store_answer, after_store}
+use Rattle.gpa_space.specs.Space.{Space, refusal_of, owner_of, visible, is_mapped_at, overlay_owner, store_answer, after_store}
 use Rattle.synic_board.specs.State.{State, processors, space_of, with_space}
 use Rattle.board_terms.specs.declared.notices.Notice.{Notice}
 use Rattle.synic_board.specs.declared.event.Reply.TheVariants.{Done}
@@ -28,7 +28,7 @@ overlay_on s k h = elim (k % 2 == 0) as (λ b. IsOn s (if b then Sim (k / 2) els
 
 shown_on : (s : State) (space : Space) (page : ℕ) (o : Option ℕ) → visible space page ≡ o → length space.registers ≡ 2 * processors s → IsOn s (option_map_or overlay_owner o Guest)
 shown_on s space page None e h = tt
-shown_on s space page (Some k) e h = overlay_on s k (omega (arith, (position-Some (lies_at page) space.registers k 0 e).0))
+shown_on s space page (Some k) e h = overlay_on s k (omega (arith, (position-Some (is_mapped_at page) space.registers k 0 e).0))
 
 -- the owner of a visible page has its processor on the board
 pub owner_on : (s : State) (space : Space) (page : ℕ) (owner : Owner) → length space.registers ≡ 2 * processors s → owner ≡ owner_of space page → IsOn s owner
@@ -39,11 +39,11 @@ owner_on s space page owner h e =
     ])
 
 -- after an accepted store, the fields and the consumed messages are those of the definition
-pub stored_is : (s now : State) (address : ℕ) (bytes : List ℕ) (b t : Space) (owner : Owner) (before told : List Notice) →
-    b ≡ space_of s → Ok owner ≡ store_answer b address bytes → t ≡ after_store b address bytes → before ≡ [] → (now, told) ≡ preceded before (consumed_in (with_space s t) owner) →
-    (now, Done, told) ≡ stored_bytes s address bytes
-stored_is s now address bytes b t owner before told space answer after empty effect =
+pub stored_is : (s now : State) (address : ℕ) (bytes : List ℕ) (b t : Space) (owner : Owner) (before emitted : List Notice) →
+    b ≡ space_of s → Ok owner ≡ store_answer b address bytes → t ≡ after_store b address bytes → before ≡ [] → (now, emitted) ≡ preceded before (consumed_in (with_space s t) owner) →
+    (now, Done, emitted) ≡ stored_bytes s address bytes
+stored_is s now address bytes b t owner before emitted space answer after empty effect =
     let good = store_is_good (space_of s) address bytes owner (answer ∙ ap (λ x. store_answer x address bytes) space) in
-    let e : (now, told) ≡ consumed_in (with_bytes s address bytes) (owner_of (space_of s) (address / 4096)) =
+    let e : (now, emitted) ≡ consumed_in (with_bytes s address bytes) (owner_of (space_of s) (address / 4096)) =
     effect ∙ (λ i. preceded (empty i) (consumed_in (with_space s ((after ∙ ap (λ x. after_store x address bytes) space) i)) (good.1 i))) in
     ap (answered Done) e ∙ ap (λ o. option_map_or (refused s) o (answered Done (consumed_in (with_bytes s address bytes) (owner_of (space_of s) (address / 4096))))) (sym good.0)

@@ -18,6 +18,6 @@ told_more f before now more tickets i h so_far pushed =
 pub told_all : (f : ℕ → Notice) (before now : List Notice) (tickets : List ℕ) (i : ℕ) → length tickets ≤ i → Told f before tickets i now → now ≡ before ++ map f tickets
 told_all f before now tickets i h so_far = so_far ∙ ap (λ xs. before ++ map f xs) (take_all i tickets h)
 
-pub told-room : (f : ℕ → Notice) (before now : List Notice) (tickets : List ℕ) (i : ℕ) → i < length tickets → Told f before tickets i now → length before + length tickets ≤ 320 → length now < 320
-told-room f before now tickets i h so_far room =
+pub emitted-room : (f : ℕ → Notice) (before now : List Notice) (tickets : List ℕ) (i : ℕ) → i < length tickets → Told f before tickets i now → length before + length tickets ≤ 320 → length now < 320
+emitted-room f before now tickets i h so_far room =
     omega (arith, ap length so_far, length-append before (map f (take i tickets)), length-map (take i tickets) f, length-take i tickets)

@@ -11,7 +11,7 @@ use Rattle.board_terms.specs.declared.pages.Owner.{Owner}
 use Rattle.board_terms.specs.Sources.{source_number}
 use Rattle.message_queues.specs.Image.{slot_type}
 use Rattle.gpa_space.specs.Page.{overwritten}
-use Rattle.gpa_space.specs.Space.{Space, refusal_of, owner_of, visible, lies_at, overlay_owner, shown, with_shown, store_answer, after_store}
+use Rattle.gpa_space.specs.Space.{Space, refusal_of, owner_of, visible, is_mapped_at, overlay_owner, visible_page, with_visible_page, store_answer, after_store}
 use Rattle.synic_board.specs.State.{State, processors, overlay_registers, space_of, slot_of, with_space}
 use Rattle.synic_board.specs.Effects.{Effect, nothing, after}
 use Rattle.synic_board.specs.Delivery.{is_slot_empty}
@@ -33,7 +33,7 @@ apart at count i other = by-type (nat_lt at (256 * ((at + count - 1) / 256) + 4)
     by-type false e = inr (grind (arith, nat_tests))
 
 type-untouched : (page bytes : List ℕ) (at i : ℕ) → length page ≡ 4096 → at + length bytes ≤ 4096 → 0 < length bytes → length bytes ≤ 8 → i < 16 → touched at (length bytes) ≢ Some i → slot_type (overwritten page at bytes) i ≡ slot_type page i
-type-untouched page bytes at i l fits some few low other =
+type-untouched page bytes at i l fits some bound low other =
     let byte = λ (k : ℕ) (h : k < 4). overwritten-other page bytes at (256 * i + k) (omega arith) (place k h (apart at (length bytes) i other)) in
     rw (byte 0 (omega arith), byte 1 (omega arith), byte 2 (omega arith), byte 3 (omega arith)) refl
   where
@@ -79,7 +79,7 @@ one-consumed t p k low free =
 -- an overlay's page was written
 others-written : (s : State) (k at : ℕ) (bytes : List ℕ) → IsSound s → k < 2 * processors s → at + length bytes ≤ 4096 → 0 < length bytes → length bytes ≤ 8 →
     OthersFree (record s { own = set s.own k (overwritten (get_or s.own k []) at bytes) }) (overlay_owner k) (touched at (length bytes))
-others-written s k at bytes h low fits some few =
+others-written s k at bytes h low fits some bound =
     either (λ o. OthersFree (record s { own = set s.own k page }) o (touched at (length bytes))) (k % 2 == 0) _ _ (λ even i under other. one i under other (grind (arith, nat_tests))) (λ _. tt)
   where
     page : List ℕ
@@ -89,7 +89,7 @@ others-written s k at bytes h low fits some few =
     one i under other same z =
         let within : k < length s.own = omega (arith, h.whole.own) in
         let there : get_or (set s.own k page) (2 * (k / 2)) [] ≡ page = ap (λ n. get_or (set s.own k page) n []) same ∙ get_or-set_same s.own k page [] within in
-        let stays = type-untouched (get_or s.own k []) bytes at i (h.whole.pages k [] within) fits some few under other in
+        let stays = type-untouched (get_or s.own k []) bytes at i (h.whole.pages k [] within) fits some bound under other in
         h.empty (k / 2) i (omega arith) under (ap (λ n. slot_type (get_or s.own n []) i) same ∙ sym stays ∙ ap (λ x. slot_type x i) (sym there) ∙ z)
 
 -- after an accepted store
@@ -97,8 +97,8 @@ pub others-free : (s : State) (address : ℕ) (bytes : List ℕ) (t : Space) (ow
     OthersFree (with_space s t) owner (touched (address % 4096) (length bytes))
 others-free s address bytes t owner h answer after' =
     let good = store_is_good (space_of s) address bytes owner answer in
-    let is = after' ∙ ap (λ o. option_map_or (λ (_ : Refusal). space_of s) o (with_shown (space_of s) page (overwritten (shown (space_of s) page) at bytes))) good.0 in
-    subst (λ x. OthersFree (with_space s x) owner slot) (sym is) (subst (λ o. OthersFree (with_space s (with_shown (space_of s) page (overwritten (shown (space_of s) page) at bytes))) o slot) (sym good.1) (seen good.0 (visible (space_of s) page) refl))
+    let is = after' ∙ ap (λ o. option_map_or (λ (_ : Refusal). space_of s) o (with_visible_page (space_of s) page (overwritten (visible_page (space_of s) page) at bytes))) good.0 in
+    subst (λ x. OthersFree (with_space s x) owner slot) (sym is) (subst (λ o. OthersFree (with_space s (with_visible_page (space_of s) page (overwritten (visible_page (space_of s) page) at bytes))) o slot) (sym good.1) (seen good.0 (visible (space_of s) page) refl))
   where
     page : ℕ
     page = address / 4096
@@ -109,9 +109,9 @@ others-free s address bytes t owner h answer after' =
     slot : Option ℕ
     slot = touched at (length bytes)
 
-    seen : refusal_of (space_of s) address (length bytes) ≡ None → (o : Option ℕ) → visible (space_of s) page ≡ o → OthersFree (with_space s (with_shown (space_of s) page (overwritten (shown (space_of s) page) at bytes))) (owner_of (space_of s) page) slot
+    seen : refusal_of (space_of s) address (length bytes) ≡ None → (o : Option ℕ) → visible (space_of s) page ≡ o → OthersFree (with_space s (with_visible_page (space_of s) page (overwritten (visible_page (space_of s) page) at bytes))) (owner_of (space_of s) page) slot
     seen none None is = rw is (either (λ o. OthersFree (record s { pages = set s.pages page (overwritten (get_or s.pages page []) at bytes) }) o slot) (nat_lt page (length s.pages)) _ _ (λ _. tt) (λ _. tt))
     seen none (Some k) is =
-        let low : k < 2 * processors s = omega (arith, (position-Some (lies_at page) (overlay_registers s.regs) k 0 is).0, length-overlays s.regs, h.whole.registers) in
+        let low : k < 2 * processors s = omega (arith, (position-Some (is_mapped_at page) (overlay_registers s.regs) k 0 is).0, length-overlays s.regs, h.whole.registers) in
         let sizes : (at + length bytes ≤ 4096) × (0 < length bytes) × (length bytes ≤ 8) = (grind (arith, nat_tests), grind (arith, nat_tests), grind (arith, nat_tests)) in
         rw is (either (λ o. OthersFree (record s { own = set s.own k (overwritten (get_or s.own k []) at bytes) }) o slot) (nat_lt page (length s.pages)) _ _ (λ _. others-written s k at bytes h low sizes.0 sizes.1 sizes.2) (λ _. tt))

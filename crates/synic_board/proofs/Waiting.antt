@@ -7,8 +7,8 @@ use Rattle.std.proofs.lemmas.List.{get_or-map}
 use Rattle.std.proofs.lemmas.Nat.Bits.{bit_at-zero}
 use Rattle.board_terms.specs.declared.messages.Message.{Message}
 use Rattle.board_terms.specs.Sources.{source_number}
-use Rattle.synic_board.specs.Scratch.{Values}
-use Rattle.synic_board.specs.inside.View.{state_of, IsKept}
+use Rattle.synic_board.specs.Summaries.{Values}
+use Rattle.synic_board.specs.inside.View.{state_of, MachineInvariant}
 use Rattle.synic_board.specs.declared.machine.Machine.TheInside.{Inside}
 use Rattle.synic_board.specs.inside.Waiting.{count_at, AreWaiting, IsFirstWaiting}
 use Rattle.synic_board.proofs.Folds.{NoneFrom}
@@ -39,6 +39,6 @@ first-waits queued words p from skip (Some v) are on next valid value =
     subst (λ n. IsFirstWaiting queued p from (Some n)) (sym value) (omega arith, low, some-at queued words p (from + skip) are on low next.set, λ i above below. before-waits queued words p from skip are on next i above (omega arith) below)
 
 -- if the summary counts nothing, nothing is queued
-pub none-queued : (b : Inside) (p from to : ℕ) → IsKept b → p < length b.lapics.items → to ≤ 16 → ((i : ℕ) → from ≤ i → i < to → count_at b.summary.values.queued p i ≡ 0) → NoneFrom (state_of b) p from to
+pub none-queued : (b : Inside) (p from to : ℕ) → MachineInvariant b → p < length b.lapics.items → to ≤ 16 → ((i : ℕ) → from ≤ i → i < to → count_at b.summary.values.queued p i ≡ 0) → NoneFrom (state_of b) p from to
 none-queued b p from to h on low none i above below =
     sym (get_or-map (λ (q : List Message). length q) b.queues (source_number p i) [] 0 (omega (arith, h.queues))) ∙ ap (λ (v : Values). count_at v.queued p i) (sym h.summary) ∙ none i above below

@@ -1,5 +1,5 @@
 -- Interrupts of one processor (SDM volume 3, "Handling Local Interrupts"; TLFS, "Virtual Interrupt Controller").
-use Rattle.std.specs.Prelude.{◌%◌, [], ◌∷◌, if◌then◌else◌}
+use Rattle.std.specs.Prelude.{◌%◌, Bool, [], ◌∷◌, if◌then◌else◌}
 use Rattle.std.specs.Option.{option_map_or}
 use Rattle.std.specs.FinSet as set
 use Rattle.board_terms.specs.Quantities.{Processor, Source, Vector, Word}
@@ -10,10 +10,14 @@ use Rattle.synic_board.specs.declared.event.Reply.TheVariants.{Taken}
 use Rattle.synic_board.specs.State.{State, apic_of, regs_of, with_apic}
 use Rattle.synic_board.specs.Effects.{Effect, Outcome, nothing}
 
+-- a vector is requested at a processor
+abbrev pub is_requested : State → Processor → Vector → Bool
+is_requested s p v = set.contains (apic_of s p).requested v
+
 -- a vector is requested; a request that is already set merges with it, and emits no notice
 abbrev pub requested : State → Processor → Vector → Effect
 requested s p v =
-    if set.contains (apic_of s p).requested v then nothing s
+    if is_requested s p v then nothing s
     else (with_apic s p (request (apic_of s p) v), Requested p v ∷ [])
 
 -- a source raises its vector, unless it is masked or polling

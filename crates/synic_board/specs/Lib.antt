@@ -1,6 +1,7 @@
 pub mod State
-pub mod Scratch
+pub mod Summaries
 pub mod Effects
+pub mod Replies
 pub mod Interrupts
 pub mod Absorbing
 pub mod Delivery
@@ -12,9 +13,13 @@ pub mod Suspending
 pub mod Resetting
 pub mod Step
 pub mod Bounds
+pub mod Performing
 pub mod Slots
-pub mod Places
+pub mod Locations
 pub mod Run
 pub mod History
 pub mod Sound
+pub mod Buffers
+pub mod Settled
+pub mod Restoring
 pub mod inside

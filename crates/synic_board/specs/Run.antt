@@ -20,5 +20,5 @@ run_of s [] = (s, [], [])
 run_of s (e ∷ es) = followed_by (step s e) (run_of (step s e).0 es)
 
 -- a run with notices before its own
-abbrev pub told_behind : List Notice → Run → Run
-told_behind before r = (r.0, r.1, before ++ r.2)
+abbrev pub with_earlier_notices : List Notice → Run → Run
+with_earlier_notices before r = (r.0, r.1, before ++ r.2)

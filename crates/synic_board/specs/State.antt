@@ -86,9 +86,9 @@ with_slot_ticket s p i ticket = record s { slots = slice_set s.slots (source_num
 -- the valid sizes of a board
 pub record AreSizes (processors pages : ℕ) : Type 0 where
   pub some_processor : 1 ≤ processors
-  pub few_processors : processors ≤ 8
+  pub processor_bound : processors ≤ 8
   pub some_page : 1 ≤ pages
-  pub few_pages : pages ≤ 64
+  pub page_bound : pages ≤ 64
 
 -- the state of a newly opened board
 abbrev pub opened : ℕ → ℕ → Ticket → State
@@ -108,6 +108,6 @@ opened n pages ticket =
     }
 
 -- a board: its state, and how often its summary was written
-pub record Held : Type 0 where
+pub record BoardModel : Type 0 where
   pub state : State
   pub writes : ℕ

@@ -44,12 +44,12 @@ abbrev pub expiry_notices : TimerId → Option Moment → ℕ → List Notice
 expiry_notices t signal skipped = expired_notices t signal ++ skipped_notices t skipped
 
 -- the delivery of an expiry: a request, or a message
-abbrev pub told_by : State → TimerId → Mode → Moment → Effect
-told_by s t (Direct v) d = requested s t.0 v
-told_by s t (Posted i) d = delivered s t.0 i (FromTimer s.next_ticket t d)
+abbrev pub delivery_by : State → TimerId → Mode → Moment → Effect
+delivery_by s t (Direct v) d = requested s t.0 v
+delivery_by s t (Posted i) d = delivered s t.0 i (FromTimer s.next_ticket t d)
 
 abbrev pub signalled_by : State → TimerId → Mode → Option Moment → Effect
-signalled_by s t mode signal = option_map_or (told_by s t mode) signal (nothing s)
+signalled_by s t mode signal = option_map_or (delivery_by s t mode) signal (nothing s)
 
 -- a ready timer expires
 abbrev pub expired_state : State → TimerId → State

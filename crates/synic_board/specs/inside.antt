@@ -4,10 +4,10 @@ pub mod Entries
 pub mod Waiting
 pub mod Moves
 pub mod Effected
+pub mod Drafts
 pub mod Progress
 pub mod Touches
 pub mod Unless
 pub mod View
 pub mod AtOnce
-pub mod Buffers
 pub mod Steps

@@ -3,14 +3,17 @@
 #![tactic(auto)]
 
 mod board;
+mod draft;
 mod event;
 mod history;
 mod machine;
 mod processors;
 mod runs;
 mod summary;
+mod timer_set;
 
 pub use board::{Board, OpenFault};
+pub use draft::Draft;
 pub use event::{Event, Reply};
 pub use history::Entry;
 pub use runs::{Stopped, run};

@@ -4,7 +4,7 @@ ghost use Rattle.lapic_core.specs.Apic.{empty_apic};
 ghost use Rattle.synic_regs.specs.Regs.{reset_regs};
 ghost use Rattle.synic_board.specs.declared.event.Event.TheVariants.{Post, Store};
 ghost use Rattle.synic_board.specs.State.{AreSizes, opened, processors};
-ghost use Rattle.synic_board.specs.Scratch.{scratch, kept, TellsOf};
+ghost use Rattle.synic_board.specs.Summaries.{summary_of, stored_summary, HasSizes};
 ghost use Rattle.synic_board.specs.Step.{step};
 ghost use Rattle.synic_board.specs.Sound.{IsSound, PayloadFits};
 
@@ -16,11 +16,12 @@ mod pages;
 mod posts;
 mod registers;
 mod resetting;
+mod restoring;
 mod suspending;
 mod timers;
 
 use crate::event::{Event, Reply};
-use crate::processors::one_for_each;
+use crate::processors::vec_per_processor;
 use crate::summary::Summary;
 use board_terms::{Moment, Notices, Refusal, Ticket, Vp};
 use event_ports::Ports;
@@ -53,18 +54,18 @@ pub(crate) struct Machine {
 }
 
 impl Model for Machine {
-    ghost use Rattle.synic_board.specs.State.{Held};
-    ghost use Rattle.synic_board.specs.inside.Codes.{held_code};
+    ghost use Rattle.synic_board.specs.State.{BoardModel};
+    ghost use Rattle.synic_board.specs.inside.Codes.{model_code};
 
-    ghost Value = { Held };
+    ghost Value = { BoardModel };
 
-    ghost coded = { held_code };
+    ghost coded = { model_code };
 
-    ghost use Rattle.synic_board.specs.inside.View.{held_of, IsKept};
+    ghost use Rattle.synic_board.specs.inside.View.{model_of, MachineInvariant};
 
-    ghost view = { held_of };
+    ghost view = { model_of };
 
-    ghost invariant = { IsKept };
+    ghost invariant = { MachineInvariant };
 }
 
 impl Machine {
@@ -85,8 +86,8 @@ impl Machine {
         let timers = TimerBank::new();
         let queues = Queues::open(alloc, processors)?;
         let slots = no_tickets(alloc, 16 * processors as usize)?;
-        let lapics = one_for_each(alloc, processors, Lapic::new)?;
-        let regs = one_for_each(alloc, processors, SynicRegs::new)?;
+        let lapics = vec_per_processor(alloc, processors, Lapic::new)?;
+        let regs = vec_per_processor(alloc, processors, SynicRegs::new)?;
         Ok(Machine {
             page_count: pages,
             moment: 0,
@@ -104,8 +105,8 @@ impl Machine {
 
     /// The cached summary, by reference.
     pub(crate) fn summary(&self) -> &Summary
-        ensures value { result.now ≡ kept (scratch self.now.state) self.now.writes }
-        ensures sizes { TellsOf (processors self.now.state) (length self.now.state.pages) result.now.values }
+        ensures value { result.now ≡ stored_summary (summary_of self.now.state) self.now.writes }
+        ensures sizes { HasSizes (processors self.now.state) (length self.now.state.pages) result.now.values }
     {
         &self.summary
     }
@@ -113,7 +114,7 @@ impl Machine {
     /// The number of processors on the board.
     pub(crate) fn processors(&self) -> u8
         ensures count { result ≡ processors self.now.state }
-        ensures few { result ≤ 8 }
+        ensures bound { result ≤ 8 }
     {
         self.lapics.len() as u8
     }
@@ -147,8 +148,8 @@ impl Machine {
         requires { IsSound self.old.state }
         ensures step { (self.new.state, result, notices.new) ≡ step self.old.state event.now }
         ensures fits { PayloadFits event.now }
-        ensures rises { self.old.writes ≤ self.new.writes }
-        ensures few { self.new.writes ≤ self.old.writes + (8 + length notices.new) }
+        ensures writes_monotone { self.old.writes ≤ self.new.writes }
+        ensures bound { self.new.writes ≤ self.old.writes + (8 + length notices.new) }
     {
         notices.clear();
         match event {
@@ -222,8 +223,8 @@ impl Machine {
     ) -> Reply
         requires { length payload.now ≤ 240 }
         ensures step { (self.new.state, result, notices.new) ≡ step self.old.state (Post port kind (record { items = payload.now })) }
-        ensures rises { self.old.writes ≤ self.new.writes }
-        ensures few { self.new.writes ≤ self.old.writes + length notices.new }
+        ensures writes_monotone { self.old.writes ≤ self.new.writes }
+        ensures bound { self.new.writes ≤ self.old.writes + length notices.new }
     {
         notices.clear();
         self.post(port, kind, payload, notices)

@@ -5,7 +5,7 @@ ghost use Rattle.std.specs.List.{AppendsResults};
 use std::alloc::{AllocError, Global};
 
 /// A list with the result of `new` for each processor.
-pub(crate) fn one_for_each<T: Drop, F: FnMut() -> T>(
+pub(crate) fn vec_per_processor<T: Drop, F: FnMut() -> T>(
     alloc: Global,
     processors: u8,
     new: F,

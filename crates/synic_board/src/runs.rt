@@ -1,8 +1,8 @@
 // Runs: events in sequence.
 ghost use Rattle.std.specs.Prelude.{◌≡◌, ◌<◌, ◌≤◌, ◌+◌, ◌*◌, ◌++◌, [], length, take, drop, vec_len, vec_capacity, IfOk, IfErr};
-ghost use Rattle.synic_board.specs.Run.{run_of, told_behind};
-ghost use Rattle.synic_board.specs.Places.{Conserves};
-ghost use Rattle.synic_board.specs.inside.Progress.{AreBehind};
+ghost use Rattle.synic_board.specs.Run.{run_of, with_earlier_notices};
+ghost use Rattle.synic_board.specs.Locations.{Conserves};
+ghost use Rattle.synic_board.specs.inside.Progress.{HasPerformed};
 
 use crate::board::Board;
 use crate::event::{Event, Reply};
@@ -27,13 +27,13 @@ pub fn run(
     events: &[Event],
     notices: &mut Vec<Notice>,
 ) -> Result<Vec<Reply>, Stopped>
-    ensures all { IfOk result (λ replies. (board.new.state, replies.items, notices.new.items) ≡ told_behind notices.old.items (run_of board.old.state events.now)) }
-    ensures stopped { IfErr result (λ stopped. (board.new.state, stopped.replies.items, notices.new.items) ≡ told_behind notices.old.items (run_of board.old.state (take stopped.done events.now))) }
+    ensures all { IfOk result (λ replies. (board.new.state, replies.items, notices.new.items) ≡ with_earlier_notices notices.old.items (run_of board.old.state events.now)) }
+    ensures stopped { IfErr result (λ stopped. (board.new.state, stopped.replies.items, notices.new.items) ≡ with_earlier_notices notices.old.items (run_of board.old.state (take stopped.done events.now))) }
     ensures within { IfErr result (λ stopped. stopped.done < length events.now) }
     ensures conserves { Conserves board.old.state board.new.state (drop (length notices.old.items) notices.new.items) }
-    ensures later { board.old.state.next_ticket ≤ board.new.state.next_ticket }
-    ensures rises { board.old.writes ≤ board.new.writes }
-    ensures few { board.new.writes + length notices.old.items ≤ board.old.writes + 8 * length events.now + length notices.new.items }
+    ensures tickets_monotone { board.old.state.next_ticket ≤ board.new.state.next_ticket }
+    ensures writes_monotone { board.old.writes ≤ board.new.writes }
+    ensures bound { board.new.writes + length notices.old.items ≤ board.old.writes + 8 * length events.now + length notices.new.items }
 {
     let mut replies = Vec::new(alloc);
     let done = perform_all(alloc, board, events, &mut replies, notices);
@@ -55,20 +55,20 @@ fn perform_all(
 ) -> usize
     requires none { replies.old.items ≡ [] }
     ensures within { result ≤ length events.now }
-    ensures behind { AreBehind board.old.state events.now result notices.old.items board.new.state replies.new.items notices.new.items }
-    ensures rises { board.old.writes ≤ board.new.writes }
-    ensures few { board.new.writes + length notices.old.items ≤ board.old.writes + 8 * result + length notices.new.items }
+    ensures behind { HasPerformed board.old.state events.now result notices.old.items board.new.state replies.new.items notices.new.items }
+    ensures writes_monotone { board.old.writes ≤ board.new.writes }
+    ensures bound { board.new.writes + length notices.old.items ≤ board.old.writes + 8 * result + length notices.new.items }
 {
-    let Ok(mut told) = Notices::open(alloc) else {
+    let Ok(mut emitted) = Notices::open(alloc) else {
         return 0;
     };
     for (done, event) in events.iter().enumerate() {
         if replies.reserve(1).is_err() || notices.reserve(320).is_err() {
             return done;
         }
-        let reply = board.perform(event, &mut told);
+        let reply = board.perform(event, &mut emitted);
         replies.push_reserved(reply);
-        keep(notices, told.as_slice());
+        keep(notices, emitted.as_slice());
     }
     events.len()
 }

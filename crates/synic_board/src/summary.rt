@@ -4,10 +4,10 @@ ghost use Rattle.std.specs.FinSet as set;
 ghost use Rattle.std.specs.Int.{bit_at};
 ghost use Rattle.board_terms.specs.declared.pages.Owner.TheVariants.{Guest, Nothing};
 ghost use Rattle.board_terms.specs.Sources.{source_number};
-ghost use Rattle.synic_board.specs.Scratch.{kept};
+ghost use Rattle.synic_board.specs.Summaries.{stored_summary};
 ghost use Rattle.synic_board.specs.inside.Waiting.{IsFirstWaiting};
 
-use crate::processors::one_for_each;
+use crate::processors::vec_per_processor;
 use board_terms::{Owner, Sint, TimerId, Vector, Vp, source_number};
 use counter::Count;
 use lapic_core::VectorSet;
@@ -41,20 +41,23 @@ pub struct Summary {
     // for each processor a word whose bit i is set iff source i has a queued message, so that EOM
     // visits no other source; `write` updates it with the count
     waiting: [u16; 8],
-    earliest: Option<(u128, TimerId)>,
+    // the earliest timer, if any has a deadline, and that deadline
+    earliest: Option<TimerId>,
+    due: u128,
     // ghost: how often a value was written
     writes: Count,
 }
 
 impl Model for Summary {
-    ghost use Rattle.synic_board.specs.Scratch.{Kept, kept};
-    ghost use Rattle.synic_board.specs.inside.Codes.{kept_code};
+    ghost use Rattle.synic_board.specs.Summaries.{StoredSummary, stored_summary};
+    ghost use Rattle.synic_board.specs.inside.Codes.{stored_summary_code};
+    ghost use Rattle.std.specs.Option.{option_map};
 
-    ghost Value = { Kept };
+    ghost Value = { StoredSummary };
 
-    ghost coded = { kept_code };
+    ghost coded = { stored_summary_code };
 
-    ghost view = { λ a. kept (record { nexts = a.nexts.items; autos = a.autos.items; owners = a.owners.items; queued = a.queued.items; earliest = a.earliest }) a.writes.number };
+    ghost view = { λ a. stored_summary (record { nexts = a.nexts.items; autos = a.autos.items; owners = a.owners.items; queued = a.queued.items; earliest = option_map (λ t. (a.due, t)) a.earliest }) a.writes.number };
 
     ghost use Rattle.synic_board.specs.inside.Waiting.{AreWaiting};
 
@@ -76,7 +79,7 @@ impl Summary {
         let nexts = vec![in alloc; None; processors as usize]?;
         let owners = vec![in alloc; Owner::Guest; pages as usize]?;
         let queued = vec![in alloc; 0; 16 * processors as usize]?;
-        let autos = one_for_each(alloc, processors, VectorSet::new)?;
+        let autos = vec_per_processor(alloc, processors, VectorSet::new)?;
         Ok(Summary {
             nexts,
             autos,
@@ -84,6 +87,7 @@ impl Summary {
             queued,
             waiting: [0; 8],
             earliest: None,
+            due: 0,
             writes: Count::zero(),
         })
     }
@@ -92,7 +96,7 @@ impl Summary {
     #[inline]
     pub(crate) fn write(&mut self, entry: Entry)
         requires { HasEntry self.old.values entry }
-        ensures { self.new ≡ kept (with_entry self.old.values entry) (self.old.writes + 1) }
+        ensures { self.new ≡ stored_summary (with_entry self.old.values entry) (self.old.writes + 1) }
     {
         // README counter: begin
         self.writes = Count::after(&self.writes);
@@ -106,7 +110,13 @@ impl Summary {
                 self.queued[source_number(vp, sint)] = count;
                 self.waiting[at] = with_source(self.waiting[at], sint, count > 0);
             }
-            Entry::Earliest(earliest) => self.earliest = earliest,
+            Entry::Earliest(earliest) => match earliest {
+                Some(first) => {
+                    self.due = first.0;
+                    self.earliest = Some(first.1);
+                }
+                None => self.earliest = None,
+            },
         }
     }
 
@@ -159,7 +169,10 @@ impl Summary {
     pub fn earliest(&self) -> Option<(u128, TimerId)>
         ensures { result ≡ self.now.values.earliest }
     {
-        self.earliest
+        match self.earliest {
+            Some(timer) => Some((self.due, timer)),
+            None => None,
+        }
     }
 
     /// How many messages are queued for a source of a processor; 0 if the processor is not on the

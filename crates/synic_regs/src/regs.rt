@@ -40,11 +40,11 @@ impl Model for SynicRegs {
 
     ghost coded = { regs_code };
 
-    ghost use Rattle.synic_regs.specs.inside.View.{regs_of, IsKept};
+    ghost use Rattle.synic_regs.specs.inside.View.{regs_of, RegsInvariant};
 
     ghost view = { regs_of };
 
-    ghost invariant = { IsKept };
+    ghost invariant = { RegsInvariant };
 }
 
 impl SynicRegs {

@@ -1,190 +1,230 @@
 -- The heap as a map from timers to deadlines.
-use Rattle.std.proofs.Common.{◌≡◌, ◌≢◌, ℕ, zero, suc, ◌+◌, ◌<◌, ◌≤◌, inl, inr, [], length, set, get_or, map, replicate, refl, sym, ap, ◌∙◌, arith}
-use Rattle.std.specs.Prelude.{Option, None, Some, is_none, cond}
+use Rattle.std.proofs.Common.{◌≡◌, ◌≢◌, ℕ, zero, suc, ◌+◌, ◌*◌, ◌/◌, ◌%◌, ◌<◌, ◌≤◌, true, false, nat_lt, inl, inr, length, set, get_or, replicate, refl, sym, ap, ◌∙◌, arith}
+use Rattle.std.specs.Prelude.{Option, None, Some, Bool, is_none, cond, if◌then◌else◌}
+use Rattle.std.specs.Option.{option_map}
 use Rattle.std.proofs.lemmas.Bool.{cases_eq, cases_lt}
+use Rattle.std.proofs.lemmas.Bool.Decides.{nat_tests}
 use Rattle.std.proofs.lemmas.Option.{none-some, same_Some}
-use Rattle.std.proofs.lemmas.List.{set-get_or}
-use Rattle.std.proofs.lemmas.List.Sums.{sum_by-set, get_or-le-sum_by}
+use Rattle.std.proofs.lemmas.List.{set-get_or, length-set, get_or-set_same, get_or-set_other, same_lists, get_or_default, get_or_past}
+use Rattle.std.proofs.lemmas.List.Sums.{sum_by-set, count_by-le-length}
+use Rattle.board_terms.specs.Dues.{Dues, least, least_below, number_of, timer_of}
 use Rattle.timer_heap.specs.declared.table.Table.{Table}
-use Rattle.board_terms.specs.Dues.{Dues, least, number_of, timer_of}
 use Rattle.timer_heap.specs.Heap.{no_dues}
-use Rattle.timer_heap.specs.inside.View.{idle}
-use Rattle.timer_heap.specs.inside.Table.{size, dues, due_through, number_at, entry_at, place_of, key, IsInverse, IsOrdered}
-use Rattle.timer_heap.proofs.Order.{root_first}
-use Rattle.timer_heap.proofs.Inverse.{number_in}
-use Rattle.timer_heap.proofs.Edits.{dues_at, length-dues}
-use Rattle.timer_heap.proofs.Leasts.{least_is, least_none}
+use Rattle.timer_heap.specs.inside.Table.{dues, due_at, node, is_set, moment_of, word_for, word_of, never, late, idle, IsSound}
+use Rattle.timer_heap.proofs.Edits.{dues_at, length-dues, dues-are}
+use Rattle.timer_heap.proofs.Tree.{root-first, root-leaf}
+use Rattle.timer_heap.proofs.Leasts.{Found, found, least_is, least_none, finds-least}
 
 all_none : (k n : ℕ) → get_or {A = Option ℕ} (replicate k None) n None ≡ None
 all_none zero n = refl
 all_none (suc k) zero = refl
 all_none (suc k) (suc n) = all_none k n
 
--- nothing is in the table
-pub empty_inverse : (t : Table) → t.order.items ≡ [] → t.places ≡ replicate 32 None → t.highs ≡ replicate 32 0 → t.lows ≡ replicate 32 0 → IsInverse t
-empty_inverse t none places highs lows =
-    let zero_size : size t ≡ 0 = ap length none in record {
-      numbers = ap length places;
-      highs = ap length highs;
-      lows = ap length lows;
-      room = omega arith;
-      back = λ i h. absurd (omega arith);
-      there = λ n i h. absurd (let e : None ≡ Some i = sym (all_none 32 n) ∙ ap (λ xs. get_or xs n None) (sym places) ∙ h in cc);
-    }
-
-pub empty_ordered : (t : Table) → t.order.items ≡ [] → IsOrdered (key t) (size t)
-empty_ordered t none = let zero_size : size t ≡ 0 = ap length none in record { edges = λ j a b. absurd (omega arith) }
-
-pub empty_dues : (t : Table) → t.places ≡ replicate 32 None → dues t ≡ no_dues
-unfolding dues
-empty_dues t places = ap (map (due_through t)) places
-
--- a timer with a place
-pub due_there : (t : Table) (n i : ℕ) → place_of t n ≡ Some i → get_or (dues t) n None ≡ Some (entry_at t i).due
-due_there t n i e = dues_at t n ∙ ap (due_through t) e
-
-pub due_nowhere : (t : Table) (n : ℕ) → place_of t n ≡ None → get_or (dues t) n None ≡ None
-due_nowhere t n e = dues_at t n ∙ ap (due_through t) e
-
 abbrev weight : Option ℕ → ℕ
 weight o = cond (is_none o) 1 0
 
-idle_kept : (m : Dues) (n d x : ℕ) → n < length m → get_or m n None ≡ Some d → idle (set m n (Some x)) ≡ idle m
-idle_kept m n d x h e = let f : weight (get_or m n None) ≡ 0 = ap weight e in omega (arith, f, sum_by-set weight m n (Some x) None h)
-
-idle_taken : (m : Dues) (n x : ℕ) → n < length m → get_or m n None ≡ None → idle (set m n (Some x)) + 1 ≡ idle m
-idle_taken m n x h e = let f : weight (get_or m n None) ≡ 1 = ap weight e in omega (arith, f, sum_by-set weight m n (Some x) None h)
+-- how many timers have no deadline, after one is written
+pub idle_taken : (m : Dues) (n x : ℕ) → n < length m → idle (set m n (Some x)) + 1 ≡ idle (set m n None)
+idle_taken m n x h = let some = sum_by-set weight m n (Some x) None h in let none = sum_by-set weight m n None None h in omega (arith, some, none)
 
 idle_given : (m : Dues) (n d : ℕ) → n < length m → get_or m n None ≡ Some d → idle (set m n None) ≡ idle m + 1
 idle_given m n d h e = let f : weight (get_or m n None) ≡ 0 = ap weight e in omega (arith, f, sum_by-set weight m n None None h)
 
-module _ (t : Table) (inverse : IsInverse t) where
-  long : length (dues t) ≡ 32
-  long = length-dues t ∙ inverse.numbers
+idle_most : (m : Dues) → idle m ≤ length m
+idle_most m = count_by-le-length is_none m
 
-  pub kept_changed : (t' : Table) (n i x : ℕ) → n < 32 → place_of t n ≡ Some i → idle (dues t) + size t ≡ 32 → dues t' ≡ set (dues t) n (Some x) → size t' ≡ size t → idle (dues t') + size t' ≡ 32
-  kept_changed t' n i x low at full e l =
-      let k = idle_kept (dues t) n (entry_at t i).due x (omega (arith, long)) (due_there t n i at) in
-      let f : idle (dues t') ≡ idle (dues t) = ap idle e ∙ k in
-      omega (arith, f, full, l)
+-- deadlines of which one is set
+pub one-set : (m : Dues) (n d : ℕ) → length m ≡ 32 → get_or m n None ≡ Some d → idle m < 32
+one-set m n d l e =
+    elim (cases_lt n (length m)) as (λ _. idle m < 32) [
+      | inl h ↦ omega (arith, idle_given m n d h e, idle_most (set m n None), length-set m n None, l)
+      | inr h ↦ absurd (none-some d (sym (get_or_past m n None h) ∙ e))
+    ]
 
-  pub kept_added : (t' : Table) (n x : ℕ) → n < 32 → place_of t n ≡ None → idle (dues t) + size t ≡ 32 → dues t' ≡ set (dues t) n (Some x) → size t' ≡ size t + 1 → idle (dues t') + size t' ≡ 32
-  kept_added t' n x low at full e l =
-      let k = idle_taken (dues t) n x (omega (arith, long)) (due_nowhere t n at) in
-      let f : idle (dues t') + 1 ≡ idle (dues t) = ap (λ j. j + 1) (ap idle e) ∙ k in
-      omega (arith, f, full, l)
+-- deadlines of which none is set
+pub none-set : (m : Dues) → length m ≡ 32 → idle m ≡ 32 → (k : ℕ) → get_or m k None ≡ None
+none-set m l e k = by (get_or m k None) refl
+  where
+    by : (o : Option ℕ) → get_or m k None ≡ o → get_or m k None ≡ None
+    by None h = h
+    by (Some d) h = absurd (omega (arith, one-set m k d l h))
 
-  pub kept_removed : (t' : Table) (n i : ℕ) → n < 32 → place_of t n ≡ Some i → idle (dues t) + size t ≡ 32 → dues t' ≡ set (dues t) n None → size t' + 1 ≡ size t → idle (dues t') + size t' ≡ 32
-  kept_removed t' n i low at full e l =
-      let k = idle_given (dues t) n (entry_at t i).due (omega (arith, long)) (due_there t n i at) in
-      let f : idle (dues t') ≡ idle (dues t) + 1 = ap idle e ∙ k in
-      omega (arith, f, full, l)
+pub all-idle : (m : Dues) → length m ≡ 32 → ((k : ℕ) → get_or m k None ≡ None) → idle m ≡ 32
+all-idle m l h = ap idle (same_lists m (replicate 32 None) l (λ k d low. get_or_default m k d None low ∙ h k ∙ sym (all_none 32 k) ∙ get_or_default (replicate 32 None) k None d (omega arith)))
 
-  pub room_for : (n : ℕ) → n < 32 → place_of t n ≡ None → idle (dues t) + size t ≡ 32 → size t < 32
-  room_for n low at full =
-      let f : weight (get_or (dues t) n None) ≡ 1 = ap weight (due_nowhere t n at) in
-      let g = get_or-le-sum_by weight (dues t) n None (omega (arith, long)) in
-      omega (arith, f, g, full)
+-- no timer has a deadline except one
+pub only-one : (m : Dues) (n : ℕ) → length m ≡ 32 → ((k : ℕ) → k ≢ n → get_or m k None ≡ None) → idle (set m n None) ≡ 32
+only-one m n l h = all-idle (set m n None) (length-set m n None ∙ l) (λ k. elim (cases_eq k n) as (λ _. get_or (set m n None) k None ≡ None) [
+  | inl e ↦ ap (λ i. get_or (set m n None) i None) e ∙ set-none m n
+  | inr e ↦ get_or-set_other m n k None None e ∙ h k e
+])
+  where
+    set-none : (xs : Dues) (i : ℕ) → get_or (set xs i None) i None ≡ None
+    set-none xs i = elim (cases_lt i (length xs)) as (λ _. get_or (set xs i None) i None ≡ None) [
+      | inl low ↦ get_or-set_same xs i None None low
+      | inr high ↦ get_or_past (set xs i None) i None (omega (arith, length-set xs i None, high))
+    ]
 
-  -- clearing a timer without a place changes nothing
-  pub cleared_same : (n : ℕ) → place_of t n ≡ None → set (dues t) n None ≡ dues t
-  cleared_same n at = ap (set (dues t) n) (sym (due_nowhere t n at)) ∙ set-get_or (dues t) n None
+-- another timer has a deadline
+pub another : (m : Dues) (n k d : ℕ) → length m ≡ 32 → k ≢ n → get_or m k None ≡ Some d → idle (set m n None) < 32
+another m n k d l apart e = one-set (set m n None) k d (length-set m n None ∙ l) (get_or-set_other m n k None None apart ∙ e)
 
-  first_at : (n e : ℕ) → (0 < size t) → IsOrdered (key t) (size t) → (o : Option ℕ) → place_of t n ≡ o → due_through t o ≡ Some e → ((entry_at t 0).due ≤ e) × (e ≡ (entry_at t 0).due → number_at t 0 ≤ n)
-  first_at n e some o None at h = absurd (cc)
-  first_at n e some o (Some i) at h =
-      let there = inverse.there n i at in
-      let inside : i < size t = there.0 in
-      let number : number_at t i ≡ n = there.1 in
-      let due : (entry_at t i).due ≡ e = cc in
-      let root : key t 0 ≤ key t i = root_first (key t) (size t) o i i (omega arith) inside in
-      let a : number_at t 0 < 32 = number_in t 0 inverse some in
-      let b : number_at t i < 32 = number_in t i inverse inside in
-      (omega (arith, root, a, b, due), λ x. omega (arith, root, x, due, number))
+module _ (t : Table) (n : ℕ) (low : n < 32) where
+  place : get_or (dues t) n None ≡ due_at t n
+  place = dues_at t n low
 
-  pub heap_least : 0 < size t → IsOrdered (key t) (size t) → least (dues t) ≡ Some ((entry_at t 0).due, timer_of (number_at t 0))
-  heap_least some o = least_is (dues t) (entry_at t 0).due (number_at t 0) record {
-    low = number_in t 0 inverse some;
-    due = due_there t (number_at t 0) 0 (inverse.back 0 some);
-    first = λ k e h. first_at k e some o (place_of t k) refl (sym (dues_at t k) ∙ h);
-  }
+  -- the others, if the timer has no deadline and if it has one
+  pub none-here : is_set t n ≡ false → get_or (dues t) n None ≡ None
+  none-here e = place ∙ ap (λ b. if b then Some (moment_of t n) else None) e
 
-  nowhere : size t ≡ 0 → (n : ℕ) (o : Option ℕ) → place_of t n ≡ o → due_through t o ≡ None
-  nowhere none n None at = refl
-  nowhere none n (Some i) at = absurd (omega (arith, (inverse.there n i at).0))
+  pub some-here : is_set t n ≡ true → get_or (dues t) n None ≡ Some (moment_of t n)
+  some-here e = place ∙ ap (λ b. if b then Some (moment_of t n) else None) e
 
-  pub heap_none : size t ≡ 0 → least (dues t) ≡ None
-  heap_none none = least_none (dues t) (λ n. dues_at t n ∙ nowhere none n (place_of t n) refl)
+  pub cleared-same : is_set t n ≡ false → set (dues t) n None ≡ dues t
+  cleared-same e = ap (set (dues t) n) (sym (none-here e)) ∙ set-get_or (dues t) n None
 
-pub empty_full : (t : Table) → t.order.items ≡ [] → t.places ≡ replicate 32 None → idle (dues t) + size t ≡ 32
-empty_full t none places =
-    let zero_size : size t ≡ 0 = ap length none in
-    let f : idle (dues t) ≡ idle no_dues = ap idle (empty_dues t places) in
-    omega (arith, f, zero_size)
+  pub others-unset : is_set t n ≡ false → idle (set (dues t) n None) ≡ idle (dues t)
+  others-unset e = ap idle (cleared-same e)
 
-module _ (t : Table) (inverse : IsInverse t) where
-  -- another timer is at i
-  other_entry : (n i : ℕ) → i < size t → place_of t n ≢ Some i → number_at t i ≢ n
-  other_entry n i inside other e = other (ap (place_of t) (sym e) ∙ inverse.back i inside)
+  pub others-set : is_set t n ≡ true → idle (set (dues t) n None) ≡ idle (dues t) + 1
+  others-set e = idle_given (dues t) n (moment_of t n) (omega (arith, length-dues t)) (some-here e)
 
-  seen : (i : ℕ) → i < size t → get_or (dues t) (number_at t i) None ≡ Some (entry_at t i).due
-  seen i inside = due_there t (number_at t i) i (inverse.back i inside)
+  pub others-fit : is_set t n ≡ true → idle (dues t) < 32
+  others-fit e = omega (arith, others-set e, idle_most (set (dues t) n None), length-set (dues t) n None, length-dues t)
 
-  none_at : (n i : ℕ) → ((m : ℕ) → m ≢ n → get_or (dues t) m None ≡ None) → i < size t → place_of t n ≢ Some i → ⊥
-  none_at n i none inside other = none-some (entry_at t i).due (sym (none (number_at t i) (other_entry n i inside other)) ∙ seen i inside)
+  -- if there are none, no other timer is set
+  pub others-none : idle (set (dues t) n None) ≡ 32 → (m : ℕ) → m < 32 → m ≢ n → is_set t m ≡ false
+  others-none e m h apart = by (is_set t m) refl (sym (dues_at t m h) ∙ sym (get_or-set_other (dues t) n m None None apart) ∙ none-set (set (dues t) n None) (length-set (dues t) n None ∙ length-dues t) e m)
+    where
+      by : (b : Bool) → is_set t m ≡ b → (if b then Some (moment_of t m) else None) ≡ None → is_set t m ≡ false
+      by true f g = absurd (cc)
+      by false f g = f
 
-  pub only_one : (n p : ℕ) → ((m : ℕ) → m ≢ n → get_or (dues t) m None ≡ None) → place_of t n ≡ Some p → size t ≡ 1
-  only_one n p none at =
-      let p_in : p < size t = (inverse.there n p at).0 in
-      let far : (i : ℕ) → i < size t → i ≡ p = λ i h. elim (cases_eq i p) as (λ _. i ≡ p) [ inl e ↦ e | inr e ↦ absurd (none_at n i none h (λ f. e (same_Some i p (sym f ∙ at)))) ] in
-      elim (cases_lt 1 (size t)) as (λ _. size t ≡ 1) [
-        | inl more ↦ let a = far 0 (omega arith) in let b = far 1 more in absurd (omega (arith, a, b))
-        | inr few ↦ omega arith
-      ]
+-- the word at the root is that of the earliest timer
+module _ (t : Table) (sound : IsSound t) (word : ℕ) (is : word ≡ node t 1) (less : word < never) where
+  leaf : (n : ℕ) × ((n < 32) × (node t 1 ≡ node t (32 + n)))
+  leaf = root-leaf t sound.ordered
 
-  pub only_none : (n : ℕ) → ((m : ℕ) → m ≢ n → get_or (dues t) m None ≡ None) → place_of t n ≡ None → size t ≡ 0
-  only_none n none at =
-      elim (cases_lt 0 (size t)) as (λ _. size t ≡ 0) [
-        | inl more ↦ absurd (none_at n 0 none more (λ f. none-some 0 (sym at ∙ f)))
-        | inr few ↦ omega arith
-      ]
+  abbrev first : ℕ
+  first = leaf.0
 
-  has_entry : (m d : ℕ) (o : Option ℕ) → place_of t m ≡ o → due_through t o ≡ Some d → (i : ℕ) × (i < size t) × (place_of t m ≡ Some i)
-  has_entry m d None at h = absurd (none-some d h)
-  has_entry m d (Some i) at h = (i, (inverse.there m i at).0, at)
+  own : word ≡ word_of t first
+  own = is ∙ leaf.1.1 ∙ sound.tree.leaves first leaf.1.0
 
-  places_apart : (m n i p : ℕ) → m ≢ n → place_of t m ≡ Some i → place_of t n ≡ Some p → i ≢ p
-  places_apart m n i p apart a b e = apart (sym (inverse.there m i a).1 ∙ ap (number_at t) e ∙ (inverse.there n p b).1)
+  -- a word is the deadline with the number, unless it is late
+  early : (due n : ℕ) → word_for due n < never → (word_for due n ≡ 32 * due + n) × (due < late)
+  early due n h = elim (nat_lt due late) as (λ b. nat_lt due late ≡ b → (if b then 32 * due + n else never) < never → ((if b then 32 * due + n else never) ≡ 32 * due + n) × (due < late)) [
+    | true ↦ λ w g. (refl, grind (arith, nat_tests))
+    | false ↦ λ w g. absurd (omega (arith, g))
+  ] refl h
 
-  pub two : (n p m d : ℕ) → m ≢ n → place_of t n ≡ Some p → get_or (dues t) m None ≡ Some d → 1 < size t
-  two n p m d apart at h =
-      let e = has_entry m d (place_of t m) refl (sym (dues_at t m) ∙ h) in
-      let a : e.0 < size t = e.1 in
-      let b : p < size t = (inverse.there n p at).0 in
-      let c : e.0 ≢ p = places_apart m n e.0 p apart e.2 at in
-      omega arith
+  whole : (b : Bool) → is_set t first ≡ b → word ≡ (if b then word_for (moment_of t first) first else never) → (is_set t first ≡ true) × ((word ≡ 32 * moment_of t first + first) × (moment_of t first < late))
+  whole true e h = let f = early (moment_of t first) first (omega (arith, h, less)) in (e, (h ∙ f.0, f.1))
+  whole false e h = absurd (omega (arith, h, less))
 
-  pub three : (n p m d k b : ℕ) → m ≢ n → k ≢ n → m ≢ k → place_of t n ≡ Some p → get_or (dues t) m None ≡ Some d → get_or (dues t) k None ≡ Some b → 2 < size t
-  three n p m d k b mn kn mk at h g =
-      let e = has_entry m d (place_of t m) refl (sym (dues_at t m) ∙ h) in
-      let f = has_entry k b (place_of t k) refl (sym (dues_at t k) ∙ g) in
-      let e_in : e.0 < size t = e.1 in
-      let f_in : f.0 < size t = f.1 in
-      let p_in : p < size t = (inverse.there n p at).0 in
-      let ep : e.0 ≢ p = places_apart m n e.0 p mn e.2 at in
-      let fp : f.0 ≢ p = places_apart k n f.0 p kn f.2 at in
-      let ef : e.0 ≢ f.0 = places_apart m k e.0 f.0 mk e.2 f.2 in
-      omega arith
+  parts : (is_set t first ≡ true) × ((word ≡ 32 * moment_of t first + first) × (moment_of t first < late))
+  parts = whole (is_set t first) refl own
 
-  pub one_more : (m d : ℕ) → get_or (dues t) m None ≡ Some d → 0 < size t
-  one_more m d h = let e = has_entry m d (place_of t m) refl (sym (dues_at t m) ∙ h) in let a : e.0 < size t = e.1 in omega arith
+  root-number : word % 32 ≡ first
+  root-number = let low = leaf.1.0 in omega (arith, parts.1.0, low)
 
-  number_back : (n : ℕ) → number_of (timer_of n) ≡ n
-  number_back n = omega arith
+  root-due : word / 32 ≡ moment_of t first
+  root-due = let low = leaf.1.0 in omega (arith, parts.1.0, low)
 
-  -- the earliest timer is in front
-  pub front : 0 < size t → IsOrdered (key t) (size t) → (d : ℕ) (u : ℕ × ℕ) → least (dues t) ≡ Some (d, u) → place_of t (number_of u) ≡ Some 0
-  front some o d u h =
-      let same = same_Some _ _ (sym (heap_least t inverse some o) ∙ h) in
-      let number : number_at t 0 ≡ number_of u = sym (number_back (number_at t 0)) ∙ ap (λ (r : ℕ × (ℕ × ℕ)). number_of r.1) same in
-      ap (place_of t) (sym number) ∙ inverse.back 0 some
+  later : (k e n : ℕ) → 32 * moment_of t first + first ≤ word_for e k → k < 32 → (moment_of t first ≤ e) × (e ≡ moment_of t first → first ≤ k)
+  later k e n h low = let fit = leaf.1.0 in elim (nat_lt e late) as (λ b. nat_lt e late ≡ b → 32 * moment_of t first + first ≤ (if b then 32 * e + k else never) → (moment_of t first ≤ e) × (e ≡ moment_of t first → first ≤ k)) [
+    | true ↦ λ w g. (omega (arith, g, low, fit), λ x. omega (arith, g, low, fit, x))
+    | false ↦ λ w g. let far : late ≤ e = grind (arith, nat_tests) in (omega (arith, far, parts.1.1), λ x. absurd (omega (arith, far, parts.1.1, x)))
+  ] refl h
+
+  before : (k e : ℕ) → k < 32 → (b : Bool) → is_set t k ≡ b → (if b then Some (moment_of t k) else None) ≡ Some e → (moment_of t first ≤ e) × (e ≡ moment_of t first → first ≤ k)
+  before k e low true set h =
+      let due : moment_of t k ≡ e = same_Some _ _ h in
+      let word-is : node t (32 + k) ≡ word_for e k = sound.tree.leaves k low ∙ ap (λ x. if x then word_for (moment_of t k) k else never) set ∙ ap (λ d. word_for d k) due in
+      let order = root-first t sound.ordered k low in
+      later k e first (omega (arith, order, word-is, is, parts.1.0)) low
+  before k e low false set h = absurd (none-some e h)
+
+  pub root-least : least (dues t) ≡ Some (word / 32, timer_of (word % 32))
+  root-least =
+      least_is (dues t) (moment_of t first) first record {
+        low = leaf.1.0;
+        due = dues_at t first leaf.1.0 ∙ ap (λ x. if x then Some (moment_of t first) else None) parts.0;
+        first = λ k e h. elim (cases_lt k 32) as (λ _. (moment_of t first ≤ e) × (e ≡ moment_of t first → first ≤ k)) [
+          | inl low ↦ before k e low (is_set t k) refl (sym (dues_at t k low) ∙ h)
+          | inr high ↦ absurd (none-some e (sym (get_or_past (dues t) k None (omega (arith, length-dues t))) ∙ h))
+        ];
+      } ∙ sym (λ i. Some (root-due i, timer_of (root-number i)))
+
+-- the timer that a scan finds
+module _ (t : Table) (n : ℕ) where
+  found-due : (b : Bool) (d : ℕ) → is_set t n ≡ b → (if b then Some (moment_of t n) else None) ≡ Some d → moment_of t n ≡ d
+  found-due true d e h = same_Some _ _ h
+  found-due false d e h = absurd (none-some d h)
+
+  found-is : (o : Option (ℕ × ℕ)) → Found (dues t) 32 o → Some n ≡ option_map {U = ℕ} (λ (r : ℕ × ℕ). r.1) o → (n < 32) × (option_map {U = ℕ × (ℕ × ℕ)} (λ (r : ℕ × ℕ). (r.0, timer_of r.1)) o ≡ Some (moment_of t n, timer_of n))
+  found-is None f h = absurd (none-some n (sym h))
+  found-is (Some r) f h =
+      let same : n ≡ r.1 = same_Some _ _ h in
+      let low : n < 32 = omega (arith, same, f.low) in
+      let due : moment_of t n ≡ r.0 = found-due (is_set t n) r.0 refl (sym (dues_at t n low) ∙ ap (λ k. get_or (dues t) k None) same ∙ f.due) in
+      (low, λ i. Some (sym due i, timer_of (sym same i)))
+
+  pub scan-least : Some n ≡ option_map {U = ℕ} (λ (r : ℕ × ℕ). r.1) (least_below (dues t) 32) → (n < 32) × (least (dues t) ≡ Some (moment_of t n, timer_of n))
+  unfolding least
+  scan-least h = found-is (least_below (dues t) 32) (found (dues t) 32) h
+
+pub scan-none : (m : Dues) → None ≡ option_map {U = ℕ} (λ (r : ℕ × ℕ). r.1) (least_below m 32) → least m ≡ None
+unfolding least
+scan-none m h = by (least_below m 32) h
+  where
+    by : (o : Option (ℕ × ℕ)) → None ≡ option_map {U = ℕ} (λ (r : ℕ × ℕ). r.1) o → option_map {U = ℕ × (ℕ × ℕ)} (λ (r : ℕ × ℕ). (r.0, timer_of r.1)) o ≡ None
+    by None e = refl
+    by (Some r) e = absurd (none-some r.1 e)
+
+pub scan-empty : (m : Dues) → length m ≡ 32 → idle m ≡ 32 → None ≡ option_map {U = ℕ} (λ (r : ℕ × ℕ). r.1) (least_below m 32)
+scan-empty m l e = by (least_below m 32) (found m 32)
+  where
+    by : (o : Option (ℕ × ℕ)) → Found m 32 o → None ≡ option_map {U = ℕ} (λ (r : ℕ × ℕ). r.1) o
+    by None f = refl
+    by (Some r) f = absurd (none-some r.0 (sym (none-set m l e r.1) ∙ f.due))
+
+-- there is none
+pub empty-least : (t : Table) → idle (dues t) ≡ 32 → least (dues t) ≡ None
+empty-least t e = least_none (dues t) (none-set (dues t) (length-dues t) e)
+
+-- the earliest timer has that deadline
+pub least-set : (m : Dues) (d : ℕ) (u : ℕ × ℕ) → length m ≡ 32 → u.0 < 8 → u.1 < 4 → least m ≡ Some (d, u) → get_or m (number_of u) None ≡ Some d
+least-set m d u l p i h =
+    let back : timer_of (number_of u) ≡ u = λ j. (processor j, index j) in
+    (((finds-least m l).some d (number_of u)).1 (omega arith, h ∙ ap (λ x. Some (d, x)) (sym back))).due
+  where
+    processor : (4 * u.0 + u.1) / 4 ≡ u.0
+    processor = omega arith
+
+    index : (4 * u.0 + u.1) % 4 ≡ u.1
+    index = omega arith
+
+-- a table without deadlines
+abbrev pub fresh : Table
+fresh = record { nodes = replicate 64 18446744073709551615; marks = replicate 32 false; count = 0; highs = replicate 32 0; lows = replicate 32 0 }
+
+repeated : (k n : ℕ) → n < k → get_or (replicate k 18446744073709551615) n 0 ≡ never
+repeated zero n h = absurd (omega arith)
+repeated (suc k) zero h = refl
+repeated (suc k) (suc n) h = repeated k n (omega arith)
+
+unmarked : (k n : ℕ) → get_or (replicate k false) n false ≡ false
+unmarked zero n = refl
+unmarked (suc k) zero = refl
+unmarked (suc k) (suc n) = unmarked k n
+
+pub fresh-dues : dues fresh ≡ no_dues
+fresh-dues = dues-are fresh no_dues refl (λ k h. all_none 32 k ∙ sym (ap (λ b. if b then Some (moment_of fresh k) else None) (unmarked 32 k)))
+
+pub fresh-sound : IsSound fresh
+fresh-sound = record {
+  tree = record { nodes = refl; marks = refl; highs = refl; lows = refl; leaves = λ n h. repeated 64 (32 + n) (omega arith) ∙ sym (ap (λ b. if b then word_for (moment_of fresh n) n else never) (unmarked 32 n)) };
+  ordered = record { mins = λ j a b. let here = repeated 64 j (omega arith) in let left = repeated 64 (2 * j) (omega arith) in let right = repeated 64 (2 * j + 1) (omega arith) in omega (arith, here, left, right) };
+  full = ap (λ m. idle m + 0) fresh-dues;
+}

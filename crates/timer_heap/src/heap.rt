@@ -7,7 +7,6 @@ pub(crate) mod comparer;
 
 use crate::heap::comparer::Comparer;
 use crate::table::Table;
-use arrayvec::ArrayVec;
 use board_terms::{TimerId, Vp};
 use std::marker::Model;
 
@@ -28,11 +27,11 @@ impl Model for TimerHeap {
 
     ghost coded = { heap_code };
 
-    ghost use Rattle.timer_heap.specs.inside.View.{heap_of, IsKept};
+    ghost use Rattle.timer_heap.specs.inside.View.{heap_of, HeapInvariant};
 
     ghost view = { heap_of };
 
-    ghost invariant = { IsKept };
+    ghost invariant = { HeapInvariant };
 }
 
 impl TimerHeap {
@@ -42,31 +41,22 @@ impl TimerHeap {
         ensures compared { result.compared ≡ 0 }
     {
         TimerHeap {
-            table: Table {
-                order: ArrayVec::new(),
-                places: [None; 32],
-                highs: [0; 32],
-                lows: [0; 32],
-            },
+            table: Table::new(),
             comparer: Comparer::new(),
         }
     }
 
     /// Sets the deadline of a timer, and replaces an earlier one. Returns the number of
     /// comparisons: at most ten, and none iff no other timer has a deadline.
+    #[inline(always)]
     pub fn set(&mut self, timer: TimerId, due: u128) -> u8
         ensures set { self.new.dues ≡ slice_set self.old.dues (number_of timer) (Some due) }
         ensures counted { self.new.compared ≡ self.old.compared + result }
-        ensures few { result ≤ 10 }
+        ensures bound { result ≤ 10 }
         ensures alone { NoOther self.old.dues timer → result ≡ 0 }
         ensures beside { Other self.old.dues timer → 0 < result }
     {
-        let number = timer.number();
-        let comparer = &mut self.comparer;
-        match self.table.place(number) {
-            Some(place) => self.table.change(place as usize, number, due, comparer),
-            None => self.table.add(number, due, comparer),
-        }
+        self.table.set(timer.number(), due, &mut self.comparer)
     }
 
     /// Removes the deadline of a timer. Returns the number of comparisons: at most ten, and none if
@@ -75,15 +65,16 @@ impl TimerHeap {
     pub fn clear(&mut self, timer: TimerId) -> u8
         ensures set { self.new.dues ≡ slice_set self.old.dues (number_of timer) None }
         ensures counted { self.new.compared ≡ self.old.compared + result }
-        ensures few { result ≤ 10 }
+        ensures bound { result ≤ 10 }
         ensures alone { NoOther self.old.dues timer → result ≡ 0 }
         ensures absent { due_of self.old.dues timer ≡ None → result ≡ 0 }
         ensures first { FirstOfThree self.old.dues timer → 0 < result }
     {
-        match self.table.place(timer.number()) {
-            Some(place) => self.table.remove(place as usize, &mut self.comparer),
-            None => 0,
+        let number = timer.number();
+        if !self.table.is_set(number) {
+            return 0;
         }
+        self.table.clear(number, &mut self.comparer)
     }
 
     /// Removes the deadlines of a processor's timers. Returns the number of comparisons: at most
@@ -91,7 +82,7 @@ impl TimerHeap {
     pub fn clear_processor(&mut self, vp: Vp) -> u8
         ensures set { self.new.dues ≡ without_processor self.old.dues vp }
         ensures counted { self.new.compared ≡ self.old.compared + result }
-        ensures few { result ≤ 40 }
+        ensures bound { result ≤ 40 }
         ensures absent { NoneOf self.old.dues vp → result ≡ 0 }
     {
         let zero = self.clear(TimerId::new(vp, 0).unwrap());
@@ -105,23 +96,14 @@ impl TimerHeap {
     pub fn least(&self) -> Option<(u128, TimerId)>
         ensures { result ≡ least self.now.dues }
     {
-        if self.table.len() == 0 {
-            return None;
-        }
-        let number = self.table.number(0);
-        let timer = TimerId::from_number(number).unwrap();
-        Some((self.table.moment(number), timer))
+        self.table.least()
     }
 
     /// The deadline of a timer, if it has one.
     pub fn due_of(&self, timer: TimerId) -> Option<u128>
         ensures { result ≡ due_of self.now.dues timer }
     {
-        let number = timer.number();
-        match self.table.place(number) {
-            Some(_) => Some(self.table.moment(number)),
-            None => None,
-        }
+        self.table.due(timer.number())
     }
 
     /// Which timers are due by a time: bit 4 * processor + index of the word is set iff that timer

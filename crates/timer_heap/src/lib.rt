@@ -1,8 +1,6 @@
-//! A heap of the deadlines of 32 timers, with the earliest first, which knows the place of each
-//! timer.
+//! A heap of the deadlines of 32 timers, with the earliest first.
 #![tactic(auto)]
 
-mod entry;
 mod heap;
 mod laws;
 mod table;

@@ -1,65 +1,111 @@
-// Timers in heap order, with the place and the deadline of each.
-ghost use Rattle.std.specs.Prelude.{◌≡◌, ◌+◌, ◌-◌, ◌*◌, ◌<◌, ◌≤◌, length, slice_set, Option, Some, None};
-ghost use Rattle.timer_heap.specs.inside.Table.{size, dues, number_at, moment_of, entry_of, place_of, key, with_number, with_moment, first_of, IsInverse, IsOrdered};
-ghost use Rattle.timer_heap.specs.Heap.{MarksDue};
-ghost use Rattle.timer_heap.specs.inside.Moves.{IsMoving, IsAbove, IsBelow};
-ghost use Rattle.timer_heap.specs.inside.Counting.{HasCounted};
+// The deadlines of the timers, and a tree of the timers that come first.
+ghost use Rattle.std.specs.Prelude.{◌≡◌, ◌≢◌, ℕ, ◌+◌, ◌/◌, ◌%◌, ◌^◌, ◌<◌, ◌≤◌, ◌==◌, true, false, None, Some, replicate, slice_set, if◌then◌else◌};
+ghost use Rattle.std.specs.Option.{option_map};
+ghost use Rattle.board_terms.specs.Dues.{least, least_below, earlier};
+ghost use Rattle.timer_heap.specs.Heap.{no_dues, is_due_by, MarksDue};
+ghost use Rattle.timer_heap.specs.inside.Table.{node, is_set, moment_of, word_for, word_of, due_at, dues, idle, with_due, IsBelow, IsTree, IsOrdered, IsSound};
+ghost use Rattle.timer_heap.specs.inside.Climbs.{IsClimbing, IsAlone, IsAlike};
 
-use crate::entry::Entry;
-use crate::heap::comparer::{Comparer, high, low};
-use arrayvec::ArrayVec;
+use crate::heap::comparer::Comparer;
+use board_terms::TimerId;
 
-/// The timers that have deadlines, by number.
+/// How many nodes are above each timer.
+const LEVELS: u8 = 5;
+
+/// The word of a timer without a deadline, or with a late one.
+const NEVER: u64 = u64::MAX;
+
+/// Deadlines before this one have a word of their own.
+const LATE: u128 = (1 << 59) - 1;
+
+/// The deadlines of the timers, by number.
 #[derive(Drop)]
 pub(crate) struct Table {
-    /// The numbers in heap order. Only numbers move; the deadlines stay in place.
-    pub(crate) order: ArrayVec<u8, 32>,
-    /// The place of each timer in that order.
-    pub(crate) places: [Option<u8>; 32],
-    /// The deadline of each timer with a place: the upper and the lower word.
-    pub(crate) highs: [u64; 32],
-    pub(crate) lows: [u64; 32],
+    /// The word of a timer is 32 times its deadline plus its number, so the lesser of two words is that
+    /// of the timer that comes first. For each node of a tree, this is the least word below it. Node 1 is
+    /// the root, node i has the children 2 * i and 2 * i + 1, and node 32 + n is the leaf of timer n.
+    nodes: [u64; 64],
+    /// Which timers have a deadline, and how many.
+    marks: [bool; 32],
+    count: u8,
+    /// The deadline of each timer that has one: the upper and the lower word.
+    highs: [u64; 32],
+    lows: [u64; 32],
 }
 
-/// Replaces the number at a place.
-fn put(order: &mut ArrayVec<u8, 32>, at: usize, number: u8)
-    requires { at < length order.old.items }
-    ensures { order.new.items ≡ slice_set order.old.items at number }
+/// The upper word of a deadline, usually 0.
+fn high(due: u128) -> u64
+    ensures { result ≡ due / 2 ^ 64 }
 {
-    order[at] = number;
+    (due >> 64) as u64
+}
+
+/// The lower word of a deadline.
+fn low(due: u128) -> u64
+    ensures { result ≡ due % 2 ^ 64 }
+{
+    (due % (1 << 64)) as u64
+}
+
+/// The word of a timer with a deadline.
+fn word(due: u128, number: u8) -> u64
+    requires { number < 32 }
+    ensures { result ≡ word_for due number }
+{
+    if due < LATE {
+        due as u64 * 32 + number as u64
+    } else {
+        NEVER
+    }
+}
+
+/// The nodes of a tree in which only one has a word.
+fn lone(node: usize, word: u64) -> [u64; 64]
+    requires { node < 64 }
+    ensures { result ≡ slice_set (replicate 64 0xffffffffffffffff) node word }
+{
+    let mut nodes = [NEVER; 64];
+    nodes[node] = word;
+    nodes
+}
+
+/// The earlier of a timer and the earliest so far. On a tie, the earliest so far.
+fn earlier(first: Option<(u128, u8)>, due: u128, number: u8) -> (u128, u8)
+    ensures { result ≡ earlier first (due, number) }
+{
+    match first {
+        Some(first) if first.0 <= due => first,
+        _ => (due, number),
+    }
 }
 
 impl Table {
-    /// The number at a place.
-    #[inline]
-    pub(crate) fn number(&self, at: usize) -> u8
-        requires { at < size self.now }
-        ensures { result ≡ number_at self.now at }
+    /// A table without deadlines.
+    pub(crate) fn new() -> Table
+        ensures sound { IsSound result }
+        ensures dues { dues result ≡ no_dues }
     {
-        self.order[at]
+        Table {
+            nodes: [NEVER; 64],
+            marks: [false; 32],
+            count: 0,
+            highs: [0; 32],
+            lows: [0; 32],
+        }
     }
 
-    /// How many timers have a place.
+    /// Whether a timer has a deadline.
     #[inline]
-    pub(crate) fn len(&self) -> usize
-        ensures value { result ≡ size self.now }
-        ensures room { result ≤ 32 }
-    {
-        self.order.len()
-    }
-
-    /// The place of a timer.
-    #[inline]
-    pub(crate) fn place(&self, number: u8) -> Option<u8>
+    pub(crate) fn is_set(&self, number: u8) -> bool
         requires { number < 32 }
-        ensures { result ≡ place_of self.now number }
+        ensures { result ≡ is_set self.now number }
     {
-        self.places[number as usize]
+        self.marks[number as usize]
     }
 
-    /// The deadline of a timer with a place.
+    /// The deadline of a timer that has one.
     #[inline]
-    pub(crate) fn moment(&self, number: u8) -> u128
+    fn moment(&self, number: u8) -> u128
         requires { number < 32 }
         ensures { result ≡ moment_of self.now number }
     {
@@ -67,222 +113,246 @@ impl Table {
         self.highs[at] as u128 * (1 << 64) + self.lows[at] as u128
     }
 
-    /// Sets the deadline of a timer with a place.
+    /// The deadline of a timer, if it has one.
     #[inline]
-    fn set_moment(&mut self, number: u8, due: u128)
+    pub(crate) fn due(&self, number: u8) -> Option<u128>
         requires { number < 32 }
-        ensures { self.new ≡ with_moment self.old number due }
+        ensures { result ≡ due_at self.now number }
+    {
+        if self.is_set(number) {
+            Some(self.moment(number))
+        } else {
+            None
+        }
+    }
+
+    /// Whether a timer is due by a time.
+    #[inline]
+    fn is_due(&self, number: u8, moment: u128) -> bool
+        requires { number < 32 }
+        ensures { result ≡ is_due_by (dues self.now) moment number }
+    {
+        match self.due(number) {
+            Some(due) => due <= moment,
+            None => false,
+        }
+    }
+
+    /// Writes the deadline and the word of a timer, and how many timers have a deadline.
+    #[inline]
+    fn write(&mut self, number: u8, mark: bool, word: u64, due: u128, count: u8)
+        requires { number < 32 }
+        ensures { self.new ≡ with_due self.old number mark word due count }
     {
         let at = number as usize;
+        self.marks[at] = mark;
+        self.count = count;
+        self.nodes[32 + at] = word;
         self.highs[at] = high(due);
         self.lows[at] = low(due);
     }
 
-    /// A timer with its deadline.
+    /// How many other timers have a deadline.
     #[inline]
-    fn entry(&self, number: u8) -> Entry
-        requires { number < 32 }
-        ensures { result ≡ entry_of self.now number }
-    {
-        Entry {
-            due: self.moment(number),
-            number,
-        }
-    }
-
-    /// Which timers are due by a time, as the bits of a word. No child is due before its parent, so
-    /// the search visits no place beyond the children of the last due timer.
-    pub(crate) fn due_by(&self, moment: u128) -> u32
-        requires inverse { IsInverse self.now }
-        requires ordered { IsOrdered (key self.now) (size self.now) }
-        ensures { MarksDue (dues self.now) moment result }
-    {
-        let size = self.len();
-        let mut due = 0;
-        let mut end = size.min(1);
-        let mut at = 0;
-        while at < end {
-            let number = self.number(at);
-            if self.moment(number) <= moment {
-                due |= 1 << number;
-                end = size.min(2 * at + 3);
-            }
-            at += 1;
-        }
-        due
-    }
-
-    /// Puts a timer at a place, in both maps. The timer that was there must be put elsewhere.
-    #[inline]
-    fn put(&mut self, at: usize, number: u8)
-        requires at_in { at < size self.old }
-        requires place { at < 32 }
+    fn others(&self, number: u8) -> u8
         requires number { number < 32 }
-        ensures { self.new ≡ with_number self.old at number }
+        requires sound { IsSound self.now }
+        ensures { idle (slice_set (dues self.now) number None) + result ≡ 32 }
     {
-        put(&mut self.order, at, number);
-        self.places[number as usize] = Some(at as u8);
+        if self.is_set(number) {
+            self.count - 1
+        } else {
+            self.count
+        }
     }
 
-    /// The lesser of two children: the one before `right` and the one at it.
-    #[inline]
-    fn first_child(&self, right: usize, comparer: &mut Comparer) -> usize
-        requires right_in { 0 < right × right < size self.now }
-        requires numbers { number_at self.now (right - 1) < 32 × number_at self.now right < 32 }
-        requires few { comparer.old.made < 100 }
-        ensures child { result ≡ first_of self.now right }
-        ensures made { comparer.new.made ≡ comparer.old.made + 1 }
+    /// Compares the word of a node and that of the other child of its parent. The parent gets the lesser
+    /// one, which is returned.
+    #[inline(always)]
+    fn compare(&mut self, child: usize, first: u64, comparer: &mut Comparer) -> u64
+        requires child { 1 < child × child < 64 }
+        requires climbing { IsClimbing self.old child }
+        requires first { first ≡ node self.old child }
+        ensures climbing { IsClimbing self.new (child / 2) }
+        ensures first { result ≡ node self.new (child / 2) }
+        ensures alike { IsAlike self.old self.new }
         ensures total { comparer.new.total.number ≡ comparer.old.total.number + 1 }
     {
-        let second = self.entry(self.number(right));
-        let first = self.entry(self.number(right - 1));
-        right - 1 + comparer.is_before(second, first) as usize
+        let other = self.nodes[child ^ 1];
+        let least = if comparer.is_before(other, first) {
+            other
+        } else {
+            first
+        };
+        self.nodes[child / 2] = least;
+        least
     }
 
-    /// Moves the lesser children up from `start`, down to a place without children, and returns it.
-    /// The timer is not yet put there.
-    fn descend(&mut self, start: usize, number: u8, comparer: &mut Comparer) -> usize
-        requires moving { IsMoving self.old start number }
-        requires fresh { comparer.old.made ≡ 0 }
-        ensures moving { IsMoving self.new result number }
-        ensures same { dues (with_number self.new result number) ≡ dues (with_number self.old start number) }
-        ensures size { size self.new ≡ size self.old }
-        ensures last { size self.new ≤ 2 * result + 1 }
-        ensures few { comparer.new.made ≤ 5 }
-        ensures none { result ≡ 0 → comparer.new.made ≡ 0 }
-        ensures counted { HasCounted comparer.old comparer.new }
+    /// Gives the word of a timer to the parent of a node that it is below. No other timer has a word.
+    #[inline]
+    fn crown(&mut self, child: usize, number: u8, word: u64)
+        requires child { 1 < child × child < 64 }
+        requires climbing { IsClimbing self.old child }
+        requires below { IsBelow child number }
+        requires alone { IsAlone self.old number }
+        requires word { word ≡ node self.old child }
+        ensures climbing { IsClimbing self.new (child / 2) }
+        ensures below { IsBelow (child / 2) number }
+        ensures alone { IsAlone self.new number }
+        ensures word { word ≡ node self.new (child / 2) }
+        ensures alike { IsAlike self.old self.new }
     {
-        let size = self.len();
-        let mut at = start;
-        while 2 * at + 2 < size {
-            let child = self.first_child(2 * at + 2, comparer);
-            let passed = self.number(child);
-            self.put(at, passed);
-            at = child;
-        }
-        let only = 2 * at + 1;
-        if only >= size {
-            return at;
-        }
-        let passed = self.number(only);
-        self.put(at, passed);
-        only
+        self.nodes[child / 2] = word;
     }
 
-    /// Moves parents down from `start`, which has no child, until the timer's parent does not come
-    /// after it. Returns that place. The timer is not yet put there.
-    fn rise(&mut self, start: usize, number: u8, comparer: &mut Comparer) -> usize
-        requires moving { IsMoving self.old start number }
-        requires last { size self.old ≤ 2 * start + 1 }
-        requires few { comparer.old.made ≤ 5 }
-        ensures moving { IsMoving self.new result number }
-        ensures same { dues (with_number self.new result number) ≡ dues (with_number self.old start number) }
-        ensures size { size self.new ≡ size self.old }
-        ensures above { IsAbove (key (with_number self.new result number)) result }
-        ensures below { IsBelow (key (with_number self.new result number)) (size self.new) result }
-        ensures few { comparer.new.made ≤ comparer.old.made + 5 }
-        ensures some { 0 < start → comparer.old.made < comparer.new.made }
-        ensures none { start ≡ 0 → comparer.new.made ≡ comparer.old.made }
-        ensures counted { HasCounted comparer.old comparer.new }
-    {
-        let entry = self.entry(number);
-        let mut at = start;
-        while at > 0 {
-            let above = (at - 1) / 2;
-            let passed = self.number(above);
-            if !comparer.is_before(entry, self.entry(passed)) {
-                return at;
-            }
-            self.put(at, passed);
-            at = above;
-        }
-        at
-    }
-
-    /// Puts a timer at its place, starting from `start`, and returns the number of comparisons. The
-    /// place is usually far down, so it goes to the bottom first, and is then compared only with
-    /// its parents.
-    fn settle(&mut self, start: usize, number: u8, comparer: &mut Comparer) -> u8
-        requires { IsMoving self.old start number }
-        ensures inverse { IsInverse self.new }
-        ensures same { dues self.new ≡ dues (with_number self.old start number) }
-        ensures size { size self.new ≡ size self.old }
-        ensures ordered { IsOrdered (key self.new) (size self.new) }
-        ensures few { result ≤ 10 }
-        ensures alone { size self.old ≡ 1 → result ≡ 0 }
-        ensures beside { 1 < size self.old → 0 < result }
-        ensures counted { comparer.new.total.number ≡ comparer.old.total.number + result }
-    {
-        comparer.begin();
-        let leaf = self.descend(start, number, comparer);
-        let place = self.rise(leaf, number, comparer);
-        self.put(place, number);
-        comparer.made()
-    }
-
-    /// Adds a timer, and returns the number of comparisons.
-    pub(crate) fn add(&mut self, number: u8, due: u128, comparer: &mut Comparer) -> u8
-        requires inverse { IsInverse self.old }
-        requires ordered { IsOrdered (key self.old) (size self.old) }
+    /// Updates the nodes above a timer, each by a comparison.
+    #[inline(always)]
+    fn climb(&mut self, number: u8, word: u64, comparer: &mut Comparer)
         requires number { number < 32 }
-        requires absent { place_of self.old number ≡ None }
-        requires room { size self.old < 32 }
-        ensures inverse { IsInverse self.new }
-        ensures set { dues self.new ≡ slice_set (dues self.old) number (Some due) }
-        ensures ordered { IsOrdered (key self.new) (size self.new) }
-        ensures size { size self.new ≡ size self.old + 1 }
-        ensures few { result ≤ 10 }
-        ensures alone { size self.old ≡ 0 → result ≡ 0 }
-        ensures beside { 0 < size self.old → 0 < result }
-        ensures counted { comparer.new.total.number ≡ comparer.old.total.number + result }
+        requires climbing { IsClimbing self.old (32 + number) }
+        requires word { word ≡ node self.old (32 + number) }
+        ensures tree { IsTree self.new }
+        ensures ordered { IsOrdered self.new }
+        ensures alike { IsAlike self.old self.new }
+        ensures counted { comparer.new.total.number ≡ comparer.old.total.number + 5 }
     {
-        let last = self.len();
-        self.set_moment(number, due);
-        self.order.push(number);
-        self.settle(last, number, comparer)
+        let leaf = 32 + number as usize;
+        let first = self.compare(leaf, word, comparer);
+        let first = self.compare(leaf / 2, first, comparer);
+        let first = self.compare(leaf / 4, first, comparer);
+        let first = self.compare(leaf / 8, first, comparer);
+        let _ = self.compare(leaf / 16, first, comparer);
     }
 
-    /// Sets another deadline of the timer at a place, and returns the number of comparisons.
-    pub(crate) fn change(&mut self, at: usize, number: u8, due: u128, comparer: &mut Comparer) -> u8
-        requires inverse { IsInverse self.old }
-        requires ordered { IsOrdered (key self.old) (size self.old) }
+    /// Makes the tree of a timer without others.
+    #[cold]
+    #[inline(never)]
+    fn crown_all(&mut self, number: u8, word: u64)
         requires number { number < 32 }
-        requires at { place_of self.old number ≡ Some at }
-        ensures inverse { IsInverse self.new }
-        ensures set { dues self.new ≡ slice_set (dues self.old) number (Some due) }
-        ensures ordered { IsOrdered (key self.new) (size self.new) }
-        ensures size { size self.new ≡ size self.old }
-        ensures few { result ≤ 10 }
-        ensures alone { size self.old ≡ 1 → result ≡ 0 }
-        ensures beside { 1 < size self.old → 0 < result }
-        ensures counted { comparer.new.total.number ≡ comparer.old.total.number + result }
+        requires tree { IsTree self.old }
+        requires word { word ≡ word_of self.old number }
+        requires alone { (m : ℕ) → m < 32 → m ≢ number → is_set self.old m ≡ false }
+        ensures tree { IsTree self.new }
+        ensures ordered { IsOrdered self.new }
+        ensures alike { IsAlike self.old self.new }
     {
-        self.set_moment(number, due);
-        self.settle(at, number, comparer)
+        let leaf = 32 + number as usize;
+        self.nodes = lone(leaf, word);
+        self.crown(leaf, number, word);
+        self.crown(leaf / 2, number, word);
+        self.crown(leaf / 4, number, word);
+        self.crown(leaf / 8, number, word);
+        self.crown(leaf / 16, number, word);
     }
 
-    /// Removes the timer at a place, and returns the number of comparisons.
-    pub(crate) fn remove(&mut self, at: usize, comparer: &mut Comparer) -> u8
-        requires inverse { IsInverse self.old }
-        requires ordered { IsOrdered (key self.old) (size self.old) }
-        requires at_in { at < size self.old }
-        ensures inverse { IsInverse self.new }
-        ensures set { dues self.new ≡ slice_set (dues self.old) (number_at self.old at) None }
-        ensures ordered { IsOrdered (key self.new) (size self.new) }
-        ensures size { size self.new + 1 ≡ size self.old }
-        ensures few { result ≤ 10 }
-        ensures alone { size self.old ≡ 1 → result ≡ 0 }
-        ensures beside { at + 1 < size self.old → 2 < size self.old → 0 < result }
+    /// Updates the nodes above a timer, and returns the number of comparisons.
+    #[inline(always)]
+    fn update(&mut self, number: u8, word: u64, others: u8, comparer: &mut Comparer) -> u8
+        requires number { number < 32 }
+        requires climbing { IsClimbing self.old (32 + number) }
+        requires word { word ≡ word_of self.old number }
+        requires alone { others ≡ 0 → (m : ℕ) → m < 32 → m ≢ number → is_set self.old m ≡ false }
+        ensures tree { IsTree self.new }
+        ensures ordered { IsOrdered self.new }
+        ensures alike { IsAlike self.old self.new }
+        ensures made { result ≡ (if others == 0 then 0 else 5) }
         ensures counted { comparer.new.total.number ≡ comparer.old.total.number + result }
     {
-        let number = self.number(at);
-        let last = self.len() - 1;
-        let moving = self.number(last);
-        self.order.truncate(last);
-        self.places[number as usize] = None;
-        if at == last {
+        if others == 0 {
+            self.crown_all(number, word);
             return 0;
         }
-        self.settle(at, moving, comparer)
+        self.climb(number, word, comparer);
+        LEVELS
+    }
+
+    /// Sets the deadline of a timer, and returns the number of comparisons.
+    #[inline(always)]
+    pub(crate) fn set(&mut self, number: u8, due: u128, comparer: &mut Comparer) -> u8
+        requires sound { IsSound self.old }
+        requires number { number < 32 }
+        ensures sound { IsSound self.new }
+        ensures set { dues self.new ≡ slice_set (dues self.old) number (Some due) }
+        ensures bound { result ≤ 5 }
+        ensures alone { idle (slice_set (dues self.old) number None) ≡ 32 → result ≡ 0 }
+        ensures beside { idle (slice_set (dues self.old) number None) < 32 → 0 < result }
+        ensures counted { comparer.new.total.number ≡ comparer.old.total.number + result }
+    {
+        let word = word(due, number);
+        let others = self.others(number);
+        self.write(number, true, word, due, others + 1);
+        self.update(number, word, others, comparer)
+    }
+
+    /// Removes the deadline of a timer that has one, and returns the number of comparisons.
+    #[inline(never)]
+    pub(crate) fn clear(&mut self, number: u8, comparer: &mut Comparer) -> u8
+        requires sound { IsSound self.old }
+        requires number { number < 32 }
+        ensures sound { IsSound self.new }
+        ensures set { dues self.new ≡ slice_set (dues self.old) number None }
+        ensures bound { result ≤ 5 }
+        ensures alone { idle (slice_set (dues self.old) number None) ≡ 32 → result ≡ 0 }
+        ensures beside { idle (slice_set (dues self.old) number None) < 32 → 0 < result }
+        ensures counted { comparer.new.total.number ≡ comparer.old.total.number + result }
+    {
+        let others = self.others(number);
+        self.write(number, false, NEVER, 0, others);
+        self.update(number, NEVER, others, comparer)
+    }
+
+    /// The earliest timer and its deadline.
+    #[inline]
+    pub(crate) fn least(&self) -> Option<(u128, TimerId)>
+        requires { IsSound self.now }
+        ensures { result ≡ least (dues self.now) }
+    {
+        let word = self.nodes[1];
+        if word < NEVER {
+            let timer = TimerId::from_number((word % 32) as u8).unwrap();
+            return Some(((word / 32) as u128, timer));
+        }
+        match self.scan() {
+            Some(number) => {
+                let timer = TimerId::from_number(number).unwrap();
+                Some((self.moment(number), timer))
+            }
+            None => None,
+        }
+    }
+
+    /// The earliest timer if no deadline has a word of its own.
+    #[cold]
+    #[inline(never)]
+    fn scan(&self) -> Option<u8>
+        requires { IsSound self.now }
+        ensures { result ≡ option_map (λ r. r.1) (least_below (dues self.now) 32) }
+    {
+        if self.count == 0 {
+            return None;
+        }
+        let mut first = None;
+        for number in 0..32 {
+            if let Some(due) = self.due(number) {
+                first = Some(earlier(first, due, number));
+            }
+        }
+        match first {
+            Some((_, number)) => Some(number),
+            None => None,
+        }
+    }
+
+    /// Which timers are due by a time, as the bits of a word.
+    pub(crate) fn due_by(&self, moment: u128) -> u32
+        ensures { MarksDue (dues self.now) moment result }
+    {
+        let mut word = 0;
+        for number in 0..32 {
+            if self.is_due(number, moment) {
+                word |= 1 << number;
+            }
+        }
+        word
     }
 }

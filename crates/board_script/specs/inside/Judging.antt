@@ -2,16 +2,16 @@
 use Rattle.std.specs.Prelude.{◌≡◌, ℕ, List, [], ◌++◌, Bool, if◌then◌else◌, Option, None, Some, is_some, Result, Ok, Err}
 use Rattle.std.specs.Option.{option_map}
 use Rattle.std.specs.Io.KnownBytes.{Appends}
-use Rattle.synic_board.specs.State.{Held}
-use Rattle.board_lines.specs.Items.{Item}
-use Rattle.line_driver.specs.declared.driving.End.{End}
-use Rattle.line_driver.specs.declared.driving.End.TheVariants as ends
-use Rattle.line_driver.specs.declared.judge.Taken.{Taken}
-use Rattle.line_driver.specs.declared.judge.Taken.TheVariants as taken
+use Rattle.synic_board.specs.State.{BoardModel}
+use Rattle.text_lines.specs.Items.{Item}
+use Rattle.text_driver.specs.declared.driving.End.{End}
+use Rattle.text_driver.specs.declared.driving.End.TheVariants as ends
+use Rattle.text_driver.specs.declared.judge.Taken.{Taken}
+use Rattle.text_driver.specs.declared.judge.Taken.TheVariants as taken
 use Rattle.board_script.specs.Script.{item_in, item_fault, line_fault}
 use Rattle.board_script.specs.Output.{Machine, machine_after, answer, fault_text}
-use Rattle.board_lines.specs.declared.fault.ScriptFault.{ScriptFault}
-use Rattle.board_lines.specs.declared.fault.ScriptFault.TheVariants as faults
+use Rattle.text_lines.specs.declared.fault.ScriptFault.{ScriptFault}
+use Rattle.text_lines.specs.declared.fault.ScriptFault.TheVariants as faults
 use Rattle.board_script.specs.declared.stream.ReplayEnd.{ReplayEnd}
 use Rattle.board_script.specs.declared.stream.ReplayEnd.TheVariants.{Done, Script, Memory, Reading, Writing}
 
@@ -39,7 +39,7 @@ Concludes (Ok fault) result w0 w1 = Finishes result fault w0 w1
 Concludes (Err end) result w0 w1 = (result ≡ end) × (w1 ≡ w0)
 
 -- the state of an open board
-abbrev pub machine_of : Option Held → Machine
+abbrev pub machine_of : Option BoardModel → Machine
 machine_of board = option_map (λ h. h.state) board
 
 abbrev pub after_maybe : Machine → Option Item → Machine

@@ -1,6 +1,6 @@
 -- The end of a board and its history.
 use Rattle.std.specs.Prelude.{◌≡◌, ℕ, List}
-use Rattle.synic_board.specs.State.{Held}
+use Rattle.synic_board.specs.State.{BoardModel}
 use Rattle.synic_board.specs.declared.history.Entry.{Entry}
 use Rattle.board_threads.specs.Settling.{AreAllOf}
 use Rattle.board_threads.specs.declared.settling.ActorCalls.{ActorCalls}
@@ -13,7 +13,7 @@ use Rattle.board_threads.specs.declared.fault.WorkFault.{WorkFault}
 use Rattle.board_threads.specs.declared.fault.WorkFault.TheVariants as works
 
 -- The result: the board and its history, the actors' calls, which are exactly that history, and the rest of the words.
-pub record IsEnd (board : Held) (history : List Entry) (called : List ActorCalls) (left : List ℕ) (e : Ended) : Type 0 where
+pub record IsEnd (board : BoardModel) (history : List Entry) (called : List ActorCalls) (left : List ℕ) (e : Ended) : Type 0 where
   pub same_board : e.board ≡ board
   pub entries : e.history.items ≡ history
   pub actors : e.actors.items ≡ called

@@ -19,7 +19,7 @@ abbrev pub IsNewActor : TableId → Acting → Type 0
 IsNewActor name a = (a.of ≡ name) × (a.calls ≡ [])
 
 abbrev pub IsNewLine : TableId → Token → Type 0
-IsNewLine name t = (t.of ≡ name) × (t.did ≡ [])
+IsNewLine name t = (t.of ≡ name) × (t.actions ≡ [])
 
 -- its raises are at processors of the board
 abbrev pub IsThere : ℕ → List (ℕ × ℕ) → Type 0
@@ -35,7 +35,7 @@ pub record HasActed (name : TableId) (number : ℕ) (script : List Step) (a : Ac
 pub record HasRaised (name : TableId) (script : List (ℕ × ℕ)) (t : Token) (answers : List Raised) : Type 0 where
   pub of : t.of ≡ name
   pub each : length answers ≡ length script
-  pub did : t.did ≡ log_of script answers
+  pub actions : t.actions ≡ log_of script answers
 
 -- actor 0 performed the setup, and at the end the last absorbs
 pub record HasServed (name : TableId) (processors : ℕ) (setup : List Event) (a : Acting) : Type 0 where

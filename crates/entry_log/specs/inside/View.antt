@@ -13,6 +13,6 @@ abbrev pub log_of : Inside → Log
 log_of a = record { entries = entries_in a.bytes.items a.compact.items; has_room = has_room a }
 
 -- the bytes are exactly those of the entries
-pub record IsKept (a : Inside) : Type 0 where
+pub record LogInvariant (a : Inside) : Type 0 where
   pub whole : sum_by size a.compact.items ≡ length a.bytes.items
   pub fit : All Fits a.compact.items

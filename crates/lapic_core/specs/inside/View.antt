@@ -12,7 +12,7 @@ abbrev pub held_of : Inside → Apic
 held_of a = serving a.in_service a.floor a.requested
 
 -- the invariant of the three cached fields
-pub record IsKept (a : Inside) : Type 0 where
+pub record LapicInvariant (a : Inside) : Type 0 where
   pub floor_is : a.floor ≡ floor a.suspended a.task_priority
   -- the greatest number that is blocked
   pub threshold_is : a.threshold ≡ threshold (held_of a)

@@ -36,6 +36,11 @@ keys_from next buffers zero from = []
 keys_from next buffers (suc n) None = []
 keys_from next buffers (suc n) (Some key) = key ∷ keys_from next buffers n (option_and_then next (buffers key))
 
+-- the key that comes that many keys after another one
+abbrev pub key_at : ℕ → Buffers → Option ℕ → Option ℕ
+key_at zero buffers from = from
+key_at (suc n) buffers from = option_and_then (λ key. behind_of (buffers key)) (key_at n buffers from)
+
 -- from its end a chain has the same keys as from its front, in reverse
 abbrev pub ReadsBothWays : Buffers → Chain → Type 0
 ReadsBothWays buffers chain = keys_from (λ b. b.before) buffers chain.len chain.last ≡ reverse (keys_from (λ b. b.behind) buffers chain.len chain.first)
@@ -55,7 +60,7 @@ pub record IsChain (buffers : Buffers) (owner rank : ℕ → ℕ) (queue : ℕ) 
   pub len : chain.len ≡ length keys
 
 -- Each queue is a chain: each key belongs to one queue, and occurs in it once.
-pub record Kept (buffers : Buffers) (chains : List Chain) : Type 0 where
+pub record AreChains (buffers : Buffers) (chains : List Chain) : Type 0 where
   pub owner : ℕ → ℕ
   pub rank : ℕ → ℕ
   pub each : (queue : ℕ) (chain : Chain) → slice_get chains queue ≡ Some chain → IsChain buffers owner rank queue chain

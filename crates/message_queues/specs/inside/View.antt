@@ -7,7 +7,7 @@ use Rattle.message_queues.specs.declared.chains.Chain.{Chain}
 use Rattle.message_queues.specs.declared.queues.Queues.TheInside.{Inside}
 use Rattle.message_queues.specs.Queues.{Queues}
 use Rattle.message_queues.specs.inside.Owners.{HasOwner, IsCounted}
-use Rattle.message_queues.specs.inside.Chains.{queues_at, ReadsBothWays, Kept}
+use Rattle.message_queues.specs.inside.Chains.{queues_at, ReadsBothWays, AreChains}
 
 abbrev pub queues_of : Inside → Queues
 queues_of a = queues_at (get a.buffers) a.chains.items
@@ -18,8 +18,8 @@ total_of chains = sum_by (λ (c : Chain). c.len) chains
 
 -- No key occurs in two chains or twice in one, and there are as many buffers as keys in the chains. So each key of the slab occurs in exactly one
 -- chain, once. There is capacity for the shares of all owners.
-pub record IsKept (a : Inside) : Type 0 where
-  pub linked : Kept (get a.buffers) a.chains.items
+pub record QueuesInvariant (a : Inside) : Type 0 where
+  pub linked : AreChains (get a.buffers) a.chains.items
   pub held : slab_len a.buffers ≡ total_of a.chains.items
   pub both_ways : (queue : ℕ) (chain : Chain) → slice_get a.chains.items queue ≡ Some chain → ReadsBothWays (get a.buffers) chain
   pub room : 288 ≤ a.buffers.capacity

@@ -2,12 +2,12 @@
 use Rattle.std.specs.Prelude.{◌≡◌, ℕ, ◌+◌, ◌*◌, ◌%◌, ◌^◌, ◌<◌, ◌==◌, List, [], ◌∷◌, All, sum_by, length, slice_index}
 use Rattle.std.specs.Int.{bit_at}
 use Rattle.atomic_table.specs.Table.{State, Me, Step}
-use Rattle.posted_words.specs.declared.rule.Did.{Did}
-use Rattle.posted_words.specs.declared.rule.Did.TheVariants.{Raise, Sweep}
+use Rattle.posted_words.specs.declared.rule.Action.{Action}
+use Rattle.posted_words.specs.declared.rule.Action.TheVariants.{Raise, Sweep}
 use Rattle.posted_words.specs.declared.rule.View.{View}
 use Rattle.posted_words.specs.Settled.{all_fresh, all_taken, Bounded}
 
-abbrev pub view_of : ℕ → List (List Did) → View
+abbrev pub view_of : ℕ → List (List Action) → View
 view_of parts logs = record { parts = parts; logs = logs }
 
 -- how often the tokens of all seats were Fresh at the bit b of the word w
@@ -35,11 +35,11 @@ pub record Posted (key : ℕ × ℕ) (s : State (Unit {0}) View) : Type 0 where
   pub bounded : All (IsBounded (views_fresh s.views) (views_taken s.views)) s.views
 
 -- one more step of the first token
-abbrev pub onto : Did → List (List Did) → List (List Did)
+abbrev pub onto : Action → List (List Action) → List (List Action)
 onto d [] = []
 onto d (log ∷ logs) = (d ∷ log) ∷ logs
 
-abbrev pub with_step : Did → View → View
+abbrev pub with_step : Action → View → View
 with_step d v = view_of v.parts (onto d v.logs)
 
 -- the mask of a bit of 64, as the code computes it
@@ -57,6 +57,6 @@ abbrev pub swept_as : Step (Unit {0}) → Me (Unit {0}) View → ℕ → Me (Uni
 swept_as s before found after = (after.0 ≡ with_step (Sweep s.word found) before.0) × (after.1 ≡ before.1)
 
 -- the log of a seat that holds one token
-abbrev pub first_log : List (List Did) → List Did
+abbrev pub first_log : List (List Action) → List Action
 first_log [] = []
 first_log (log ∷ logs) = log

@@ -20,9 +20,9 @@ use Rattle.synic_board.specs.State.{State, space_of}
 use Rattle.synic_board.specs.Interrupts.{raised}
 use Rattle.synic_board.specs.Delivery.{delivers, is_slot_empty, placed, marked, tried, tried_below, accepted, delivered}
 use Rattle.synic_board.specs.Posts.{withdrawn}
-use Rattle.synic_board.specs.Places.{times, tells_end, times_ended}
+use Rattle.synic_board.specs.Locations.{times, is_end_of, times_ended}
 use Rattle.synic_board.specs.Sound.{IsWhole, IsMessage}
-use Rattle.synic_board.proofs.keeping.Counts.{in_queue, one, times-places, in_queue-cons, in_queue-push, given-none, given-one}
+use Rattle.synic_board.proofs.keeping.Counts.{in_queue, one, times-locations, in_queue-cons, in_queue-push, given-none, given-one}
 use Rattle.synic_board.proofs.keeping.Left.{leaves-same, leaves-marked}
 use Rattle.synic_board.proofs.keeping.Wholes.{IsIntact, Keeps, EndsNone, keeps-still, keeps-nothing, keeps-after}
 use Rattle.synic_board.proofs.keeping.Requests.{either, keeps-raised}
@@ -82,8 +82,8 @@ keeps-tried n s p i h below under =
 
 pub keeps-tried_below : (n : ℕ) (s : State) (p i : ℕ) → IsIntact n s → p < n → i ≤ 16 → Keeps n s (tried_below s p i)
 unfolding tried_below
-keeps-tried_below n s p zero h below few = keeps-nothing n s h
-keeps-tried_below n s p (suc i) h below few =
+keeps-tried_below n s p zero h below bound = keeps-nothing n s h
+keeps-tried_below n s p (suc i) h below bound =
     let first = keeps-tried_below n s p i h below (omega arith) in
     keeps-after n s (tried_below s p i) (tried (tried_below s p i).0 p i) first (keeps-tried n (tried_below s p i).0 p i first.kept below (omega arith))
 
@@ -107,8 +107,8 @@ keeps-accepted n s p i m h below under good next =
         };
         empty = h.empty;
       };
-      later = omega arith;
-      conserves = λ t. omega (arith, times-places t s, times-places t (accepted s p i m).0, sum_by-set (in_queue t) s.queues (source_number p i) q [] (omega (arith, h.whole.queues)), in_queue-push t (queue_of s.queues p i) m, ap (λ x. one x t) next, given-one t s (accepted s p i m).0 refl, accepted-ends t);
+      tickets_monotone = omega arith;
+      conserves = λ t. omega (arith, times-locations t s, times-locations t (accepted s p i m).0, sum_by-set (in_queue t) s.queues (source_number p i) q [] (omega (arith, h.whole.queues)), in_queue-push t (queue_of s.queues p i) m, ap (λ x. one x t) next, given-one t s (accepted s p i m).0 refl, accepted-ends t);
       leaves = leaves-same n s (accepted s p i m).0 refl refl;
     }
   where
@@ -125,7 +125,7 @@ pub ends-each : (t p i : ℕ) (tickets : List ℕ) → times_ended t (map (λ x.
 ends-each t p i [] = refl
 ends-each t p i (x ∷ tickets) =
     let more = ends-each t p i tickets in
-    omega (arith, more, sum_by-cons (λ (k : Notice). cond (tells_end t k) 1 0) (Withdrawn x p i) (map (λ y. Withdrawn y p i) tickets), sum_by-cons (λ y. one y t) x tickets)
+    omega (arith, more, sum_by-cons (λ (k : Notice). cond (is_end_of t k) 1 0) (Withdrawn x p i) (map (λ y. Withdrawn y p i) tickets), sum_by-cons (λ y. one y t) x tickets)
 
 parted : (t port : ℕ) (q : List Message) → in_queue t (left_of port q) + times t (withdrawn_of port q) ≡ in_queue t q
 parted t port [] = refl
@@ -154,7 +154,7 @@ keeps-withdrawn n s p i port h below under =
         };
         empty = h.empty;
       };
-      later = omega arith;
-      conserves = λ t. omega (arith, times-places t s, times-places t (withdrawn s p i port).0, sum_by-set (in_queue t) s.queues (source_number p i) q [] (omega (arith, h.whole.queues)), parted t port (queue_of s.queues p i), ends-each t p i (withdrawn_of port (queue_of s.queues p i)), given-none t s (withdrawn s p i port).0 refl);
+      tickets_monotone = omega arith;
+      conserves = λ t. omega (arith, times-locations t s, times-locations t (withdrawn s p i port).0, sum_by-set (in_queue t) s.queues (source_number p i) q [] (omega (arith, h.whole.queues)), parted t port (queue_of s.queues p i), ends-each t p i (withdrawn_of port (queue_of s.queues p i)), given-none t s (withdrawn s p i port).0 refl);
       leaves = leaves-same n s (withdrawn s p i port).0 refl refl;
     }

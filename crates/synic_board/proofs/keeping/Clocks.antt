@@ -13,8 +13,8 @@ use Rattle.stimer_bank.specs.Timer.{is_direct, vector_of, sint_of, mode_of, afte
 use Rattle.stimer_bank.specs.Bank.{timer_in, is_due_in, dues, due_list, with_config, with_count, with_timer}
 use Rattle.synic_board.specs.State.{State, bank_of, with_bank}
 use Rattle.synic_board.specs.declared.event.Reply.TheVariants.{Done, Refused}
-use Rattle.synic_board.specs.Timers.{mode_at, is_ready_for, is_ready, expired_notices, skipped_notices, expiry_notices, told_by, signalled_by, expired_state, expiry_at, fired, attempted, attempted_all, written_timer, at_moment, ticked}
-use Rattle.synic_board.specs.Places.{times_ended}
+use Rattle.synic_board.specs.Timers.{mode_at, is_ready_for, is_ready, expired_notices, skipped_notices, expiry_notices, delivery_by, signalled_by, expired_state, expiry_at, fired, attempted, attempted_all, written_timer, at_moment, ticked}
+use Rattle.synic_board.specs.Locations.{times_ended}
 use Rattle.synic_board.proofs.keeping.Counts.{ended-append}
 use Rattle.synic_board.proofs.keeping.Left.{leaves-same}
 use Rattle.synic_board.proofs.keeping.Wholes.{IsIntact, Keeps, KeepsOutcome, EndsNone, keeps-still, keeps-nothing, keeps-unchanged, keeps-after}
@@ -50,20 +50,20 @@ Names (Posted i) = i < 16
 pub mode-names : (config : ℕ) → Names (mode_of config)
 mode-names config = either Names (is_direct config) (Direct (vector_of config)) (Posted (sint_of config)) (λ _. tt) (λ _. omega arith)
 
-keeps-told : (n : ℕ) (s : State) (t : ℕ × ℕ) (mode : Mode) (d : ℕ) → IsIntact n s → t.0 < n → Names mode → Keeps n s (told_by s t mode d)
-keeps-told n s t (Direct v) d h below names = keeps-requested n s t.0 v h
-keeps-told n s t (Posted i) d h below names = keeps-delivered n s t.0 i (FromTimer s.next_ticket t d) h below names ((λ e. omega (arith, e)), omega arith, tt) refl
+keeps-emitted : (n : ℕ) (s : State) (t : ℕ × ℕ) (mode : Mode) (d : ℕ) → IsIntact n s → t.0 < n → Names mode → Keeps n s (delivery_by s t mode d)
+keeps-emitted n s t (Direct v) d h below names = keeps-requested n s t.0 v h
+keeps-emitted n s t (Posted i) d h below names = keeps-delivered n s t.0 i (FromTimer s.next_ticket t d) h below names ((λ e. omega (arith, e)), omega arith, tt) refl
 
 keeps-signal : (n : ℕ) (s : State) (t : ℕ × ℕ) (mode : Mode) (o : Option ℕ) → IsIntact n s → t.0 < n → Names mode → Keeps n s (signalled_by s t mode o)
 keeps-signal n s t mode None h below names = keeps-nothing n s h
-keeps-signal n s t mode (Some d) h below names = keeps-told n s t mode d h below names
+keeps-signal n s t mode (Some d) h below names = keeps-emitted n s t mode d h below names
 
 keeps-fired : (n : ℕ) (s : State) (t : ℕ × ℕ) (mode : Mode) → IsIntact n s → number_of t < 4 * n → Names mode → Keeps n s (fired s t mode)
 keeps-fired n s t mode h low names =
     let now : State = expired_state s t in
-    let told = expiry_notices t (expiry_at s t).signal (expiry_at s t).skipped in
-    let first = keeps-still n s (now, told) (kept-timer n s t ((after_expiry (timer_in (bank_of s) t) s.moment).0) low h) (record { queues = refl; slots = refl; next = refl }) (leaves-same n s now refl refl) (expiry-ends t (expiry_at s t).signal (expiry_at s t).skipped) in
-    keeps-after n s (now, told) (signalled_by now t mode (expiry_at s t).signal) first (keeps-signal n now t mode (expiry_at s t).signal first.kept (omega (arith, low)) names)
+    let emitted = expiry_notices t (expiry_at s t).signal (expiry_at s t).skipped in
+    let first = keeps-still n s (now, emitted) (kept-timer n s t ((after_expiry (timer_in (bank_of s) t) s.moment).0) low h) (record { queues = refl; slots = refl; next = refl }) (leaves-same n s now refl refl) (expiry-ends t (expiry_at s t).signal (expiry_at s t).skipped) in
+    keeps-after n s (now, emitted) (signalled_by now t mode (expiry_at s t).signal) first (keeps-signal n now t mode (expiry_at s t).signal first.kept (omega (arith, low)) names)
 
 first-of : (a b : Bool) → (a && b) ≡ true → a ≡ true
 first-of true b e = refl

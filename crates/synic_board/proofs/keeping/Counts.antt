@@ -11,7 +11,7 @@ use Rattle.board_terms.specs.Messages.{ticket_of}
 use Rattle.board_terms.specs.declared.notices.Notice.{Notice}
 use Rattle.message_queues.specs.Queues.{Queues}
 use Rattle.synic_board.specs.State.{State}
-use Rattle.synic_board.specs.Places.{places, times, tells_end, times_ended, given}
+use Rattle.synic_board.specs.Locations.{locations, times, is_end_of, times_ended, given}
 
 -- 1 if two tickets are the same
 abbrev pub one : ℕ → ℕ → ℕ
@@ -40,9 +40,9 @@ times-slots t [] = refl
 times-slots t (None ∷ os) = let a = times-slots t os in let b = sum_by-cons (in_slot t) None os in let c : in_slots t (None ∷ os) ≡ in_slots t os = omega (arith, b) in a ∙ sym c
 times-slots t (Some x ∷ os) = sum_by-cons (λ y. one y t) x (filter_map (λ y. y) os) ∙ ap (λ n. one x t + n) (times-slots t os) ∙ sym (sum_by-cons (in_slot t) (Some x) os)
 
-pub times-places : (t : ℕ) (s : State) → times t (places s) ≡ in_queues t s.queues + in_slots t s.slots
-unfolding places
-times-places t s = sum_by-append (λ x. one x t) (flat_map (map ticket_of) s.queues) (filter_map (λ x. x) s.slots) ∙ (λ i. times-flat t s.queues i + times-slots t s.slots i)
+pub times-locations : (t : ℕ) (s : State) → times t (locations s) ≡ in_queues t s.queues + in_slots t s.slots
+unfolding locations
+times-locations t s = sum_by-append (λ x. one x t) (flat_map (map ticket_of) s.queues) (filter_map (λ x. x) s.slots) ∙ (λ i. times-flat t s.queues i + times-slots t s.slots i)
 
 -- one ticket
 pub times-one : (x t : ℕ) → times t (x ∷ []) ≡ one x t
@@ -56,7 +56,7 @@ in_queue-cons t m q = sum_by-cons (λ y. one y t) (ticket_of m) (map ticket_of q
 
 -- notices one after another
 pub ended-append : (t : ℕ) (xs ys : List Notice) → times_ended t (xs ++ ys) ≡ times_ended t xs + times_ended t ys
-ended-append t xs ys = sum_by-append (λ n. cond (tells_end t n) 1 0) xs ys
+ended-append t xs ys = sum_by-append (λ n. cond (is_end_of t n) 1 0) xs ys
 
 -- the tickets given in two steps
 abbrev bit : Bool → ℕ

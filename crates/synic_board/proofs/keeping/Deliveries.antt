@@ -17,8 +17,8 @@ use Rattle.synic_board.specs.Interrupts.{requested, raised}
 use Rattle.synic_board.specs.Absorbing.{is_posted, absorbed_below}
 use Rattle.synic_board.specs.Delivery.{delivers, is_slot_empty, placed_head, placed, tried, tried_below, accepted, delivered}
 use Rattle.synic_board.specs.Posts.{are_tickets_left}
-use Rattle.synic_board.specs.Timers.{mode_at, is_ready_for, is_ready, told_by, signalled_by, expired_state, expiry_at, attempted, attempted_all}
-use Rattle.synic_board.specs.inside.Buffers.{HasBuffers}
+use Rattle.synic_board.specs.Timers.{mode_at, is_ready_for, is_ready, delivery_by, signalled_by, expired_state, expiry_at, attempted, attempted_all}
+use Rattle.synic_board.specs.Buffers.{HasBuffers}
 use Rattle.synic_board.proofs.keeping.Requests.{either}
 use Rattle.synic_board.proofs.keeping.Clocks.{Names, mode-names}
 use Rattle.synic_board.proofs.keeping.Uses.{alike, fewer-queued, IsPart, part-rest, Fits, timer-fits, buffers-accepted}
@@ -77,13 +77,13 @@ ready-to s t (Direct v) due e = tt
 ready-to s t (Posted i) true e = middle-of (has (regs_of s t.0).control enable) (is_timer_free s.queues t) (are_tickets_left s) e
 ready-to s t (Posted i) false e = absurd (cc)
 
-buffers-told : (s : State) (t : ℕ × ℕ) (mode : Mode) (d : ℕ) → t.1 < 4 → Names mode → IsReadyTo s t mode → HasBuffers s → HasBuffers (told_by s t mode d).0
-buffers-told s t (Direct v) d index names ready h = buffers-requested s t.0 v h
-buffers-told s t (Posted i) d index names ready h = buffers-delivered s t.0 i (FromTimer s.next_ticket t d) (timer-fits s t i s.next_ticket d names index ready) h
+buffers-emitted : (s : State) (t : ℕ × ℕ) (mode : Mode) (d : ℕ) → t.1 < 4 → Names mode → IsReadyTo s t mode → HasBuffers s → HasBuffers (delivery_by s t mode d).0
+buffers-emitted s t (Direct v) d index names ready h = buffers-requested s t.0 v h
+buffers-emitted s t (Posted i) d index names ready h = buffers-delivered s t.0 i (FromTimer s.next_ticket t d) (timer-fits s t i s.next_ticket d names index ready) h
 
 buffers-signalled : (s : State) (t : ℕ × ℕ) (mode : Mode) (o : Option ℕ) → t.1 < 4 → Names mode → IsReadyTo s t mode → HasBuffers s → HasBuffers (signalled_by s t mode o).0
 buffers-signalled s t mode None index names ready h = h
-buffers-signalled s t mode (Some d) index names ready h = buffers-told s t mode d index names ready h
+buffers-signalled s t mode (Some d) index names ready h = buffers-emitted s t mode d index names ready h
 
 expired-ready : (s : State) (t : ℕ × ℕ) (mode : Mode) → IsReadyTo s t mode → IsReadyTo (expired_state s t) t mode
 expired-ready s t (Direct v) ready = tt

@@ -18,7 +18,7 @@ use Rattle.message_queues.specs.Queues.{Queues, is_from_port, is_from_timer, que
 use Rattle.synic_board.specs.State.{State, slot_of}
 use Rattle.synic_board.specs.Effects.{Effect, nothing}
 use Rattle.synic_board.specs.Resetting.{withdrawn_ticket, slot_emptied, queue_emptied, emptied_below, emptied, reset}
-use Rattle.synic_board.specs.inside.Buffers.{IsHome, HasBuffers}
+use Rattle.synic_board.specs.Buffers.{IsHome, HasBuffers}
 use Rattle.synic_board.proofs.keeping.Uses.{found_in, buffers-slot, buffers-emptied_below}
 
 -- sums over a list
@@ -77,20 +77,20 @@ no-timer p (FromTimer ticket t expiration) = none (t.0 == p)
     none false = refl
 
 -- 16 buffers of each port, and one of each timer
-ports-few : (s : State) (n : ℕ) → HasBuffers s → found_in (is_of_ports n) s.queues ≤ 16 * n
-ports-few s zero h = omega (arith, found-none (is_of_ports 0) no-port s.queues)
-ports-few s (suc n) h = omega (arith, found-split (is_of_ports (suc n)) (is_of_ports n) (is_from_port n) (next-port n) s.queues, ports-few s n h, h.room n)
+ports-bound : (s : State) (n : ℕ) → HasBuffers s → found_in (is_of_ports n) s.queues ≤ 16 * n
+ports-bound s zero h = omega (arith, found-none (is_of_ports 0) no-port s.queues)
+ports-bound s (suc n) h = omega (arith, found-split (is_of_ports (suc n)) (is_of_ports n) (is_from_port n) (next-port n) s.queues, ports-bound s n h, h.room n)
 
-timers-few : (s : State) (p n : ℕ) → HasBuffers s → found_in (is_of_timers p n) s.queues ≤ n
-timers-few s p zero h = omega (arith, found-none (is_of_timers p 0) (no-timer p) s.queues)
-timers-few s p (suc n) h = omega (arith, found-split (is_of_timers p (suc n)) (is_of_timers p n) (is_from_timer (p, n)) (next-timer p n) s.queues, timers-few s p n h, h.one_each (p, n))
+timers-bound : (s : State) (p n : ℕ) → HasBuffers s → found_in (is_of_timers p n) s.queues ≤ n
+timers-bound s p zero h = omega (arith, found-none (is_of_timers p 0) (no-timer p) s.queues)
+timers-bound s p (suc n) h = omega (arith, found-split (is_of_timers p (suc n)) (is_of_timers p n) (is_from_timer (p, n)) (next-timer p n) s.queues, timers-bound s p n h, h.one_each (p, n))
 
 -- how many of the messages that may be queued for a processor are queued
 abbrev homes : ℕ → Queues → ℕ
 homes p qs = found_in (is_of_ports 16) qs + found_in (is_of_timers p 4) qs
 
-homes-few : (s : State) (p : ℕ) → HasBuffers s → homes p s.queues ≤ 260
-homes-few s p h = omega (arith, ports-few s 16 h, timers-few s p 4 h)
+homes-bound : (s : State) (p : ℕ) → HasBuffers s → homes p s.queues ≤ 260
+homes-bound s p h = omega (arith, ports-bound s 16 h, timers-bound s p 4 h)
 
 home-found : (p : ℕ) (m : Message) → IsHome p m → 1 ≤ one_if (is_of_ports 16 m) + one_if (is_of_timers p 4 m)
 home-found p (FromPort ticket port kind payload) home = grind (arith, nat_tests)
@@ -103,33 +103,33 @@ all-found p (m ∷ q) h =
     omega (arith, home-found p m (All-head (IsHome p) m q h), all-found p q (All-tail (IsHome p) m q h), sum_by-cons (λ x. cond (is_of_ports 16 x) 1 0) m q, sum_by-cons (λ x. cond (is_of_timers p 4 x) 1 0) m q)
 
 -- so each message withdrawn from a queue was one of them
-queue-told : (s : State) (p i : ℕ) → i < 16 → HasBuffers s → length (queue_emptied s p i).1 + homes p (queue_emptied s p i).0.queues ≤ homes p s.queues
-queue-told s p i below h = by (cases_lt (source_number p i) (length s.queues))
+queue-emitted : (s : State) (p i : ℕ) → i < 16 → HasBuffers s → length (queue_emptied s p i).1 + homes p (queue_emptied s p i).0.queues ≤ homes p s.queues
+queue-emitted s p i below h = by (cases_lt (source_number p i) (length s.queues))
   where
-    told : length (queue_emptied s p i).1 ≡ length (queue_of s.queues p i)
-    told = length-map (map ticket_of (queue_of s.queues p i)) (λ t. Withdrawn t p i) ∙ length-map (queue_of s.queues p i) ticket_of
+    emitted : length (queue_emptied s p i).1 ≡ length (queue_of s.queues p i)
+    emitted = length-map (map ticket_of (queue_of s.queues p i)) (λ t. Withdrawn t p i) ∙ length-map (queue_of s.queues p i) ticket_of
 
     by : (source_number p i < length s.queues) ⊎ (length s.queues ≤ source_number p i) → length (queue_emptied s p i).1 + homes p (queue_emptied s p i).0.queues ≤ homes p s.queues
     by (inl inside) =
-        omega (arith, told, all-found p (queue_of s.queues p i) (h.home p i below), sum_by-set (count_by (is_of_ports 16)) s.queues (source_number p i) [] [] inside, sum_by-set (count_by (is_of_timers p 4)) s.queues (source_number p i) [] [] inside)
+        omega (arith, emitted, all-found p (queue_of s.queues p i) (h.home p i below), sum_by-set (count_by (is_of_ports 16)) s.queues (source_number p i) [] [] inside, sum_by-set (count_by (is_of_timers p 4)) s.queues (source_number p i) [] [] inside)
     by (inr past) =
         let none : queue_of s.queues p i ≡ [] = get_or-eq_default s.queues [] past in
         let same : homes p (queue_emptied s p i).0.queues ≡ homes p s.queues = ap (homes p) (set_past s.queues (source_number p i) [] past) in
-        omega (arith, told, ap length none, same)
+        omega (arith, emitted, ap length none, same)
 
-slot-told : (s : State) (p i : ℕ) → length (slot_emptied s p i).1 + homes p (slot_emptied s p i).0.queues ≤ 1 + homes p s.queues
-slot-told s p i =
+slot-emitted : (s : State) (p i : ℕ) → length (slot_emptied s p i).1 + homes p (slot_emptied s p i).0.queues ≤ 1 + homes p s.queues
+slot-emitted s p i =
     elim (slot_of s p i) as (λ o. length (option_map_or (withdrawn_ticket s p i) o (nothing s)).1 + homes p (option_map_or (withdrawn_ticket s p i) o (nothing s)).0.queues ≤ 1 + homes p s.queues) [ None ↦ omega arith | Some t ↦ omega arith ]
 
-emptied-told : (s : State) (p n : ℕ) → n ≤ 16 → HasBuffers s → length (emptied_below s p n).1 + homes p (emptied_below s p n).0.queues ≤ n + homes p s.queues
+emptied-emitted : (s : State) (p n : ℕ) → n ≤ 16 → HasBuffers s → length (emptied_below s p n).1 + homes p (emptied_below s p n).0.queues ≤ n + homes p s.queues
 unfolding emptied_below
-emptied-told s p zero few h = omega arith
-emptied-told s p (suc i) few h =
+emptied-emitted s p zero bound h = omega arith
+emptied-emitted s p (suc i) bound h =
     let e : Effect = emptied_below s p i in
     let slot : Effect = slot_emptied e.0 p i in
     let queue : Effect = queue_emptied slot.0 p i in
     let left = buffers-slot e.0 p i (buffers-emptied_below s p i h) in
-    omega (arith, emptied-told s p i (omega (arith, few)) h, slot-told e.0 p i, queue-told slot.0 p i (omega (arith, few)) left, length-append e.1 (slot.1 ++ queue.1), length-append slot.1 queue.1)
+    omega (arith, emptied-emitted s p i (omega (arith, bound)) h, slot-emitted e.0 p i, queue-emitted slot.0 p i (omega (arith, bound)) left, length-append e.1 (slot.1 ++ queue.1), length-append slot.1 queue.1)
 
-pub few-reset : (s : State) (p : ℕ) → HasBuffers s → length (reset s p).2 ≤ 276
-few-reset s p h = omega (arith, emptied-told s p 16 (omega arith) h, homes-few s p h, length-append (emptied s p).1 [])
+pub bound-reset : (s : State) (p : ℕ) → HasBuffers s → length (reset s p).2 ≤ 276
+bound-reset s p h = omega (arith, emptied-emitted s p 16 (omega arith) h, homes-bound s p h, length-append (emptied s p).1 [])

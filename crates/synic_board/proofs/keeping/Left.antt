@@ -30,7 +30,7 @@ leaves-after n s now next h k p i below under full =
     let second = k p i below under (still-occupied s now p i first ∙ full) in
     record {
       ticket = second.ticket ∙ first.ticket;
-      bytes = λ b few ne. second.bytes b few ne ∙ first.bytes b few ne;
+      bytes = λ b bound ne. second.bytes b bound ne ∙ first.bytes b bound ne;
       flags = λ bit ne. second.flags bit ne ∙ first.flags bit ne;
     }
 
@@ -69,7 +69,7 @@ leaves-marked n s q j long within p i below under _ = by (cases_eq p q)
     by (inr ne) = leaves-page s now p i (get_or-set_other s.own (2 * q) (2 * p) new [] (λ e. ne (omega (arith, e)))) refl
     by (inl same) = record {
       ticket = refl;
-      bytes = λ k few ne. here k ∙ get_or-set_other page (pending_place j) (256 * i + k) byte 0 (λ e. ne (omega (arith, e, few))) ∙ was k;
+      bytes = λ k bound ne. here k ∙ get_or-set_other page (pending_place j) (256 * i + k) byte 0 (λ e. ne (omega (arith, e, bound))) ∙ was k;
       flags = λ bit ne. ap (λ b. bit_at b bit) (here 5) ∙ flagged bit ne (cases_eq (256 * i + 5) (pending_place j)) ∙ ap (λ b. bit_at b bit) (was 5);
     }
       where
@@ -92,7 +92,7 @@ leaves-marked n s q j long within p i below under _ = by (cases_eq p q)
 
 -- another slot of a page in which one is written
 pub slot-other : (page bytes : List ℕ) (j i k : ℕ) → length page ≡ 4096 → length bytes ≡ 256 → j < 16 → i < 16 → i ≢ j → k < 256 → get_or (with_slot page j bytes) (256 * i + k) 0 ≡ get_or page (256 * i + k) 0
-slot-other page bytes j i k long size inside under ne few =
+slot-other page bytes j i k long size inside under ne bound =
     ap (λ m. get_or (take (256 * j) page ++ bytes ++ drop (256 * j + m) page) (256 * i + k) 0) (sym size)
     ∙ overwritten-other page bytes (256 * j) (256 * i + k) (omega (arith, long, size)) (side (cases_lt i j))
   where

@@ -20,9 +20,9 @@ use Rattle.gpa_space.specs.Space.{own_page}
 use Rattle.synic_board.specs.State.{State, space_of, slot_of}
 use Rattle.synic_board.specs.Delivery.{placed_state, placed_head, placed_notices, placed}
 use Rattle.synic_board.specs.Slots.{slot_byte, LeavesSlot}
-use Rattle.synic_board.specs.Places.{times, places}
+use Rattle.synic_board.specs.Locations.{times, locations}
 use Rattle.synic_board.specs.Sound.{IsWhole, IsFree, IsMessage}
-use Rattle.synic_board.proofs.keeping.Counts.{in_queue, in_slot, one, times-places, in_queue-cons, given-none}
+use Rattle.synic_board.proofs.keeping.Counts.{in_queue, in_slot, one, times-locations, in_queue-cons, given-none}
 use Rattle.synic_board.proofs.keeping.Left.{Leaves, leaves-page, slot-other}
 use Rattle.synic_board.proofs.keeping.Wholes.{IsIntact, Keeps, EndsNone}
 use Rattle.synic_board.proofs.keeping.Slots.{length-with_slot, other_place}
@@ -86,10 +86,10 @@ placed-empty n s p i m rest h below under good q j within inside = split (cases_
     split (inl e) (inl f) = λ z. absurd (occupied n s p i m rest h below under good ((λ k. slot_type (page_of (placed_state s p i m rest) (e k)) (f k)) ∙ z))
 
 -- the message moves from its queue to its slot
-placed-moves : (n : ℕ) (s : State) (p i : ℕ) (m : Message) (rest : List Message) → IsWhole n s → p < n → i < 16 → queue_of s.queues p i ≡ m ∷ rest → slot_of s p i ≡ None → (t : ℕ) → times t (places (placed_state s p i m rest)) ≡ times t (places s)
+placed-moves : (n : ℕ) (s : State) (p i : ℕ) (m : Message) (rest : List Message) → IsWhole n s → p < n → i < 16 → queue_of s.queues p i ≡ m ∷ rest → slot_of s p i ≡ None → (t : ℕ) → times t (locations (placed_state s p i m rest)) ≡ times t (locations s)
 placed-moves n s p i m rest h below under is free t =
-    let a = times-places t s in
-    let b = times-places t (placed_state s p i m rest) in
+    let a = times-locations t s in
+    let b = times-locations t (placed_state s p i m rest) in
     let c = sum_by-set (in_queue t) s.queues (source_number p i) rest [] (omega (arith, h.queues)) in
     let d = sum_by-set (in_slot t) s.slots (source_number p i) (Some (ticket_of m)) None (omega (arith, h.slots)) in
     let e : in_queue t (queue_of s.queues p i) ≡ one (ticket_of m) t + in_queue t rest = ap (in_queue t) is ∙ in_queue-cons t m rest in
@@ -121,13 +121,13 @@ leaves-placed n s p i m rest h below under good empty q j within inside full = b
 
     by : (q ≡ p) ⊎ (q ≢ p) → LeavesSlot s now q j
     by (inr ne) = leaves-page s now q j (get_or-set_other s.own (2 * p) (2 * q) new [] (λ e. ne (omega (arith, e)))) ticket
-    by (inl same) = record { ticket = ticket; bytes = λ k few _. byte k few; flags = λ bit _. ap (λ b. bit_at b bit) (byte 5 (omega arith)) }
+    by (inl same) = record { ticket = ticket; bytes = λ k bound _. byte k bound; flags = λ bit _. ap (λ b. bit_at b bit) (byte 5 (omega arith)) }
       where
         byte : (k : ℕ) → k < 256 → slot_byte now q j k ≡ slot_byte s q j k
-        byte k few =
+        byte k bound =
             ap (λ l. slice_index_or (slice_index_or (slice_set s.own (2 * p) new) (2 * l) []) (256 * j + k) 0) same
             ∙ ap (λ page. slice_index_or page (256 * j + k) 0) (get_or-set_same s.own (2 * p) new [] (omega (arith, h.whole.own)))
-            ∙ slot-other (page_of s p) bytes i j k (page-long n s p h.whole below) (length-image m (nat_lt 0 (length rest)) s.moment good.2) under inside (λ e. apart (sym same) (sym e)) few
+            ∙ slot-other (page_of s p) bytes i j k (page-long n s p h.whole below) (length-image m (nat_lt 0 (length rest)) s.moment good.2) under inside (λ e. apart (sym same) (sym e)) bound
             ∙ ap (λ l. slice_index_or (page_of s l) (256 * j + k) 0) (sym same)
 
 keeps-head : (n : ℕ) (s : State) (p i : ℕ) (m : Message) (rest : List Message) → IsIntact n s → p < n → i < 16 → queue_of s.queues p i ≡ m ∷ rest → slot_type (page_of s p) i ≡ 0 → slot_of s p i ≡ None → Keeps n s (placed_head s p i (m ∷ rest))
@@ -135,7 +135,7 @@ keeps-head n s p i m rest h below under is empty free =
     let good = tail-good m rest (subst (All IsMessage) is (queue-good n s p i h.whole below under)) in
     record {
       kept = record { count = h.count; whole = placed-whole n s p i m rest h.whole below under good.0 good.1; empty = placed-empty n s p i m rest h below under good.0 };
-      later = omega arith;
+      tickets_monotone = omega arith;
       conserves = λ t. omega (arith, placed-moves n s p i m rest h.whole below under is free t, no-ends (ticket_of m) p i (nat_lt 0 (length rest)) t, given-none t s (placed_state s p i m rest) refl);
       leaves = leaves-placed n s p i m rest h below under good.0 empty;
     }

@@ -22,11 +22,11 @@ use Rattle.synic_board.specs.State.{State, space_of, bank_of, apic_of, with_apic
 use Rattle.synic_board.specs.Effects.{Effect, nothing}
 use Rattle.synic_board.specs.Suspending.{with_suspension}
 use Rattle.synic_board.specs.Resetting.{withdrawn_ticket, slot_emptied, queue_emptied, source_emptied, emptied_below, emptied, cleared, reset}
-use Rattle.synic_board.specs.Places.{times_ended}
+use Rattle.synic_board.specs.Locations.{times_ended}
 use Rattle.synic_board.specs.Slots.{LeavesSlot}
 use Rattle.synic_board.specs.Sound.{IsMessage}
 use Rattle.synic_board.proofs.Clocks.{idle-marked, idle-reset}
-use Rattle.synic_board.proofs.keeping.Counts.{in_queue, in_slot, one, times-places, given-none}
+use Rattle.synic_board.proofs.keeping.Counts.{in_queue, in_slot, one, times-locations, given-none}
 use Rattle.synic_board.proofs.keeping.Left.{leaves-page, leaves-same}
 use Rattle.synic_board.proofs.keeping.Wholes.{IsIntact, Keeps, KeepsMessages, KeepsMessagesOf, messages-kept, keeps-nothing, keeps-still, messages-after, kept-apic, still}
 use Rattle.synic_board.proofs.keeping.Changes.{kept-bank}
@@ -46,12 +46,12 @@ keeps-suspension n s p mark h below =
 keeps-freed : (n : ℕ) (s : State) (p i x : ℕ) → IsIntact n s → p < n → i < 16 → slot_of s p i ≡ Some x → KeepsMessages n s (withdrawn_ticket s p i x)
 keeps-freed n s p i x h below under is = record {
   kept = record { count = h.count; whole = without-whole n s p i h.whole; empty = λ q j within inside z. without-slot n s p i q j h.whole below under inside (λ _. h.empty q j within inside z) };
-  later = omega arith;
-  conserves = λ t. omega (arith, times-places t s, times-places t (with_slot_ticket s p i None), sum_by-set (in_slot t) s.slots (source_number p i) None None (omega (arith, h.whole.slots)), ap (in_slot t) is, given-none t s (with_slot_ticket s p i None) refl, told t);
+  tickets_monotone = omega arith;
+  conserves = λ t. omega (arith, times-locations t s, times-locations t (with_slot_ticket s p i None), sum_by-set (in_slot t) s.slots (source_number p i) None None (omega (arith, h.whole.slots)), ap (in_slot t) is, given-none t s (with_slot_ticket s p i None) refl, emitted t);
 }
   where
-    told : (t : ℕ) → times_ended t (Withdrawn x p i ∷ []) ≡ one x t
-    told t = zero-add (one x t)
+    emitted : (t : ℕ) → times_ended t (Withdrawn x p i ∷ []) ≡ one x t
+    emitted t = zero-add (one x t)
 
 keeps-slot : (n : ℕ) (s : State) (p i : ℕ) → IsIntact n s → p < n → i < 16 → KeepsMessages n s (slot_emptied s p i)
 keeps-slot n s p i h below under = held (slot_of s p i) refl
@@ -77,8 +77,8 @@ keeps-queue n s p i h below under = record {
     };
     empty = h.empty;
   };
-  later = omega arith;
-  conserves = λ t. omega (arith, times-places t s, times-places t (queue_emptied s p i).0, sum_by-set (in_queue t) s.queues (source_number p i) [] [] (omega (arith, h.whole.queues)), ends-each t p i (map ticket_of (queue_of s.queues p i)), given-none t s (queue_emptied s p i).0 refl);
+  tickets_monotone = omega arith;
+  conserves = λ t. omega (arith, times-locations t s, times-locations t (queue_emptied s p i).0, sum_by-set (in_queue t) s.queues (source_number p i) [] [] (omega (arith, h.whole.queues)), ends-each t p i (map ticket_of (queue_of s.queues p i)), given-none t s (queue_emptied s p i).0 refl);
 }
 
 -- after the sources below i were emptied: their slots hold no ticket
@@ -96,16 +96,16 @@ freed n s p i j h below under le free = held (slot_of s p i) refl (cases_eq j i)
 
 empties-below : (n : ℕ) (s : State) (p i : ℕ) → IsIntact n s → p < n → i ≤ 16 → Empties n p i s (emptied_below s p i)
 unfolding emptied_below
-empties-below n s p zero h below few = record { messages = messages-kept n s (nothing s) (keeps-nothing n s h); free = λ j less. absurd (omega (arith, less)) }
-empties-below n s p (suc i) h below few =
+empties-below n s p zero h below bound = record { messages = messages-kept n s (nothing s) (keeps-nothing n s h); free = λ j less. absurd (omega (arith, less)) }
+empties-below n s p (suc i) h below bound =
     let e : Effect = emptied_below s p i in
     let slot : Effect = slot_emptied e.0 p i in
-    let first = empties-below n s p i h below (omega (arith, few)) in
-    let second = keeps-slot n e.0 p i first.messages.kept below (omega (arith, few)) in
-    let third = keeps-queue n slot.0 p i second.kept below (omega (arith, few)) in
+    let first = empties-below n s p i h below (omega (arith, bound)) in
+    let second = keeps-slot n e.0 p i first.messages.kept below (omega (arith, bound)) in
+    let third = keeps-queue n slot.0 p i second.kept below (omega (arith, bound)) in
     record {
       messages = messages-after n s e (source_emptied e.0 p i) first.messages (messages-after n e.0 slot (queue_emptied slot.0 p i) second third);
-      free = λ j less. freed n e.0 p i j first.messages.kept below (omega (arith, few)) (omega (arith, less)) (first.free j);
+      free = λ j less. freed n e.0 p i j first.messages.kept below (omega (arith, bound)) (omega (arith, less)) (first.free j);
     }
 
 -- the message page of another processor
@@ -140,7 +140,7 @@ pub keeps-reset : (n : ℕ) (s : State) (p : ℕ) → IsIntact n s → p < n →
 keeps-reset n s p h below =
     let e : Effect = emptied s p in
     let all = empties-below n s p 16 h below (omega arith) in
-    messages-after n s e (cleared e.0 p, []) all.messages (record { kept = kept-cleared n e.0 p all.messages.kept below all.free; later = omega arith; conserves = still e.0 (cleared e.0 p) [] (record { queues = refl; slots = refl; next = refl }) (λ t. refl) })
+    messages-after n s e (cleared e.0 p, []) all.messages (record { kept = kept-cleared n e.0 p all.messages.kept below all.free; tickets_monotone = omega arith; conserves = still e.0 (cleared e.0 p) [] (record { queues = refl; slots = refl; next = refl }) (λ t. refl) })
 
 -- the slots of another processor are unchanged
 record IsLeft (s now : State) (q : ℕ) : Type 0 where
@@ -156,10 +156,10 @@ left-slot s p i q under ne = held (slot_of s p i)
 
 left-below : (s : State) (p i q : ℕ) → i ≤ 16 → q ≢ p → IsLeft s (emptied_below s p i).0 q
 unfolding emptied_below
-left-below s p zero q few ne = record { page = refl; slots = λ j _. refl }
-left-below s p (suc i) q few ne =
-    let first = left-below s p i q (omega (arith, few)) ne in
-    let second = left-slot (emptied_below s p i).0 p i q (omega (arith, few)) ne in
+left-below s p zero q bound ne = record { page = refl; slots = λ j _. refl }
+left-below s p (suc i) q bound ne =
+    let first = left-below s p i q (omega (arith, bound)) ne in
+    let second = left-slot (emptied_below s p i).0 p i q (omega (arith, bound)) ne in
     record { page = second.page ∙ first.page; slots = λ j inside. second.slots j inside ∙ first.slots j inside }
 
 pub leaves-reset : (s : State) (p q i : ℕ) → q ≢ p → i < 16 → LeavesSlot s (reset s p).0 q i

@@ -24,7 +24,7 @@ use Rattle.synic_board.specs.Stores.{read_bytes}
 use Rattle.synic_board.specs.Suspending.{is_suspended, suspended, resumed}
 use Rattle.synic_board.specs.Resetting.{reset}
 use Rattle.synic_board.specs.Step.{step}
-use Rattle.synic_board.specs.Places.{Conserves}
+use Rattle.synic_board.specs.Locations.{Conserves}
 use Rattle.synic_board.specs.Slots.{IsApart, LeavesSlot}
 use Rattle.synic_board.specs.Delivery.{is_slot_empty}
 use Rattle.synic_board.specs.Sound.{IsSound, PayloadFits}
@@ -134,14 +134,14 @@ pub conserves : (s now : State) (e : Event) (reply : Reply) (notices : List Noti
 conserves s now e reply notices fits is sound = subst (λ (o : Outcome). Conserves s o.0 o.2) (sym is) (keeps-step (processors s) s e fits (kept_from_sound s sound)).conserves
 
 -- no ticket is given twice
-pub later : (s now : State) (e : Event) (reply : Reply) (notices : List Notice) → PayloadFits e → (now, reply, notices) ≡ step s e → IsSound s → s.next_ticket ≤ now.next_ticket
-later s now e reply notices fits is sound = subst (λ (o : Outcome). s.next_ticket ≤ o.0.next_ticket) (sym is) (keeps-step (processors s) s e fits (kept_from_sound s sound)).later
+pub tickets_monotone : (s now : State) (e : Event) (reply : Reply) (notices : List Notice) → PayloadFits e → (now, reply, notices) ≡ step s e → IsSound s → s.next_ticket ≤ now.next_ticket
+tickets_monotone s now e reply notices fits is sound = subst (λ (o : Outcome). s.next_ticket ≤ o.0.next_ticket) (sym is) (keeps-step (processors s) s e fits (kept_from_sound s sound)).tickets_monotone
 
 -- every event preserves soundness
 pub sound : (s now : State) (e : Event) (reply : Reply) (notices : List Notice) → PayloadFits e → (now, reply, notices) ≡ step s e → IsSound s → IsSound now
 sound s now e reply notices fits is before =
     let k = keeps-step (processors s) s e fits (kept_from_sound s before) in
-    subst (λ (o : Outcome). IsSound o.0) (sym is) (sound_from_kept (processors s) (step s e).0 k.kept (tickets-conserved s (step s e).0 (step s e).2 k.later k.conserves before.tickets))
+    subst (λ (o : Outcome). IsSound o.0) (sym is) (sound_from_kept (processors s) (step s e).0 k.kept (tickets-conserved s (step s e).0 (step s e).2 k.tickets_monotone k.conserves before.tickets))
 
 -- an occupied slot is left unchanged, and one that holds a ticket is occupied
 pub slot-left : (s : State) (e : Event) (p i : ℕ) → IsSound s → PayloadFits e → IsApart p e → p < processors s → i < 16 → is_slot_empty s p i ≡ false → LeavesSlot s (step s e).0 p i

@@ -14,15 +14,15 @@ use Rattle.board_terms.specs.declared.pages.Owner.TheVariants.{Guest, Nothing}
 use Rattle.board_terms.specs.Sources.{source_number}
 use Rattle.message_queues.specs.Image.{slot_type}
 use Rattle.gpa_space.specs.Page.{overwritten}
-use Rattle.gpa_space.specs.Space.{Space, refusal_of, overlay_owner, visible, lies_at}
+use Rattle.gpa_space.specs.Space.{Space, refusal_of, overlay_owner, visible, is_mapped_at}
 use Rattle.synic_board.specs.State.{State, processors, overlay_registers, space_of, slot_of, with_space, with_slot_ticket}
 use Rattle.synic_board.specs.Effects.{Effect, nothing}
 use Rattle.synic_board.specs.Delivery.{is_slot_empty}
 use Rattle.synic_board.specs.Stores.{consumed_ticket, consumed, consumed_below, consumed_in, stored_bytes}
 use Rattle.synic_board.specs.declared.event.Reply.TheVariants.{Refused}
-use Rattle.synic_board.specs.Places.{times_ended, Conserves}
+use Rattle.synic_board.specs.Locations.{times_ended, Conserves}
 use Rattle.synic_board.proofs.Overlays.{length-overlays}
-use Rattle.synic_board.proofs.keeping.Counts.{in_slot, one, times-places, given-none}
+use Rattle.synic_board.proofs.keeping.Counts.{in_slot, one, times-locations, given-none}
 use Rattle.synic_board.specs.Sound.{IsWhole, IsFree}
 use Rattle.synic_board.proofs.keeping.Wholes.{IsIntact, KeepsMessages, KeepsMessagesOf, messages-kept, AreStill, keeps-unchanged, still, conserves-after}
 use Rattle.synic_board.proofs.keeping.Requests.{either}
@@ -64,11 +64,11 @@ consumes-ticket : (n : ℕ) (s : State) (p i x : ℕ) → IsPartly n p i s → p
 consumes-ticket n s p i x h below under is = record {
   partly = record { count = h.count; whole = without-whole n s p i h.whole; empty = λ q j within inside low z. without-slot n s p i q j h.whole below under inside (λ apart. h.empty q j within inside (λ e. omega (arith, low e, apart (sym e))) z) };
   next = refl;
-  conserves = λ t. omega (arith, times-places t s, times-places t (with_slot_ticket s p i None), sum_by-set (in_slot t) s.slots (source_number p i) None None (omega (arith, h.whole.slots)), ap (in_slot t) is, given-none t s (with_slot_ticket s p i None) refl, told t);
+  conserves = λ t. omega (arith, times-locations t s, times-locations t (with_slot_ticket s p i None), sum_by-set (in_slot t) s.slots (source_number p i) None None (omega (arith, h.whole.slots)), ap (in_slot t) is, given-none t s (with_slot_ticket s p i None) refl, emitted t);
 }
   where
-    told : (t : ℕ) → times_ended t (Consumed x p i ∷ []) ≡ one x t
-    told t = zero-add (one x t)
+    emitted : (t : ℕ) → times_ended t (Consumed x p i ∷ []) ≡ one x t
+    emitted t = zero-add (one x t)
 
 consumes-nothing : (n : ℕ) (s : State) (p i : ℕ) → IsPartly n p i s → IsFree s p i → Consumes n p (suc i) s (nothing s)
 consumes-nothing n s p i h free = record {
@@ -95,8 +95,8 @@ consumes-one n s p i h below under =
 
 consumes-below : (n : ℕ) (s : State) (p i : ℕ) → IsPartly n p 0 s → p < n → i ≤ 16 → Consumes n p i s (consumed_below s p i)
 unfolding consumed_below
-consumes-below n s p zero h below few = record { partly = h; next = refl; conserves = still s s [] (record { queues = refl; slots = refl; next = refl }) (λ t. refl) }
-consumes-below n s p (suc i) h below few =
+consumes-below n s p zero h below bound = record { partly = h; next = refl; conserves = still s s [] (record { queues = refl; slots = refl; next = refl }) (λ t. refl) }
+consumes-below n s p (suc i) h below bound =
     let e : Effect = consumed_below s p i in
     let first = consumes-below n s p i h below (omega arith) in
     let second = consumes-one n e.0 p i first.partly below (omega arith) in
@@ -111,12 +111,12 @@ keeps-consumed n s now p same h below =
     let all = consumes-below n now p 16 h below (omega arith) in
     record {
       kept = record { count = all.partly.count; whole = all.partly.whole; empty = λ q j within inside. all.partly.empty q j within inside (λ _. inside) };
-      later = omega (arith, all.next, same.next);
+      tickets_monotone = omega (arith, all.next, same.next);
       conserves = conserves-after s (now, []) (consumed_below now p 16) (omega (arith, same.next)) (omega (arith, all.next)) (still s now [] same (λ t. refl)) all.conserves;
     }
 
 -- a store does not change the length of a page
-length-overwritten : (page bytes : List ℕ) (at : ℕ) → length page ≡ 4096 → at + length bytes ≤ 4096 → length (overwritten page at bytes) ≡ 4096
+pub length-overwritten : (page bytes : List ℕ) (at : ℕ) → length page ≡ 4096 → at + length bytes ≤ 4096 → length (overwritten page at bytes) ≡ 4096
 length-overwritten page bytes at l fits =
     omega (arith, length-append (take at page ++ bytes) (drop (at + length bytes) page), length-append (take at page) bytes, length-take at page, length-drop (at + length bytes) page)
 
@@ -137,7 +137,7 @@ own-whole n s k page h l = record {
 }
 
 -- the slots of another page
-own-other : (n : ℕ) (s : State) (k q j : ℕ) (page : List ℕ) → IsIntact n s → q < n → j < 16 → 2 * q ≢ k → IsFree (with_own s k page) q j
+pub own-other : (n : ℕ) (s : State) (k q j : ℕ) (page : List ℕ) → IsIntact n s → q < n → j < 16 → 2 * q ≢ k → IsFree (with_own s k page) q j
 own-other n s k q j page h within inside ne z = h.empty q j within inside (sym (ap (λ x. slot_type x j) (get_or-set_other s.own k (2 * q) page [] ne)) ∙ z)
 
 keeps-own : (n : ℕ) (s : State) (k : ℕ) (page : List ℕ) → IsIntact n s → k < 2 * n → length page ≡ 4096 → KeepsMessages n s (consumed_in (with_own s k page) (overlay_owner k))
@@ -148,7 +148,7 @@ keeps-own n s k page h low l =
     (omega arith))
     (λ e. let odd : k % 2 ≢ 0 = λ f. absurd (grind (arith, nat_tests)) in record {
       kept = record { count = h.count; whole = own-whole n s k page h.whole l; empty = λ q j within inside. own-other n s k q j page h within inside (λ f. odd (omega arith)) };
-      later = omega arith;
+      tickets_monotone = omega arith;
       conserves = still s (with_own s k page) [] (record { queues = refl; slots = refl; next = refl }) (λ t. refl);
     })
 
@@ -181,11 +181,11 @@ keeps-store_at n s page at bytes h fits inside o is = rw inside (seen o is)
     seen : (o : Option ℕ) → visible (space_of s) page ≡ o → KeepsMessages n s (consumed_in (with_space s (store_at s page at bytes o)) (option_map_or overlay_owner o Guest))
     seen None is = record {
       kept = guest-kept n s (slice_set s.pages page (overwritten (slice_index_or s.pages page []) at bytes)) h;
-      later = omega arith;
+      tickets_monotone = omega arith;
       conserves = still s (record s { pages = slice_set s.pages page (overwritten (slice_index_or s.pages page []) at bytes) }) [] (record { queues = refl; slots = refl; next = refl }) (λ t. refl);
     }
     seen (Some k) is =
-        let low : k < 2 * n = omega (arith, (position-Some (lies_at page) (overlay_registers s.regs) k 0 is).0, length-overlays s.regs, h.whole.registers) in
+        let low : k < 2 * n = omega (arith, (position-Some (is_mapped_at page) (overlay_registers s.regs) k 0 is).0, length-overlays s.regs, h.whole.registers) in
         keeps-own n s k (overwritten (slice_index_or s.own k []) at bytes) h low (length-overwritten (slice_index_or s.own k []) bytes at (h.whole.pages k [] (omega (arith, h.whole.own))) fits)
 
 fits-page : (s : Space) (address count : ℕ) → refusal_of s address count ≡ None → address % 4096 + count ≤ 4096

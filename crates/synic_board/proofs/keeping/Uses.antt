@@ -17,7 +17,7 @@ use Rattle.synic_board.specs.State.{State, slot_of}
 use Rattle.synic_board.specs.Effects.{Effect, nothing}
 use Rattle.synic_board.specs.Delivery.{accepted}
 use Rattle.synic_board.specs.Resetting.{withdrawn_ticket, slot_emptied, queue_emptied, emptied_below}
-use Rattle.synic_board.specs.inside.Buffers.{IsHome, HasBuffers}
+use Rattle.synic_board.specs.Buffers.{IsHome, HasBuffers}
 use Rattle.synic_board.proofs.keeping.Requests.{either}
 
 pub alike : (s now : State) → now.queues ≡ s.queues → now.ports ≡ s.ports → HasBuffers s → HasBuffers now
@@ -35,10 +35,10 @@ found_in f qs = sum_by (count_by f) qs
 
 -- a queue that was written
 used-set : (f : Message → Bool) (qs : Queues) (j d : ℕ) (q : List Message) → count_by f q ≤ count_by f (get_or qs j []) + d → found_in f (set qs j q) ≤ found_in f qs + d
-used-set f qs j d q few = split (cases_lt j (length qs))
+used-set f qs j d q bound = split (cases_lt j (length qs))
   where
     split : (j < length qs) ⊎ (length qs ≤ j) → found_in f (set qs j q) ≤ found_in f qs + d
-    split (inl inside) = omega (arith, few, sum_by-set (count_by f) qs j q [] inside)
+    split (inl inside) = omega (arith, bound, sum_by-set (count_by f) qs j q [] inside)
     split (inr past) = omega (arith, ap (λ xs. found_in f xs) (set_past qs j q past))
 
 abbrev AreHome : Queues → Type 0
@@ -87,7 +87,7 @@ fewer-queued s now j q is ports part h = alike written now is ports (record {
     written = record s { queues = set s.queues j q }
 
     fewer : (f : Message → Bool) → found_in f (set s.queues j q) ≤ found_in f s.queues
-    fewer f = let few = used-set f s.queues j 0 q (omega (arith, part.counts f)) in omega (arith, few)
+    fewer f = let bound = used-set f s.queues j 0 q (omega (arith, part.counts f)) in omega (arith, bound)
 
 -- there is a buffer for a message that joins a queue, and it may be queued there
 pub record Fits (s : State) (p i : ℕ) (m : Message) : Type 0 where
@@ -129,9 +129,9 @@ one_if b = cond b 1 0
 
 -- one more message that satisfies the predicate, if the new one does
 more-found : (f : Message → Bool) (s : State) (p i : ℕ) (m : Message) (d : ℕ) → found_in f s.queues ≤ d → (f m ≡ true → found_in f s.queues < d) → found_in f (accepted s p i m).0.queues ≤ d
-more-found f s p i m d few free = elim (f m) as (λ b. f m ≡ b → found_in f (accepted s p i m).0.queues ≤ d) [
+more-found f s p i m d bound free = elim (f m) as (λ b. f m ≡ b → found_in f (accepted s p i m).0.queues ≤ d) [
   | true ↦ λ e. omega (arith, more, ap one_if e, free e)
-  | false ↦ λ e. omega (arith, more, ap one_if e, few)
+  | false ↦ λ e. omega (arith, more, ap one_if e, bound)
 ] refl
   where
     more : found_in f (accepted s p i m).0.queues ≤ found_in f s.queues + cond (f m) 1 0

@@ -15,8 +15,8 @@ use Rattle.event_ports.specs.declared.ports.Port.{Port}
 use Rattle.event_ports.specs.contracts.ports.Port as port
 use Rattle.stimer_bank.specs.declared.timer.Timer.{Timer}
 use Rattle.stimer_bank.specs.contracts.timer.Timer as timer
-use Rattle.synic_board.specs.State.{State, Held}
-use Rattle.synic_board.specs.Scratch.{Kept}
+use Rattle.synic_board.specs.State.{State, BoardModel}
+use Rattle.synic_board.specs.Summaries.{StoredSummary}
 
 abbrev pub state_code : Coded State
 state_code =
@@ -38,11 +38,11 @@ state_code =
       suspended = p.1.1.1.1.1.1.1.1.1.1;
     }) (λ _. refl)
 
-abbrev pub held_code : Coded Held
-held_code = code_by (State × ℕ) (coded× state_code coded_ℕ) (λ h. (h.state, h.writes)) (λ p. record { state = p.0; writes = p.1 }) (λ _. refl)
+abbrev pub model_code : Coded BoardModel
+model_code = code_by (State × ℕ) (coded× state_code coded_ℕ) (λ h. (h.state, h.writes)) (λ p. record { state = p.0; writes = p.1 }) (λ _. refl)
 
-abbrev pub kept_code : Coded Kept
-kept_code =
+abbrev pub stored_summary_code : Coded StoredSummary
+stored_summary_code =
     code_by (List (Option ℕ) × (List Vectors × (List Owner × (List ℕ × (Option (ℕ × (ℕ × ℕ)) × ℕ)))))
     (coded× (coded_list (coded_option coded_ℕ)) (coded× (coded_list (set.code coded_ℕ)) (coded× (coded_list owner.the_row.coded) (coded× (coded_list coded_ℕ) (coded× (coded_option (coded× coded_ℕ (coded× coded_ℕ coded_ℕ))) coded_ℕ)))))
     (λ k. (k.values.nexts, (k.values.autos, (k.values.owners, (k.values.queued, (k.values.earliest, k.writes))))))

@@ -1,6 +1,6 @@
 -- One value of the summary.
 use Rattle.std.specs.Prelude.{◌<◌, length, slice_set}
-use Rattle.synic_board.specs.Scratch.{Values}
+use Rattle.synic_board.specs.Summaries.{Values}
 use Rattle.synic_board.specs.declared.summary.Entry.{Entry}
 use Rattle.synic_board.specs.declared.summary.Entry.TheVariants.{Next, Auto, Owns, Queued, Earliest}
 use Rattle.board_terms.specs.Sources.{source_number}

@@ -1,17 +1,8 @@
 -- Moving overlays, and the effect on the summary.
 use Rattle.std.specs.Prelude.{ℕ, nat_lt, List, length, slice_set, if◌then◌else◌}
 use Rattle.board_terms.specs.declared.pages.Owner.{Owner}
-use Rattle.board_terms.specs.declared.pages.Kind.{Kind}
-use Rattle.board_terms.specs.declared.pages.Kind.TheVariants as kind
-use Rattle.synic_regs.specs.declared.register.Register.{Register}
-use Rattle.synic_regs.specs.declared.register.Register.TheVariants as register
 use Rattle.gpa_space.specs.Space.{Space, owner_of}
-use Rattle.synic_board.specs.Scratch.{Values}
-
--- the register of an overlay
-abbrev pub overlay_register : Kind → Register
-overlay_register kind.Sim = register.Sim
-overlay_register kind.Sief = register.Sief
+use Rattle.synic_board.specs.Summaries.{Values}
 
 -- the owner of one page is recomputed, if there is such a page
 abbrev pub looked_up : Space → List Owner → ℕ → List Owner

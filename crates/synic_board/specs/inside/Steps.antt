@@ -1,6 +1,8 @@
 -- Definitions for the clauses of private functions that perform one event.
-use Rattle.std.specs.Prelude.{ℕ, Bool, false, ◌<◌, nat_le, List, length, slice_index_or, Option}
+use Rattle.std.specs.Prelude.{ℕ, Bool, false, ◌<◌, ◌==◌, nat_le, List, length, slice_index_or, Option, None, Some, if◌then◌else◌}
+use Rattle.std.specs.Int.{bit_at}
 use Rattle.std.specs.Option.{option_map_or}
+use Rattle.board_terms.specs.Dues.{number_of}
 use Rattle.board_terms.specs.Quantities.{TimerId, Moment}
 use Rattle.synic_board.specs.State.{State, processors}
 use Rattle.board_terms.specs.declared.pages.Owner.{Owner}
@@ -16,6 +18,14 @@ AllOn s ts = (k : ℕ) → k < length ts → (slice_index_or ts k (0, 0)).0 < pr
 -- the earliest deadline has been reached, so some timer is due
 abbrev pub is_any_due : Option (Moment × TimerId) → Moment → Bool
 is_any_due first moment = option_map_or (λ e. nat_le e.0 moment) first false
+
+-- the earliest timer, if it is due
+abbrev pub first_due : Option (Moment × TimerId) → Moment → Option TimerId
+first_due first moment = option_map_or (λ e. if nat_le e.0 moment then Some e.1 else None) first None
+
+-- a timer is in a set: its bit of the word is set
+abbrev pub is_in_set : ℕ → TimerId → Bool
+is_in_set word t = bit_at word (number_of t) == 1
 
 -- an owner whose processor is on the board
 abbrev pub IsOn : State → Owner → Type 0

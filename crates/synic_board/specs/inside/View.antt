@@ -1,8 +1,8 @@
 -- The abstract view of the machine's fields, and their invariant.
 use Rattle.std.specs.Prelude.{◌≡◌, ◌≤◌, ◌*◌, ℕ, length, None, slice_index_or}
 use Rattle.stimer_bank.specs.Bank.{dues}
-use Rattle.synic_board.specs.State.{State, Held, overlay_registers}
-use Rattle.synic_board.specs.Scratch.{scratch}
+use Rattle.synic_board.specs.State.{State, BoardModel, overlay_registers}
+use Rattle.synic_board.specs.Summaries.{summary_of}
 use Rattle.synic_board.specs.declared.machine.Machine.TheInside.{Inside}
 
 abbrev pub state_of : Inside → State
@@ -21,14 +21,14 @@ state_of b =
       suspended = b.timers.suspended;
     }
 
-abbrev pub held_of : Inside → Held
-held_of b = record { state = state_of b; writes = b.summary.writes }
+abbrev pub model_of : Inside → BoardModel
+model_of b = record { state = state_of b; writes = b.summary.writes }
 
-pub record IsKept (b : Inside) : Type 0 where
-  pub few_processors : length b.lapics.items ≤ 8
+pub record MachineInvariant (b : Inside) : Type 0 where
+  pub processor_bound : length b.lapics.items ≤ 8
   pub registers : length b.regs.items ≡ length b.lapics.items
   pub page_count : b.page_count ≡ length b.space.pages
-  pub few_pages : b.page_count ≤ 64
+  pub page_bound : b.page_count ≤ 64
   -- the space has the overlay registers of the processors, two each
   pub two_overlays : length b.space.registers ≡ 2 * length b.lapics.items
   pub overlays : b.space.registers ≡ overlay_registers b.regs.items
@@ -38,4 +38,4 @@ pub record IsKept (b : Inside) : Type 0 where
   -- no timer of a processor that is not on the board has a deadline
   pub idle : (n : ℕ) → 4 * length b.lapics.items ≤ n → slice_index_or (dues b.timers) n None ≡ None
   -- the cached summary equals the one computed from scratch
-  pub summary : b.summary.values ≡ scratch (state_of b)
+  pub summary : b.summary.values ≡ summary_of (state_of b)

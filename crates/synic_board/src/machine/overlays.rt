@@ -2,7 +2,8 @@
 ghost use Rattle.std.specs.Prelude.{◌≡◌, ◌<◌, ◌≤◌, ◌+◌, length};
 ghost use Rattle.synic_regs.specs.Regs.{after_write};
 ghost use Rattle.synic_board.specs.State.{processors, regs_of, with_regs};
-ghost use Rattle.synic_board.specs.inside.Moves.{overlay_register, looked_up, with_owners};
+ghost use Rattle.synic_board.specs.inside.Moves.{looked_up, with_owners};
+ghost use Rattle.synic_board.specs.Restoring.{overlay_register};
 
 use crate::machine::Machine;
 use crate::summary::{Entry, Summary};
@@ -27,8 +28,8 @@ impl Machine {
     pub(crate) fn write_overlay(&mut self, vp: Vp, kind: Kind, value: u64)
         requires { vp < processors self.old.state }
         ensures state { self.new.state ≡ with_regs self.old.state vp (after_write (regs_of self.old.state vp) (overlay_register kind) value) }
-        ensures rises { self.old.writes ≤ self.new.writes }
-        ensures few { self.new.writes ≤ self.old.writes + 2 }
+        ensures writes_monotone { self.old.writes ≤ self.new.writes }
+        ensures bound { self.new.writes ≤ self.old.writes + 2 }
     {
         let regs = &mut self.regs[vp.number() as usize];
         let before = regs.read(overlay_register(kind));
@@ -54,8 +55,8 @@ fn look_up(space: &Space, pages: u8, summary: &mut Summary, page: u64)
     requires pages { pages ≡ length space.now.pages }
     requires owners { length summary.old.values.owners ≡ length space.now.pages }
     ensures values { summary.new.values ≡ with_owners summary.old.values (looked_up space.now summary.old.values.owners page) }
-    ensures rises { summary.old.writes ≤ summary.new.writes }
-    ensures few { summary.new.writes ≤ summary.old.writes + 1 }
+    ensures writes_monotone { summary.old.writes ≤ summary.new.writes }
+    ensures bound { summary.new.writes ≤ summary.old.writes + 1 }
 {
     if page >= pages as u64 {
         return;

@@ -111,7 +111,7 @@ impl Machine {
         requires room { length notices.old < 320 }
         ensures effect { (self.new.state, notices.new) ≡ preceded notices.old (consumed self.old.state vp sint) }
         ensures writes { self.new.writes ≡ self.old.writes }
-        ensures told { length notices.new ≤ length notices.old + 1 }
+        ensures emitted { length notices.new ≤ length notices.old + 1 }
         ensures same { processors self.new.state ≡ processors self.old.state }
     {
         let at = source_number(vp, sint);

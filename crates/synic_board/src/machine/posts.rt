@@ -31,8 +31,8 @@ impl Machine {
     pub(crate) fn close_port(&mut self, port: u8, notices: &mut Notices) -> Reply
         requires { notices.old ≡ [] }
         ensures step { (self.new.state, result, notices.new) ≡ closed self.old.state port }
-        ensures rises { self.old.writes ≤ self.new.writes }
-        ensures few { self.new.writes ≤ self.old.writes + 1 }
+        ensures writes_monotone { self.old.writes ≤ self.new.writes }
+        ensures bound { self.new.writes ≤ self.old.writes + 1 }
     {
         let target = match self.ports.close_port(port) {
             Ok(target) => target,
@@ -54,7 +54,7 @@ impl Machine {
         let tickets = self.queues.withdraw_port(vp, sint, port);
         let left = self.queues.count(vp, sint);
         self.summary.write(Entry::Queued(vp, sint, left));
-        tell_withdrawn(vp, sint, tickets.as_slice(), notices);
+        emit_withdrawn(vp, sint, tickets.as_slice(), notices);
     }
 
     /// Posts a message to a port.
@@ -69,8 +69,8 @@ impl Machine {
         requires none { notices.old ≡ [] }
         requires fits { length payload.now ≤ 240 }
         ensures step { (self.new.state, result, notices.new) ≡ posted self.old.state port kind (record { items = payload.now }) }
-        ensures rises { self.old.writes ≤ self.new.writes }
-        ensures few { self.new.writes ≤ self.old.writes + length notices.new }
+        ensures writes_monotone { self.old.writes ≤ self.new.writes }
+        ensures bound { self.new.writes ≤ self.old.writes + length notices.new }
     {
         let ticket = self.next_ticket;
         match self.try_post(port, kind, payload, notices) {
@@ -92,8 +92,8 @@ impl Machine {
         requires none { notices.old ≡ [] }
         requires fits { length payload.now ≤ 240 }
         ensures step { (self.new.state, unless_refused (Reply.Accepted self.old.state.next_ticket) result, notices.new) ≡ posted self.old.state port kind (record { items = payload.now }) }
-        ensures rises { self.old.writes ≤ self.new.writes }
-        ensures few { self.new.writes ≤ self.old.writes + length notices.new }
+        ensures writes_monotone { self.old.writes ≤ self.new.writes }
+        ensures bound { self.new.writes ≤ self.old.writes + length notices.new }
     {
         let Port { vp, sint, shape } = match self.ports.message_target(port, kind) {
             Ok(target) => target,
@@ -136,8 +136,8 @@ impl Machine {
     pub(crate) fn signal(&mut self, port: u8, flag: u16, notices: &mut Notices) -> Reply
         requires { notices.old ≡ [] }
         ensures step { (self.new.state, result, notices.new) ≡ signalled self.old.state port flag }
-        ensures rises { self.old.writes ≤ self.new.writes }
-        ensures few { self.new.writes ≤ self.old.writes + length notices.new }
+        ensures writes_monotone { self.old.writes ≤ self.new.writes }
+        ensures bound { self.new.writes ≤ self.old.writes + length notices.new }
     {
         let (vp, sint, place) = match self.ports.flag_place(port, flag) {
             Ok(place) => place,
@@ -161,7 +161,7 @@ impl Machine {
 }
 
 /// Emits a notice for each withdrawn message.
-pub(crate) fn tell_withdrawn(vp: Vp, sint: Sint, tickets: &[Ticket], notices: &mut Notices)
+pub(crate) fn emit_withdrawn(vp: Vp, sint: Sint, tickets: &[Ticket], notices: &mut Notices)
     requires { length notices.old + length tickets.now ≤ 320 }
     ensures { notices.new ≡ notices.old ++ map (λ t. Notice.Withdrawn t vp sint) tickets.now }
 {

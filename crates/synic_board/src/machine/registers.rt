@@ -20,8 +20,8 @@ impl Machine {
         requires on { vp < processors self.old.state }
         requires empty { notices.old ≡ [] }
         ensures step { (self.new.state, result, notices.new) ≡ written self.old.state vp number value }
-        ensures rises { self.old.writes ≤ self.new.writes }
-        ensures few { self.new.writes ≤ self.old.writes + (2 + length notices.new) }
+        ensures writes_monotone { self.old.writes ≤ self.new.writes }
+        ensures bound { self.new.writes ≤ self.old.writes + (2 + length notices.new) }
     {
         let Some(register) = decode(number) else {
             return Reply::GeneralProtection;
@@ -47,7 +47,7 @@ impl Machine {
 
     /// Writes SCONTROL.
     #[tactic(auto, using(crate::proofs::Rules::lists))]
-    fn write_control(&mut self, vp: Vp, value: u64)
+    pub(crate) fn write_control(&mut self, vp: Vp, value: u64)
         requires { vp < processors self.old.state }
         ensures state { (self.new.state, Reply.Done, []) ≡ stored self.old.state vp register.Control value }
         ensures writes { self.new.writes ≡ self.old.writes }
@@ -58,11 +58,11 @@ impl Machine {
     /// Writes a source, and updates the auto-EOI vectors.
     #[tactic(auto, using(crate::proofs::Rules::lists))]
     #[inline(always)]
-    fn write_source(&mut self, vp: Vp, sint: Sint, value: u64) -> Reply
+    pub(crate) fn write_source(&mut self, vp: Vp, sint: Sint, value: u64) -> Reply
         requires { vp < processors self.old.state }
         ensures step { (self.new.state, result, []) ≡ stored self.old.state vp (register.Source sint) value }
-        ensures rises { self.old.writes ≤ self.new.writes }
-        ensures few { self.new.writes ≤ self.old.writes + 1 }
+        ensures writes_monotone { self.old.writes ≤ self.new.writes }
+        ensures bound { self.new.writes ≤ self.old.writes + 1 }
     {
         let regs = &mut self.regs[vp.number() as usize];
         if regs.write(Register::Source(sint), value) == Outcome::GeneralProtection {

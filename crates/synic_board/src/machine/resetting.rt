@@ -11,7 +11,7 @@ ghost use Rattle.synic_board.specs.Resetting.{slot_emptied, queue_emptied, empti
 
 use crate::event::Reply;
 use crate::machine::Machine;
-use crate::machine::posts::tell_withdrawn;
+use crate::machine::posts::emit_withdrawn;
 use crate::summary::Entry;
 use board_terms::{Kind, Notice, Notices, Sint, Vp, source_number};
 use lapic_core::{Lapic, VectorSet};
@@ -25,8 +25,8 @@ impl Machine {
         requires on { vp < processors self.old.state }
         requires none { notices.old ≡ [] }
         ensures step { (self.new.state, result, notices.new) ≡ reset self.old.state vp }
-        ensures rises { self.old.writes ≤ self.new.writes }
-        ensures few { self.new.writes ≤ self.old.writes + (7 + length notices.new) }
+        ensures writes_monotone { self.old.writes ≤ self.new.writes }
+        ensures bound { self.new.writes ≤ self.old.writes + (7 + length notices.new) }
     {
         self.empty(vp, notices);
         self.clear(vp);
@@ -74,7 +74,7 @@ impl Machine {
         }
         let tickets = self.queues.withdraw_all(vp, sint);
         self.summary.write(Entry::Queued(vp, sint, 0));
-        tell_withdrawn(vp, sint, tickets.as_slice(), notices);
+        emit_withdrawn(vp, sint, tickets.as_slice(), notices);
     }
 
     /// Restores the initial state of a processor, except for its slots and queues, which are empty.
@@ -82,8 +82,8 @@ impl Machine {
     fn clear(&mut self, vp: Vp)
         requires { vp < processors self.old.state }
         ensures state { self.new.state ≡ cleared self.old.state vp }
-        ensures rises { self.old.writes ≤ self.new.writes }
-        ensures few { self.new.writes ≤ self.old.writes + 7 }
+        ensures writes_monotone { self.old.writes ≤ self.new.writes }
+        ensures bound { self.new.writes ≤ self.old.writes + 7 }
     {
         // The overlays leave their pages before the registers are replaced, so that the space
         // always has the registers' values.

@@ -18,8 +18,8 @@ impl Machine {
     pub(crate) fn suspend(&mut self, vp: Vp) -> Reply
         requires { vp < processors self.old.state }
         ensures step { (self.new.state, result, []) ≡ suspended self.old.state vp }
-        ensures rises { self.old.writes ≤ self.new.writes }
-        ensures few { self.new.writes ≤ self.old.writes + 2 }
+        ensures writes_monotone { self.old.writes ≤ self.new.writes }
+        ensures bound { self.new.writes ≤ self.old.writes + 2 }
     {
         if self.is_suspended(vp) {
             return Reply::Refused(Refusal::AlreadySuspended);
@@ -33,8 +33,8 @@ impl Machine {
     pub(crate) fn resume(&mut self, vp: Vp) -> Reply
         requires { vp < processors self.old.state }
         ensures step { (self.new.state, result, []) ≡ resumed self.old.state vp }
-        ensures rises { self.old.writes ≤ self.new.writes }
-        ensures few { self.new.writes ≤ self.old.writes + 2 }
+        ensures writes_monotone { self.old.writes ≤ self.new.writes }
+        ensures bound { self.new.writes ≤ self.old.writes + 2 }
     {
         if !self.is_suspended(vp) {
             return Reply::Refused(Refusal::NotSuspended);
@@ -77,7 +77,7 @@ fn mark_lapic(lapic: &mut Lapic, suspended: bool)
     }
 }
 
-fn mark_timers(timers: &mut TimerBank, vp: Vp, suspended: bool)
+pub(crate) fn mark_timers(timers: &mut TimerBank, vp: Vp, suspended: bool)
     ensures { timers.new ≡ bank_with_suspension timers.old vp suspended }
 {
     if suspended {

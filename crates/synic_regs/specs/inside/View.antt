@@ -7,7 +7,7 @@ use Rattle.synic_regs.specs.declared.regs.SynicRegs.TheInside.{Inside}
 abbrev pub regs_of : Inside → Regs
 regs_of a = record { control = a.control; sief = a.sief; sim = a.sim; sints = a.sints }
 
-pub record IsKept (a : Inside) : Type 0 where
+pub record RegsInvariant (a : Inside) : Type 0 where
   -- a source with a vector below 16 is masked
   pub legal : AreLegal a.sints
   -- the cached set is recomputed at each write of a source

@@ -1,73 +1,78 @@
--- Timers in heap order, with the place and the deadline of each.
-use Rattle.std.specs.Prelude.{◌≡◌, ℕ, ◌+◌, ◌-◌, ◌*◌, ◌/◌, ◌%◌, ◌^◌, ◌<◌, ◌≤◌, Bool, nat_lt, ◌==◌, ◌&&◌, ◌||◌, Option, None, Some, map, length, slice_index_or, slice_set, if◌then◌else◌}
-use Rattle.std.specs.Option.{option_map}
+-- The deadlines of the timers, and a tree of the timers that come first.
+use Rattle.std.specs.Prelude.{◌≡◌, ℕ, ◌+◌, ◌-◌, ◌*◌, ◌/◌, ◌%◌, ◌^◌, ◌<◌, ◌≤◌, Bool, false, nat_lt, Option, None, Some, map, min, length, slice_index_or, slice_set, is_none, count_by, if◌then◌else◌}
+use Rattle.std.specs.List.{range_with_len}
 use Rattle.board_terms.specs.Dues.{Dues}
-use Rattle.timer_heap.specs.declared.entry.Entry.{Entry}
 use Rattle.timer_heap.specs.declared.table.Table.{Table}
 
--- one entry precedes another: by deadline, then by number
-abbrev pub is_before : Entry → Entry → Bool
-is_before a b = nat_lt a.due b.due || (a.due == b.due && nat_lt a.number b.number)
+-- the least word below node j
+abbrev pub node : Table → ℕ → ℕ
+node t j = slice_index_or t.nodes j 0
 
-abbrev pub size : Table → ℕ
-size t = length t.order.items
+-- a timer has a deadline
+abbrev pub is_set : Table → ℕ → Bool
+is_set t n = slice_index_or t.marks n false
 
-abbrev pub number_at : Table → ℕ → ℕ
-number_at t i = slice_index_or t.order.items i 0
-
-abbrev pub place_of : Table → ℕ → Option ℕ
-place_of t n = slice_index_or t.places n None
-
--- the deadline of a timer with a place, from the upper and the lower word
+-- the deadline of a timer that has one, from the upper and the lower word
 abbrev pub moment_of : Table → ℕ → ℕ
 moment_of t n = slice_index_or t.highs n 0 * 2 ^ 64 + slice_index_or t.lows n 0
 
-abbrev pub entry_of : Table → ℕ → Entry
-entry_of t n = record { due = moment_of t n; number = n }
-
--- the entry of the timer at a place
-abbrev pub entry_at : Table → ℕ → Entry
-entry_at t i = entry_of t (number_at t i)
-
--- the deadline of the timer with a place
-abbrev pub due_through : Table → Option ℕ → Option ℕ
-due_through t o = option_map (λ i. moment_of t (number_at t i)) o
+abbrev pub due_at : Table → ℕ → Option ℕ
+due_at t n = if is_set t n then Some (moment_of t n) else None
 
 -- the deadlines of all timers
 unfoldable pub dues : Table → Dues
-dues t = map (due_through t) t.places
+dues t = map (due_at t) (range_with_len 0 32)
 
--- the two maps of the table are inverse: the timer at each place has that place, and the place of each timer has its number
-pub record IsInverse (t : Table) : Type 0 where
-  pub numbers : length t.places ≡ 32
+-- the word of a timer without a deadline, or with a late one
+abbrev pub never : ℕ
+never = 2 ^ 64 - 1
+
+-- deadlines before this one have a word of their own
+abbrev pub late : ℕ
+late = 2 ^ 59 - 1
+
+-- the word of timer n for a deadline: it orders the timers by deadline and number
+abbrev pub word_for : ℕ → ℕ → ℕ
+word_for due n = if nat_lt due late then 32 * due + n else never
+
+abbrev pub word_of : Table → ℕ → ℕ
+word_of t n = if is_set t n then word_for (moment_of t n) n else never
+
+-- timer n is below node j, or is the leaf j
+pub record IsBelow (j n : ℕ) : Type 0 where
+  pub low : n < 32
+  pub at_32 : 32 ≤ j → j ≡ 32 + n
+  pub at_16 : 16 ≤ j → j < 32 → j ≡ (32 + n) / 2
+  pub at_8 : 8 ≤ j → j < 16 → j ≡ (32 + n) / 4
+  pub at_4 : 4 ≤ j → j < 8 → j ≡ (32 + n) / 8
+  pub at_2 : 2 ≤ j → j < 4 → j ≡ (32 + n) / 16
+
+-- each leaf has the word of its timer
+pub record IsTree (t : Table) : Type 0 where
+  pub nodes : length t.nodes ≡ 64
+  pub marks : length t.marks ≡ 32
   pub highs : length t.highs ≡ 32
   pub lows : length t.lows ≡ 32
-  pub room : size t ≤ 32
-  pub back : (i : ℕ) → i < size t → place_of t (number_at t i) ≡ Some i
-  pub there : (n i : ℕ) → place_of t n ≡ Some i → (i < size t) × (number_at t i ≡ n)
+  pub leaves : (n : ℕ) → n < 32 → node t (32 + n) ≡ word_of t n
 
--- a number that orders entries like is_before
-abbrev pub rank : Entry → ℕ
-rank e = 32 * e.due + e.number
+-- each other node has the lesser word of its children
+pub record IsOrdered (t : Table) : Type 0 where
+  pub mins : (j : ℕ) → 0 < j → j < 32 → node t j ≡ min (node t (2 * j)) (node t (2 * j + 1))
 
-abbrev pub key : Table → ℕ → ℕ
-key t i = rank (entry_at t i)
+-- how many timers have no deadline
+abbrev pub idle : Dues → ℕ
+idle m = count_by is_none m
 
-abbrev pub parent : ℕ → ℕ
-parent j = (j - 1) / 2
+pub record IsSound (t : Table) : Type 0 where
+  pub tree : IsTree t
+  pub ordered : IsOrdered t
+  -- the count is that of the timers with a deadline
+  pub full : idle (dues t) + t.count ≡ 32
 
--- no timer precedes its parent
-pub record IsOrdered (k : ℕ → ℕ) (n : ℕ) : Type 0 where
-  pub edges : (j : ℕ) → 0 < j → j < n → k (parent j) ≤ k j
+-- the table with another word at node j
+abbrev pub with_node : Table → ℕ → ℕ → Table
+with_node t j word = record { nodes = slice_set t.nodes j word; marks = t.marks; count = t.count; highs = t.highs; lows = t.lows }
 
--- the table with timer n at a place
-abbrev pub with_number : Table → ℕ → ℕ → Table
-with_number t i n = record { order = record { items = slice_set t.order.items i n }; places = slice_set t.places n (Some i); highs = t.highs; lows = t.lows }
-
--- the table with another deadline of timer n
-abbrev pub with_moment : Table → ℕ → ℕ → Table
-with_moment t n due = record { order = t.order; places = t.places; highs = slice_set t.highs n (due / 2 ^ 64); lows = slice_set t.lows n (due % 2 ^ 64) }
-
--- the place of the lesser of the timer at r and the one before it
-abbrev pub first_of : Table → ℕ → ℕ
-first_of t r = if is_before (entry_at t r) (entry_at t (r - 1)) then r else r - 1
+-- the table with another deadline of timer n, its word at the leaf, and another count
+abbrev pub with_due : Table → ℕ → Bool → ℕ → ℕ → ℕ → Table
+with_due t n mark word due count = record { nodes = slice_set t.nodes (32 + n) word; marks = slice_set t.marks n mark; count = count; highs = slice_set t.highs n (due / 2 ^ 64); lows = slice_set t.lows n (due % 2 ^ 64) }

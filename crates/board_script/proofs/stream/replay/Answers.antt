@@ -1,5 +1,5 @@
 use Rattle.std.proofs.Common.{◌≡◌, Bool, Option, None, Some, is_some, refl, subst, ◌∙◌}
-use Rattle.synic_board.specs.State.{Held}
+use Rattle.synic_board.specs.State.{BoardModel}
 use Rattle.board_script.specs.Output.{Machine}
 use Rattle.board_script.specs.inside.Judging.{machine_of, conclusion, Concludes}
 use Rattle.board_script.specs.declared.judge.ScriptJudge.{ScriptJudge}
@@ -10,7 +10,7 @@ use Rattle.board_script.proofs.stream.replay.Goals as goal
 abbrev seen : ScriptJudge → Machine
 seen judge = machine_of judge.board
 
-is-open : (board : Option Held) → is_some board ≡ is_some (machine_of board)
+is-open : (board : Option BoardModel) → is_some board ≡ is_some (machine_of board)
 is-open None = refl
 is-open (Some held) = refl
 

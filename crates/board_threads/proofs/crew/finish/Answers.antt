@@ -3,7 +3,7 @@ use Rattle.std.specs.List.{range_with_len, sum_by}
 use Rattle.std.proofs.lemmas.List.Elements.{All-head, All-tail}
 use Rattle.std.proofs.lemmas.List.Sums.{sum_by-cons}
 use Rattle.synic_board.specs.State.{opened}
-use Rattle.posted_words.specs.Words.{did_of}
+use Rattle.posted_words.specs.Words.{actions_of}
 use Rattle.board_threads.specs.History.{calls_by}
 use Rattle.board_threads.specs.Sharing.{Acting, start}
 use Rattle.board_threads.specs.Settling.{IsSettled, AreAbsorbed}
@@ -58,4 +58,4 @@ pub returns-clause-raises : goal.returns-clause-raises
 returns-clause-raises c =
     let h = c.in_ok-ended.ended.history.items in
     subst (λ l. AreAbsorbed (4 * c.args.setup.now.processors) l h c.in_ok-ended.ended.standing) (logs-are _ _ _ _ _ _ c.requires.worked)
-    (subst (λ n. AreAbsorbed (4 * n) (map did_of c.args.worked.lines.items) h c.in_ok-ended.ended.standing) c.requires.processors c.in_ok-ended.ensures.raises)
+    (subst (λ n. AreAbsorbed (4 * n) (map actions_of c.args.worked.lines.items) h c.in_ok-ended.ended.standing) c.requires.processors c.in_ok-ended.ensures.raises)

@@ -8,9 +8,9 @@ returns-then-len-room c = (
   λ yes. record {
     board = record {
       some_processor = omega (arith, c.if-processors-lt1.false);
-      few_processors = omega (arith, c.if-processors-gt8.false);
+      processor_bound = omega (arith, c.if-processors-gt8.false);
       some_page = omega (arith, c.if-setup-lt1.false);
-      few_pages = omega (arith, c.if-setup-gt64.false);
+      page_bound = omega (arith, c.if-setup-gt64.false);
     };
     actors = omega (arith, c.if-len-gt15.false, c.len.ensures);
     lines = omega (arith, c.if-len-gt16.false, c.len-else-len-gt15.ensures);

@@ -22,11 +22,11 @@ returns g c =
     let parts = split-first c.args.actors.items c.pop.new.self.items c.in-Some.first (length c.args.acts.now) (omega (arith, c.requires.each_actor, c.args.actors.ok.0)) (sym c.in-Ok.ensures.items ∙ c.in-Some.ensures.items) in
     let first = c.in_ok-first.first in
     let others = c.in_ok-first.others.items in
-    let did = c.in_ok-first.ensures.0 in
+    let actions = c.in_ok-first.ensures.0 in
     let ran = c.in_ok-first.ensures.1 in
     let all : c.append.new.self.items ≡ (c.pop.new.self.items ++ first ∷ []) ++ others = search rules in
     let is : c.append.new.self.items ≡ first ∷ others = all ∙ ap (λ l. (l ++ first ∷ []) ++ others) parts.0 in
     let numbers : map (λ (a : Acting). a.number) (first ∷ others) ≡ map (λ (a : Acting). a.number) c.args.actors.items =
-    (λ i. did.same i ∷ (ran.numbers ∙ ap (map (λ (a : Acting). a.number)) c.in-Ok.ensures.tail) i) ∙ ap (map (λ (a : Acting). a.number)) (sym parts.1) in
+    (λ i. actions.same i ∷ (ran.numbers ∙ ap (map (λ (a : Acting). a.number)) c.in-Ok.ensures.tail) i) ∙ ap (map (λ (a : Acting). a.number)) (sym parts.1) in
     subst (λ (l : List Acting). HaveRun c.args.board.now.words.name (c.args.own.now ∷ c.args.acts.now) c.args.raises.now c.args.actors.items l c.in_ok-first.ran.items) (sym is)
-    (record { numbers = numbers; acted = (record { of = did.of; same = refl; follows = did.follows }, ran.acted); raised = ran.raised })
+    (record { numbers = numbers; acted = (record { of = actions.of; same = refl; follows = actions.follows }, ran.acted); raised = ran.raised })

@@ -29,7 +29,7 @@ pub push-requires : goal.push-requires
 push-requires c =
     let l = c.requires.linked in
     let leaves = walk-leaves _ _ l.0 l.1 l.2 _ _ c.args.port c.loop.next c.loop.counter c.loop.tickets.items c.unwrap-key.result c.index-buffer.result.now (c.loop.invariant.2 l.0 l.1 l.2 l.3) c.unwrap-key.ensures c.index-buffer.ensures (sym c.is_from_port.ensures ∙ c.if-is_from_port.true) in
-    omega (arith, leaves.room, c.requires.few)
+    omega (arith, leaves.room, c.requires.bound)
 
 pub loop-preserved : goal.loop-preserved
 loop-preserved c =

@@ -8,7 +8,7 @@ pub invariant_of-self : goal.invariant_of-self
 invariant_of-self c =
     let s = c.args.self.now in
     let start = opened s.opening.processors s.opening.pages s.opening.first_ticket in
-    let is = c.perform-reply.ensures.step in
+    let is = c.perform-reply.ensures.performs.step in
     let now = c.push.ensures in
     record {
       legal = legal-push start s.board.state s.history.entries c.push.new.self.entries c.args.actor c.args.event.now c.perform-reply.result s.legal s.leads now (ap (λ (o : Outcome). o.1) is);

@@ -1,8 +1,8 @@
 use Rattle.std.proofs.Common.{◌≡◌, ◌*◌, All, map, sym, ap, ◌∙◌, subst, Result, Ok, Err, IfOk, OnOk}
 use Rattle.std.proofs.lemmas.List.Elements.{All-map}
-use Rattle.synic_board.specs.State.{State, Held, opened}
+use Rattle.synic_board.specs.State.{State, BoardModel, opened}
 use Rattle.synic_board.specs.History.{IsLegal, leads_to}
-use Rattle.posted_words.specs.Words.{Token, token, did_of}
+use Rattle.posted_words.specs.Words.{Token, token, actions_of}
 use Rattle.board_threads.specs.declared.recorded.Opening.{Opening}
 use Rattle.board_threads.specs.declared.settling.Ended.{Ended}
 use Rattle.board_threads.specs.Sharing.{Sharing, Acting, start}
@@ -19,7 +19,7 @@ at_end (Err f) Same Is So so same is = tt
 pub gather-requires-clause-sweepers : goal.gather-requires-clause-sweepers
 gather-requires-clause-sweepers c =
     let name = ap (λ (s : Sharing). s.words.name) c.self.view_is in
-    let own = All-map (λ (t : Token). t.of ≡ c.args.self.words.name) (λ (a : Acting). token a.of a.did) c.args.actors.items c.requires.actors in
+    let own = All-map (λ (t : Token). t.of ≡ c.args.self.words.name) (λ (a : Acting). token a.of a.actions) c.args.actors.items c.requires.actors in
     let all = subst (All (λ (t : Token). t.of ≡ c.args.self.words.name)) (sym c.in_ok-sweepers.ensures.sweepers) own in
     λ k d lt. all k d lt ∙ sym name
 
@@ -37,7 +37,7 @@ returns-clause-settled c =
     let begins : opened r.opening.processors r.opening.pages r.opening.first_ticket ≡ start c.args.self = λ i. opened (number i) (pages i) (ticket i) in
     record {
       legal = subst (IsLegal (start c.args.self)) (sym h.entries) (subst (λ (s : State). IsLegal s r.history.entries) begins r.legal);
-      leads = ap (λ (b : Held). b.state) h.same_board ∙ r.leads ∙ ap (λ (s : State). leads_to s r.history.entries) begins ∙ ap (leads_to (start c.args.self)) (sym h.entries);
+      leads = ap (λ (b : BoardModel). b.state) h.same_board ∙ r.leads ∙ ap (λ (s : State). leads_to s r.history.entries) begins ∙ ap (leads_to (start c.args.self)) (sym h.entries);
       actors = h.all;
     } in
     at_end c.end.result (r.opening ≡ c.self.inside.opening) (IsEnd r.board r.history.entries c.in_ok-sweepers.actors.items c.in_ok-standing.standing) (IsSettled (start c.args.self)) ended c.end.ensures.opening c.end.ensures.ended
@@ -46,7 +46,7 @@ pub returns-clause-raises : goal.returns-clause-raises
 returns-clause-raises c =
     let r = c.into_inner.result in
     let n = 4 * c.args.self.words.processors in
-    let logs = map did_of c.args.lines.items in
+    let logs = map actions_of c.args.lines.items in
     let absorbed : (e : Ended) → r.opening ≡ c.self.inside.opening → IsEnd r.board r.history.entries c.in_ok-sweepers.actors.items c.in_ok-standing.standing e → AreAbsorbed n logs e.history.items e.standing = λ e same h.
     let all : AreAllOf e.history.items c.in_ok-sweepers.actors.items = subst (AreAllOf e.history.items) h.actors h.all in
     subst (AreAbsorbed n logs e.history.items) (sym h.standing)

@@ -13,11 +13,11 @@ push-requires-clause-room c =
     let room = room-for c.self.inside c.args.self.now c.args.message c.owner_of.result c.self.invariant c.self.view_is c.owner_of.ensures.owned c.requires.buffer c.owner_of.ensures.value in
     omega (arith, room.total, c.self.invariant.held, c.self.invariant.room)
 
-pub push-requires-clause-few : goal.push-requires-clause-few
-push-requires-clause-few c =
+pub push-requires-clause-bound : goal.push-requires-clause-bound
+push-requires-clause-bound c =
     let within : c.source_number.result < length c.args.self.now = omega (arith, c.source_number.ensures.value, c.requires.on_the_board) in
     let h = here c.self.inside c.args.self.now c.source_number.result c.index_mut-chain.result.now c.self.invariant c.self.view_is within c.index_mut-chain.ensures.value in
-    omega (arith, h.few)
+    omega (arith, h.bound)
 
 pub invariant_of-self : goal.invariant_of-self
 invariant_of-self c =

@@ -12,10 +12,10 @@ returns-clause-value c =
     let h = here c.self.inside c.args.self.now c.source_number.result c.index.result.now c.self.invariant c.self.view_is within c.index.ensures in
     sym (ap length h.shown_row ∙ h.len) ∙ ap (λ (k : ℕ). length (slice_index_or c.args.self.now k [])) c.source_number.ensures.value
 
-pub returns-clause-few : goal.returns-clause-few
-returns-clause-few c =
+pub returns-clause-bound : goal.returns-clause-bound
+returns-clause-bound c =
     let within : c.source_number.result < length c.args.self.now = omega (arith, c.source_number.ensures.value, c.requires) in
-    (here c.self.inside c.args.self.now c.source_number.result c.index.result.now c.self.invariant c.self.view_is within c.index.ensures).few
+    (here c.self.inside c.args.self.now c.source_number.result c.index.result.now c.self.invariant c.self.view_is within c.index.ensures).bound
 
 pub returns-clause-in_all : goal.returns-clause-in_all
 returns-clause-in_all c =

@@ -14,7 +14,7 @@ returns-clause-value c =
     let below : c.args.port < 16 = omega arith in
     c.self.invariant.counts.counted c.args.port (omega arith) ∙ sym (port_used-owner (queues_of c.self.inside) c.args.port below) ∙ ap (λ (x : Queues). port_used x c.args.port) c.self.view_is
 
-pub returns-clause-few : goal.returns-clause-few
-returns-clause-few c =
+pub returns-clause-bound : goal.returns-clause-bound
+returns-clause-bound c =
     let below : c.args.port < 48 = omega arith in
     omega (arith, c.self.invariant.counts.counted c.args.port below, c.self.invariant.counts.within c.args.port below, share-le c.args.port)

@@ -21,12 +21,12 @@ withdraw-tickets-requires-clause-linked c =
     let k = c.self.invariant.linked in
     (k.owner, k.rank, c.source_number.result, k.each c.source_number.result c.index_mut-chain.result.now h.at)
 
-pub withdraw-tickets-requires-clause-few : goal.withdraw-tickets-requires-clause-few
-withdraw-tickets-requires-clause-few c =
+pub withdraw-tickets-requires-clause-bound : goal.withdraw-tickets-requires-clause-bound
+withdraw-tickets-requires-clause-bound c =
     let within : c.source_number.result < length c.args.self.now = omega (arith, c.source_number.ensures.value, c.requires) in
     let below = port-below c.self.inside c.args.self.now c.args.port c.self.invariant c.self.view_is (λ none. c.if-port_used-eq0.false (c.port_used.ensures.value ∙ none)) in
     let f = found c.self.inside c.args.self.now c.source_number.result c.index_mut-chain.result.now c.args.port c.self.invariant c.self.view_is within c.index_mut-chain.ensures.value below in
-    omega (arith, f.few, f.in_use)
+    omega (arith, f.bound, f.in_use)
 
 pub bounds-self-inside-port : goal.bounds-self-inside-port
 bounds-self-inside-port c =
@@ -41,7 +41,7 @@ overflow_sub-self c =
     let k = c.self.invariant.linked in
     let w = c.withdraw-tickets.ensures.withdrawn k.owner k.rank c.source_number.result (k.each c.source_number.result c.index_mut-chain.result.now h.at) in
     let f = found c.self.inside c.args.self.now c.source_number.result c.index_mut-chain.result.now c.args.port c.self.invariant c.self.view_is within c.index_mut-chain.ensures.value below in
-    omega (arith, f.few, c.len.ensures.value, ap length w.tickets_are)
+    omega (arith, f.bound, c.len.ensures.value, ap length w.tickets_are)
 
 pub bounds-self-inside-port-2 : goal.bounds-self-inside-port-2
 bounds-self-inside-port-2 c =

@@ -2,7 +2,7 @@ use Rattle.std.proofs.Common.{ℕ, ◌+◌, ◌*◌, ◌≤◌, List, ◌++◌, 
 use Rattle.atomic_table.specs.Table.{Me}
 use Rattle.posted_words.specs.declared.rule.View.{View}
 use Rattle.posted_words.specs.Settled.{Settled}
-use Rattle.posted_words.specs.Words.{did_of}
+use Rattle.posted_words.specs.Words.{actions_of}
 use Rattle.posted_words.proofs.Closing.{stands_for_all, gathered}
 use Rattle.posted_words.proofs.words.PostedWords.gather.Goals as goal
 
@@ -14,4 +14,4 @@ returns-in-Ok-clause-settled c =
     let last = ap (λ (m : Me (Unit {0}) View). m.0) c.join_all-2.ensures.joined in
     let enough : c.self.inside.sweepers + c.self.inside.lines ≤ length c.args.sweepers.items + length c.args.lines.items = omega (arith, c.args.sweepers.ok.0, c.args.lines.ok.0) in
     let all = gathered _ _ _ _ _ _ _ _ _ _ _ i.0 c.close_with-closed.ensures.values.2 first last c.args.lines.ok.0 enough in
-    subst (λ (z : ℕ × List ℕ). Settled z.0 (map did_of (c.args.sweepers.items ++ c.args.lines.items)) z.1) (λ j. (4 * (c.self.view_is j).processors, sym c.in-Ok.ensures j)) all
+    subst (λ (z : ℕ × List ℕ). Settled z.0 (map actions_of (c.args.sweepers.items ++ c.args.lines.items)) z.1) (λ j. (4 * (c.self.view_is j).processors, sym c.in-Ok.ensures j)) all

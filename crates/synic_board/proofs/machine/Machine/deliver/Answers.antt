@@ -14,6 +14,6 @@ returns-then-delivers_at_once c =
     let once = at-once s c.args.vp c.args.sint c.args.message (sym c.delivers_at_once.ensures.answer ∙ c.if-delivers_at_once.true) c.delivers_at_once.ensures.queue in
     record {
       effect = chained _ _ _ _ _ (placed_at_once s c.args.vp c.args.sint c.args.message) (λ t. raised t c.args.vp c.args.sint) first.effect second.effect ∙ ap (preceded c.args.notices.now) (sym once);
-      rises = omega (arith, first.rises, second.rises);
-      few = omega (arith, first.few, second.few);
+      writes_monotone = omega (arith, first.writes_monotone, second.writes_monotone);
+      bound = omega (arith, first.bound, second.bound);
     }

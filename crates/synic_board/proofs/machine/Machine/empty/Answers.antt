@@ -11,7 +11,7 @@ numbered : (o : Option ℕ) (v n : ℕ) → o ≡ Some v → IfSome o (λ x. x �
 numbered o v n is value = subst (λ x. IfSome x (λ y. y ≡ n)) is value
 
 pub loop-number-init : goal.loop-number-init
-loop-number-init c = record { few = omega arith; so_far = record { effect = emptied_none _ _ _; rises = omega arith; few = omega arith }; in_all = λ less. absurd (omega (arith, less)) }
+loop-number-init c = record { bound = omega arith; so_far = record { effect = emptied_none _ _ _; writes_monotone = omega arith; bound = omega arith }; in_all = λ less. absurd (omega (arith, less)) }
 
 pub empty_slot-requires-clause-on : goal.empty_slot-requires-clause-on
 empty_slot-requires-clause-on c =
@@ -30,20 +30,20 @@ empty_queue-requires-clause-on c =
     omega (arith, same, slot, c.requires.on)
 
 pub empty_queue-requires-clause-room : goal.empty_queue-requires-clause-room
-empty_queue-requires-clause-room c few =
+empty_queue-requires-clause-room c bound =
     let s : State = c.args.self.now.state in
     let n = c.loop-number.number in
     let v = c.unwrap-sint.result in
     let e : Effect = emptied_below s c.args.vp n in
     let was : c.loop-number.self.state ≡ e.0 = ap (λ (x : Effect). x.0) c.loop-number.invariant.so_far.effect in
-    let told = ap (λ (x : Effect). length x.1) c.loop-number.invariant.so_far.effect in
+    let emitted = ap (λ (x : Effect). length x.1) c.loop-number.invariant.so_far.effect in
     let more = ap (λ (x : Effect). length x.1) c.empty_slot.ensures.effect in
     let queued = ap (λ (x : Effect). total x.0) c.empty_slot.ensures.effect ∙ ap (λ (t : State). total (slot_emptied t c.args.vp v).0) was in
     let slot = ap (λ (t : State). length (slot_emptied t c.args.vp v).1) was in
-    let all = all-in s c.args.vp n v (omega (arith, queued, few)) c.loop-number.invariant.in_all in
+    let all = all-in s c.args.vp n v (omega (arith, queued, bound)) c.loop-number.invariant.in_all in
     omega (
       arith,
-      told,
+      emitted,
       more,
       queued,
       slot,
@@ -64,12 +64,12 @@ loop-number-preserved c =
     let queued = ap (λ (x : Effect). total x.0) c.empty_slot.ensures.effect ∙ ap (λ (t : State). total (slot_emptied t c.args.vp v).0) was in
     let longer = length-append c.loop-number.notices (slot_emptied c.loop-number.self.state c.args.vp v).1 in
     record {
-      few = omega (arith, c.loop-number-test.true);
+      bound = omega (arith, c.loop-number-test.true);
       so_far = record {
         effect = emptied_more s c.loop-number.self.state c.empty_slot.new.self.state c.empty_queue.new.self.state c.args.vp n v c.args.notices.now c.loop-number.notices c.empty_slot.new.notices c.empty_queue.new.notices
             c.loop-number.invariant.so_far.effect (numbered _ v n c.unwrap-sint.ensures c.new.ensures.value) c.empty_slot.ensures.effect c.empty_queue.ensures.effect.effect;
-        rises = omega (arith, c.loop-number.invariant.so_far.rises, c.empty_slot.ensures.writes, c.empty_queue.ensures.effect.rises);
-        few = omega (arith, c.loop-number.invariant.so_far.few, c.empty_slot.ensures.writes, c.empty_queue.ensures.effect.few, more, longer);
+        writes_monotone = omega (arith, c.loop-number.invariant.so_far.writes_monotone, c.empty_slot.ensures.writes, c.empty_queue.ensures.effect.writes_monotone);
+        bound = omega (arith, c.loop-number.invariant.so_far.bound, c.empty_slot.ensures.writes, c.empty_queue.ensures.effect.bound, more, longer);
       };
       in_all = λ _. all-in s c.args.vp n v (omega (arith, queued, c.empty_queue.ensures.in_all)) c.loop-number.invariant.in_all;
     }

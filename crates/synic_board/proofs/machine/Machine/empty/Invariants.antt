@@ -7,7 +7,7 @@ use Rattle.synic_board.proofs.machine.Machine.empty.Given as goal
 abbrev pub invariant-loop-number : goal.invariant-loop-number
 invariant-loop-number l =
     record {
-      few : l.number ≤ 16;
+      bound : l.number ≤ 16;
       so_far : Effected l.fn.self l.fn.notices l.self l.notices (emptied_below l.fn.self.state l.vp l.number);
       in_all : 0 < l.number → total l.fn.self.state ≤ 288;
     }

@@ -9,9 +9,9 @@ use Rattle.gpa_space.specs.Page.{zero_page}
 use Rattle.gpa_space.specs.Space.{Space}
 use Rattle.stimer_bank.specs.Bank.{Bank, dues}
 use Rattle.stimer_bank.proofs.Shown.{dues-opened}
-use Rattle.synic_board.specs.Scratch.{scratch}
+use Rattle.synic_board.specs.Summaries.{summary_of}
 use Rattle.synic_board.specs.State.{overlay_registers}
-use Rattle.synic_board.proofs.Openings.{overlays-opened, scratch-opened, state-opened}
+use Rattle.synic_board.proofs.Openings.{overlays-opened, summary_of-opened, state-opened}
 use Rattle.synic_board.proofs.Repeated.{repeated}
 use Rattle.synic_board.proofs.machine.Machine.open.Goals as goal
 
@@ -33,17 +33,17 @@ invariant_of-result c =
     let slots = c.in_ok-slots.ensures {u = tt} in
     let state = state-opened n pages c.args.first_ticket c.in_ok-lapics.lapics.items c.in_ok-regs.regs.items c.in_ok-space.space c.new-ports.result c.in_ok-queues.queues c.in_ok-slots.slots.items c.new-timers.result lapics regs space c.new-ports.ensures queues slots c.new-timers.ensures in
     record {
-      few_processors = omega (arith, c.requires.few_processors, ap length lapics, length-replicate n empty_apic);
+      processor_bound = omega (arith, c.requires.processor_bound, ap length lapics, length-replicate n empty_apic);
       registers = ap length regs ∙ length-replicate n reset_regs ∙ sym (ap length lapics ∙ length-replicate n empty_apic);
       page_count = sym (ap (λ (s : Space). length s.pages) space ∙ length-replicate pages zero_page);
-      few_pages = c.requires.few_pages;
+      page_bound = c.requires.page_bound;
       two_overlays = omega (arith, ap (λ (s : Space). length s.registers) space, length-replicate {A = ℕ} (2 * n) 0, ap length lapics, length-replicate n empty_apic);
       overlays = ap (λ (s : Space). s.registers) space ∙ sym (overlays-opened n) ∙ ap overlay_registers (sym regs);
       ports = ap (λ (p : Ports). p.processors) c.new-ports.ensures ∙ sym (ap length lapics ∙ length-replicate n empty_apic);
       queues = omega (arith, ap length queues, length-replicate {A = List Message} (16 * n) [], ap length lapics, length-replicate n empty_apic);
       slots = omega (arith, ap length slots, length-replicate {A = Option ℕ} (16 * n) None, ap length lapics, length-replicate n empty_apic);
       idle = λ k _. ap (λ (b : Bank). slice_index_or (dues b) k None) c.new-timers.ensures ∙ dues-opened k;
-      summary = scratch-opened n pages c.args.first_ticket c.in_ok-summary.summary.values summary.nexts summary.autos summary.owners summary.queued summary.earliest ∙ ap scratch (sym state);
+      summary = summary_of-opened n pages c.args.first_ticket c.in_ok-summary.summary.values summary.nexts summary.autos summary.owners summary.queued summary.earliest ∙ ap summary_of (sym state);
     }
 
 pub returns-clause-opened : goal.returns-clause-opened

@@ -5,11 +5,11 @@ use Rattle.synic_regs.specs.Regs.{Regs, reset_regs, stores, after_write, value_o
 use Rattle.gpa_space.specs.Space.{Space, overlay_of}
 use Rattle.board_terms.specs.Dues.{least}
 use Rattle.stimer_bank.specs.Bank.{dues}
-use Rattle.synic_board.specs.State.{Held, processors, space_of}
-use Rattle.synic_board.specs.inside.Moves.{overlay_register}
+use Rattle.synic_board.specs.State.{BoardModel, processors, space_of}
+use Rattle.synic_board.specs.Restoring.{overlay_register}
 use Rattle.synic_board.specs.inside.View.{state_of}
-use Rattle.synic_board.specs.Scratch.{Values}
-use Rattle.synic_board.proofs.Overlays.{length-owners, length-looked_up, overlay-read, overlay-stores, overlay-auto, overlay-tied, scratch-moved}
+use Rattle.synic_board.specs.Summaries.{Values}
+use Rattle.synic_board.proofs.Overlays.{length-owners, length-looked_up, overlay-read, overlay-stores, overlay-auto, overlay-tied, summary_of-moved}
 use Rattle.synic_board.proofs.machine.Machine.write_overlay.Goals as goal
 
 pub look_up-requires-clause-owners : goal.look_up-requires-clause-owners
@@ -24,7 +24,7 @@ look_up-requires-2-clause-owners c =
 pub invariant_of-self : goal.invariant_of-self
 invariant_of-self c =
     let rs = c.self.inside.regs.items in
-    let on = ap (λ (h : Held). processors h.state) c.self.view_is in
+    let on = ap (λ (h : BoardModel). processors h.state) c.self.view_is in
     let same = c.number.ensures.value in
     let within : c.number.result < length rs = omega (arith, c.self.invariant.registers, on, c.requires, same) in
     let was = c.index_mut-regs.ensures.value ∙ get_or_default rs c.number.result c.index_mut-regs.result.now reset_regs within in
@@ -32,17 +32,17 @@ invariant_of-self c =
     let now = c.write.ensures.after ∙ ap (λ r. after_write c.index_mut-regs.result.now r c.args.value) c.overlay_register-2.ensures in
     let tied = overlay-tied c.self.inside.space c.set_overlay.new.self rs c.number.result c.args.value c.args.kind c.index_mut-regs.result.now c.write.new.self within c.self.invariant.overlays was now moved in
     record {
-      few_processors = c.self.invariant.few_processors;
+      processor_bound = c.self.invariant.processor_bound;
       registers = length-set rs c.number.result c.write.new.self ∙ c.self.invariant.registers;
       page_count = c.self.invariant.page_count ∙ sym (ap (λ (s : Space). length s.pages) c.set_overlay.ensures);
-      few_pages = c.self.invariant.few_pages;
+      page_bound = c.self.invariant.page_bound;
       two_overlays = ap (λ (s : Space). length s.registers) moved ∙ length-set c.self.inside.space.registers (overlay_of c.number.result c.args.kind) c.args.value ∙ c.self.invariant.two_overlays;
       overlays = tied;
       ports = c.self.invariant.ports;
       queues = c.self.invariant.queues;
       slots = c.self.invariant.slots;
       idle = c.self.invariant.idle;
-      summary = scratch-moved c.self.inside.space c.set_overlay.new.self rs c.number.result (overlay_of c.number.result c.args.kind) c.read-before.result c.args.value c.write.new.self (map next c.self.inside.lapics.items) (map length c.self.inside.queues) (least (dues c.self.inside.timers))
+      summary = summary_of-moved c.self.inside.space c.set_overlay.new.self rs c.number.result (overlay_of c.number.result c.args.kind) c.read-before.result c.args.value c.write.new.self (map next c.self.inside.lapics.items) (map length c.self.inside.queues) (least (dues c.self.inside.timers))
           c.self.inside.summary.values c.look_up.new.summary.values c.look_up-2.new.summary.values c.self.invariant.overlays moved
           (ap (λ rs. slice_index_or rs (overlay_of c.number.result c.args.kind) 0) c.self.invariant.overlays ∙ overlay-read rs c.number.result c.args.kind within ∙ sym (c.read-before.ensures ∙ (λ i. value_of (was i) (c.overlay_register.ensures i))))
           tied (ap auto_vectors (now ∙ ap (λ (r : Regs). after_write r (overlay_register c.args.kind) c.args.value) was) ∙ overlay-auto (get_or rs c.number.result reset_regs) c.args.kind c.args.value) c.self.invariant.summary c.look_up.ensures.values c.look_up-2.ensures.values;

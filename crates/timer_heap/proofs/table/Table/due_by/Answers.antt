@@ -1,23 +1,14 @@
-use Rattle.std.proofs.Common.{◌≡◌, ◌≤◌, ◌<◌, ap, ◌∙◌, arith}
-use Rattle.timer_heap.specs.inside.Table.{entry_at, number_at, moment_of}
-use Rattle.timer_heap.proofs.Sweeps.{starts_sweep, sweeps_due, sweeps_past, swept_all}
+use Rattle.std.proofs.Common.{◌+◌, sym, subst, ◌∙◌, ℕ}
+use Rattle.timer_heap.specs.inside.Table.{dues}
+use Rattle.timer_heap.proofs.Marks.{AreMarked, marks-due, marks-other}
 use Rattle.timer_heap.proofs.table.Table.due_by.Goals as goal
-use Rattle.timer_heap.proofs.table.Table.due_by.Goals.{then-moment, else-moment}
+use Rattle.timer_heap.proofs.table.Table.due_by.Goals.{then-is_due, else-is_due}
 
-pub loop-at-init : goal.loop-at-init
-loop-at-init c = rw (c.min-end.ensures, c.len-size.ensures.value) (starts_sweep _ _)
-
-pub loop-at-preserved : goal.loop-at-preserved
-loop-at-preserved c =
-    let told : c.moment.result ≡ moment_of c.args.self.now (number_at c.args.self.now c.loop-at.at) = c.moment.ensures ∙ ap (moment_of c.args.self.now) c.number-number.ensures in
-    elim c.if-moment.branch [
-      | then-moment w ↦
-          let due : (entry_at c.args.self.now c.loop-at.at).due ≤ c.args.moment = rw told at w.if-moment.true in
-          rw (w.end-is, w.due-is, w.min-end-then-moment.ensures, c.len-size.ensures.value, c.number-number.ensures) (sweeps_due _ c.requires.inverse _ _ _ _ c.loop-at.invariant c.loop-at-test.true due)
-      | else-moment w ↦
-          let late : c.args.moment < (entry_at c.args.self.now c.loop-at.at).due = rw told at w.if-moment.false in
-          rw (w.end-is, w.due-is) (sweeps_past _ c.requires.inverse _ _ _ _ c.loop-at.invariant c.loop-at-test.true late)
+pub loop-number-preserved : goal.loop-number-preserved
+loop-number-preserved c =
+    let m = dues c.args.self.now in
+    let marked = λ (word : ℕ). AreMarked m c.args.moment (c.loop-number.number + 1) word in
+    elim c.if-is_due.branch as (λ _. AreMarked (dues c.args.self.now) c.args.moment (c.loop-number.number + 1) c.if-is_due.word) [
+      | then-is_due w ↦ subst marked (sym w.word-is) (marks-due m c.args.moment c.loop-number.number c.loop-number.word c.loop-number.invariant c.loop-number-test.true (sym c.is_due.ensures ∙ w.if-is_due.true))
+      | else-is_due w ↦ subst marked (sym w.word-is) (marks-other m c.args.moment c.loop-number.number c.loop-number.word c.loop-number.invariant c.loop-number-test.true (sym c.is_due.ensures ∙ w.if-is_due.false))
     ]
-
-pub returns : goal.returns
-returns c = swept_all c.args.self.now c.requires.inverse c.requires.ordered _ _ _ _ c.loop-at.invariant (omega arith)

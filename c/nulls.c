@@ -1,0 +1,232 @@
+/* The calls of synicboard.h. Each checks its pointers for null and leaves everything else to the
+ * proved call.
+ *
+ * The proof assumes that no pointer is null. The proved calls themselves handle closed handles,
+ * numbers that encode no event, and buffers that are too small. So each null pointer is replaced by
+ * a value that they already handle:
+ *
+ *   a handle               a closed one
+ *   bytes, and 0 of them   an empty array
+ *   bytes, and more        more bytes than any event has
+ *   an event               one of an unknown kind; it also replaces an array
+ *   a reply                one of an unknown kind
+ *   an output buffer       one of length 0
+ *   `page` of a page call  a variable that is not read
+ *   a view, or owners      zeros, which are not read
+ *
+ * A handle to open and a text with a length have no such value. The header defines what their calls
+ * return, and they come last here. No call in this file allocates or keeps state. `./library`
+ * renames the proved calls, so that these have the public names. */
+#include "synicboard.h"
+
+#ifndef __x86_64__
+#error "structs are answered here as on x86-64"
+#endif
+
+/* ---- Replacements for null pointers ---- */
+
+static const synicboard_event no_event = { 0 };
+static const synicboard_reply no_reply = { 0 };
+static const uint8_t too_many[sizeof no_event.bytes + 1] = { 0 };
+
+#define OR(pointer, stand_in) pointer = pointer != NULL ? pointer : (stand_in);
+
+#define BOARD(board) OR(board, &(synicboard)SYNICBOARD_CLOSED)
+#define CONST_BOARD(board) OR(board, &(const synicboard)SYNICBOARD_CLOSED)
+#define LINE(line) OR(line, &(synicboard_line)SYNICBOARD_LINE_CLOSED)
+#define BYTES(bytes, length) \
+    length = bytes != NULL || length == 0 ? length : sizeof too_many; OR(bytes, too_many)
+#define EVENT(event) OR(event, &no_event)
+#define EVENTS(events, count) count = events != NULL || count == 0 ? count : 1; OR(events, &no_event)
+#define REPLY(reply) OR(reply, &no_reply)
+#define ROOM(room, length, type) length = room != NULL ? length : 0; OR(room, &(type){ 0 })
+#define PLACE(page) OR(page, &(const uint8_t *){ NULL })
+#define VIEW(view) OR(view, &(synicboard_view){ 0 })
+#define OWNERS(owners) OR(owners, &(synicboard_owners){ 0 })
+
+/* ---- How a call is built ---- */
+
+#define SELDOM(condition) __builtin_expect((condition), 0)
+#define APART __attribute__((cold, noinline)) static
+#define LISTED(...) __VA_ARGS__
+
+/* Calls the proved function directly, as a tail call. If a pointer is null, an out-of-line function
+ * makes the call with the replacements. */
+#define CALL(answer, name, is_null, stand_ins, arguments, ...)                                          \
+    answer proved_##name(__VA_ARGS__);                                                                  \
+    APART answer null_##name(__VA_ARGS__)                                                               \
+    {                                                                                                   \
+        stand_ins                                                                                       \
+        return proved_##name arguments;                                                                 \
+    }                                                                                                   \
+    answer name(__VA_ARGS__)                                                                            \
+    {                                                                                                   \
+        if (SELDOM(is_null))                                                                            \
+            return null_##name arguments;                                                               \
+        return proved_##name arguments;                                                                 \
+    }
+
+/* The same for a call that returns a struct in memory. On x86-64 the caller passes the address of
+ * the result as the first argument, and the function returns it. Both are explicit here, because
+ * the compilers that were tried emit no tail call otherwise. */
+#define CALL_FOR_STRUCT(answer, name, is_null, stand_ins, arguments, ...)                               \
+    _Static_assert(__builtin_types_compatible_p(__typeof__(name), answer(__VA_ARGS__)), "as declared"); \
+    answer *proved_##name(answer *out, __VA_ARGS__);                                                   \
+    APART answer *null_##name(answer *out, __VA_ARGS__)                                                \
+    {                                                                                                   \
+        stand_ins                                                                                       \
+        return proved_##name(out, LISTED arguments);                                                   \
+    }                                                                                                   \
+    answer *out_##name(answer *out, __VA_ARGS__) __asm__(#name);                                      \
+    answer *out_##name(answer *out, __VA_ARGS__)                                                      \
+    {                                                                                                   \
+        if (SELDOM(is_null))                                                                            \
+            return null_##name(out, LISTED arguments);                                                 \
+        return proved_##name(out, LISTED arguments);                                                   \
+    }
+
+/* For calls whose only pointer is the board. */
+#define EVENT_CALL(name, arguments, ...) \
+    CALL_FOR_STRUCT(synicboard_reply, name, board == NULL, BOARD(board), arguments, __VA_ARGS__)
+#define LOOK(answer, name, arguments, ...) \
+    CALL(answer, name, board == NULL, CONST_BOARD(board), arguments, __VA_ARGS__)
+
+/* ---- Events ---- */
+
+EVENT_CALL(synicboard_open_message_port, (board, port, vp, sint, buffers),
+           synicboard *board, uint8_t port, uint8_t vp, uint8_t sint, uint8_t buffers)
+EVENT_CALL(synicboard_open_event_port, (board, port, vp, sint, base, count),
+           synicboard *board, uint8_t port, uint8_t vp, uint8_t sint, uint16_t base, uint16_t count)
+EVENT_CALL(synicboard_close_port, (board, port), synicboard *board, uint8_t port)
+EVENT_CALL(synicboard_write, (board, vp, msr, value),
+           synicboard *board, uint8_t vp, uint32_t msr, uint64_t value)
+EVENT_CALL(synicboard_read, (board, vp, msr), synicboard *board, uint8_t vp, uint32_t msr)
+CALL_FOR_STRUCT(synicboard_reply, synicboard_post, board == NULL || payload == NULL,
+                BOARD(board) BYTES(payload, length), (board, port, message_type, payload, length),
+                synicboard *board, uint8_t port, uint32_t message_type, const uint8_t *payload, size_t length)
+EVENT_CALL(synicboard_signal, (board, port, flag), synicboard *board, uint8_t port, uint16_t flag)
+EVENT_CALL(synicboard_assert, (board, vp, vector), synicboard *board, uint8_t vp, uint8_t vector)
+EVENT_CALL(synicboard_absorb, (board, vp, part, bits),
+           synicboard *board, uint8_t vp, uint8_t part, uint64_t bits)
+CALL_FOR_STRUCT(synicboard_reply, synicboard_store, board == NULL || bytes == NULL,
+                BOARD(board) BYTES(bytes, length), (board, address, bytes, length),
+                synicboard *board, uint64_t address, const uint8_t *bytes, size_t length)
+EVENT_CALL(synicboard_load, (board, address, length), synicboard *board, uint64_t address, uint8_t length)
+EVENT_CALL(synicboard_tick, (board, moment), synicboard *board, uint64_t moment)
+EVENT_CALL(synicboard_take, (board, vp), synicboard *board, uint8_t vp)
+EVENT_CALL(synicboard_suspend, (board, vp), synicboard *board, uint8_t vp)
+EVENT_CALL(synicboard_resume, (board, vp), synicboard *board, uint8_t vp)
+EVENT_CALL(synicboard_reset, (board, vp), synicboard *board, uint8_t vp)
+CALL_FOR_STRUCT(synicboard_reply, synicboard_perform, board == NULL || event == NULL,
+                BOARD(board) EVENT(event), (board, event),
+                synicboard *board, const synicboard_event *event)
+CALL_FOR_STRUCT(synicboard_batch, synicboard_perform_all,
+                board == NULL || events == NULL || replies == NULL || notices == NULL,
+                BOARD(board) EVENTS(events, count)
+                ROOM(replies, reply_room, synicboard_reply) ROOM(notices, notice_room, synicboard_notice),
+                (board, events, count, replies, reply_room, notices, notice_room),
+                synicboard *board, const synicboard_event *events, size_t count,
+                synicboard_reply *replies, size_t reply_room, synicboard_notice *notices, size_t notice_room)
+
+/* ---- Queries ----
+ *
+ * Contracts see a mutable handle, and that the board is the same afterwards. */
+
+CALL(size_t, synicboard_notices, board == NULL || room == NULL,
+     CONST_BOARD(board) ROOM(room, length, synicboard_notice), (board, room, length),
+     const synicboard *board, synicboard_notice *room, size_t length)
+LOOK(uint8_t, synicboard_next, (board, vp), const synicboard *board, uint8_t vp)
+LOOK(bool, synicboard_is_auto, (board, vp, vector), const synicboard *board, uint8_t vp, uint8_t vector)
+LOOK(uint16_t, synicboard_queued, (board, vp, sint), const synicboard *board, uint8_t vp, uint8_t sint)
+LOOK(uint64_t, synicboard_moment, (board), const synicboard *board)
+LOOK(uint64_t, synicboard_next_ticket, (board), const synicboard *board)
+LOOK(synicboard_page_owner, synicboard_owner, (board, page), const synicboard *board, uint64_t page)
+CALL_FOR_STRUCT(synicboard_due, synicboard_earliest, board == NULL, CONST_BOARD(board), (board), const synicboard *board)
+CALL(uint64_t, synicboard_update, board == NULL || view == NULL, CONST_BOARD(board) VIEW(view),
+     (board, view), const synicboard *board, synicboard_view *view)
+CALL(uint64_t, synicboard_update_owners, board == NULL || owners == NULL, CONST_BOARD(board) OWNERS(owners),
+     (board, owners), const synicboard *board, synicboard_owners *owners)
+CALL(bool, synicboard_message_page, board == NULL || page == NULL, CONST_BOARD(board) PLACE(page),
+     (board, vp, page), const synicboard *board, uint8_t vp, const uint8_t **page)
+CALL(bool, synicboard_flag_page, board == NULL || page == NULL, CONST_BOARD(board) PLACE(page),
+     (board, vp, page), const synicboard *board, uint8_t vp, const uint8_t **page)
+CALL(bool, synicboard_guest_page, board == NULL || page == NULL, CONST_BOARD(board) PLACE(page),
+     (board, number, page), const synicboard *board, uint64_t number, const uint8_t **page)
+
+/* ---- Lines ---- */
+
+CALL(uint8_t, synicboard_raise, line == NULL, LINE(line), (line, vp, vector),
+     synicboard_line *line, uint8_t vp, uint8_t vector)
+CALL_FOR_STRUCT(synicboard_reply, synicboard_absorb_line, board == NULL || line == NULL,
+                BOARD(board) LINE(line), (board, line, vp, part),
+                synicboard *board, synicboard_line *line, uint8_t vp, uint8_t part)
+
+/* ---- Trace entries ---- */
+
+CALL_FOR_STRUCT(synicboard_end, synicboard_format_entry, event == NULL || reply == NULL || room == NULL,
+                EVENT(event) REPLY(reply) ROOM(room, length, uint8_t), (actor, event, reply, room, length),
+                uint8_t actor, const synicboard_event *event, const synicboard_reply *reply,
+                uint8_t *room, size_t length)
+
+/* ---- Calls without a replacement ---- */
+
+#define PROVED(name) __typeof__(name) proved_##name
+
+PROVED(synicboard_open);
+PROVED(synicboard_close);
+PROVED(synicboard_open_line);
+PROVED(synicboard_split_line);
+PROVED(synicboard_close_line);
+PROVED(synicboard_replay);
+PROVED(synicboard_check);
+
+uint8_t synicboard_open(synicboard *board, uint8_t processors, uint8_t pages, uint64_t first_ticket)
+{
+    if (board == NULL)
+        return SYNICBOARD_NO_HANDLE;
+    return proved_synicboard_open(board, processors, pages, first_ticket);
+}
+
+void synicboard_close(synicboard *board)
+{
+    if (board != NULL)
+        proved_synicboard_close(board);
+}
+
+uint8_t synicboard_open_line(synicboard_line *line, uint8_t processors)
+{
+    if (line == NULL)
+        return SYNICBOARD_NO_HANDLE;
+    return proved_synicboard_open_line(line, processors);
+}
+
+uint8_t synicboard_split_line(synicboard_line *line, synicboard_line *other)
+{
+    if (other == NULL)
+        return SYNICBOARD_NO_HANDLE;
+    LINE(line)
+    return proved_synicboard_split_line(line, other);
+}
+
+void synicboard_close_line(synicboard_line *line)
+{
+    if (line != NULL)
+        proved_synicboard_close_line(line);
+}
+
+synicboard_end synicboard_replay(const uint8_t *script, size_t script_length, uint8_t *room, size_t length)
+{
+    if (script == NULL && script_length > 0)
+        return (synicboard_end){ .kind = SYNICBOARD_NO_TEXT };
+    BYTES(script, script_length)
+    ROOM(room, length, uint8_t)
+    return proved_synicboard_replay(script, script_length, room, length);
+}
+
+synicboard_verdict synicboard_check(const uint8_t *trace, size_t length)
+{
+    if (trace == NULL && length > 0)
+        return (synicboard_verdict){ .kind = SYNICBOARD_NO_TEXT };
+    BYTES(trace, length)
+    return proved_synicboard_check(trace, length);
+}

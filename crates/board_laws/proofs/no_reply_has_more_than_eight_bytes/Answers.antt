@@ -1,5 +1,0 @@
-use Rattle.board_laws.proofs.Replies.{step-fits}
-use Rattle.board_laws.proofs.no_reply_has_more_than_eight_bytes.Goals as goal
-
-pub returns : goal.returns
-returns c = step-fits

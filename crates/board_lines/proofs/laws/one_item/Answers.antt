@@ -1,5 +1,0 @@
-use Rattle.board_lines.proofs.ReadLemmas.{means-one_item}
-use Rattle.board_lines.proofs.laws.one_item.Goals as goal
-
-pub returns : goal.returns
-returns c = means-one_item

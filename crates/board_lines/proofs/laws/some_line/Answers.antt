@@ -1,5 +1,0 @@
-use Rattle.board_lines.proofs.WrittenLemmas.{item-means}
-use Rattle.board_lines.proofs.laws.some_line.Goals as goal
-
-pub returns : goal.returns
-returns c = item-means

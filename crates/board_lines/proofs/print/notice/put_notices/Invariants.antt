@@ -1,6 +1,0 @@
-use Rattle.std.proofs.Common.{◌≡◌, ◌++◌, drop, map}
-use Rattle.board_lines.specs.Printing.{notice_fields, text_of}
-use Rattle.board_lines.proofs.print.notice.put_notices.Given as goal
-
-abbrev pub invariant-loop-notice : goal.invariant-loop-notice
-invariant-loop-notice l = l.out.items ++ text_of (map notice_fields (drop l.notice-index l.notices)) ≡ l.fn.out.items ++ text_of (map notice_fields l.notices)

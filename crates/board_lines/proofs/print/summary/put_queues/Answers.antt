@@ -1,7 +1,0 @@
-use Rattle.std.proofs.Common.{arith}
-use Rattle.board_lines.specs.Printing.{queue_lines}
-use Rattle.board_lines.proofs.PrintLemmas.{numbered-end}
-use Rattle.board_lines.proofs.print.summary.put_queues.Goals as goal
-
-pub returns : goal.returns
-returns c = numbered-end queue_lines c.loop-place.place c.args.summary.now.values.queued c.loop-place.out.items _ (omega arith) c.loop-place.invariant

@@ -1,5 +1,0 @@
-use Rattle.std.proofs.Common.{rules}
-use Rattle.board_text.proofs.source.Source.open.Goals as goal
-
-pub returns : goal.returns
-returns c = search rules

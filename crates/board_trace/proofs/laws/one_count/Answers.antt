@@ -1,5 +1,0 @@
-use Rattle.board_trace.proofs.LawLemmas.{count-once}
-use Rattle.board_trace.proofs.laws.one_count.Goals as goal
-
-pub returns : goal.returns
-returns c = count-once

@@ -1,5 +1,0 @@
-use Rattle.board_trace.proofs.Histories.{history-once}
-use Rattle.board_trace.proofs.laws.one_history.Goals as goal
-
-pub returns : goal.returns
-returns c = history-once

@@ -1,5 +1,0 @@
-use Rattle.board_trace.proofs.LawLemmas.{wrong-once}
-use Rattle.board_trace.proofs.laws.one_wrong_line.Goals as goal
-
-pub returns : goal.returns
-returns c = wrong-once

@@ -1,0 +1,37 @@
+-- The results of the calls on scripts, traces, and trace entries.
+use Rattle.std.specs.Prelude.{◌≡◌, ℕ, List, length, Option, Some, None, ◌⊎◌}
+use Rattle.text_lines.specs.declared.fault.ScriptFault.{ScriptFault}
+use Rattle.board_script.specs.Output.{fault_of, text}
+use Rattle.c_terms.specs.Rooms.{Fronts}
+use Rattle.c_calls.specs.declared.texts.CEnd.{CEnd}
+
+-- the line of a script's fault, or 0
+abbrev pub line_of_fault : Option (ℕ × ScriptFault) → ℕ
+line_of_fault None = 0
+line_of_fault (Some (line, fault)) = line
+
+abbrev pub kind_of_fault : Option (ℕ × ScriptFault) → ℕ
+kind_of_fault None = 0
+kind_of_fault (Some fault) = 10
+
+-- the output of a script: how it ends, its length, and as much of it as fits
+pub record IsText (script room_before room_after : List ℕ) (end : CEnd) : Type 0 where
+  pub kind : end.kind ≡ kind_of_fault (fault_of script)
+  pub line : end.line ≡ line_of_fault (fault_of script)
+  pub length : end.length ≡ length (text script)
+  pub room : Fronts (text script) room_before room_after
+
+-- no output: an allocation failed, or the script is too long
+pub record IsNotWritten (room_before room_after : List ℕ) (end : CEnd) : Type 0 where
+  pub kind : (end.kind ≡ 2) ⊎ (end.kind ≡ 11)
+  pub line : end.line ≡ 0
+  pub length : end.length ≡ 0
+  pub room : room_after ≡ room_before
+
+-- the lines of an entry: their length, and as much of them as fits
+abbrev pub AreLines : Option (List ℕ) → List ℕ → List ℕ → ℕ → Type 0
+AreLines (Some lines) room_before room_after count = (count ≡ length lines) × Fronts lines room_before room_after
+AreLines None room_before room_after count = ⊥
+
+abbrev pub IsReplay : List ℕ → List ℕ → List ℕ → CEnd → Type 0
+IsReplay script room_before room_after end = IsText script room_before room_after end ⊎ IsNotWritten room_before room_after end

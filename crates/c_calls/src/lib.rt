@@ -1,0 +1,14 @@
+//! The C API of the board (`include/synicboard.h`). The contract of each call says what its handle
+//! owns afterwards, and what the call returns.
+#![tactic(auto)]
+
+mod batches;
+mod events;
+mod lines;
+mod looks;
+mod notices;
+mod opening;
+mod pages;
+mod perform_on;
+mod texts;
+mod views;

@@ -1,0 +1,6 @@
+pub mod Steps
+pub mod Owned
+pub mod Heap
+pub mod OfBoard
+pub mod OfLine
+pub mod Sent

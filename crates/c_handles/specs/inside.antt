@@ -1,0 +1,2 @@
+-- The ownership of a handle. Callers do not need it.
+pub mod Owned

@@ -1,6 +1,0 @@
-use Rattle.std.proofs.Common.{◌≡◌, ◌+◌, take, vec_len}
-use Rattle.std.specs.List.{sum_by}
-use Rattle.crew_script.proofs.script.fit.Given as goal
-
-abbrev pub invariant-loop-script : goal.invariant-loop-script
-invariant-loop-script l = sum_by (λ s. vec_len s) (take l.script-index l.scripts) + l.left ≡ l.room

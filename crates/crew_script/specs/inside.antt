@@ -1,5 +1,0 @@
--- The abstract view of the fields, and their invariant. Callers need neither.
-pub mod View
-pub mod Telling
-pub mod Reporting
-pub mod Good

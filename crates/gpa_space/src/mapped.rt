@@ -1,0 +1,56 @@
+// Which overlays are mapped at each guest page.
+ghost use Rattle.std.specs.Prelude.{◌≡◌, ◌≢◌, ◌==◌, ℕ, ◌<◌, length, replicate, IfOk, slice_index_or};
+ghost use Rattle.std.specs.Int.{bit_at};
+ghost use Rattle.gpa_space.specs.inside.OverlaysAt.{IsLowest, Marks};
+
+use std::alloc::{AllocError, Global};
+
+/// A word for each guest page: bit i is set iff overlay i is mapped at the page.
+#[derive(Drop)]
+pub(crate) struct OverlaysAt {
+    words: Vec<u16>,
+}
+
+impl OverlaysAt {
+    /// No overlay is mapped at any page.
+    pub(crate) fn open(alloc: Global, pages: u8) -> Result<OverlaysAt, AllocError>
+        ensures { IfOk result (λ mapped. mapped.words.items ≡ replicate pages 0) }
+    {
+        let words = vec![in alloc; 0; pages as usize]?;
+        Ok(OverlaysAt { words })
+    }
+
+    /// The first overlay in the order of visibility that is mapped at a page.
+    #[inline]
+    pub(crate) fn first(&self, page: usize) -> Option<usize>
+        requires { page < length self.now.words.items }
+        ensures { IsLowest (slice_index_or self.now.words.items page 0) result }
+    {
+        let word = self.words[page];
+        if word == 0 {
+            return None;
+        }
+        Some(word.trailing_zeros() as usize)
+    }
+
+    /// Records that an overlay is mapped at a page or no longer is, if the page is in the space.
+    pub(crate) fn mark(&mut self, page: u64, overlay: usize, is_mapped: bool)
+        requires { overlay < 16 }
+        ensures { Marks self.old.words.items self.new.words.items page overlay is_mapped }
+    {
+        if page < self.words.len() as u64 {
+            let at = page as usize;
+            self.words[at] = with_overlay(self.words[at], overlay, is_mapped);
+        }
+    }
+}
+
+/// A word with the bit of an overlay set or cleared; its other bits stay.
+fn with_overlay(word: u16, overlay: usize, is_mapped: bool) -> u16
+    requires { overlay < 16 }
+    ensures here { (bit_at result overlay == 1) ≡ is_mapped }
+    ensures others { (i : ℕ) → i < 16 → i ≢ overlay → bit_at result i ≡ bit_at word i }
+{
+    let bit = 1 << overlay;
+    if is_mapped { word | bit } else { word & !bit }
+}

@@ -1,2 +1,0 @@
--- The ownership of a handle. Callers do not need it.
-pub mod Held

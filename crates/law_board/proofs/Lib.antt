@@ -1,0 +1,14 @@
+mod Runs
+mod Leaving
+mod Refusing
+mod Timing
+mod Requesting
+mod Seeing
+mod Queueing
+mod Flagging
+mod Timers
+mod OneShots
+mod Periods
+pub mod Replies
+pub mod Saved
+pub mod Needed

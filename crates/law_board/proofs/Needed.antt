@@ -1,0 +1,74 @@
+-- What may join a queue is just what leaves a sound board.
+use Rattle.std.proofs.Common.{◌≡◌, ◌≢◌, ◌⊎◌, inl, inr, ℕ, ◌+◌, ◌<◌, ◌≤◌, Bool, true, false, cond, ◌&&◌, List, [], ◌∷◌, ◌++◌, length, refl, ap, sym, subst, ◌∙◌, arith}
+use Rattle.std.specs.Prelude.{◌==◌, count_by, Option, Some, IfSome}
+use Rattle.std.specs.List.{All}
+use Rattle.std.proofs.lemmas.Bool.{cases_lt}
+use Rattle.std.proofs.lemmas.Bool.Decides.{nat_tests}
+use Rattle.std.proofs.lemmas.List.{get_or-set_same}
+use Rattle.std.proofs.lemmas.List.Elements.{All-pop}
+use Rattle.std.proofs.lemmas.List.Sums.{sum_by-set, sum_by_push}
+use Rattle.board_terms.specs.declared.messages.Message.{Message}
+use Rattle.board_terms.specs.declared.messages.Message.TheVariants.{FromPort, FromTimer}
+use Rattle.board_terms.specs.Messages.{ticket_of}
+use Rattle.board_terms.specs.Sources.{source_number}
+use Rattle.message_queues.specs.Queues.{is_from_port, is_from_timer, port_used, timer_used, queue_of, HasBuffer}
+use Rattle.synic_board.specs.State.{State, processors}
+use Rattle.synic_board.specs.Locations.{times, locations}
+use Rattle.synic_board.specs.Sound.{IsMessage, IsSound}
+use Rattle.synic_board.specs.Buffers.{IsHome, HasBuffers}
+use Rattle.synic_board.specs.Restoring.{with_message, IsUnplaced, MayJoin}
+use Rattle.synic_board.proofs.keeping.Counts.{in_queue, one, times-locations, in_queue-push}
+use Rattle.synic_board.proofs.keeping.Placements.{queue-good}
+use Rattle.synic_board.proofs.keeping.Uses.{found_in}
+
+itself : (t : ℕ) → (t == t) ≡ true
+itself t = grind (arith, nat_tests)
+
+one-itself : (t : ℕ) → one t t ≡ 1
+one-itself t = grind (arith, nat_tests)
+
+abbrev one_if : Bool → ℕ
+one_if b = cond b 1 0
+
+pub may-join : (s : State) (p i : ℕ) (m : Message) → p < processors s → i < 16 → IsSound s → IsSound (with_message s p i m) → HasBuffers (with_message s p i m) → MayJoin s p m
+may-join s p i m below under before sound buffers = record {
+  message = last IsMessage (queue-good (processors s) now p i sound.whole below under);
+  home = home;
+  buffer = room m refl home;
+  ticket = record { given = given (cases_lt (ticket_of m) s.next_ticket); nowhere = omega (arith, moved (ticket_of m), one-itself (ticket_of m), sound.tickets.once (ticket_of m)) };
+}
+  where
+    now : State
+    now = with_message s p i m
+
+    j : ℕ
+    j = source_number p i
+
+    q : List Message
+    q = queue_of s.queues p i ++ m ∷ []
+
+    inside : j < length s.queues
+    inside = omega (arith, before.whole.queues, below, under)
+
+    last : (P : Message → Type 0) → All P (queue_of now.queues p i) → P m
+    last P all = (All-pop P q (queue_of s.queues p i) (Some m) refl (subst (All P) (get_or-set_same s.queues j q [] inside) all)).1
+
+    home : IsHome p m
+    home = last (IsHome p) (buffers.home p i under)
+
+    more : (f : Message → Bool) → f m ≡ true → found_in f now.queues ≡ found_in f s.queues + 1
+    more f e = omega (arith, sum_by-set (count_by f) s.queues j q [] inside, sum_by_push (λ x. cond (f x) 1 0) (queue_of s.queues p i) m, ap one_if e)
+
+    room : (x : Message) → m ≡ x → IsHome p x → HasBuffer s.queues x
+    room (FromPort ticket port kind payload) is at = (at, omega (arith, buffers.room port, more (is_from_port port) (ap (is_from_port port) is ∙ itself port)))
+    room (FromTimer ticket t expiration) is at =
+        let found : is_from_timer t m ≡ true = ap (is_from_timer t) is ∙ (λ k. itself t.0 k && itself t.1 k) in
+        let none : timer_used s.queues t ≡ 0 = omega (arith, buffers.one_each t, more (is_from_timer t) found) in
+        ap (λ n. n == 0) none
+
+    moved : (t : ℕ) → times t (locations now) ≡ times t (locations s) + one (ticket_of m) t
+    moved t = omega (arith, times-locations t s, times-locations t now, sum_by-set (in_queue t) s.queues j q [] inside, in_queue-push t (queue_of s.queues p i) m)
+
+    given : (ticket_of m < s.next_ticket) ⊎ (s.next_ticket ≤ ticket_of m) → ticket_of m < s.next_ticket
+    given (inl low) = low
+    given (inr high) = absurd (omega (arith, moved (ticket_of m), one-itself (ticket_of m), sound.tickets.given_before (ticket_of m) high))

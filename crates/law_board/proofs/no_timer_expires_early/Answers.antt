@@ -1,0 +1,5 @@
+use Rattle.law_board.proofs.Timing.{on-time}
+use Rattle.law_board.proofs.no_timer_expires_early.Goals as goal
+
+pub returns : goal.returns
+returns c = on-time

@@ -1,0 +1,11 @@
+pub mod Accounts
+pub mod Refusals
+pub mod Timely
+pub mod Requests
+pub mod Flags
+pub mod OneShots
+pub mod Periods
+pub mod Order
+pub mod Seen
+pub mod Leaving
+pub mod Saved

@@ -1,5 +1,0 @@
-use Rattle.posted_words.specs.Words.{IsOf}
-use Rattle.part_tests.proofs.words.raise_at_each_place.Given as goal
-
-abbrev pub invariant-loop-place : goal.invariant-loop-place
-invariant-loop-place l = IsOf l.words.name l.line

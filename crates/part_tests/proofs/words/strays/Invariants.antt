@@ -1,5 +1,0 @@
-use Rattle.posted_words.specs.Words.{IsOf}
-use Rattle.part_tests.proofs.words.strays.Given as goal
-
-abbrev pub invariant-loop-number : goal.invariant-loop-number
-invariant-loop-number l = IsOf l.words.name l.line × IsOf l.words.name l.sweeper

@@ -1,7 +1,0 @@
-use Rattle.std.proofs.Common.{◌≡◌, true}
-use Rattle.posted_words.specs.Words.{IsOf}
-use Rattle.board_threads.specs.Settling.{only_raises}
-use Rattle.refused_tests.proofs.shared.take_turns.Given as goal
-
-abbrev pub invariant-loop-turn : goal.invariant-loop-turn
-invariant-loop-turn g l = (l.actor.of ≡ l.initial.actor.of) × IsOf l.board.words.name l.line × (only_raises l.line.did ≡ true)

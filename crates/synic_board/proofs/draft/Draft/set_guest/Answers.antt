@@ -1,0 +1,13 @@
+use Rattle.std.proofs.Common.{sym, subst, ap, arith}
+use Rattle.synic_board.specs.State.{State, processors, slot_of}
+use Rattle.synic_board.specs.Effects.{Outcome}
+use Rattle.synic_board.specs.Restoring.{HasNoTickets}
+use Rattle.synic_board.specs.inside.Drafts.{IsDraft}
+use Rattle.synic_board.proofs.Drafts.{draft-guest}
+use Rattle.synic_board.proofs.draft.Draft.set_guest.Goals as goal
+
+pub invariant_of-self : goal.invariant_of-self
+invariant_of-self c =
+    let s = c.self.inside.machine.state in
+    let tickets = c.self.inside.tickets.items in
+    subst (λ (s : State). IsDraft s tickets) (sym c.restore_guest.ensures) (draft-guest s c.args.page c.args.at c.args.bytes.now tickets c.self.invariant)

@@ -1,0 +1,14 @@
+use Rattle.std.proofs.Common.{sym, subst, ap, arith}
+use Rattle.synic_board.specs.State.{State, processors, slot_of}
+use Rattle.synic_regs.specs.declared.register.Register.TheVariants.{Source}
+use Rattle.synic_board.specs.Effects.{Outcome}
+use Rattle.synic_board.specs.Restoring.{HasNoTickets}
+use Rattle.synic_board.specs.inside.Drafts.{IsDraft}
+use Rattle.synic_board.proofs.Drafts.{draft-stored}
+use Rattle.synic_board.proofs.draft.Draft.set_source.Goals as goal
+
+pub invariant_of-self : goal.invariant_of-self
+invariant_of-self c =
+    let s = c.self.inside.machine.state in
+    let tickets = c.self.inside.tickets.items in
+    subst (λ (o : Outcome). IsDraft o.0 tickets) (sym c.write_source.ensures.step) (draft-stored s c.args.vp (Source c.args.sint) c.args.value tickets c.self.invariant)

@@ -1,0 +1,240 @@
+// A board that is being restored.
+ghost use Rattle.std.specs.Prelude.{◌≡◌, ◌↔◌, ◌<◌, ◌≤◌, ◌+◌, IsTrue, IfOk, OnErr, IsErrOf, Some, None, [], ℕ, length, if◌then◌else◌};
+ghost use Rattle.event_ports.specs.Ports.{open_refusal};
+ghost use Rattle.lapic_core.specs.Apic.{Apic};
+ghost use Rattle.stimer_bank.specs.Timer.{IsSoundTimer};
+ghost use Rattle.synic_regs.specs.Regs.{after_write, with_value};
+ghost use Rattle.synic_regs.specs.declared.register.Register.TheVariants as register;
+ghost use Rattle.synic_board.specs.Registers.{stored};
+ghost use Rattle.synic_board.specs.State.{AreSizes, opened, processors, regs_of, with_regs, with_slot_ticket};
+ghost use Rattle.synic_board.specs.Posts.{opened_port};
+ghost use Rattle.synic_board.specs.Timers.{at_moment};
+ghost use Rattle.synic_board.specs.Sound.{IsMessage};
+ghost use Rattle.synic_board.specs.Buffers.{IsHome};
+ghost use Rattle.synic_board.specs.Locations.{times, locations};
+ghost use Rattle.synic_board.specs.Restoring.{overlay_register, with_processor, with_saved_timer, with_own_bytes, with_guest_bytes, with_message, HasNoTickets, IsUnplaced, MayJoin, MayOccupy};
+
+use crate::board::{Board, OpenFault};
+use crate::event::Reply;
+use crate::machine::Machine;
+use board_terms::{Kind, Message, Moment, PortShape, Sint, Ticket, TimerId, Vp};
+use lapic_core::Lapic;
+use std::alloc::{AllocError, Global};
+use std::marker::Model;
+
+/// A board that is being restored, piece by piece. It is the state of a board at any time, so a piece
+/// that no board can have together with the earlier pieces is refused, and then nothing changes. The
+/// pages of a processor come before the tickets of its slots.
+#[derive(Drop)]
+pub struct Draft {
+    machine: Machine,
+    /// The tickets of all messages in queues and slots.
+    tickets: Vec<Ticket>,
+}
+
+impl Model for Draft {
+    ghost use Rattle.synic_board.specs.State.{State};
+    ghost use Rattle.synic_board.specs.inside.Codes.{state_code};
+
+    ghost Value = { State };
+
+    ghost coded = { state_code };
+
+    ghost use Rattle.synic_board.specs.inside.Drafts.{IsDraft};
+
+    ghost view = { λ a. a.machine.state };
+
+    ghost invariant = { λ a. IsDraft a.machine.state a.tickets.items };
+}
+
+impl Draft {
+    /// A newly opened board whose next accepted message gets the ticket `next_ticket`. `BadSize` unless
+    /// there are 1 to 8 processors and 1 to 64 pages.
+    pub fn open(
+        alloc: Global,
+        processors: u8,
+        pages: u8,
+        next_ticket: Ticket,
+    ) -> Result<Draft, OpenFault>
+        ensures size { IsErrOf result OpenFault.BadSize ↔ (¬ AreSizes processors pages) }
+        ensures opened { IfOk result (λ d. d ≡ opened processors pages next_ticket) }
+    {
+        if processors < 1 || processors > 8 || pages < 1 || pages > 64 {
+            return Err(OpenFault::BadSize);
+        }
+        match Machine::open(alloc, processors, pages, next_ticket) {
+            Ok(machine) => Ok(Draft {
+                machine,
+                tickets: Vec::new(alloc),
+            }),
+            Err(_) => Err(OpenFault::Memory),
+        }
+    }
+
+    /// The number of processors on the board.
+    pub fn processors(&self) -> u8
+        ensures count { result ≡ processors self.now }
+        ensures bound { result ≤ 8 }
+    {
+        self.machine.processors()
+    }
+
+    /// Sets the present time, in units of 100 ns.
+    pub fn set_moment(&mut self, moment: Moment)
+        ensures { self.new ≡ at_moment self.old moment }
+    {
+        self.machine.restore_moment(moment);
+    }
+
+    /// Sets the local APIC of a processor. The processor's timers are suspended iff the local APIC is.
+    pub fn set_lapic(&mut self, vp: Vp, lapic: Lapic)
+        requires { vp < processors self.old }
+        ensures { self.new ≡ with_processor self.old vp lapic }
+    {
+        self.machine.restore_lapic(vp, lapic);
+    }
+
+    /// Sets SCONTROL.
+    pub fn set_control(&mut self, vp: Vp, value: u64)
+        requires { vp < processors self.old }
+        ensures { self.new ≡ with_regs self.old vp (with_value (regs_of self.old vp) register.Control value) }
+    {
+        self.machine.write_control(vp, value);
+    }
+
+    /// Sets SIMP or SIEFP.
+    pub fn set_overlay(&mut self, vp: Vp, kind: Kind, value: u64)
+        requires { vp < processors self.old }
+        ensures { self.new ≡ with_regs self.old vp (after_write (regs_of self.old vp) (overlay_register kind) value) }
+    {
+        self.machine.write_overlay(vp, kind, value);
+    }
+
+    /// Sets a SINT register. `GeneralProtection` iff its vector is below 16 and it is not masked.
+    pub fn set_source(&mut self, vp: Vp, sint: Sint, value: u64) -> Reply
+        requires { vp < processors self.old }
+        ensures { (self.new, result, []) ≡ stored self.old vp (register.Source sint) value }
+    {
+        self.machine.write_source(vp, sint, value)
+    }
+
+    /// Opens a port. The reply is that of the event.
+    pub fn open_port(&mut self, port: u8, vp: u8, sint: u8, shape: PortShape) -> Reply
+        ensures { (self.new, result, []) ≡ opened_port self.old port vp sint shape }
+    {
+        self.machine.open_port(port, vp, sint, shape)
+    }
+
+    /// Sets bytes of a processor's message or event flags page, from offset `at` on. Requires that no slot
+    /// of the processor holds a ticket yet.
+    pub fn set_own(&mut self, vp: Vp, kind: Kind, at: usize, bytes: &[u8])
+        requires on { vp < processors self.old }
+        requires inside { at + length bytes.now ≤ 4096 }
+        requires before { HasNoTickets self.old vp }
+        ensures { self.new ≡ with_own_bytes self.old vp kind at bytes.now }
+    {
+        self.machine.restore_own(vp, kind, at, bytes);
+    }
+
+    /// Sets bytes of a guest page, from offset `at` on.
+    pub fn set_guest(&mut self, page: u8, at: usize, bytes: &[u8])
+        requires page { page < length self.old.pages }
+        requires inside { at + length bytes.now ≤ 4096 }
+        ensures { self.new ≡ with_guest_bytes self.old page at bytes.now }
+    {
+        self.machine.restore_guest(page, at, bytes);
+    }
+
+    /// Sets the registers and the deadline of a timer, if a timer can have them, and returns whether it
+    /// can.
+    pub fn set_timer(&mut self, timer: TimerId, config: u64, count: u64, due: Option<u128>) -> bool
+        requires { timer.0 < processors self.old }
+        ensures valid { IsTrue result ↔ IsSoundTimer (record { config = config; count = count; due = due }) }
+        ensures restored { self.new ≡ (if result then with_saved_timer self.old timer (record { config = config; count = count; due = due }) else self.old) }
+    {
+        self.machine.restore_timer(timer, config, count, due)
+    }
+
+    /// Appends a message to a queue, if it can be queued there, and returns whether it can.
+    pub fn push_message(&mut self, vp: Vp, sint: Sint, message: Message) -> Result<bool, AllocError>
+        requires { vp < processors self.old }
+        ensures valid { IfOk result (λ taken. IsTrue taken ↔ MayJoin self.old vp message) }
+        ensures restored { IfOk result (λ taken. self.new ≡ (if taken then with_message self.old vp sint message else self.old)) }
+        ensures err { OnErr result (self.new ≡ self.old) }
+    {
+        if !self.may_join(vp, &message) {
+            return Ok(false);
+        }
+        self.tickets.push(message.ticket())?;
+        self.machine.restore_message(vp, sint, message);
+        Ok(true)
+    }
+
+    /// Sets the ticket of the message in a slot, if the slot can hold it, and returns whether it can.
+    pub fn set_ticket(&mut self, vp: Vp, sint: Sint, ticket: Ticket) -> Result<bool, AllocError>
+        requires { vp < processors self.old }
+        ensures valid { IfOk result (λ taken. IsTrue taken ↔ MayOccupy self.old vp sint ticket) }
+        ensures restored { IfOk result (λ taken. self.new ≡ (if taken then with_slot_ticket self.old vp sint (Some ticket) else self.old)) }
+        ensures err { OnErr result (self.new ≡ self.old) }
+    {
+        if !self.may_occupy(vp, sint, ticket) {
+            return Ok(false);
+        }
+        self.tickets.push(ticket)?;
+        self.machine.restore_ticket(vp, sint, ticket);
+        Ok(true)
+    }
+
+    /// Whether a message can be queued for a processor.
+    fn may_join(&self, vp: Vp, message: &Message) -> bool
+        ensures { IsTrue result ↔ MayJoin self.now vp message.now }
+    {
+        if !is_at_home(message, vp) {
+            return false;
+        }
+        if !self.machine.has_buffer(message) {
+            return false;
+        }
+        self.is_unplaced(message.ticket())
+    }
+
+    /// Whether a slot can hold a ticket.
+    fn may_occupy(&self, vp: Vp, sint: Sint, ticket: Ticket) -> bool
+        requires { vp < processors self.now }
+        ensures { IsTrue result ↔ MayOccupy self.now vp sint ticket }
+    {
+        !self.machine.is_slot_empty(vp, sint)
+            && !self.machine.has_ticket(vp, sint)
+            && self.is_unplaced(ticket)
+    }
+
+    /// Whether a ticket was given, and is in no queue or slot.
+    fn is_unplaced(&self, ticket: Ticket) -> bool
+        ensures { IsTrue result ↔ IsUnplaced self.now ticket }
+    {
+        ticket < self.machine.next_ticket() && !self.tickets.contains(&ticket)
+    }
+
+    /// The restored board.
+    pub fn finish(self) -> Board
+        ensures { result.state ≡ self }
+    {
+        Board::from_machine(self.machine)
+    }
+}
+
+/// Whether a message can be queued for a processor, provided that it has a buffer and its ticket is
+/// unplaced.
+fn is_at_home(message: &Message, vp: Vp) -> bool
+    ensures { IsTrue result ↔ (IsMessage message.now × IsHome vp message.now) }
+{
+    match message {
+        Message::FromPort {
+            port,
+            kind,
+            payload,
+            ..
+        } => payload.as_slice().len() <= 240 && *port < 16 && *kind != 0,
+        Message::FromTimer { timer, .. } => timer.index() < 4 && timer.vp() == vp,
+    }
+}

@@ -1,6 +1,0 @@
-pub mod Asked
-pub mod Batched
-pub mod Told
-pub mod Opened
-pub mod Texts
-pub mod Lines

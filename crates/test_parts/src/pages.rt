@@ -1,0 +1,288 @@
+// Pages and overlays, at worked values.
+ghost use Rattle.std.specs.Prelude.{◌≡◌, ◌<◌, IfSome};
+ghost use Rattle.gpa_space.specs.Space.{processors_of};
+
+use crate::steps::{Other, Part, first_other};
+use board_terms::{Bytes8, Kind, Owner, Refusal, Sint, Vp};
+use gpa_space::Space;
+use std::alloc::{AllocError, Global};
+
+/// A call of the space.
+#[derive(Clone, Copy)]
+pub(crate) enum Call {
+    SetOverlay(u8, Kind, u64),
+    Owner(u64),
+    /// A load of that many bytes; the answer is the first.
+    Load(u64, u8),
+    LoadEight(u64),
+    Store(u64, u8),
+    /// A store of that many bytes, up to nine, all of them 1.
+    StoreSome(u64, usize),
+    SimByte(u8, usize),
+    SiefByte(u8, usize),
+    OwnByte(u8, Kind, usize),
+    GuestByte(u64, usize),
+    /// Writes a slot whose bytes are all the same.
+    WriteSlot(u8, u8, u8),
+    /// Writes a message with a payload of one byte.
+    WriteMessage(u8, u8, u8),
+    SetPending(u8, u8),
+    SetFlag(u8, u8, u16),
+    ClearPages(u8),
+}
+
+#[derive(Clone, Copy, PartialEq, Debug)]
+pub(crate) enum Answer {
+    Done,
+    Is(bool),
+    Byte(u8),
+    Bytes([u8; 8]),
+    Guest,
+    Overlay(u8, Kind),
+    Nothing,
+    Refused(Refusal),
+}
+
+use Answer::{Byte, Bytes, Done, Guest, Is, Nothing, Overlay, Refused};
+use Call::{
+    ClearPages, GuestByte, Load, LoadEight, OwnByte, SetFlag, SetOverlay, SetPending, SiefByte,
+    SimByte, Store, StoreSome, WriteMessage, WriteSlot,
+};
+
+/// A space of two processors and four pages.
+#[derive(Drop)]
+struct Scene {
+    space: Space,
+    ghost two: { processors_of space ≡ 2 },
+}
+
+/// A processor of the two.
+fn on_board(number: u8) -> Option<Vp>
+    ensures { IfSome result (λ vp. vp < 2) }
+{
+    if number < 2 { Vp::new(number) } else { None }
+}
+
+fn owner(owner: Owner) -> Answer {
+    match owner {
+        Owner::Guest => Guest,
+        Owner::Sim(vp) => Overlay(vp.number(), Kind::Sim),
+        Owner::Sief(vp) => Overlay(vp.number(), Kind::Sief),
+        Owner::Nothing => Nothing,
+    }
+}
+
+fn byte(page: Option<&[u8]>, at: usize) -> Option<Answer> {
+    match page {
+        Some(page) => Some(Byte(*page.get(at)?)),
+        None => Some(Nothing),
+    }
+}
+
+impl Scene {
+    fn open(alloc: Global) -> Result<Scene, AllocError> {
+        let space = Space::open(alloc, 2, 4)?;
+        Ok(Scene { space })
+    }
+
+    // README gpa_space: begin
+    fn load(&self, address: u64, length: u8) -> Option<Answer> {
+        match self.space.load(address, length) {
+            Ok(bytes) => Some(Byte(*bytes.first()?)),
+            Err(refusal) => Some(Refused(refusal)),
+        }
+    }
+    // README gpa_space: end
+
+    fn load_eight(&self, address: u64) -> Option<Answer> {
+        match self.space.load(address, 8) {
+            Ok(bytes) => Some(Bytes(bytes.as_slice().try_into().ok()?)),
+            Err(refusal) => Some(Refused(refusal)),
+        }
+    }
+
+    fn store(&mut self, address: u64, bytes: &[u8]) -> Answer {
+        let mut bound = Bytes8::new();
+        let stored = match bound.try_extend_from_slice(bytes) {
+            Ok(()) => self.space.store(address, &bound),
+            Err(_) => self.space.store_slice(address, bytes),
+        };
+        match stored {
+            Ok(touched) => owner(touched),
+            Err(refusal) => Refused(refusal),
+        }
+    }
+
+    fn set_flag(&mut self, vp: Vp, sint: Sint, flag: u16) -> Option<Answer>
+        requires { vp < 2 }
+    {
+        if flag >= 2048 {
+            return None;
+        }
+        Some(Is(self.space.set_flag(vp, sint, flag)))
+    }
+
+    /// A call of the hypervisor, on the pages of a processor.
+    fn ask_hypervisor(&mut self, call: Call) -> Option<Answer> {
+        match call {
+            WriteSlot(vp, sint, byte) => {
+                self.space
+                    .write_slot(on_board(vp)?, Sint::new(sint)?, &[byte; 256]);
+                Some(Done)
+            }
+            WriteMessage(vp, sint, byte) => {
+                self.space
+                    .write_message(on_board(vp)?, Sint::new(sint)?, &HEADER, &[byte]);
+                Some(Done)
+            }
+            SetPending(vp, sint) => {
+                Some(Is(self.space.set_pending(on_board(vp)?, Sint::new(sint)?)))
+            }
+            SetFlag(vp, sint, flag) => self.set_flag(on_board(vp)?, Sint::new(sint)?, flag),
+            ClearPages(vp) => {
+                self.space.clear_pages(on_board(vp)?);
+                Some(Done)
+            }
+            _ => None,
+        }
+    }
+}
+
+impl Part for Scene {
+    type Call = Call;
+
+    type Answer = Answer;
+
+    fn ask(&mut self, call: Call) -> Option<Answer> {
+        match call {
+            SetOverlay(vp, kind, register) => {
+                self.space.set_overlay(on_board(vp)?, kind, register);
+                Some(Done)
+            }
+            Call::Owner(page) => Some(owner(self.space.owner(page))),
+            Load(address, length) => self.load(address, length),
+            LoadEight(address) => self.load_eight(address),
+            Store(address, byte) => Some(self.store(address, &[byte])),
+            StoreSome(address, count) => Some(self.store(address, [1; 9].get(..count)?)),
+            SimByte(vp, at) => byte(Some(self.space.sim(on_board(vp)?)), at),
+            SiefByte(vp, at) => byte(Some(self.space.sief(on_board(vp)?)), at),
+            OwnByte(vp, kind, at) => byte(self.space.own_page(Vp::new(vp)?, kind), at),
+            GuestByte(page, at) => byte(self.space.guest_page(page), at),
+            call => self.ask_hypervisor(call),
+        }
+    }
+}
+
+/// The first step at which a new scene gives another answer.
+fn other(alloc: Global, steps: &[(Call, Answer)]) -> Result<Option<Other<Answer>>, AllocError> {
+    Ok(first_other(&mut Scene::open(alloc)?, steps))
+}
+
+/// An overlay obscures the page below, and the first of several obscures the others. Obscured bytes
+/// stay.
+const OVERLAYS: [(Call, Answer); 20] = [
+    // README gpa_space: begin
+    (Store(0x2200, 5), Guest),
+    (SetOverlay(1, Kind::Sim, 0x2001), Done),
+    (Load(0x2200, 1), Byte(0)),
+    (Store(0x2200, 7), Overlay(1, Kind::Sim)),
+    (SetOverlay(0, Kind::Sief, 0x2001), Done),
+    (Call::Owner(2), Overlay(0, Kind::Sief)),
+    (Load(0x2200, 1), Byte(0)),
+    (OwnByte(0, Kind::Sief, 0x200), Byte(0)),
+    (OwnByte(1, Kind::Sim, 0x200), Byte(7)),
+    (OwnByte(2, Kind::Sim, 0x200), Nothing),
+    (GuestByte(2, 0x200), Byte(5)),
+    (GuestByte(4, 0x200), Nothing),
+    (SetOverlay(0, Kind::Sief, 0), Done),
+    (Load(0x2200, 1), Byte(7)),
+    (SetOverlay(1, Kind::Sim, 0x3001), Done),
+    (Load(0x2200, 1), Byte(5)),
+    (Load(0x3200, 1), Byte(7)),
+    (Call::Owner(2), Guest),
+    (Call::Owner(3), Overlay(1, Kind::Sim)),
+    (Call::Owner(4), Nothing),
+    // README gpa_space: end
+];
+
+/// The checks are in this order: the length, the page of the first byte, the page of the last byte.
+const REFUSALS: [(Call, Answer); 13] = [
+    (Load(0x4000, 1), Refused(Refusal::OutsideSpace)),
+    (Load(0x3fff, 2), Refused(Refusal::CrossesPage)),
+    (Load(0xffe, 4), Refused(Refusal::CrossesPage)),
+    (Load(u64::MAX, 9), Refused(Refusal::BadLength)),
+    (Load(u64::MAX, 8), Refused(Refusal::OutsideSpace)),
+    (Load(0, 0), Refused(Refusal::BadLength)),
+    (StoreSome(0, 0), Refused(Refusal::BadLength)),
+    (StoreSome(0, 9), Refused(Refusal::BadLength)),
+    (Store(0x4000, 1), Refused(Refusal::OutsideSpace)),
+    (StoreSome(0x3ff9, 8), Refused(Refusal::CrossesPage)),
+    (LoadEight(0x3ff8), Bytes([0; 8])),
+    (StoreSome(0x3ff8, 8), Guest),
+    (LoadEight(0x3ff8), Bytes([1; 8])),
+];
+
+/// The first bytes of a message of type 1 from port 3, of one byte.
+const HEADER: [u8; 16] = [1, 0, 0, 0, 1, 0, 0, 0, 3, 0, 0, 0, 0, 0, 0, 0];
+
+/// The message page is outside the space at first, and the event flags page is disabled.
+const HIDDEN_PAGES: [(Call, Answer); 24] = [
+    (SetOverlay(0, Kind::Sim, 0x40001), Done),
+    (WriteSlot(0, 2, 0x0a), Done),
+    (SetPending(0, 2), Is(true)),
+    (SetPending(0, 2), Is(false)),
+    (WriteSlot(0, 3, 0xff), Done),
+    (WriteMessage(0, 3, 0x0b), Done),
+    (SetOverlay(0, Kind::Sim, 0x2001), Done),
+    (Load(0x21ff, 1), Byte(0)),
+    (LoadEight(0x2200), Bytes([10, 10, 10, 10, 10, 11, 10, 10])),
+    (LoadEight(0x22f8), Bytes([10; 8])),
+    (LoadEight(0x2300), Bytes([1, 0, 0, 0, 1, 0, 0, 0])),
+    (LoadEight(0x2308), Bytes([3, 0, 0, 0, 0, 0, 0, 0])),
+    (LoadEight(0x2310), Bytes([11, 0, 0, 0, 0, 0, 0, 0])),
+    (LoadEight(0x23f8), Bytes([0; 8])),
+    (Load(0x2400, 1), Byte(0)),
+    (SimByte(0, 0x310), Byte(11)),
+    (SetFlag(0, 2, 3), Is(true)),
+    (SetFlag(0, 2, 3), Is(false)),
+    (SiefByte(0, 0x200), Byte(8)),
+    (SetFlag(0, 15, 2047), Is(true)),
+    (SiefByte(0, 0xfff), Byte(0x80)),
+    (OwnByte(0, Kind::Sief, 0xfff), Byte(0x80)),
+    (SimByte(1, 0x310), Byte(0)),
+    (SiefByte(1, 0x200), Byte(0)),
+];
+
+/// One page of processor 1 is visible, and the other disabled.
+const CLEARED_PAGES: [(Call, Answer); 16] = [
+    (SetPending(0, 15), Is(true)),
+    (SetPending(1, 15), Is(true)),
+    (SetFlag(0, 15, 2047), Is(true)),
+    (SetFlag(1, 15, 2047), Is(true)),
+    (SetOverlay(1, Kind::Sim, 0x2001), Done),
+    (SimByte(1, 0xf05), Byte(1)),
+    (SiefByte(1, 0xfff), Byte(0x80)),
+    (Load(0x2f05, 1), Byte(1)),
+    (ClearPages(1), Done),
+    (SimByte(1, 0xf05), Byte(0)),
+    (SiefByte(1, 0xfff), Byte(0)),
+    (SimByte(0, 0xf05), Byte(1)),
+    (SiefByte(0, 0xfff), Byte(0x80)),
+    (Call::Owner(2), Overlay(1, Kind::Sim)),
+    (Load(0x2f05, 1), Byte(0)),
+    (SetPending(1, 15), Is(true)),
+];
+
+const TABLES: [(&str, &[(Call, Answer)]); 4] = [
+    ("overlays hide what is below", &OVERLAYS),
+    ("addresses are refused in order", &REFUSALS),
+    ("hypervisor writes hidden pages", &HIDDEN_PAGES),
+    ("pages of one processor are cleared", &CLEARED_PAGES),
+];
+
+#[test]
+fn each_table_is_answered(rt: HostRuntime) {
+    for (table, steps) in &TABLES {
+        assert_eq!(rt; other(rt.alloc(), *steps), Ok(None), "{table}");
+    }
+}

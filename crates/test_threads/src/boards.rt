@@ -1,0 +1,44 @@
+// Shared boards with their actors and lines.
+ghost use Rattle.std.specs.Prelude.{◌≡◌, true, All, IfSome};
+ghost use Rattle.posted_words.specs.Words.{IsOf};
+ghost use Rattle.board_threads.specs.Settling.{only_raises};
+
+use board_threads::{Actor, Line, SharedBoard};
+use std::alloc::Global;
+
+/// A board with one page and first ticket 0, its actors and its lines.
+pub(crate) fn opened(
+    alloc: Global,
+    processors: u8,
+    actors: u8,
+    lines: u8,
+) -> Option<(SharedBoard, Vec<Actor>, Vec<Line>)>
+    ensures processors { IfSome result (λ r. r.0.words.processors ≡ processors) }
+    ensures actors { IfSome result (λ r. All (λ a. a.of ≡ r.0.words.name) r.1.items) }
+    ensures lines { IfSome result (λ r. All (IsOf r.0.words.name) r.2.items) }
+    ensures raises { IfSome result (λ r. All (λ l. only_raises l.actions ≡ true) r.2.items) }
+{
+    match SharedBoard::open(alloc, processors, 1, 0, actors, lines) {
+        Ok(opened) => Some(opened),
+        Err(_) => None,
+    }
+}
+
+/// The last of a board's actors.
+pub(crate) fn take_actor(board: &SharedBoard, actors: &mut Vec<Actor>) -> Option<Actor>
+    requires { All (λ a. a.of ≡ board.now.words.name) actors.old.items }
+    ensures taken { IfSome result (λ a. a.of ≡ board.now.words.name) }
+    ensures others { All (λ a. a.of ≡ board.now.words.name) actors.new.items }
+{
+    actors.pop()
+}
+
+/// The last of a board's lines.
+pub(crate) fn take_line(board: &SharedBoard, lines: &mut Vec<Line>) -> Option<Line>
+    requires own { All (IsOf board.now.words.name) lines.old.items }
+    requires raises { All (λ l. only_raises l.actions ≡ true) lines.old.items }
+    ensures own { IfSome result (IsOf board.now.words.name) }
+    ensures raises { IfSome result (λ l. only_raises l.actions ≡ true) }
+{
+    lines.pop()
+}

@@ -1,0 +1,34 @@
+-- A valid script satisfies the preconditions of a crew.
+use Rattle.std.proofs.Common.{◌≡◌, List, [], ◌∷◌, length, Vec, Global, refl, ap, ◌∙◌, arith, Bool, false, ◌||◌}
+use Rattle.std.specs.List.{list_any}
+use Rattle.std.proofs.lemmas.Bool.{or_from}
+use Rattle.board_threads.specs.Crew.{lists}
+use Rattle.board_threads.specs.Judging.{IsSized, is_bad_step, is_bad_script, is_bad_raise, is_bad_line, has_bad_step}
+use Rattle.board_threads.specs.Sweeps.{is_absorb}
+use Rattle.text_crew.specs.inside.Good.{IsGood}
+use Rattle.text_crew.specs.inside.View.{crew_of}
+use Rattle.text_crew.specs.declared.held.CrewScript.{CrewScript}
+use Rattle.text_crew.proofs.Counting.{lengths}
+
+as-many : {A : Type 0} (scripts : List (Vec A Global)) → length (lists scripts) ≡ length scripts
+as-many [] = refl
+as-many (s ∷ scripts) = omega (arith, as-many scripts)
+
+any-in : {A : Type 0} (bad : List A → Bool) (scripts : List (Vec A Global)) → list_any (λ (s : Vec A Global). bad s.items) scripts ≡ list_any bad (lists scripts)
+any-in bad [] = refl
+any-in bad (s ∷ scripts) = ap (λ (b : Bool). bad s.items || b) (any-in bad scripts)
+
+pub sized : (c : CrewScript) → IsGood (crew_of c) → IsSized c.setup c.scripts
+sized c g = record {
+  board = g.board;
+  actors = omega (arith, g.few_actors, as-many c.scripts.actors.items, c.scripts.actors.ok.0);
+  lines = omega (arith, g.few_lines, as-many c.scripts.lines.items, c.scripts.lines.ok.0);
+  entries = omega (arith, g.few_entries, lengths c.scripts.actors.items, c.setup.events.ok.0);
+}
+
+pub none-bad : (c : CrewScript) → IsGood (crew_of c) → has_bad_step c.setup c.scripts ≡ false
+none-bad c g =
+    let steps = any-in (list_any is_bad_step) c.scripts.actors.items ∙ g.no_bad_step in
+    let raises = any-in (list_any (is_bad_raise c.setup.processors)) c.scripts.lines.items ∙ g.no_bad_raise in
+    let acts = or_from (list_any is_absorb c.setup.events.items) (list_any is_bad_script c.scripts.actors.items) g.no_bad_event steps in
+    or_from (list_any is_absorb c.setup.events.items || list_any is_bad_script c.scripts.actors.items) (list_any (is_bad_line c.setup.processors) c.scripts.lines.items) acts raises

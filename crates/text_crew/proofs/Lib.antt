@@ -1,0 +1,6 @@
+pub mod Counting
+pub mod Limits
+pub mod Reading
+pub mod Tracing
+pub mod Good
+pub mod Judged

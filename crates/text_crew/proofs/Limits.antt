@@ -1,0 +1,34 @@
+-- The greatest number of bytes read.
+use Rattle.std.proofs.Common.{◌≡◌, ℕ, List, Option, refl, sym, subst}
+use Rattle.text_base.specs.Streams.{ReadsUpTo}
+use Rattle.text_driver.specs.Driving.{ReadsNear}
+use Rattle.text_lines.specs.declared.fault.ScriptFault.{ScriptFault}
+use Rattle.text_crew.specs.Crew.{Crew}
+use Rattle.text_crew.specs.Running.{Writes, most_read, StopsNear}
+use Rattle.text_crew.specs.inside.Reporting.{Refuses, Runs}
+use Rattle.text_crew.specs.declared.running.CrewRun.{CrewRun}
+use Rattle.text_crew.specs.declared.running.CrewRun.TheVariants.{Done, Script, Unsettled, Memory, NoThread, Reading, Writing}
+
+-- an end with a report is not a failed read
+said-within : (result : CrewRun) (tells : CrewRun → List ℕ → Type 0) (w0 w1 : Option (List ℕ)) → ((text : List ℕ) → tells Reading text → ⊥) → Writes tells result w0 w1 → most_read result ≡ 1073741824
+said-within Done tells w0 w1 never says = refl
+said-within (Script line fault) tells w0 w1 never says = refl
+said-within Unsettled tells w0 w1 never says = refl
+said-within Memory tells w0 w1 never says = refl
+said-within NoThread tells w0 w1 never says = refl
+said-within Reading tells w0 w1 never says = absurd (never says.0 says.1)
+said-within Writing tells w0 w1 never says = refl
+
+-- If something is reported about the whole script, the limit is not exceeded.
+pub within : (result : CrewRun) (tells : CrewRun → List ℕ → Type 0) (r0 r1 w0 w1 : Option (List ℕ)) → ((text : List ℕ) → tells Reading text → ⊥) → Writes tells result w0 w1 → ReadsUpTo 1073741824 r0 r1 → ReadsUpTo (most_read result) r0 r1
+within result tells r0 r1 w0 w1 never says = subst (λ n. ReadsUpTo n r0 r1) (sym (said-within result tells w0 w1 never says))
+
+-- No line is reported if a crew is run.
+pub run-near : (result : CrewRun) (crew : Crew) (r0 r1 w0 w1 : Option (List ℕ)) → Runs result crew w0 w1 → StopsNear result r0 r1
+run-near (Script line fault) crew r0 r1 w0 w1 runs = absurd runs.1
+run-near result crew r0 r1 w0 w1 runs = tt
+
+-- The reported line is the one near which reading stopped.
+pub fault-near : (result : CrewRun) (line : ℕ) (fault : ScriptFault) (r0 r1 w0 w1 : Option (List ℕ)) → Refuses result line fault w0 w1 → ReadsNear line r0 r1 → StopsNear result r0 r1
+fault-near (Script l f) line fault r0 r1 w0 w1 refuses near = subst (λ n. ReadsNear n r0 r1) (sym refuses.1.0) near
+fault-near result line fault r0 r1 w0 w1 refuses near = tt

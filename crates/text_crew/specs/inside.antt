@@ -1,0 +1,5 @@
+-- The abstract view of the fields, and their invariant. Callers need neither.
+pub mod View
+pub mod Tracing
+pub mod Reporting
+pub mod Good

@@ -1,0 +1,17 @@
+//! The lines of scripts and traces: parsing and printing.
+#![tactic(auto)]
+
+mod event;
+mod fault;
+pub mod laws;
+mod numbers;
+mod opening;
+mod print;
+
+pub use event::{event_of, read_event};
+pub use fault::{ScriptFault, put_fault, skips};
+pub use numbers::{hex_u64_of, u8_of, vector_of};
+pub use opening::opening_of;
+pub use print::{
+    put_data, put_decimal_field, put_event, put_hex_field, put_notices, put_reply, put_summary,
+};

@@ -1,0 +1,48 @@
+// Printing. Each function appends to `out`; an error is an allocation failure.
+mod event;
+mod notice;
+mod reply;
+mod summary;
+
+ghost use Rattle.std.specs.Prelude.{◌≡◌, ◌++◌, Option, OnOk};
+ghost use Rattle.text_base.specs.Numbers.{AreBytes};
+ghost use Rattle.text_lines.specs.Events.{bytes_text};
+ghost use Rattle.text_lines.specs.Printing.{vector_or_none};
+
+use board_terms::Vector;
+pub use event::{put_decimal_field, put_event, put_hex_field};
+pub use notice::put_notices;
+pub use reply::put_reply;
+use std::alloc::AllocError;
+pub use summary::put_summary;
+use text_base::{put_byte, put_bytes};
+
+/// Appends a text.
+#[inline(always)]
+fn put(out: &mut Vec<u8>, text: &[u8]) -> Result<(), AllocError>
+    ensures { OnOk result (out.new.items ≡ out.old.items ++ text.now) }
+{
+    out.extend_from_slice(text)
+}
+
+/// Appends bytes as two digits each, or `-` for none.
+pub fn put_data(out: &mut Vec<u8>, bytes: &[u8]) -> Result<(), AllocError>
+    ensures written { OnOk result (out.new.items ≡ out.old.items ++ bytes_text bytes.now) }
+    ensures fits { AreBytes bytes.now }
+{
+    if bytes.is_empty() {
+        return put(out, b"-");
+    }
+    put_bytes(out, bytes)
+}
+
+/// Appends a vector, or `none`.
+#[inline(always)]
+fn put_vector(out: &mut Vec<u8>, vector: Option<Vector>) -> Result<(), AllocError>
+    ensures { OnOk result (out.new.items ≡ out.old.items ++ vector_or_none vector) }
+{
+    match vector {
+        Some(vector) => put_byte(out, vector.number()),
+        None => put(out, b"none"),
+    }
+}

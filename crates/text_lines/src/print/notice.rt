@@ -1,0 +1,142 @@
+// Prints notices.
+ghost use Rattle.std.specs.Prelude.{◌≡◌, ◌≤◌, ◌++◌, ◌∷◌, [], OnOk, map, decimal};
+ghost use Rattle.text_base.specs.Fields.{line_of};
+ghost use Rattle.text_base.specs.Numbers.{two_digits};
+ghost use Rattle.text_lines.specs.Printing.{notice_fields, text_of};
+
+use board_terms::{Notice, Sint, Ticket, Vp};
+use std::alloc::AllocError;
+use text_base::{ROOM, byte_before, decimal_before, text_before};
+
+/// Appends a line for each notice to `out`.
+#[inline(always)]
+pub fn put_notices(out: &mut Vec<u8>, notices: &[Notice]) -> Result<(), AllocError>
+    ensures { OnOk result (out.new.items ≡ out.old.items ++ text_of (map notice_fields notices.now)) }
+{
+    for notice in notices {
+        put_notice(out, notice)?;
+    }
+    Ok(())
+}
+
+/// Appends the line of a notice.
+#[inline(always)]
+fn put_notice(out: &mut Vec<u8>, notice: &Notice) -> Result<(), AllocError>
+    ensures { OnOk result (out.new.items ≡ out.old.items ++ line_of (notice_fields notice.now)) }
+{
+    match *notice {
+        Notice::Accepted { ticket, vp, sint } => put_message(out, b". accepted ", ticket, vp, sint),
+        Notice::Placed { ticket, vp, sint } => put_message(out, b". placed ", ticket, vp, sint),
+        Notice::Pending { vp, sint } => put_source(out, b". pending ", vp, sint),
+        Notice::Requested { vp, vector } => put_request(out, b". requested ", vp, vector.number()),
+        Notice::FlagSet { vp, sint, flag } => put_numbers(
+            out,
+            b". flag ",
+            u64::from(vp.number()),
+            u64::from(sint.number()),
+            u64::from(flag),
+        ),
+        Notice::Consumed { ticket, vp, sint } => put_message(out, b". consumed ", ticket, vp, sint),
+        Notice::Withdrawn { ticket, vp, sint } => {
+            put_message(out, b". withdrawn ", ticket, vp, sint)
+        }
+        Notice::Expired { vp, index, due } => put_numbers(
+            out,
+            b". expired ",
+            u64::from(vp.number()),
+            u64::from(index),
+            due,
+        ),
+        Notice::Skipped { vp, index, count } => put_numbers(
+            out,
+            b". skipped ",
+            u64::from(vp.number()),
+            u64::from(index),
+            count,
+        ),
+    }
+}
+
+/// Appends the line of a notice with a ticket, a processor and a source.
+#[inline(always)]
+fn put_message<const N: usize>(
+    out: &mut Vec<u8>,
+    head: &[u8; N],
+    ticket: Ticket,
+    vp: Vp,
+    sint: Sint,
+) -> Result<(), AllocError>
+    requires { N ≤ 32 }
+    ensures { OnOk result (out.new.items ≡ out.old.items ++ (head.now ++ line_of (decimal ticket ∷ decimal vp ∷ decimal sint ∷ []))) }
+{
+    put_numbers(
+        out,
+        head,
+        ticket,
+        u64::from(vp.number()),
+        u64::from(sint.number()),
+    )
+}
+
+/// Appends a line that ends in three numbers.
+#[inline(always)]
+fn put_numbers<const N: usize>(
+    out: &mut Vec<u8>,
+    head: &[u8; N],
+    first: u64,
+    second: u64,
+    third: u64,
+) -> Result<(), AllocError>
+    requires { N ≤ 32 }
+    ensures { OnOk result (out.new.items ≡ out.old.items ++ (head.now ++ line_of (decimal first ∷ decimal second ∷ decimal third ∷ []))) }
+{
+    let mut room = [0u8; ROOM];
+    let at = text_before(&mut room, ROOM, b"\n");
+    let at = decimal_before(&mut room, at, third);
+    let at = text_before(&mut room, at, b" ");
+    let at = decimal_before(&mut room, at, second);
+    let at = text_before(&mut room, at, b" ");
+    let at = decimal_before(&mut room, at, first);
+    let at = text_before(&mut room, at, head);
+    out.extend_from_slice(&room[at..])
+}
+
+/// Appends the line of a notice with a processor and a source.
+#[inline(always)]
+fn put_source<const N: usize>(
+    out: &mut Vec<u8>,
+    head: &[u8; N],
+    vp: Vp,
+    sint: Sint,
+) -> Result<(), AllocError>
+    requires { N ≤ 32 }
+    ensures { OnOk result (out.new.items ≡ out.old.items ++ (head.now ++ line_of (decimal vp ∷ decimal sint ∷ []))) }
+{
+    let mut room = [0u8; ROOM];
+    let at = text_before(&mut room, ROOM, b"\n");
+    let at = decimal_before(&mut room, at, u64::from(sint.number()));
+    let at = text_before(&mut room, at, b" ");
+    let at = decimal_before(&mut room, at, u64::from(vp.number()));
+    let at = text_before(&mut room, at, head);
+    out.extend_from_slice(&room[at..])
+}
+
+/// Appends the line of a notice with a processor and a vector.
+#[inline(always)]
+fn put_request<const N: usize>(
+    out: &mut Vec<u8>,
+    head: &[u8; N],
+    vp: Vp,
+    vector: u8,
+) -> Result<(), AllocError>
+    requires { N ≤ 32 }
+    ensures { OnOk result (out.new.items ≡ out.old.items ++ (head.now ++ line_of (decimal vp ∷ two_digits vector ∷ []))) }
+{
+    let mut room = [0u8; ROOM];
+    let at = text_before(&mut room, ROOM, b"\n");
+    let at = byte_before(&mut room, at, vector);
+    let at = text_before(&mut room, at, b" ");
+    let at = decimal_before(&mut room, at, u64::from(vp.number()));
+    let at = text_before(&mut room, at, head);
+    out.extend_from_slice(&room[at..])
+}

@@ -1,0 +1,321 @@
+-- How a trace continues from a stage of its check.
+use Rattle.std.proofs.Common.{◌≡◌, ◌⊎◌, inl, inr, ℕ, ◌+◌, ◌<◌, ◌≤◌, ◌^◌, List, [], ◌∷◌, ◌++◌, length, append_assoc, Some, None, refl, sym, ap, subst, ◌∙◌, arith, Bool, true, false}
+use Rattle.std.specs.Option.{option_map}
+use Rattle.std.specs.List.{All}
+use Rattle.std.specs.Str.{bytes_eq}
+use Rattle.std.proofs.lemmas.Slice.Eq.{bytes_eq-Decides}
+use Rattle.std.proofs.lemmas.List.Elements.{All-nil, All-head, All-tail, All-cons}
+use Rattle.text_base.specs.Lines.{IsOneLine}
+use Rattle.text_base.specs.Fields.{spaced}
+use Rattle.text_base.proofs.PlainWords.{IsWritten}
+use Rattle.synic_board.specs.State.{State, AreSizes, opened}
+use Rattle.synic_board.specs.Step.{step}
+use Rattle.synic_board.specs.Run.{run_of}
+use Rattle.synic_board.specs.declared.event.Event.{Event}
+use Rattle.synic_board.specs.declared.event.Reply.{Reply}
+use Rattle.text_lines.specs.Items.{Opening as Board, item_fields}
+use Rattle.text_lines.specs.Printing.{text_of, reply_fields}
+use Rattle.text_lines.proofs.ReadLemmas.{yes, mapped}
+use Rattle.text_lines.proofs.WrittenLemmas.{board-written}
+use Rattle.synic_board.specs.History.{IsLegal, leads_to}
+use Rattle.synic_board.specs.declared.history.Entry.{Entry}
+use Rattle.text_trace.specs.declared.format.Format.{Format}
+use Rattle.text_trace.specs.declared.format.Format.TheVariants.{One, Two}
+use Rattle.text_trace.specs.Trace.{IsEntry, title_fields, entry_fields, end_fields, history_lines, IsTrace}
+use Rattle.text_trace.specs.inside.Stages.{Stage, Title, Opening, Running, Over, entry_at, board_at, performed, follow, count}
+use Rattle.synic_board.specs.Replies.{IsReply}
+use Rattle.law_board.proofs.Replies.{step-fits}
+use Rattle.text_trace.proofs.Written.{title-written, entry-written, reply-written, end-written, EntryLine, entry-reads, entry-only, end-no_entry, BoardLine, board-reads, board-only}
+
+-- the lines of entries, and the end
+abbrev left : Format → List Entry → ℕ → ℕ → List (List (List ℕ))
+left f history n next = history_lines history ++ end_fields f n next ∷ []
+
+-- the entries of a run from a state on, and the end line
+pub record Goes (f : Format) (s : State) (c : ℕ) (ys : List ℕ) (n : ℕ) : Type 0 where
+  pub history : List Entry
+  pub fits : All (IsEntry f) history
+  pub legal : IsLegal s history
+  pub counted : c + length history ≡ n
+  pub text : ys ≡ text_of (left f history n (leads_to s history).next_ticket)
+
+-- the reply that is due, and then the rest
+pub record Due (f : Format) (s : State) (c : ℕ) (r : Reply) (ys : List ℕ) (n : ℕ) : Type 0 where
+  pub rest : List ℕ
+  pub text : ys ≡ spaced (reply_fields r) ++ 10 ∷ rest
+  pub goes : Goes f s c rest n
+
+pub record Opens (f : Format) (ys : List ℕ) (n : ℕ) : Type 0 where
+  pub processors : ℕ
+  pub pages : ℕ
+  pub ticket : ℕ
+  pub sizes : AreSizes processors pages
+  pub given : ticket < 2 ^ 64
+  pub rest : List ℕ
+  pub text : ys ≡ spaced (item_fields (Board processors pages ticket)) ++ 10 ∷ rest
+  pub goes : Goes f (opened processors pages ticket) 0 rest n
+
+-- ys is the rest of the trace of a legal history of n entries
+abbrev pub Continues : Stage → List ℕ → ℕ → Type 0
+Continues Title ys n = IsTrace ys n
+Continues (Opening f) ys n = Opens f ys n
+Continues (Running f s c None) ys n = Goes f s c ys n
+Continues (Running f s c (Some r)) ys n = Due f s c r ys n
+Continues (Over c) ys n = (ys ≡ []) × (n ≡ c)
+
+-- a reply that is due has at most 8 bytes
+abbrev pub Fits : Stage → Type 0
+Fits Title = Unit {0}
+Fits (Opening f) = Unit {0}
+Fits (Running f s c None) = Unit {0}
+Fits (Running f s c (Some r)) = IsReply r
+Fits (Over c) = Unit {0}
+
+-- the first line
+pub first_line : (xs ys xs' ys' : List ℕ) → IsOneLine xs → IsOneLine xs' → xs ++ 10 ∷ ys ≡ xs' ++ 10 ∷ ys' → (xs ≡ xs') × (ys ≡ ys')
+first_line [] ys [] ys' h k e = (refl, cc)
+first_line [] ys (x ∷ xs') ys' h k e = let is : 10 ≡ x = cc in absurd (k.0 (sym is))
+first_line (x ∷ xs) ys [] ys' h k e = let is : x ≡ 10 = cc in absurd (h.0 is)
+first_line (x ∷ xs) ys (x' ∷ xs') ys' h k e =
+    let is : x ≡ x' = cc in
+    let t : xs ++ 10 ∷ ys ≡ xs' ++ 10 ∷ ys' = cc in
+    let m = first_line xs ys xs' ys' h.1 k.1 t in
+    (rw (is, m.0) refl, m.1)
+
+pub text-line : (fields : List (List ℕ)) (lines : List (List (List ℕ))) → text_of (fields ∷ lines) ≡ spaced fields ++ 10 ∷ text_of lines
+text-line fields lines = append_assoc (spaced fields) (10 ∷ []) (text_of lines)
+
+-- the stage after the line, and the rest that continues from there
+pub record Follow (stage : Stage) (line ys : List ℕ) (n : ℕ) : Type 0 where
+  pub next : Stage
+  pub is : follow stage line ≡ Some next
+  pub on : Continues next ys n
+
+tested : (line w : List ℕ) → line ≡ w → bytes_eq line w ≡ true
+tested line w e = (bytes_eq-Decides line w).1 e
+
+tested-no : (line w : List ℕ) → (line ≡ w → ⊥) → bytes_eq line w ≡ false
+tested-no line w e = go (bytes_eq line w) refl
+  where
+    go : (b : Bool) → bytes_eq line w ≡ b → b ≡ false
+    go true is = absurd (e ((bytes_eq-Decides line w).0 is))
+    go false is = refl
+
+-- the title determines the format
+title-follow : (f : Format) → follow Title (spaced (title_fields f)) ≡ Some (Opening f)
+title-follow One = refl
+title-follow Two = refl
+
+back-title : (line ys : List ℕ) (n : ℕ) → IsOneLine line → IsTrace (line ++ 10 ∷ ys) n → Follow Title line ys n
+back-title line ys n one t =
+    let next = (leads_to (opened t.processors t.pages t.ticket) t.history).next_ticket in
+    let rest = left t.format t.history (length t.history) next in
+    let board = item_fields (Board t.processors t.pages t.ticket) in
+    let title = title_fields t.format in
+    let cut = first_line line ys (spaced title) (text_of (board ∷ rest)) one (title-written t.format).one (t.written ∙ text-line title (board ∷ rest)) in
+    record {
+      next = Opening t.format;
+      is = ap (follow Title) cut.0 ∙ title-follow t.format;
+      on = record {
+        processors = t.processors;
+        pages = t.pages;
+        ticket = t.ticket;
+        sizes = t.sizes;
+        given = t.given;
+        rest = text_of rest;
+        text = cut.1 ∙ text-line board rest;
+        goes = record { history = t.history; fits = t.fits; legal = t.legal; counted = omega (arith, t.counted); text = ap (λ (k : ℕ). text_of (left t.format t.history k next)) t.counted };
+      };
+    }
+
+on-title : (f : Format) (line ys : List ℕ) (n : ℕ) → line ≡ spaced (title_fields f) → Opens f ys n → IsTrace (line ++ 10 ∷ ys) n
+on-title f line ys n is h =
+    let history = h.goes.history in
+    let next = (leads_to (opened h.processors h.pages h.ticket) history).next_ticket in
+    let rest = left f history (length history) next in
+    let board = item_fields (Board h.processors h.pages h.ticket) in
+    let title = title_fields f in
+    let same : length history ≡ n = omega (arith, h.goes.counted) in
+    let tail : h.rest ≡ text_of rest = h.goes.text ∙ ap (λ (k : ℕ). text_of (left f history k next)) (sym same) in
+    let all : ys ≡ text_of (board ∷ rest) = h.text ∙ ap (λ (x : List ℕ). spaced board ++ 10 ∷ x) tail ∙ sym (text-line board rest) in
+    record {
+      format = f;
+      processors = h.processors;
+      pages = h.pages;
+      ticket = h.ticket;
+      history = history;
+      sizes = h.sizes;
+      given = h.given;
+      fits = h.goes.fits;
+      legal = h.goes.legal;
+      counted = same;
+      written = ap (λ (x : List ℕ). x ++ 10 ∷ ys) is ∙ ap (λ (x : List ℕ). spaced title ++ 10 ∷ x) all ∙ sym (text-line title (board ∷ rest));
+    }
+
+back-opening : (f : Format) (line ys : List ℕ) (n : ℕ) → IsOneLine line → Opens f (line ++ 10 ∷ ys) n → Follow (Opening f) line ys n
+back-opening f line ys n one h =
+    let board = item_fields (Board h.processors h.pages h.ticket) in
+    let cut = first_line line ys (spaced board) h.rest one (board-written h.processors h.pages h.ticket).one h.text in
+    let read : board_at line ≡ Some (h.processors, h.pages, h.ticket) = ap board_at cut.0 ∙ board-reads h.processors h.pages h.ticket h.sizes h.given in
+    record { next = Running f (opened h.processors h.pages h.ticket) 0 None; is = ap (option_map (λ (p : ℕ × ℕ × ℕ). Running f (opened p.0 p.1 p.2) 0 None)) read; on = subst (λ (x : List ℕ). Goes f (opened h.processors h.pages h.ticket) 0 x n) (sym cut.1) h.goes }
+
+on-opening : (f : Format) (line ys : List ℕ) (n : ℕ) (q : ℕ × ℕ × ℕ) → BoardLine line q → Goes f (opened q.0 q.1 q.2) 0 ys n → Opens f (line ++ 10 ∷ ys) n
+on-opening f line ys n q o h = record { processors = q.0; pages = q.1; ticket = q.2; sizes = o.sizes; given = o.given; rest = ys; text = ap (λ (x : List ℕ). x ++ 10 ∷ ys) o.text; goes = h }
+
+back-entry : (f : Format) (s : State) (c : ℕ) (line ys : List ℕ) (n : ℕ) (history : List Entry) → IsOneLine line → All (IsEntry f) history → IsLegal s history → c + length history ≡ n
+    → line ++ 10 ∷ ys ≡ text_of (left f history n (leads_to s history).next_ticket) → Follow (Running f s c None) line ys n
+unfolding run_of
+back-entry f s c line ys n [] one fits legal counted text =
+    let same : n ≡ c = omega (arith, counted) in
+    let last = end_fields f n s.next_ticket in
+    let cut = first_line line ys (spaced last) [] one (end-written f n s.next_ticket).one (text ∙ text-line last []) in
+    record { next = Over c; is = rw (tested line (spaced (end_fields f c s.next_ticket)) (cut.0 ∙ ap (λ (k : ℕ). spaced (end_fields f k s.next_ticket)) same)) refl; on = (cut.1, same) }
+back-entry f s c line ys n (e ∷ history) one fits legal counted text =
+    let now : State = (step s e.event).0 in
+    let rest = left f history n (leads_to now history).next_ticket in
+    let h : IsEntry f e = All-head (IsEntry f) e history fits in
+    let written = entry-written e.actor e.event h.actor h.event in
+    let tail = text_of (reply_fields e.reply ∷ rest) in
+    let cut = first_line line ys (spaced (entry_fields e.actor e.event)) tail one written.one (text ∙ text-line (entry_fields e.actor e.event) (reply_fields e.reply ∷ rest)) in
+    let answer : e.reply ≡ (step s e.event).1 = cc in
+    let on : IsLegal now history = cc in
+    let read : entry_at f line ≡ Some e.event = ap (entry_at f) cut.0 ∙ entry-reads f e h in
+    let no_end = tested-no line (spaced (end_fields f c s.next_ticket)) (λ is. end-no_entry f c s.next_ticket e.actor e.event h.actor h.event (sym is ∙ cut.0)) in
+    record {
+      next = performed f s c e.event;
+      is = rw no_end (ap (option_map (performed f s c)) read);
+      on = record {
+        rest = text_of rest;
+        text = cut.1 ∙ text-line (reply_fields e.reply) rest ∙ ap (λ (r : Reply). spaced (reply_fields r) ++ 10 ∷ text_of rest) answer;
+        goes = record { history = history; fits = All-tail (IsEntry f) e history fits; legal = on; counted = omega (arith, counted); text = refl };
+      };
+    }
+
+on-end : (f : Format) (s : State) (c : ℕ) (line ys : List ℕ) (n : ℕ) → line ≡ spaced (end_fields f c s.next_ticket) → (ys ≡ []) × (n ≡ c) → Goes f s c (line ++ 10 ∷ ys) n
+unfolding run_of
+on-end f s c line ys n is h = record { history = []; fits = All-nil (IsEntry f); legal = refl; counted = omega (arith, h.1); text = rw (is, h.0, h.1) (sym (text-line (end_fields f c s.next_ticket) [])) }
+
+on-entry : (f : Format) (s : State) (c : ℕ) (line ys : List ℕ) (n : ℕ) (event : Event) → EntryLine f line event → Due f (step s event).0 (c + 1) (step s event).1 ys n → Goes f s c (line ++ 10 ∷ ys) n
+unfolding run_of
+on-entry f s c line ys n event l h =
+    let now : State = (step s event).0 in
+    let rest = left f h.goes.history n (leads_to now h.goes.history).next_ticket in
+    let r = (step s event).1 in
+    let all : ys ≡ text_of (reply_fields r ∷ rest) = h.text ∙ ap (λ (x : List ℕ). spaced (reply_fields r) ++ 10 ∷ x) h.goes.text ∙ sym (text-line (reply_fields r) rest) in
+    record {
+      history = record { actor = l.actor; event = event; reply = r } ∷ h.goes.history;
+      fits = All-cons (IsEntry f) (record { actor = l.actor; event = event; reply = r }) h.goes.history (record { actor = l.small; event = l.fits; line = l.has }) h.goes.fits;
+      legal = ap (λ (rs : List Reply). r ∷ rs) h.goes.legal;
+      counted = omega (arith, h.goes.counted);
+      text = ap (λ (x : List ℕ). x ++ 10 ∷ ys) l.text ∙ ap (λ (x : List ℕ). spaced (entry_fields l.actor event) ++ 10 ∷ x) all ∙ sym (text-line (entry_fields l.actor event) (reply_fields r ∷ rest));
+    }
+
+back-reply : (f : Format) (s : State) (c : ℕ) (r : Reply) (line ys : List ℕ) (n : ℕ) → IsOneLine line → IsReply r → Due f s c r (line ++ 10 ∷ ys) n → Follow (Running f s c (Some r)) line ys n
+back-reply f s c r line ys n one short h =
+    let cut = first_line line ys (spaced (reply_fields r)) h.rest one (reply-written r short).one h.text in
+    record { next = Running f s c None; is = rw (tested line (spaced (reply_fields r)) cut.0) refl; on = subst (λ (x : List ℕ). Goes f s c x n) (sym cut.1) h.goes }
+
+no_more : (line ys : List ℕ) → line ++ 10 ∷ ys ≡ [] → ⊥
+no_more [] ys e = cc
+no_more (x ∷ line) ys e = cc
+
+-- If a line and a rest continue a trace, `follow` accepts the line.
+pub back : (stage : Stage) (line ys : List ℕ) (n : ℕ) → Fits stage → IsOneLine line → Continues stage (line ++ 10 ∷ ys) n → Follow stage line ys n
+back Title line ys n short one h = back-title line ys n one h
+back (Opening f) line ys n short one h = back-opening f line ys n one h
+back (Running f s c None) line ys n short one h = back-entry f s c line ys n h.history one h.fits h.legal h.counted h.text
+back (Running f s c (Some r)) line ys n short one h = back-reply f s c r line ys n one short h
+back (Over c) line ys n short one h = absurd (no_more line ys h.0)
+
+pub move : (from to : Stage) (ys : List ℕ) (n : ℕ) → Some to ≡ Some from → Continues from ys n → Continues to ys n
+move from to ys n e h = let same : from ≡ to = cc in subst (λ (s : Stage). Continues s ys n) same h
+
+-- If `follow` accepts a line, the line and a rest that continues from the next stage continue the trace.
+pub forward : (stage next : Stage) (line ys : List ℕ) (n : ℕ) → follow stage line ≡ Some next → Continues next ys n → Continues stage (line ++ 10 ∷ ys) n
+forward Title next line ys n e h =
+    yes (bytes_eq line (spaced (title_fields One))) (Some (Opening One)) _ next _
+    (λ is e. on-title One line ys n ((bytes_eq-Decides line (spaced (title_fields One))).0 is) (move next (Opening One) ys n e h))
+    (yes (bytes_eq line (spaced (title_fields Two))) (Some (Opening Two)) None next _
+    (λ is e. on-title Two line ys n ((bytes_eq-Decides line (spaced (title_fields Two))).0 is) (move next (Opening Two) ys n e h))
+    (λ e. cc)) e
+forward (Opening f) next line ys n e h =
+    mapped (λ (p : ℕ × ℕ × ℕ). Running f (opened p.0 p.1 p.2) 0 None) (board_at line) next _
+    (λ q is e. on-opening f line ys n q (board-only line q is) (move next (Running f (opened q.0 q.1 q.2) 0 None) ys n (ap (λ (s : Stage). Some s) e) h)) e
+forward (Running f s c None) next line ys n e h =
+    yes (bytes_eq line (spaced (end_fields f c s.next_ticket))) (Some (Over c)) (option_map (performed f s c) (entry_at f line)) next _
+    (λ is e. on-end f s c line ys n ((bytes_eq-Decides line (spaced (end_fields f c s.next_ticket))).0 is) (move next (Over c) ys n e h))
+    (λ e. mapped (performed f s c) (entry_at f line) next _
+    (λ event is e. on-entry f s c line ys n event (entry-only f line event is) (move next (performed f s c event) ys n (ap (λ (s : Stage). Some s) e) h)) e) e
+forward (Running f s c (Some r)) next line ys n e h =
+    yes (bytes_eq line (spaced (reply_fields r))) (Some (Running f s c None)) None next _
+    (λ is e. record { rest = ys; text = ap (λ (x : List ℕ). x ++ 10 ∷ ys) ((bytes_eq-Decides line (spaced (reply_fields r))).0 is); goes = move next (Running f s c None) ys n e h })
+    (λ e. cc) e
+forward (Over c) next line ys n e h = cc
+
+-- at most one more entry, and a short reply
+pub record Reached (stage next : Stage) : Type 0 where
+  pub bound : count next ≤ count stage + 1
+  pub fits : Fits next
+
+reached-running : (f : Format) (s : State) (c : ℕ) → Reached (Running f s c None) (Over c)
+reached-running f s c = record { bound = omega arith; fits = tt }
+
+pub reached : (stage next : Stage) (line : List ℕ) → follow stage line ≡ Some next → Reached stage next
+reached Title next line e =
+    yes (bytes_eq line (spaced (title_fields One))) (Some (Opening One)) _ next (Reached Title next) (λ is e. let same : Opening One ≡ next = cc in subst (Reached Title) same (record { bound = omega arith; fits = tt }))
+    (yes (bytes_eq line (spaced (title_fields Two))) (Some (Opening Two)) None next (Reached Title next) (λ is e. let same : Opening Two ≡ next = cc in subst (Reached Title) same (record { bound = omega arith; fits = tt })) (λ e. cc)) e
+reached (Opening f) next line e = mapped (λ (p : ℕ × ℕ × ℕ). Running f (opened p.0 p.1 p.2) 0 None) (board_at line) next (Reached (Opening f) next) (λ q is e. subst (Reached (Opening f)) e (record { bound = omega arith; fits = tt })) e
+reached (Running f s c None) next line e =
+    yes (bytes_eq line (spaced (end_fields f c s.next_ticket))) (Some (Over c)) (option_map (performed f s c) (entry_at f line)) next (Reached (Running f s c None) next)
+    (λ is e. let same : Over c ≡ next = cc in subst (Reached (Running f s c None)) same (reached-running f s c))
+    (λ e. mapped (performed f s c) (entry_at f line) next (Reached (Running f s c None) next) (λ event is e. subst (Reached (Running f s c None)) e (record { bound = omega arith; fits = step-fits s event })) e) e
+reached (Running f s c (Some r)) next line e = yes (bytes_eq line (spaced (reply_fields r))) (Some (Running f s c None)) None next (Reached (Running f s c (Some r)) next) (λ is e. let same : Running f s c None ≡ next = cc in subst (Reached (Running f s c (Some r))) same (record { bound = omega arith; fits = tt })) (λ e. cc) e
+reached (Over c) next line e = cc
+
+-- a whole line that is not too long comes first
+pub record Starts (ys : List ℕ) : Type 0 where
+  pub line : List ℕ
+  pub rest : List ℕ
+  pub text : ys ≡ line ++ 10 ∷ rest
+  pub one : IsOneLine line
+  pub short : length line ≤ 640
+
+start : (fields : List (List ℕ)) (ys rest : List ℕ) → IsWritten fields → ys ≡ spaced fields ++ 10 ∷ rest → Starts ys
+start fields ys rest w e = record { line = spaced fields; rest = rest; text = e; one = w.one; short = w.short }
+
+starts-goes : (f : Format) (ys : List ℕ) (n next : ℕ) (history : List Entry) → All (IsEntry f) history → ys ≡ text_of (left f history n next) → Starts ys
+starts-goes f ys n next [] fits text = start (end_fields f n next) ys [] (end-written f n next) (text ∙ text-line (end_fields f n next) [])
+starts-goes f ys n next (e ∷ history) fits text =
+    let h : IsEntry f e = All-head (IsEntry f) e history fits in
+    let rest = reply_fields e.reply ∷ left f history n next in
+    start (entry_fields e.actor e.event) ys (text_of rest) (entry-written e.actor e.event h.actor h.event) (text ∙ text-line (entry_fields e.actor e.event) rest)
+
+-- Only a complete trace has no further line.
+pub starts : (stage : Stage) (ys : List ℕ) (n : ℕ) → Fits stage → Continues stage ys n → ((stage ≡ Over n) × (ys ≡ [])) ⊎ Starts ys
+starts Title ys n short h =
+    let rest = item_fields (Board h.processors h.pages h.ticket) ∷ left h.format h.history (length h.history) (leads_to (opened h.processors h.pages h.ticket) h.history).next_ticket in
+    inr (start (title_fields h.format) ys (text_of rest) (title-written h.format) (h.written ∙ text-line (title_fields h.format) rest))
+starts (Opening f) ys n short h = inr (start (item_fields (Board h.processors h.pages h.ticket)) ys h.rest (board-written h.processors h.pages h.ticket) h.text)
+starts (Running f s c None) ys n short h = inr (starts-goes f ys n (leads_to s h.history).next_ticket h.history h.fits h.text)
+starts (Running f s c (Some r)) ys n short h = inr (start (reply_fields r) ys h.rest (reply-written r short) h.text)
+starts (Over c) ys n short h = inl (ap Over (sym h.1), h.0)
+
+-- From each stage some trace continues.
+pub record Alive (stage : Stage) : Type 0 where
+  pub rest : List ℕ
+  pub entries : ℕ
+  pub on : Continues stage rest entries
+
+goes-end : (f : Format) (s : State) (c : ℕ) → Goes f s c (text_of (left f [] c s.next_ticket)) c
+unfolding run_of
+goes-end f s c = record { history = []; fits = All-nil (IsEntry f); legal = refl; counted = omega arith; text = refl }
+
+opens-end : (f : Format) → Opens f (spaced (item_fields (Board 1 1 0)) ++ 10 ∷ text_of (left f [] 0 0)) 0
+opens-end f = record { processors = 1; pages = 1; ticket = 0; sizes = record { some_processor = omega arith; processor_bound = omega arith; some_page = omega arith; page_bound = omega arith }; given = omega arith; rest = text_of (left f [] 0 0); text = refl; goes = goes-end f (opened 1 1 0) 0 }
+
+pub alive : (stage : Stage) → Alive stage
+alive Title = record { rest = _; entries = 0; on = on-title One (spaced (title_fields One)) _ 0 refl (opens-end One) }
+alive (Opening f) = record { rest = _; entries = 0; on = opens-end f }
+alive (Running f s c None) = record { rest = _; entries = c; on = goes-end f s c }
+alive (Running f s c (Some r)) = record { rest = spaced (reply_fields r) ++ 10 ∷ text_of (left f [] c s.next_ticket); entries = c; on = record { rest = text_of (left f [] c s.next_ticket); text = refl; goes = goes-end f s c } }
+alive (Over c) = record { rest = []; entries = c; on = (refl, refl) }

@@ -1,0 +1,172 @@
+-- The lines of a trace, printed and parsed.
+use Rattle.std.proofs.Common.{◌≡◌, ℕ, ◌<◌, ◌≤◌, ◌^◌, List, [], ◌∷◌, length, Option, Some, None, refl, sym, ap, ◌∙◌, arith, cond, Bool, true, false, not, decimal, codes}
+use Rattle.std.specs.Option.{option_and_then}
+use Rattle.std.specs.Str.{bytes_eq}
+use Rattle.std.proofs.lemmas.Slice.Eq.{bytes_eq-Decides}
+use Rattle.std.proofs.lemmas.List.Splits.{join_with_byte-slice_split}
+use Rattle.std.proofs.lemmas.Fmt.{length-decimal-le}
+use Rattle.text_base.specs.Fields.{fields_of, spaced}
+use Rattle.text_base.proofs.PlainWords.{IsPlain, plain_by, digits-plain, digits-short, two_digits-plain, IsWritten, written}
+use Rattle.board_terms.specs.Numbers.{refusal_number}
+use Rattle.synic_board.specs.State.{AreSizes}
+use Rattle.synic_board.specs.declared.event.Event.{Event}
+use Rattle.synic_board.specs.declared.event.Reply.{Reply}
+use Rattle.synic_board.specs.declared.history.Entry.{Entry}
+use Rattle.synic_board.specs.declared.event.Reply.TheVariants as replies
+use Rattle.text_lines.specs.Events.{event_fields, IsEvent}
+use Rattle.text_lines.specs.Items.{Opening, item_fields}
+use Rattle.text_lines.specs.Printing.{vector_or_none, reply_fields}
+use Rattle.text_lines.specs.Reading.{Fields, take_then, u8_at, parse_event, parse_opening}
+use Rattle.text_lines.specs.Sizes.{are_sizes}
+use Rattle.text_lines.proofs.ReadLemmas.{then-some, then-read, yes, u8-only, u8-spelled, event-says, says-event, opening-says, says-opening}
+use Rattle.text_lines.proofs.SizeLemmas.{sizes-are}
+use Rattle.text_lines.proofs.WrittenLemmas.{bytes-plain, bytes-short, event-plain, board-written}
+use Rattle.text_trace.specs.declared.format.Format.{Format}
+use Rattle.text_trace.specs.declared.format.Format.TheVariants.{One, Two}
+use Rattle.text_trace.specs.Trace.{IsEntry, has_line, title_fields, entry_fields, end_fields}
+use Rattle.text_trace.specs.inside.Stages.{with_line, parse_entry, entry_at, within_limits, parse_board, board_at}
+use Rattle.synic_board.specs.Replies.{IsReply}
+
+vector-plain : (vector : Option ℕ) → IsPlain (vector_or_none vector)
+vector-plain None = plain_by (codes "none") refl
+vector-plain (Some v) = two_digits-plain v
+
+vector-short : (vector : Option ℕ) → length (vector_or_none vector) ≤ 4
+vector-short None = omega arith
+vector-short (Some v) = omega arith
+
+actor-short : (actor : ℕ) → actor < 256 → length (decimal actor) ≤ 3
+actor-short actor small = length-decimal-le 3 actor (omega arith) (omega arith) (omega arith)
+
+pub entry-written : (actor : ℕ) (event : Event) → actor < 256 → IsEvent event → IsWritten (entry_fields actor event)
+entry-written actor event small h = let e = event-plain event h in written (decimal actor) (event_fields event) (digits-plain 10 actor, e.plain) (omega (arith, actor-short actor small, e.bound))
+
+pub title-written : (f : Format) → IsWritten (title_fields f)
+title-written One = written _ _ (plain_by (codes "trace") refl, (plain_by (codes "1") refl, tt)) (omega arith)
+title-written Two = written _ _ (plain_by (codes "trace") refl, (plain_by (codes "2") refl, tt)) (omega arith)
+
+pub end-written : (f : Format) (n next : ℕ) → IsWritten (end_fields f n next)
+end-written One n next = written _ _ (plain_by (codes "end") refl, (digits-plain 10 n, tt)) (omega (arith, digits-short 10 n))
+end-written Two n next = written _ _ (plain_by (codes "end") refl, (digits-plain 10 n, (digits-plain 10 next, tt))) (omega (arith, digits-short 10 n, digits-short 10 next))
+
+pub reply-written : (reply : Reply) → IsReply reply → IsWritten (reply_fields reply)
+reply-written replies.Done h = written _ _ (plain_by (codes "=") refl, (plain_by (codes "done") refl, tt)) (omega arith)
+reply-written (replies.Value v) h = written _ _ (plain_by (codes "=") refl, (plain_by (codes "value") refl, (digits-plain 16 v, tt))) (omega (arith, digits-short 16 v))
+reply-written (replies.Bytes bytes) h = written _ _ (plain_by (codes "=") refl, (plain_by (codes "bytes") refl, (bytes-plain bytes.items, tt))) (omega (arith, bytes-short bytes.items, h))
+reply-written (replies.Taken vector) h = written _ _ (plain_by (codes "=") refl, (plain_by (codes "taken") refl, (vector-plain vector, tt))) (omega (arith, vector-short vector))
+reply-written (replies.Accepted t) h = written _ _ (plain_by (codes "=") refl, (plain_by (codes "accepted") refl, (digits-plain 10 t, tt))) (omega (arith, digits-short 10 t))
+reply-written replies.FlagWasClear h = written _ _ (plain_by (codes "=") refl, (plain_by (codes "clear") refl, tt)) (omega arith)
+reply-written replies.FlagWasSet h = written _ _ (plain_by (codes "=") refl, (plain_by (codes "set") refl, tt)) (omega arith)
+reply-written replies.GeneralProtection h = written _ _ (plain_by (codes "=") refl, (plain_by (codes "general") refl, (plain_by (codes "protection") refl, tt))) (omega arith)
+reply-written (replies.Refused r) h = written _ _ (plain_by (codes "=") refl, (plain_by (codes "refused") refl, (digits-plain 10 (refusal_number r), tt))) (omega (arith, digits-short 10 (refusal_number r)))
+
+-- a line is the words of its fields
+whole : (line : List ℕ) (fields : Fields) → fields_of line ≡ fields → line ≡ spaced fields
+whole line fields e = sym (join_with_byte-slice_split 32 line) ∙ ap spaced e
+
+-- A line parses as an entry iff it is the entry's printed line.
+pub entry-reads : (f : Format) (e : Entry) → IsEntry f e → entry_at f (spaced (entry_fields e.actor e.event)) ≡ Some e.event
+unfolding entry_at
+entry-reads f e h =
+    ap (parse_entry f) (entry-written e.actor e.event h.actor h.event).read
+    ∙ ap (option_and_then (with_line f)) (then-read u8_at (λ (a : ℕ). parse_event) (decimal e.actor) e.actor (event_fields e.event) (u8-spelled e.actor h.actor) ∙ says-event e.event h.event)
+    ∙ ap (λ (t : Bool). cond t (Some e.event) None) h.line
+
+pub record EntryLine (f : Format) (line : List ℕ) (event : Event) : Type 0 where
+  pub actor : ℕ
+  pub text : line ≡ spaced (entry_fields actor event)
+  pub small : actor < 256
+  pub fits : IsEvent event
+  pub has : has_line f event ≡ true
+
+-- it has a line
+lined : (f : Format) (o : Option Event) (event : Event) → option_and_then (with_line f) o ≡ Some event → (o ≡ Some event) × (has_line f event ≡ true)
+lined f None event e = cc
+lined f (Some other) event e = by (has_line f other) refl e
+  where
+    by : (t : Bool) → has_line f other ≡ t → cond t (Some other) None ≡ Some event → (Some other ≡ Some event) × (has_line f event ≡ true)
+    by true is e = let same : other ≡ event = cc in (e, ap (has_line f) (sym same) ∙ is)
+    by false is e = cc
+
+entry-says : (f : Format) (line : List ℕ) (fields : Fields) (event : Event) → fields_of line ≡ fields → parse_entry f fields ≡ Some event → EntryLine f line event
+entry-says f line fields event is e =
+    let said = lined f (take_then u8_at (λ (a : ℕ). parse_event) fields) event e in
+    then-some u8_at (λ (a : ℕ). parse_event) fields event (EntryLine f line event) (λ field actor more at read told.
+    let h = u8-only field actor read in
+    let k = event-says more event told in
+    let all : fields ≡ entry_fields actor event = at ∙ rw (h.1, k.same) refl in
+    record { actor = actor; text = whole line fields is ∙ ap spaced all; small = h.0; fits = k.fits; has = said.1 }) said.0
+
+pub entry-only : (f : Format) (line : List ℕ) (event : Event) → entry_at f line ≡ Some event → EntryLine f line event
+unfolding entry_at
+entry-only f line event e = entry-says f line (fields_of line) event refl e
+
+-- an end is no entry
+end-first : (f : Format) (n next : ℕ) (fields : Fields) (word : List ℕ) → end_fields f n next ≡ word ∷ fields → codes "end" ≡ word
+end-first One n next fields word e = cc
+end-first Two n next fields word e = cc
+
+pub end-no_entry : (f : Format) (n next actor : ℕ) (event : Event) → actor < 256 → IsEvent event → spaced (end_fields f n next) ≡ spaced (entry_fields actor event) → ⊥
+end-no_entry f n next actor event small fits e =
+    let same : end_fields f n next ≡ entry_fields actor event = sym (end-written f n next).read ∙ ap fields_of e ∙ (entry-written actor event small fits).read in
+    let first : codes "end" ≡ decimal actor = end-first f n next (event_fields event) (decimal actor) same in
+    let read : u8_at (codes "end") ≡ Some actor = ap u8_at first ∙ u8-spelled actor small in
+    cc
+
+-- A line parses as a board line iff it is its printed line.
+pub board-reads : (p g f : ℕ) → AreSizes p g → f < 2 ^ 64 → board_at (spaced (item_fields (Opening p g f))) ≡ Some (p, g, f)
+unfolding board_at
+board-reads p g f sizes given =
+    let said = says-opening p g f (omega (arith, sizes.processor_bound), omega (arith, sizes.page_bound), given) in
+    ap parse_board (board-written p g f).read
+    ∙ ap (option_and_then within_limits) said
+    ∙ rw ((sizes-are p g).1 sizes) refl
+
+pub record BoardLine (line : List ℕ) (p : ℕ × ℕ × ℕ) : Type 0 where
+  pub text : line ≡ spaced (item_fields (Opening p.0 p.1 p.2))
+  pub sizes : AreSizes p.0 p.1
+  pub given : p.2 < 2 ^ 64
+
+within-only : (p q : ℕ × ℕ × ℕ) → within_limits p ≡ Some q → (p ≡ q) × AreSizes p.0 p.1
+within-only p q e = go (are_sizes p.0 p.1) refl e
+  where
+    go : (t : Bool) → are_sizes p.0 p.1 ≡ t → cond t (Some p) None ≡ Some q → (p ≡ q) × AreSizes p.0 p.1
+    go true is e = (cc, (sizes-are p.0 p.1).0 is)
+    go false is e = cc
+
+board-says : (line : List ℕ) (fields : Fields) (q : ℕ × ℕ × ℕ) → fields_of line ≡ fields → parse_board fields ≡ Some q → BoardLine line q
+board-says line [] q is e = cc
+board-says line (word ∷ fields) q is e =
+    yes (bytes_eq word (codes "board")) (option_and_then within_limits (parse_opening fields)) None q (BoardLine line q) (λ test e. by ((bytes_eq-Decides word (codes "board")).0 test) (parse_opening fields) refl e) (λ e. cc) e
+  where
+    by : word ≡ codes "board" → (r : Option (ℕ × ℕ × ℕ)) → parse_opening fields ≡ r → option_and_then within_limits r ≡ Some q → BoardLine line q
+    by named None said e = cc
+    by named (Some p) said e =
+        let w = within-only p q e in
+        let h = opening-says fields p said in
+        let all : word ∷ fields ≡ item_fields (Opening p.0 p.1 p.2) = rw named h.same in
+        rw (← w.0) (record { text = whole line (word ∷ fields) is ∙ ap spaced all; sizes = w.1; given = h.fits.2 })
+
+pub board-only : (line : List ℕ) (q : ℕ × ℕ × ℕ) → board_at line ≡ Some q → BoardLine line q
+unfolding board_at
+board-only line q e = board-says line (fields_of line) q refl e
+
+-- a board was opened, so its sizes are within the limits
+within : (p : ℕ × ℕ × ℕ) → ((AreSizes p.0 p.1 → ⊥) → ⊥) → within_limits p ≡ Some p
+within p h = go (are_sizes p.0 p.1) refl
+  where
+    go : (t : Bool) → are_sizes p.0 p.1 ≡ t → cond t (Some p) None ≡ Some p
+    go true is = refl
+    go false is = absurd (h (λ sizes. let yes = (sizes-are p.0 p.1).1 sizes in cc))
+
+pub board-opened : (line word : List ℕ) (fields : Fields) (n g f : ℕ) → fields_of line ≡ word ∷ fields → word ≡ codes "board" → Some (n, g, f) ≡ parse_opening fields → ((AreSizes n g → ⊥) → ⊥) → board_at line ≡ Some (n, g, f)
+unfolding board_at
+board-opened line word fields n g f are named said h =
+    ap parse_board (are ∙ ap (λ (w : List ℕ). w ∷ fields) named) ∙ ap (option_and_then within_limits) (sym said) ∙ within (n, g, f) h
+
+pub same-word : (word key : List ℕ) → false ≡ not (bytes_eq word key) → word ≡ key
+same-word word key e = go (bytes_eq word key) refl e
+  where
+    go : (t : Bool) → bytes_eq word key ≡ t → false ≡ not t → word ≡ key
+    go true is e = (bytes_eq-Decides word key).0 is
+    go false is e = cc

@@ -1,0 +1,5 @@
+use Rattle.text_trace.proofs.LawLemmas.{trace-is}
+use Rattle.text_trace.proofs.laws.written_is_legal.Goals as goal
+
+pub returns : goal.returns
+returns c = trace-is

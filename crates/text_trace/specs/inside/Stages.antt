@@ -1,0 +1,113 @@
+-- The stages of a trace: which line comes next.
+use Rattle.std.specs.Prelude.{◌≡◌, ℕ, ◌+◌, ◌≤◌, List, [], ◌∷◌, if◌then◌else◌, Option, None, Some, codes}
+use Rattle.std.specs.Option.{option_map, option_and_then}
+use Rattle.std.specs.Str.{bytes_eq}
+use Rattle.text_base.specs.Fields.{fields_of, spaced}
+use Rattle.synic_board.specs.State.{State, opened}
+use Rattle.synic_board.specs.Step.{step}
+use Rattle.synic_board.specs.declared.event.Event.{Event}
+use Rattle.synic_board.specs.declared.event.Reply.{Reply}
+use Rattle.text_lines.specs.Printing.{reply_fields}
+use Rattle.text_lines.specs.Reading.{Fields, take_then, u8_at, parse_event, parse_opening}
+use Rattle.text_lines.specs.Sizes.{are_sizes}
+use Rattle.text_trace.specs.Trace.{has_line, title_fields, end_fields}
+use Rattle.text_trace.specs.declared.format.Format.{Format}
+use Rattle.text_trace.specs.declared.format.Format.TheVariants.{One, Two}
+use Rattle.text_trace.specs.declared.stage.Stage.{Stage as BoardModel}
+use Rattle.text_trace.specs.declared.stage.Stage.TheVariants as held
+use Rattle.text_trace.specs.declared.stage.Opened.{Opened}
+use Rattle.text_trace.specs.declared.stage.Opened.TheVariants as openings
+use Rattle.text_trace.specs.declared.stage.Ran.{Ran}
+use Rattle.text_trace.specs.declared.stage.Ran.TheVariants as ran
+
+pub data Stage : Type 0 where
+  -- the title
+  Title : Stage
+  -- the board line
+  Opening : Format → Stage
+  -- the reply that is due, or else an event or the end line, after that many entries
+  Running : Format → State → ℕ → Option Reply → Stage
+  -- nothing, after that many entries
+  Over : ℕ → Stage
+
+-- the event of the fields after an actor's number, which may be any, if it has a line in the format
+abbrev pub with_line : Format → Event → Option Event
+with_line f event = if has_line f event then Some event else None
+
+abbrev pub parse_entry : Format → Fields → Option Event
+parse_entry f fields = option_and_then (with_line f) (take_then u8_at (λ (actor : ℕ). parse_event) fields)
+
+unfoldable pub entry_at : Format → List ℕ → Option Event
+entry_at f line = parse_entry f (fields_of line)
+
+-- the sizes, within the limits, and the first ticket of a board line
+abbrev pub within_limits : ℕ × ℕ × ℕ → Option (ℕ × ℕ × ℕ)
+within_limits sizes = if are_sizes sizes.0 sizes.1 then Some sizes else None
+
+abbrev pub parse_board : Fields → Option (ℕ × ℕ × ℕ)
+parse_board [] = None
+parse_board (word ∷ fields) = if bytes_eq word (codes "board") then option_and_then within_limits (parse_opening fields) else None
+
+unfoldable pub board_at : List ℕ → Option (ℕ × ℕ × ℕ)
+board_at line = parse_board (fields_of line)
+
+-- the event of one more entry is performed, and its reply is due
+abbrev pub performed : Format → State → ℕ → Event → Stage
+performed f s entries event = Running f (step s event).0 (entries + 1) (Some (step s event).1)
+
+-- the stage after a line, if the line is allowed here
+abbrev pub follow : Stage → List ℕ → Option Stage
+follow Title line =
+    if bytes_eq line (spaced (title_fields One)) then Some (Opening One)
+    else if bytes_eq line (spaced (title_fields Two)) then Some (Opening Two)
+    else None
+follow (Opening f) line = option_map (λ (sizes : ℕ × ℕ × ℕ). Running f (opened sizes.0 sizes.1 sizes.2) 0 None) (board_at line)
+follow (Running f s entries None) line =
+    if bytes_eq line (spaced (end_fields f entries s.next_ticket)) then Some (Over entries)
+    else option_map (performed f s entries) (entry_at f line)
+follow (Running f s entries (Some due)) line = if bytes_eq line (spaced (reply_fields due)) then Some (Running f s entries None) else None
+follow (Over entries) line = None
+
+-- the stage of a check, with its board
+abbrev pub stage_of : BoardModel → Stage
+stage_of held.Title = Title
+stage_of (held.Opening format) = Opening format
+stage_of (held.Running format board entries due) = Running format board.state entries due
+stage_of (held.Over entries) = Over entries
+
+-- the number of entries so far
+abbrev pub count : Stage → ℕ
+count Title = 0
+count (Opening f) = 0
+count (Running f s entries due) = entries
+count (Over entries) = entries
+
+-- a line is allowed here and leads to the next stage; nothing is written for it
+abbrev pub IsGood : Stage → List ℕ → List ℕ → Stage → Type 0
+IsGood old line answer new = (follow old line ≡ Some new) × (answer ≡ [])
+
+-- the line is not allowed
+abbrev pub IsWrong : Stage → List ℕ → Unit {0} → Type 0
+IsWrong stage line fault = follow stage line ≡ None
+
+-- at least that many lines led here
+abbrev pub HasLines : ℕ → Stage → Type 0
+HasLines lines stage = count stage ≤ lines
+
+-- a board line opened a board, or is not allowed there
+abbrev pub Opens : Opened → Format → List ℕ → Type 0
+Opens (openings.Board board) f line = follow (Opening f) line ≡ Some (Running f board.state 0 None)
+Opens openings.Wrong f line = follow (Opening f) line ≡ None
+Opens openings.Memory f line = Unit {0}
+
+-- a line after the board line
+abbrev pub Runs : Ran → Format → State → ℕ → Option Reply → State → ℕ → Option Reply → List ℕ → Type 0
+Runs ran.On f s entries due s' entries' due' line = follow (Running f s entries due) line ≡ Some (Running f s' entries' due')
+Runs ran.End f s entries due s' entries' due' line = (entries' ≡ entries) × (follow (Running f s entries due) line ≡ Some (Over entries))
+Runs ran.Wrong f s entries due s' entries' due' line = follow (Running f s entries due) line ≡ None
+Runs ran.Memory f s entries due s' entries' due' line = Unit {0}
+
+-- the trace is complete, after that many entries
+abbrev pub IsOver : Option ℕ → Stage → Type 0
+IsOver None stage = (n : ℕ) → stage ≡ Over n → ⊥
+IsOver (Some n) stage = stage ≡ Over n

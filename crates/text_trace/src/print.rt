@@ -1,0 +1,96 @@
+// Printing a history.
+ghost use Rattle.std.specs.Prelude.{◌≡◌, ◌++◌, [], ◌∷◌, OnOk};
+ghost use Rattle.std.specs.List.{All};
+ghost use Rattle.text_base.specs.Fields.{spaced, line_of};
+ghost use Rattle.text_lines.specs.Items.{Opening, item_fields};
+ghost use Rattle.text_lines.specs.Printing.{text_of};
+ghost use Rattle.text_trace.specs.Trace.{IsEntry, end_fields, history_lines, trace_lines};
+
+use crate::format::Format;
+use board_terms::Ticket;
+use std::alloc::AllocError;
+use synic_board::Entry;
+use text_base::put_decimal;
+use text_lines::{put_event, put_reply};
+
+/// Appends the trace of a history, in format 2, to `out`: for a board of that many processors and
+/// pages, with its first ticket, and the next ticket after the history.
+pub fn put_trace(
+    out: &mut Vec<u8>,
+    processors: u8,
+    pages: u8,
+    first_ticket: Ticket,
+    history: &[Entry],
+    next_ticket: Ticket,
+) -> Result<(), AllocError>
+    ensures written { OnOk result (out.new.items ≡ out.old.items ++ text_of (trace_lines Format.Two processors pages first_ticket history.now next_ticket)) }
+    ensures fits { OnOk result (All (IsEntry Format.Two) history.now) }
+{
+    out.extend_from_slice(b"trace 2\n")?;
+    put_opening(out, processors, pages, first_ticket)?;
+    put_history(out, history)?;
+    put_end(out, Format::Two, history.len() as u64, next_ticket)?;
+    out.extend_from_slice(b"\n")
+}
+
+/// Appends the board line.
+fn put_opening(
+    out: &mut Vec<u8>,
+    processors: u8,
+    pages: u8,
+    first_ticket: Ticket,
+) -> Result<(), AllocError>
+    ensures { OnOk result (out.new.items ≡ out.old.items ++ line_of (item_fields (Opening processors pages first_ticket))) }
+{
+    out.extend_from_slice(b"board ")?;
+    put_decimal(out, processors)?;
+    out.extend_from_slice(b" ")?;
+    put_decimal(out, pages)?;
+    out.extend_from_slice(b" ")?;
+    put_decimal(out, first_ticket)?;
+    out.extend_from_slice(b"\n")
+}
+
+/// Appends the lines of each entry.
+fn put_history(out: &mut Vec<u8>, history: &[Entry]) -> Result<(), AllocError>
+    ensures written { OnOk result (out.new.items ≡ out.old.items ++ text_of (history_lines history.now)) }
+    ensures fits { OnOk result (All (IsEntry Format.Two) history.now) }
+{
+    for entry in history {
+        put_entry(out, entry)?;
+    }
+    Ok(())
+}
+
+/// Appends the two lines of an entry to `out`.
+pub fn put_entry(out: &mut Vec<u8>, entry: &Entry) -> Result<(), AllocError>
+    ensures written { OnOk result (out.new.items ≡ out.old.items ++ text_of (history_lines (entry.now ∷ []))) }
+    ensures fits { OnOk result (IsEntry Format.Two entry.now) }
+{
+    put_decimal(out, entry.actor)?;
+    out.extend_from_slice(b" ")?;
+    put_event(out, &entry.event)?;
+    out.extend_from_slice(b"\n")?;
+    put_reply(out, &entry.reply)?;
+    out.extend_from_slice(b"\n")
+}
+
+/// Appends the end line, without a line feed: the number of entries, and the next ticket.
+pub(crate) fn put_end(
+    out: &mut Vec<u8>,
+    format: Format,
+    entries: u64,
+    next: Ticket,
+) -> Result<(), AllocError>
+    ensures { OnOk result (out.new.items ≡ out.old.items ++ spaced (end_fields format entries next)) }
+{
+    out.extend_from_slice(b"end ")?;
+    put_decimal(out, entries)?;
+    match format {
+        Format::One => Ok(()),
+        Format::Two => {
+            out.extend_from_slice(b" ")?;
+            put_decimal(out, next)
+        }
+    }
+}

@@ -1,0 +1,252 @@
+// The stages of a trace's check, and its board.
+ghost use Rattle.std.specs.Prelude.{◌≡◌, ◌<◌, ◌-◌, ◌^◌, [], IfOk};
+ghost use Rattle.std.specs.Str.{bytes_eq};
+ghost use Rattle.text_base.specs.Fields.{spaced};
+ghost use Rattle.text_lines.specs.Printing.{reply_fields};
+ghost use Rattle.text_trace.specs.Trace.{end_fields};
+ghost use Rattle.text_driver.specs.Judging.{Judges};
+ghost use Rattle.text_trace.specs.inside.Stages.{Title, Opening, Over, entry_at, board_at, stage_of, count, IsGood, IsWrong, Opens, Runs, IsOver};
+
+use crate::format::Format;
+use crate::print::put_end;
+use board_terms::{Notices, Ticket};
+use std::alloc::{AllocError, Global};
+use synic_board::{Board, Event, OpenFault, Reply};
+use text_base::Fields;
+use text_driver::Taken;
+use text_lines::{event_of, opening_of, put_reply, u8_of};
+
+/// Which line of a trace comes next.
+#[derive(Drop)]
+pub(crate) enum Stage {
+    /// The title.
+    Title,
+    /// The board line.
+    Opening(Format),
+    /// The reply that is due, or else an event or the end line, after that many entries.
+    Running {
+        format: Format,
+        board: Board,
+        entries: u64,
+        due: Option<Reply>,
+    },
+    /// Nothing, after that many entries.
+    Over(u64),
+}
+
+/// The result of a board line.
+#[derive(Drop)]
+enum Opened {
+    Board(Board),
+    Wrong,
+    Memory,
+}
+
+/// The result of a line after the board line.
+#[derive(Clone, Copy)]
+enum Ran {
+    On,
+    End,
+    Wrong,
+    Memory,
+}
+
+/// Takes a line, if it is allowed here.
+pub(crate) fn take_line(
+    alloc: Global,
+    stage: &mut Stage,
+    line: &[u8],
+    notices: &mut Notices,
+    out: &mut Vec<u8>,
+) -> Taken<()>
+    requires bound { count (stage_of stage.old) < 2 ^ 64 - 1 }
+    ensures { Judges IsGood IsWrong result (stage_of stage.old) (stage_of stage.new) line.now [] }
+{
+    match stage {
+        Stage::Title => take_title(stage, line),
+        Stage::Opening(format) => {
+            let format = *format;
+            take_opening(alloc, stage, format, line)
+        }
+        Stage::Running {
+            format,
+            board,
+            entries,
+            due,
+        } => match run_line(*format, board, entries, due, line, notices, out) {
+            Ran::On => Taken::Good,
+            Ran::End => {
+                let all = *entries;
+                close(stage, all);
+                Taken::Good
+            }
+            Ran::Wrong => Taken::Wrong(()),
+            Ran::Memory => Taken::Memory,
+        },
+        Stage::Over(_) => Taken::Wrong(()),
+    }
+}
+
+// Stages are written in separate functions: where one is constructed its memory is zeroed first,
+// which must not happen for each line.
+
+/// Takes the title.
+#[inline(never)]
+fn take_title(stage: &mut Stage, line: &[u8]) -> Taken<()>
+    requires { stage_of stage.old ≡ Title }
+    ensures { Judges IsGood IsWrong result (stage_of stage.old) (stage_of stage.new) line.now [] }
+{
+    let format = if line == b"trace 1".as_slice() {
+        Format::One
+    } else if line == b"trace 2".as_slice() {
+        Format::Two
+    } else {
+        return Taken::Wrong(());
+    };
+    *stage = Stage::Opening(format);
+    Taken::Good
+}
+
+/// Takes the board line.
+#[inline(never)]
+fn take_opening(alloc: Global, stage: &mut Stage, format: Format, line: &[u8]) -> Taken<()>
+    requires { stage_of stage.old ≡ Opening format }
+    ensures { Judges IsGood IsWrong result (stage_of stage.old) (stage_of stage.new) line.now [] }
+{
+    match open(alloc, line) {
+        Opened::Board(board) => {
+            *stage = Stage::Running {
+                format,
+                board,
+                entries: 0,
+                due: None,
+            };
+            Taken::Good
+        }
+        Opened::Wrong => Taken::Wrong(()),
+        Opened::Memory => Taken::Memory,
+    }
+}
+
+/// Ends the trace after that many entries.
+#[inline(never)]
+fn close(stage: &mut Stage, entries: u64)
+    ensures { stage_of stage.new ≡ Over entries }
+{
+    *stage = Stage::Over(entries);
+}
+
+/// The number of entries of a complete trace.
+pub(crate) fn entries_of(stage: &Stage) -> Option<u64>
+    ensures { IsOver result (stage_of stage.now) }
+{
+    match stage {
+        Stage::Over(entries) => Some(*entries),
+        _ => None,
+    }
+}
+
+/// Opens the board of a board line.
+#[tactic(auto, unfolding(crate::specs::inside::Stages::board_at))]
+fn open(alloc: Global, line: &[u8]) -> Opened
+    ensures { (format : Format) → Opens result format line.now }
+{
+    let mut fields = Fields::new(line);
+    let Some(word) = fields.next() else {
+        return Opened::Wrong;
+    };
+    if word != b"board".as_slice() {
+        return Opened::Wrong;
+    }
+    let Some((processors, pages, ticket)) = opening_of(&mut fields) else {
+        return Opened::Wrong;
+    };
+    match Board::open(alloc, processors, pages, ticket) {
+        Ok(board) => Opened::Board(board),
+        Err(OpenFault::BadSize) => Opened::Wrong,
+        Err(OpenFault::Memory) => Opened::Memory,
+    }
+}
+
+/// Takes a line after the board line: the reply that is due, an event, which is performed, or the
+/// end line.
+fn run_line(
+    format: Format,
+    board: &mut Board,
+    entries: &mut u64,
+    due: &mut Option<Reply>,
+    line: &[u8],
+    notices: &mut Notices,
+    out: &mut Vec<u8>,
+) -> Ran
+    requires bound { entries.old < 2 ^ 64 - 1 }
+    ensures { Runs result format board.old.state entries.old due.old board.new.state entries.new due.new line.now }
+{
+    if let Some(reply) = due {
+        return match is_reply(reply, line, out) {
+            Ok(true) => {
+                *due = None;
+                Ran::On
+            }
+            Ok(false) => Ran::Wrong,
+            Err(_) => Ran::Memory,
+        };
+    }
+    match is_end(format, *entries, board.next_ticket(), line, out) {
+        Ok(true) => return Ran::End,
+        Ok(false) => {}
+        Err(_) => return Ran::Memory,
+    }
+    let Some(event) = entry_of(format, line) else {
+        return Ran::Wrong;
+    };
+    let reply = board.perform(&event, notices);
+    *due = Some(reply);
+    *entries += 1;
+    Ran::On
+}
+
+/// Whether a line is the line of this reply.
+fn is_reply(reply: &Reply, line: &[u8], out: &mut Vec<u8>) -> Result<bool, AllocError>
+    ensures { IfOk result (λ is. is ≡ bytes_eq line.now (spaced (reply_fields reply.now))) }
+{
+    out.clear();
+    put_reply(out, reply)?;
+    Ok(line == out.as_slice())
+}
+
+/// Whether a line is the end line after that many entries, with this next ticket.
+fn is_end(
+    format: Format,
+    entries: u64,
+    next: Ticket,
+    line: &[u8],
+    out: &mut Vec<u8>,
+) -> Result<bool, AllocError>
+    ensures { IfOk result (λ is. is ≡ bytes_eq line.now (spaced (end_fields format entries next))) }
+{
+    if line.first() != Some(&b'e') {
+        return Ok(false);
+    }
+    out.clear();
+    put_end(out, format, entries, next)?;
+    Ok(line == out.as_slice())
+}
+
+/// The event of a line after an actor's number, if it has a line in the format.
+#[tactic(auto, unfolding(crate::specs::inside::Stages::entry_at))]
+fn entry_of(format: Format, line: &[u8]) -> Option<Event>
+    ensures { result ≡ entry_at format line.now }
+{
+    let mut fields = Fields::new(line);
+    u8_of(&mut fields)?;
+    let Some(word) = fields.next() else {
+        return None;
+    };
+    let event = event_of(word, &mut fields)?;
+    if format.has_line(&event) {
+        Some(event)
+    } else {
+        None
+    }
+}

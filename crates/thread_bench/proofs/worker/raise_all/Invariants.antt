@@ -1,5 +1,0 @@
-use Rattle.thread_bench.specs.Own.{IsOwnActor, IsOwnLine}
-use Rattle.thread_bench.proofs.worker.raise_all.Given as goal
-
-abbrev pub invariant-loop-turn : goal.invariant-loop-turn
-invariant-loop-turn g l = IsOwnActor l.board l.actor × IsOwnLine l.board l.line

@@ -1,6 +1,0 @@
-use Rattle.std.proofs.Common.{All}
-use Rattle.thread_bench.specs.Own.{IsOwnActor, IsOwnLine}
-use Rattle.thread_bench.proofs.workers.split.Given as goal
-
-abbrev pub invariant-loop-actor : goal.invariant-loop-actor
-invariant-loop-actor l = All (IsOwnActor l.board) l.actors.items × All (IsOwnLine l.board) l.lines.items
