@@ -1,0 +1,131 @@
+/* The devices of the flat guest. Raisers request vectors through lines, without the lock; the
+ * messenger posts messages and signals event flags under it. The guest starts them by a port and
+ * counts what arrives. */
+#define _GNU_SOURCE
+#include <errno.h>
+#include <stdio.h>
+#include <time.h>
+
+#include "guest/mailbox.h"
+#include "vmm.h"
+
+enum { FIRST_MESSAGE_PORT = 0, FIRST_FLAG_PORT = 8, BUFFERS = 16, MESSAGE_TYPE = 1 };
+
+struct raiser {
+    unsigned number;
+    synicboard_line line;
+};
+
+static struct mailbox *mailbox;
+static struct raiser raisers[RAISERS];
+
+static void wait_a_little(void)
+{
+    nanosleep(&(struct timespec){ .tv_nsec = 20000 }, NULL);
+}
+
+/* ---- Raisers ---- */
+
+/* Raises a vector if its last raise was handled and it is to be raised again. */
+static bool raise_next(struct raiser *raiser, unsigned vp, unsigned index)
+{
+    uint32_t raised = mailbox->raised[vp][index];
+    if (raised == mailbox->raises || mailbox->handled[vp][index] != raised)
+        return false;
+    mailbox->raised[vp][index] = raised + 1;
+    board_raise(&raiser->line, &vm.vp[vp], (uint8_t)(FIRST_LOAD_VECTOR + index));
+    return true;
+}
+
+static bool is_done(const struct raiser *raiser)
+{
+    bool is_done = true;
+    for (unsigned vp = 0; vp < LOAD_VPS; vp++)
+        for (unsigned at = 0; at < RAISER_VECTORS; at++)
+            is_done = is_done && mailbox->raised[vp][raiser->number * RAISER_VECTORS + at] == mailbox->raises;
+    return is_done;
+}
+
+static void *run_raiser(void *argument)
+{
+    struct raiser *raiser = argument;
+    while (!is_done(raiser)) {
+        bool has_raised = false;
+        for (unsigned vp = 0; vp < LOAD_VPS; vp++)
+            for (unsigned at = 0; at < RAISER_VECTORS; at++)
+                has_raised |= raise_next(raiser, vp, raiser->number * RAISER_VECTORS + at);
+        if (!has_raised)
+            wait_a_little();
+    }
+    return NULL;
+}
+
+/* ---- The messenger ---- */
+
+static void open_ports(void)
+{
+    for (uint8_t vp = 0; vp < LOAD_VPS; vp++) {
+        synicboard_open_message_port(&board, FIRST_MESSAGE_PORT + vp, vp, MESSAGE_SINT, BUFFERS);
+        synicboard_open_event_port(&board, FIRST_FLAG_PORT + vp, vp, FLAG_SINT, 0, FLAGS * FLAG_STRIDE);
+    }
+}
+
+/* "Insufficient buffers" is no error: the host posts again when a message has been placed. */
+static void post(uint8_t vp, uint64_t number)
+{
+    struct letter letter = { number, ~number };
+    uint8_t port = FIRST_MESSAGE_PORT + vp;
+    synicboard_reply reply;
+    while ((reply = board_post(port, MESSAGE_TYPE, &letter, sizeof letter)).refusal == SYNICBOARD_NO_BUFFERS) {
+        mailbox->refused++;
+        board_wait_for_buffer();
+    }
+    if (reply.kind != SYNICBOARD_ACCEPTED)
+        fprintf(stderr, "vmm: a message to processor %u is refused: %u\n", vp, reply.refusal);
+}
+
+/* The guest clears a flag before it looks at the counter, so a signal that finds the flag set
+ * needs no interrupt. */
+static void signal_flag(uint8_t vp, unsigned flag)
+{
+    mailbox->signalled[vp][flag]++;
+    board_signal(FIRST_FLAG_PORT + vp, (uint16_t)(flag * FLAG_STRIDE));
+}
+
+static void *run_messenger(void *unused)
+{
+    (void)unused;
+    for (uint32_t at = 0; at < mailbox->messages || at < mailbox->signals; at++)
+        for (uint8_t vp = 0; vp < LOAD_VPS; vp++) {
+            pthread_mutex_lock(&lock);
+            if (at < mailbox->messages)
+                post(vp, at + 1);
+            if (at < mailbox->signals)
+                signal_flag(vp, at % FLAGS);
+            pthread_mutex_unlock(&lock);
+        }
+    return NULL;
+}
+
+static void start(void *(*run)(void *), void *argument)
+{
+    pthread_t thread;
+    if ((errno = pthread_create(&thread, NULL, run, argument)) != 0)
+        fail("the thread of a device");
+    pthread_detach(thread);
+}
+
+void load_start(uint64_t address)
+{
+    if (mailbox != NULL || vm.vps < LOAD_VPS)
+        return;
+    if ((mailbox = (struct mailbox *)vm_memory(address, sizeof *mailbox)) == NULL)
+        return;
+    open_ports();
+    for (unsigned number = 0; number < RAISERS; number++) {
+        raisers[number].number = number;
+        board_split_line(&raisers[number].line);
+        start(run_raiser, &raisers[number]);
+    }
+    start(run_messenger, NULL);
+}

@@ -1,0 +1,117 @@
+/* The command line, the start and the end of a run. */
+#include <errno.h>
+#include <getopt.h>
+#include <signal.h>
+#include <stdio.h>
+#include <stdlib.h>
+#include <string.h>
+
+#include "vmm.h"
+
+struct vm vm = { .vps = 2, .ram_size = 512 << 20, .load = 10000 };
+
+static const char usage[] =
+    "usage: vmm --flat IMAGE [--load N] [OPTION ..]\n"
+    "       vmm --linux VMLINUX [--initrd FILE] [--append LINE] [OPTION ..]\n"
+    "  --load N      the devices of the flat guest raise N interrupts, and send a tenth as many messages (10000)\n"
+    "  --cpus N      1 to 8 processors (2; the flat guest needs 2)\n"
+    "  --memory N    64 to 2048 MB (512)\n"
+    "  --report      print at the end what was counted\n";
+
+struct options {
+    const char *flat, *kernel, *initrd, *command_line;
+    bool reports;
+};
+
+void fail(const char *what)
+{
+    fprintf(stderr, "vmm: %s: %s\n", what, strerror(errno));
+    exit(1);
+}
+
+void vm_stop(int status)
+{
+    if (!vm.is_stopping)
+        vm.status = status;
+    vm.is_stopping = true;
+    for (unsigned number = 0; number < vm.vps; number++)
+        vp_kick(&vm.vp[number]);
+}
+
+/* A signal only interrupts KVM_RUN. */
+static void ignore(int number)
+{
+    (void)number;
+}
+
+static void print_exits(const struct vp *vp)
+{
+    static const char *const names[64] = {
+        [KVM_EXIT_IO] = "port", [KVM_EXIT_MMIO] = "mmio", [KVM_EXIT_HLT] = "hlt", [KVM_EXIT_INTR] = "kick",
+        [KVM_EXIT_IRQ_WINDOW_OPEN] = "window", [KVM_EXIT_X86_RDMSR] = "rdmsr", [KVM_EXIT_X86_WRMSR] = "wrmsr",
+        [KVM_EXIT_SET_TPR] = "cr8", [KVM_EXIT_INTERNAL_ERROR] = "emulate",
+    };
+    fprintf(stderr, "vmm: processor %u: %lu interrupts; exits:", vp->number, vp->injected);
+    for (unsigned reason = 0; reason < 64; reason++)
+        if (vp->exits[reason] != 0)
+            fprintf(stderr, " %s %lu", names[reason] != NULL ? names[reason] : "other", vp->exits[reason]);
+    fprintf(stderr, "\n");
+}
+
+static void report(void)
+{
+    for (unsigned number = 0; number < vm.vps; number++)
+        print_exits(&vm.vp[number]);
+    board_report();
+    fprintf(stderr, "vmm: %.3f seconds, %lu changes of the memory slots, %lu instructions emulated here\n",
+            (double)clock_now() / 1e7, vm.slot_changes, vm.emulated);
+}
+
+/* Returns whether the words make sense. */
+static bool parse(int count, char **words, struct options *options)
+{
+    static const struct option known[] = {
+        { "flat", 1, NULL, 'f' }, { "load", 1, NULL, 'n' }, { "linux", 1, NULL, 'l' }, { "initrd", 1, NULL, 'i' },
+        { "append", 1, NULL, 'a' }, { "cpus", 1, NULL, 'c' }, { "memory", 1, NULL, 'm' }, { "report", 0, NULL, 'r' }, { 0 },
+    };
+    for (int option; (option = getopt_long(count, words, "", known, NULL)) != -1;)
+        switch (option) {
+        case 'f': options->flat = optarg; break;
+        case 'n': vm.load = (uint32_t)strtoul(optarg, NULL, 10); break;
+        case 'l': options->kernel = optarg; break;
+        case 'i': options->initrd = optarg; break;
+        case 'a': options->command_line = optarg; break;
+        case 'c': vm.vps = (unsigned)strtoul(optarg, NULL, 10); break;
+        case 'm': vm.ram_size = strtoull(optarg, NULL, 10) << 20; break;
+        case 'r': options->reports = true; break;
+        default: return false;
+        }
+    return optind == count && (options->flat == NULL) != (options->kernel == NULL) && vm.vps >= 1 && vm.vps <= MOST_VPS
+        && vm.ram_size >= 64 << 20 && vm.ram_size <= 2048UL << 20;
+}
+
+int main(int count, char **words)
+{
+    struct options options = { .command_line = "earlyprintk=serial,keep" };
+    struct sigaction action = { .sa_handler = ignore };
+    if (!parse(count, words, &options)) {
+        fputs(usage, stderr);
+        return 2;
+    }
+    sigaction(SIGUSR1, &action, NULL);
+    vm_open();
+    if (options.flat != NULL)
+        boot_flat(options.flat);
+    else
+        boot_linux(options.kernel, options.initrd, options.command_line);
+    pthread_mutex_lock(&lock);          /* until every thread that may be kicked has been started */
+    for (unsigned number = 0; number < vm.vps; number++)
+        vp_start(&vm.vp[number]);
+    pthread_mutex_unlock(&lock);
+    for (unsigned number = 0; number < vm.vps; number++)
+        pthread_join(vm.vp[number].thread, NULL);
+    fflush(stdout);
+    if (options.reports)
+        report();
+    return vm.status;
+}

@@ -1,0 +1,143 @@
+/* A small hypervisor over /dev/kvm. KVM runs the processors and nothing else: a synicboard is
+ * their SynIC, their synthetic timers and their local APICs, and KVM's own interrupt controllers
+ * and Hyper-V support are unused. */
+#ifndef VMM_H
+#define VMM_H
+
+#include <linux/kvm.h>
+#include <pthread.h>
+#include <stdatomic.h>
+#include <stdbool.h>
+#include <stddef.h>
+#include <stdint.h>
+
+#include "synicboard.h"
+
+enum { PAGE = 4096, MOST_VPS = 8 };
+
+/* A virtual processor. The lock protects every field except `posted_parts`. */
+struct vp {
+    uint8_t number;
+    int fd;
+    struct kvm_run *run;
+    pthread_t thread;
+    pthread_cond_t kicked;
+    struct kvm_regs reset_regs;
+    struct kvm_sregs reset_sregs;
+    bool is_in_guest;           /* its thread is in KVM_RUN, or enters it without looking at anything else */
+    bool is_halted;
+    bool is_suspended;          /* by the guest, with HvRegisterExplicitSuspend */
+    bool waits_for_sipi;
+    bool has_init, has_sipi;    /* sent, and not accepted yet by its thread */
+    uint8_t sipi_page;
+    uint8_t tpr;                /* equals the TPR of the board, for CR8 */
+    synicboard_line line;       /* its thread absorbs through it */
+    atomic_uint posted_parts;   /* a bit for each part of the posted words that may have vectors to absorb */
+    uint64_t injected, exits[64];
+};
+
+/* The partition. The lock protects what changes after the start. */
+struct vm {
+    int kvm, fd;
+    uint8_t *ram;
+    uint64_t ram_size;
+    unsigned vps;
+    struct vp vp[MOST_VPS];
+    bool is_stopping;
+    int status;                 /* the exit status of the program */
+    uint32_t load;              /* how many interrupts the flat guest asks of its devices */
+    uint64_t tsc_hz;
+    uint64_t slot_changes, emulated;
+};
+
+extern struct vm vm;
+extern synicboard board;
+extern pthread_mutex_t lock;    /* for the board, and for everything else that threads share */
+
+/* Unless it says otherwise, a function of this header is called with the lock held. */
+
+/* main.c */
+_Noreturn void fail(const char *what);      /* prints errno's text and ends the program; needs no lock */
+void vm_stop(int status);
+
+/* vm.c: before the threads start, without the lock */
+void vm_open(void);
+uint8_t *vm_memory(uint64_t address, uint64_t length);  /* null outside the guest's memory */
+
+/* vp.c */
+void vp_open(unsigned number);
+void vp_start(struct vp *vp);               /* starts its thread */
+void vp_kick(struct vp *vp);                /* makes its thread look at the board again */
+void vp_send_init(struct vp *vp);
+void vp_send_sipi(struct vp *vp, uint8_t page);
+void vp_pause_others(void);                 /* returns when no processor is in the guest */
+void vp_resume_others(void);
+
+/* cpuid.c: before the threads start, without the lock */
+void cpuid_set(struct vp *vp);
+
+/* emulate.c */
+void emulate(struct vp *vp);                /* an instruction that KVM's emulator does not know */
+
+/* clock.c */
+void clock_open(void);
+uint64_t clock_now(void);                   /* the time, in units of 100 ns; needs no lock */
+void clock_arm(uint64_t time);              /* arms the host's timer; UINT64_MAX for none */
+void clock_fill_page(void *page);           /* the reference TSC page */
+
+/* board.c */
+void board_open(void);
+void board_advance(void);                   /* ticks if a timer is due, and arms the host's timer */
+void board_absorb(struct vp *vp);
+uint8_t board_take(struct vp *vp);
+synicboard_reply board_write(struct vp *vp, uint32_t msr, uint64_t value);
+synicboard_reply board_read(struct vp *vp, uint32_t msr);
+void board_assert(struct vp *vp, uint8_t vector);
+void board_store(uint64_t address, const uint8_t *bytes, size_t length);
+void board_suspend(struct vp *vp);
+void board_resume(struct vp *vp);
+void board_reset(struct vp *vp);
+synicboard_reply board_post(uint8_t port, uint32_t type, const void *payload, size_t length);
+synicboard_reply board_signal(uint8_t port, uint16_t flag);
+void board_wait_for_buffer(void);           /* waits until a message leaves a queue */
+void board_split_line(synicboard_line *line);
+void board_raise(synicboard_line *line, struct vp *vp, uint8_t vector);  /* without the lock */
+void board_report(void);
+extern atomic_uint board_fresh;             /* raises that were fresh */
+extern uint64_t board_absorbed;             /* bits that were absorbed */
+
+/* overlay.c */
+void overlay_open(void);
+bool overlay_read(struct vp *vp, uint32_t msr, uint64_t *value);        /* false: it is no overlay register */
+bool overlay_write(struct vp *vp, uint32_t msr, uint64_t value);
+void overlay_store(uint64_t address, const uint8_t *bytes, size_t length);  /* ignored outside overlays */
+void overlay_reset(struct vp *vp);
+
+/* hyperv.c */
+enum { HYPERCALL_PORT = 0xe8 };
+unsigned hyperv_add_cpuid(struct kvm_cpuid_entry2 *entries, unsigned count);
+bool hyperv_read_msr(struct vp *vp, uint32_t msr, uint64_t *value);     /* false for #GP */
+bool hyperv_write_msr(struct vp *vp, uint32_t msr, uint64_t value);
+void hyperv_call(struct vp *vp);
+
+/* apic.c */
+enum { APIC_BASE = 0xfee00000, APIC_HZ = 1000000000 };
+void apic_reset(struct vp *vp);
+uint32_t apic_read(struct vp *vp, uint32_t offset);
+void apic_write(struct vp *vp, uint32_t offset, uint32_t value);
+uint64_t apic_icr(struct vp *vp);
+void apic_write_icr(struct vp *vp, uint64_t value);
+
+/* devices.c */
+void port_write(struct vp *vp, uint16_t port, uint32_t value);
+uint32_t port_read(uint16_t port);
+
+/* load.c: the devices of the flat guest */
+void load_start(uint64_t address);
+
+/* boot.c, linux.c: before the threads start, without the lock */
+void boot_at(uint64_t rip, uint64_t rsi);
+void boot_flat(const char *path);
+void boot_linux(const char *kernel, const char *initrd, const char *command_line);
+
+#endif

@@ -1,0 +1,304 @@
+/* A processor: its thread, its exits, and the interrupts that it accepts. */
+#define _GNU_SOURCE
+#include <errno.h>
+#include <signal.h>
+#include <stdio.h>
+#include <string.h>
+#include <sys/ioctl.h>
+#include <sys/mman.h>
+
+#include "vmm.h"
+
+static bool is_paused;
+static pthread_cond_t left = PTHREAD_COND_INITIALIZER, resumed = PTHREAD_COND_INITIALIZER;
+
+/* immediate_exit makes the next KVM_RUN return at once; the signal interrupts one that runs. */
+void vp_kick(struct vp *vp)
+{
+    if (vp->is_in_guest && !vp->run->immediate_exit) {
+        vp->run->immediate_exit = 1;
+        pthread_kill(vp->thread, SIGUSR1);
+    }
+    pthread_cond_signal(&vp->kicked);
+}
+
+static bool is_any_in_guest(void)
+{
+    bool is_any = false;
+    for (unsigned number = 0; number < vm.vps; number++)
+        is_any = is_any || vm.vp[number].is_in_guest;
+    return is_any;
+}
+
+void vp_pause_others(void)
+{
+    while (is_paused)
+        pthread_cond_wait(&resumed, &lock);
+    is_paused = true;
+    for (unsigned number = 0; number < vm.vps; number++)
+        vp_kick(&vm.vp[number]);
+    while (is_any_in_guest())
+        pthread_cond_wait(&left, &lock);
+}
+
+void vp_resume_others(void)
+{
+    is_paused = false;
+    pthread_cond_broadcast(&resumed);
+}
+
+/* ---- Exits ---- */
+
+/* Only the overlays and the page of the local APIC are no memory. */
+static void handle_mmio(struct vp *vp)
+{
+    struct kvm_run *run = vp->run;
+    uint64_t address = run->mmio.phys_addr;
+    uint32_t value = 0xffffffff;
+    bool is_apic = address - APIC_BASE < PAGE;
+    if (run->mmio.is_write) {
+        memcpy(&value, run->mmio.data, sizeof value);
+        if (is_apic)
+            apic_write(vp, address - APIC_BASE, value);
+        else
+            overlay_store(address, run->mmio.data, run->mmio.len);
+        return;
+    }
+    if (is_apic)
+        value = apic_read(vp, address - APIC_BASE);
+    memset(run->mmio.data, 0xff, sizeof run->mmio.data);
+    memcpy(run->mmio.data, &value, sizeof value);
+}
+
+static void handle_port(struct vp *vp)
+{
+    struct kvm_run *run = vp->run;
+    uint8_t *data = (uint8_t *)run + run->io.data_offset;
+    for (uint32_t at = 0; at < run->io.count; at++, data += run->io.size) {
+        uint32_t value = 0;
+        if (run->io.direction == KVM_EXIT_IO_OUT) {
+            memcpy(&value, data, run->io.size);
+            port_write(vp, run->io.port, value);
+        } else {
+            value = port_read(run->io.port);
+            memcpy(data, &value, run->io.size);
+        }
+    }
+}
+
+static void handle_other(struct vp *vp)
+{
+    struct kvm_regs regs = { 0 };
+    ioctl(vp->fd, KVM_GET_REGS, &regs);
+    fprintf(stderr, "vmm: processor %u at %llx: exit reason %u\n", vp->number, regs.rip, vp->run->exit_reason);
+    vm_stop(1);
+}
+
+static void handle_exit(struct vp *vp)
+{
+    struct kvm_run *run = vp->run;
+    uint64_t value = 0;
+    vp->exits[run->exit_reason % 64]++;
+    switch (run->exit_reason) {
+    case KVM_EXIT_X86_RDMSR:
+        run->msr.error = !hyperv_read_msr(vp, run->msr.index, &value);
+        run->msr.data = value;
+        break;
+    case KVM_EXIT_X86_WRMSR: run->msr.error = !hyperv_write_msr(vp, run->msr.index, run->msr.data); break;
+    case KVM_EXIT_MMIO: handle_mmio(vp); break;
+    case KVM_EXIT_IO: handle_port(vp); break;
+    case KVM_EXIT_HLT: vp->is_halted = true; break;
+    case KVM_EXIT_INTERNAL_ERROR: emulate(vp); break;
+    case KVM_EXIT_SET_TPR:              /* enter() passes CR8 to the board */
+    case KVM_EXIT_IRQ_WINDOW_OPEN:
+    case KVM_EXIT_INTR: break;
+    default: handle_other(vp);
+    }
+}
+
+/* ---- INIT and SIPI ---- */
+
+void vp_send_init(struct vp *vp)
+{
+    vp->has_init = true;
+    vp->has_sipi = false;
+    vp_kick(vp);
+}
+
+/* SDM, "INIT, SIPI": a processor that does not wait for a SIPI ignores it. */
+void vp_send_sipi(struct vp *vp, uint8_t page)
+{
+    if (!vp->waits_for_sipi && !vp->has_init)
+        return;
+    vp->has_sipi = true;
+    vp->sipi_page = page;
+    vp_kick(vp);
+}
+
+static void set_state(struct vp *vp, const struct kvm_sregs *sregs, const struct kvm_regs *regs)
+{
+    struct kvm_vcpu_events events = { 0 };
+    if (ioctl(vp->fd, KVM_SET_SREGS, sregs) != 0)
+        fail("KVM_SET_SREGS");
+    if (ioctl(vp->fd, KVM_SET_REGS, regs) != 0)
+        fail("KVM_SET_REGS");
+    if (ioctl(vp->fd, KVM_SET_VCPU_EVENTS, &events) != 0)
+        fail("KVM_SET_VCPU_EVENTS");
+}
+
+/* A reset of the board's processor covers its local APIC, SynIC and timers. Until SIPI the
+ * processor is suspended, so that none of its timers is the earliest. KVM first completes the
+ * instruction of the last exit (Documentation of KVM_RUN: "userspace must re-enter the guest");
+ * otherwise it would complete it on the new state. */
+static void accept_init(struct vp *vp)
+{
+    vp->has_init = false;
+    vp->run->immediate_exit = 1;
+    ioctl(vp->fd, KVM_RUN, 0);
+    vp->run->immediate_exit = 0;
+    set_state(vp, &vp->reset_sregs, &vp->reset_regs);
+    vp->run->ready_for_interrupt_injection = 0;
+    vp->is_halted = vp->is_suspended = false;
+    vp->waits_for_sipi = true;
+    board_reset(vp);
+    board_suspend(vp);
+    apic_reset(vp);
+    overlay_reset(vp);
+}
+
+static void accept_sipi(struct vp *vp)
+{
+    struct kvm_sregs sregs = vp->reset_sregs;
+    struct kvm_regs regs = vp->reset_regs;
+    vp->has_sipi = false;
+    vp->waits_for_sipi = false;
+    sregs.cs.selector = (uint16_t)(vp->sipi_page << 8);
+    sregs.cs.base = (uint64_t)vp->sipi_page << 12;
+    regs.rip = 0;
+    set_state(vp, &sregs, &regs);
+    board_resume(vp);
+}
+
+/* ---- The thread ---- */
+
+/* Injects the next vector if the processor accepts interrupts; otherwise asks for an exit as
+ * soon as it does. */
+static void inject(struct vp *vp)
+{
+    struct kvm_run *run = vp->run;
+    bool is_ready = run->ready_for_interrupt_injection;
+    if (synicboard_next(&board, vp->number) != 0 && is_ready) {
+        struct kvm_interrupt interrupt = { .irq = board_take(vp) };
+        if (ioctl(vp->fd, KVM_INTERRUPT, &interrupt) != 0)
+            fail("KVM_INTERRUPT");
+        run->ready_for_interrupt_injection = 0;
+        vp->is_halted = false;
+        vp->injected++;
+    }
+    run->request_interrupt_window = synicboard_next(&board, vp->number) != 0;
+}
+
+static bool can_run(const struct vp *vp)
+{
+    return !vp->waits_for_sipi && !vp->is_suspended && !vp->is_halted;
+}
+
+static void enter(struct vp *vp)
+{
+    vp->run->cr8 = vp->tpr >> 4;
+    vp->is_in_guest = true;
+    pthread_mutex_unlock(&lock);
+    int result = ioctl(vp->fd, KVM_RUN, 0), reason = errno;
+    pthread_mutex_lock(&lock);
+    vp->is_in_guest = false;
+    vp->run->immediate_exit = 0;
+    if (is_paused)
+        pthread_cond_broadcast(&left);
+    /* SDM, "Interaction of Task Priorities between CR8 and APIC": both are one register. A guest
+     * that raises CR8 does not exit, which is soon enough: only a later event of its own can
+     * make the board use the new value. */
+    if (vp->run->cr8 != vp->tpr >> 4)
+        board_write(vp, SYNICBOARD_MSR_TPR, vp->run->cr8 << 4);
+    if (result == 0)
+        handle_exit(vp);
+    else if (reason == EINTR || reason == EAGAIN)
+        vp->exits[KVM_EXIT_INTR]++;
+    else {
+        errno = reason;
+        fail("KVM_RUN");
+    }
+}
+
+static void *run_vp(void *argument)
+{
+    struct vp *vp = argument;
+    pthread_mutex_lock(&lock);
+    while (!vm.is_stopping) {
+        board_advance();
+        board_absorb(vp);
+        if (vp->has_init)
+            accept_init(vp);
+        if (vp->has_sipi)
+            accept_sipi(vp);
+        inject(vp);
+        if (!can_run(vp))
+            pthread_cond_wait(&vp->kicked, &lock);
+        else if (is_paused)
+            pthread_cond_wait(&resumed, &lock);
+        else
+            enter(vp);
+    }
+    pthread_mutex_unlock(&lock);
+    return NULL;
+}
+
+/* ---- Opening ---- */
+
+static void set_tsc_offset(struct vp *vp)
+{
+    uint64_t offset = 0;
+    struct kvm_device_attr attribute = {
+        .group = KVM_VCPU_TSC_CTRL, .attr = KVM_VCPU_TSC_OFFSET, .addr = (uintptr_t)&offset,
+    };
+    if (ioctl(vp->fd, KVM_SET_DEVICE_ATTR, &attribute) != 0)
+        fail("KVM_VCPU_TSC_OFFSET");
+}
+
+static void get_reset_state(struct vp *vp)
+{
+    if (ioctl(vp->fd, KVM_GET_REGS, &vp->reset_regs) != 0)
+        fail("KVM_GET_REGS");
+    if (ioctl(vp->fd, KVM_GET_SREGS, &vp->reset_sregs) != 0)
+        fail("KVM_GET_SREGS");
+    vp->reset_sregs.apic_base = APIC_BASE | 1 << 11 | (vp->number == 0 ? 1 << 8 : 0);
+    if (ioctl(vp->fd, KVM_SET_SREGS, &vp->reset_sregs) != 0)
+        fail("KVM_SET_SREGS");
+}
+
+void vp_open(unsigned number)
+{
+    struct vp *vp = &vm.vp[number];
+    int size = ioctl(vm.kvm, KVM_GET_VCPU_MMAP_SIZE, 0);
+    vp->number = (uint8_t)number;
+    pthread_cond_init(&vp->kicked, NULL);
+    if (size < 0)
+        fail("KVM_GET_VCPU_MMAP_SIZE");
+    if ((vp->fd = ioctl(vm.fd, KVM_CREATE_VCPU, number)) < 0)
+        fail("KVM_CREATE_VCPU");
+    vp->run = mmap(NULL, (size_t)size, PROT_READ | PROT_WRITE, MAP_SHARED, vp->fd, 0);
+    if (vp->run == MAP_FAILED)
+        fail("the page of a processor");
+    cpuid_set(vp);
+    set_tsc_offset(vp);
+    get_reset_state(vp);
+    apic_reset(vp);
+    vp->waits_for_sipi = number != 0;
+    if (vp->waits_for_sipi)
+        board_suspend(vp);
+}
+
+void vp_start(struct vp *vp)
+{
+    if ((errno = pthread_create(&vp->thread, NULL, run_vp, vp)) != 0)
+        fail("the thread of a processor");
+}

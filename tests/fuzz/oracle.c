@@ -1,0 +1,414 @@
+/* The calls of the fuzz target, with what each has to return. */
+#include <inttypes.h>
+
+#include "../c/by_call.h"
+#include "target.h"
+
+enum { MOST_ENTRY = 535, PAGE = 4096, SOURCES = 16, FILLER = 0xee, GUARD = 64 };
+
+#define DEMAND(condition) demand((condition), #condition, __LINE__)
+
+static void demand(bool holds, const char *what, int line)
+{
+    if (holds)
+        return;
+    fprintf(stderr, "tests/fuzz/oracle.c:%d: does not hold: %s\n", line, what);
+    abort();
+}
+
+static void *allocate(size_t size)
+{
+    void *block = malloc(size);
+    DEMAND(block != NULL);
+    return block;
+}
+
+/* ---- Features: the proved code has no instrumentation, so libFuzzer learns from its replies
+ * what is new ---- */
+
+enum { KINDS = 17, OUTCOMES = 32, NOTICES = 10, SIZES = 10 };
+enum { FIRST_NOTICE = KINDS * OUTCOMES, FIRST_SIZE = FIRST_NOTICE + KINDS * NOTICES * NOTICES };
+enum { FEATURES = FIRST_SIZE + KINDS * SIZES };
+
+__attribute__((section("__libfuzzer_extra_counters"), used)) static uint8_t features[FEATURES];
+
+static void note(struct fuzz *fuzz, const synicboard_event *event, const synicboard_reply *reply,
+                 const synicboard_notice *notices)
+{
+    unsigned kind = event->kind % KINDS, size = 0;
+    features[kind * OUTCOMES + (reply->kind == SYNICBOARD_REFUSED ? 10 + reply->refusal : reply->kind) % OUTCOMES]++;
+    for (unsigned at = 0; at < reply->notices; at++) {
+        features[FIRST_NOTICE + (kind * NOTICES + fuzz->last_notice) * NOTICES + notices[at].kind % NOTICES]++;
+        fuzz->last_notice = notices[at].kind % NOTICES;
+    }
+    while (size < SIZES - 1 && reply->notices >> size != 0)
+        size++;
+    features[FIRST_SIZE + kind * SIZES + size]++;
+}
+
+/* ---- Opening, the trace, closing ---- */
+
+static void add(struct fuzz *fuzz, const char *text, size_t length)
+{
+    if (fuzz->capacity - fuzz->length < length) {
+        fuzz->capacity = 2 * fuzz->capacity + length;
+        fuzz->trace = realloc(fuzz->trace, fuzz->capacity);
+        DEMAND(fuzz->trace != NULL);
+    }
+    memcpy(fuzz->trace + fuzz->length, text, length);
+    fuzz->length += length;
+}
+
+struct fuzz *fuzz_open(uint8_t processors, uint8_t pages, uint64_t ticket, bool is_shared)
+{
+    char head[64];
+    struct fuzz *fuzz = allocate(sizeof *fuzz);
+    *fuzz = (struct fuzz){ .processors = processors, .pages = pages };
+    DEMAND(synicboard_open(&fuzz->by_struct, processors, pages, ticket) == SYNICBOARD_OK);
+    DEMAND(synicboard_open(&fuzz->by_call, processors, pages, ticket) == SYNICBOARD_OK);
+    DEMAND(synicboard_open(&fuzz->by_call, processors, pages, ticket) == SYNICBOARD_IS_OPEN);
+    if (is_shared)
+        DEMAND(synicboard_open_shared(&fuzz->shared, processors, pages, ticket) == SYNICBOARD_OK);
+    DEMAND(synicboard_open_line(&fuzz->lines[0], processors) == SYNICBOARD_OK);
+    int length = snprintf(head, sizeof head, "trace 2\nboard %u %u %" PRIu64 "\n", processors, pages, ticket);
+    add(fuzz, head, (size_t)length);
+    return fuzz;
+}
+
+/* Appends the two lines of an event and its reply. A buffer of exactly their size gets the same
+ * bytes. */
+static void record(struct fuzz *fuzz, const synicboard_event *event, const synicboard_reply *reply)
+{
+    uint8_t lines[MOST_ENTRY];
+    uint8_t actor = (uint8_t)fuzz->entries;
+    synicboard_end end = synicboard_format_entry(actor, event, reply, lines, sizeof lines);
+    DEMAND(end.kind == SYNICBOARD_OK && end.length <= sizeof lines);
+    uint8_t *exact = allocate(end.length);
+    synicboard_end again = synicboard_format_entry(actor, event, reply, exact, end.length);
+    DEMAND(again.kind == end.kind && again.length == end.length && memcmp(exact, lines, end.length) == 0);
+    free(exact);
+    add(fuzz, (const char *)lines, end.length);
+    fuzz->entries++;
+}
+
+/* Checks the entries with an end that has this next ticket. */
+static synicboard_verdict check_with_end(struct fuzz *fuzz, size_t entries_length, uint64_t next)
+{
+    char end[64];
+    int size = snprintf(end, sizeof end, "end %" PRIu64 " %" PRIu64 "\n", fuzz->entries, next);
+    fuzz->length = entries_length;
+    add(fuzz, end, (size_t)size);
+    return synicboard_check((const uint8_t *)fuzz->trace, fuzz->length);
+}
+
+/* The trace is not legal with another next ticket, and legal with its own. */
+static void check_trace(struct fuzz *fuzz)
+{
+    uint64_t next = synicboard_next_ticket(&fuzz->by_struct);
+    size_t length = fuzz->length;
+    synicboard_verdict verdict = check_with_end(fuzz, length, next + 1);
+    DEMAND(verdict.kind == SYNICBOARD_WRONG_LINE && verdict.line == 3 + 2 * fuzz->entries);
+    verdict = check_with_end(fuzz, length, next);
+    DEMAND(verdict.kind == SYNICBOARD_OK && verdict.entries == fuzz->entries && verdict.line == 0);
+}
+
+/* The shared board has the same trace. */
+static void check_shared(struct fuzz *fuzz)
+{
+    if (!fuzz->shared.is_open)
+        return;
+    uint8_t *trace = allocate(fuzz->length);
+    synicboard_settled settled = synicboard_settle(&fuzz->shared, trace, fuzz->length);
+    DEMAND(settled.kind == SYNICBOARD_OK && settled.entries == fuzz->entries);
+    DEMAND(settled.length == fuzz->length && memcmp(trace, fuzz->trace, fuzz->length) == 0);
+    free(trace);
+}
+
+void fuzz_close(struct fuzz *fuzz)
+{
+    fuzz_compare_queries(fuzz);
+    check_trace(fuzz);
+    check_shared(fuzz);
+    synicboard_close_shared(&fuzz->shared);
+    for (unsigned at = 0; at < LINES; at++)
+        synicboard_close_line(&fuzz->lines[at]);
+    synicboard_close(&fuzz->by_struct);
+    synicboard_close(&fuzz->by_call);
+    DEMAND(!fuzz->by_struct.is_open && synicboard_next(&fuzz->by_struct, 0) == 0);
+    free(fuzz->trace);
+    free(fuzz);
+}
+
+/* ---- Events ---- */
+
+static void compare_replies(const synicboard_reply *one, const synicboard_reply *other)
+{
+    DEMAND(one->kind == other->kind);
+    DEMAND(one->fault == other->fault);
+    DEMAND(one->refusal == other->refusal);
+    DEMAND(one->vector == other->vector);
+    DEMAND(one->length == other->length);
+    DEMAND(one->notices == other->notices);
+    DEMAND(one->value == other->value);
+    DEMAND(one->ticket == other->ticket);
+    DEMAND(memcmp(one->bytes, other->bytes, sizeof one->bytes) == 0);
+}
+
+static void compare_notices(const synicboard_notice *one, const synicboard_notice *other)
+{
+    DEMAND(one->kind == other->kind && one->kind >= SYNICBOARD_NOTICE_ACCEPTED && one->kind <= SYNICBOARD_NOTICE_SKIPPED);
+    DEMAND(one->vp == other->vp && one->sint == other->sint);
+    DEMAND(one->vector == other->vector && one->timer == other->timer);
+    DEMAND(one->flag == other->flag && one->ticket == other->ticket);
+    DEMAND(one->due == other->due && one->count == other->count);
+}
+
+/* The faults that the header lists for a reply, without NO_LINE, which only a board with lines has. */
+static bool is_fault(uint8_t fault)
+{
+    switch (fault) {
+    case SYNICBOARD_OK:
+    case SYNICBOARD_IS_CLOSED:
+    case SYNICBOARD_NO_EVENT:
+    case SYNICBOARD_NO_MEMORY:
+        return true;
+    default:
+        return false;
+    }
+}
+
+/* The fields that a reply of any kind may have. */
+static void check_form(const synicboard_reply *reply)
+{
+    DEMAND(reply->kind <= SYNICBOARD_REFUSED && is_fault(reply->fault));
+    DEMAND(reply->refusal <= SYNICBOARD_NOT_SUSPENDED);
+    DEMAND((reply->kind == SYNICBOARD_NOT_PERFORMED) == (reply->fault != 0));
+    DEMAND((reply->kind == SYNICBOARD_REFUSED) == (reply->refusal != 0));
+    DEMAND(reply->notices <= SYNICBOARD_MOST_NOTICES && reply->length <= sizeof reply->bytes);
+    if (reply->kind == SYNICBOARD_REFUSED || reply->kind == SYNICBOARD_GENERAL_PROTECTION)
+        DEMAND(reply->notices == 0);
+}
+
+/* Performs the event on the shared board. */
+static void compare_shared(struct fuzz *fuzz, const synicboard_event *event, const synicboard_reply *reply,
+                           const synicboard_notice *notices)
+{
+    static synicboard_notice others[SYNICBOARD_MOST_NOTICES];
+    if (!fuzz->shared.is_open)
+        return;
+    uint8_t actor = (uint8_t)fuzz->entries;
+    synicboard_reply other = synicboard_act(&fuzz->shared, actor, event, others, SYNICBOARD_MOST_NOTICES);
+    compare_replies(reply, &other);
+    for (unsigned at = 0; at < reply->notices; at++)
+        compare_notices(&notices[at], &others[at]);
+}
+
+/* Compares the reply of `by_struct` and its notices with those of the other boards. */
+static void compare(struct fuzz *fuzz, const synicboard_event *event, const synicboard_reply *reply,
+                    const synicboard_notice *notices)
+{
+    static synicboard_notice others[SYNICBOARD_MOST_NOTICES];
+    synicboard_reply other = perform_by_call(&fuzz->by_call, event);
+    check_form(reply);
+    compare_replies(reply, &other);
+    compare_shared(fuzz, event, reply, notices);
+    if (reply->kind == SYNICBOARD_NOT_PERFORMED)
+        return;
+    DEMAND(synicboard_notices(&fuzz->by_call, others, SYNICBOARD_MOST_NOTICES) == reply->notices);
+    for (unsigned at = 0; at < reply->notices; at++)
+        compare_notices(&notices[at], &others[at]);
+    note(fuzz, event, reply, notices);
+    record(fuzz, event, reply);
+}
+
+void fuzz_event(struct fuzz *fuzz, const synicboard_event *event)
+{
+    static synicboard_notice notices[SYNICBOARD_MOST_NOTICES];
+    synicboard_reply reply = synicboard_perform(&fuzz->by_struct, event);
+    if (reply.kind != SYNICBOARD_NOT_PERFORMED)
+        DEMAND(synicboard_notices(&fuzz->by_struct, notices, SYNICBOARD_MOST_NOTICES) == reply.notices);
+    compare(fuzz, event, &reply, notices);
+}
+
+/* A batch stops before an event that is invalid, or whose notices might not fit. */
+void fuzz_batch(struct fuzz *fuzz, const synicboard_event *events, size_t count, size_t spare)
+{
+    static synicboard_notice notices[SYNICBOARD_MOST_NOTICES + UINT8_MAX];
+    synicboard_reply replies[8];
+    size_t first = 0;
+    while (first < count) {
+        synicboard_batch batch = synicboard_perform_all(&fuzz->by_struct, events + first, count - first, replies, 8, notices,
+                                                        SYNICBOARD_MOST_NOTICES + spare);
+        size_t emitted = 0;
+        DEMAND(batch.done <= count - first);
+        DEMAND(batch.end == SYNICBOARD_OK || batch.end == SYNICBOARD_NO_EVENT || batch.end == SYNICBOARD_NO_ROOM);
+        DEMAND((batch.end == SYNICBOARD_OK) == (batch.done == count - first));
+        for (size_t at = 0; at < batch.done; at++) {
+            DEMAND(replies[at].kind != SYNICBOARD_NOT_PERFORMED);
+            compare(fuzz, &events[first + at], &replies[at], notices + emitted);
+            emitted += replies[at].notices;
+        }
+        DEMAND(emitted == batch.emitted);
+        DEMAND(batch.done > 0 || batch.end == SYNICBOARD_NO_EVENT);
+        first += batch.done;
+        if (batch.end == SYNICBOARD_NO_EVENT)
+            fuzz_event(fuzz, &events[first++]);
+    }
+}
+
+/* No event has this kind. Nothing changes, and the notices of the event before are kept. */
+void fuzz_no_kind(struct fuzz *fuzz, uint8_t kind)
+{
+    synicboard_event event = { .kind = kind > SYNICBOARD_RESET ? kind : 0 };
+    size_t before = synicboard_notices(&fuzz->by_struct, NULL, 0);
+    synicboard_reply reply = synicboard_perform(&fuzz->by_struct, &event);
+    uint8_t lines[MOST_ENTRY];
+    DEMAND(reply.kind == SYNICBOARD_NOT_PERFORMED && reply.fault == SYNICBOARD_NO_EVENT);
+    DEMAND(synicboard_notices(&fuzz->by_struct, NULL, 0) == before);
+    synicboard_end end = synicboard_format_entry(0, &event, &reply, lines, sizeof lines);
+    DEMAND(end.kind == SYNICBOARD_WRONG_LINE && end.line == 1 && end.length == 0);
+}
+
+/* ---- Posted vectors ---- */
+
+static bool is_open(const struct fuzz *fuzz, uint8_t line)
+{
+    return fuzz->lines[line % LINES].is_open;
+}
+
+void fuzz_raise(struct fuzz *fuzz, uint8_t line, uint8_t vp, uint8_t vector)
+{
+    uint8_t raised = synicboard_raise(&fuzz->lines[line % LINES], vp, vector);
+    if (!is_open(fuzz, line) || vp >= fuzz->processors || vector < 16) {
+        DEMAND(raised == SYNICBOARD_NOT_RAISED);
+        return;
+    }
+    uint64_t *word = &fuzz->posted[vp][vector / 64], bit = (uint64_t)1 << vector % 64;
+    DEMAND(raised == ((*word & bit) == 0 ? SYNICBOARD_FRESH : SYNICBOARD_ALREADY));
+    *word |= bit;
+}
+
+/* The same as an absorb of the bits that were set. */
+void fuzz_absorb(struct fuzz *fuzz, uint8_t line, uint8_t vp, uint8_t part)
+{
+    static synicboard_notice notices[SYNICBOARD_MOST_NOTICES];
+    synicboard_reply reply = synicboard_absorb_line(&fuzz->by_struct, &fuzz->lines[line % LINES], vp, part);
+    if (!is_open(fuzz, line)) {
+        DEMAND(reply.kind == SYNICBOARD_NOT_PERFORMED && reply.fault == SYNICBOARD_NO_LINE);
+        return;
+    }
+    bool is_part = vp < fuzz->processors && part < 4;
+    uint64_t bits = is_part ? fuzz->posted[vp][part] : 0;
+    synicboard_event event = { .kind = SYNICBOARD_ABSORB, .vp = vp, .part = part, .value = bits };
+    DEMAND(reply.value == bits && (reply.kind == SYNICBOARD_DONE) == is_part);
+    if (is_part)
+        fuzz->posted[vp][part] = 0;
+    reply.value = 0;
+    DEMAND(synicboard_notices(&fuzz->by_struct, notices, SYNICBOARD_MOST_NOTICES) == reply.notices);
+    compare(fuzz, &event, &reply, notices);
+}
+
+/* Splits off a line, or closes one that is open. The first line stays open. */
+void fuzz_split(struct fuzz *fuzz, uint8_t line)
+{
+    synicboard_line *other = &fuzz->lines[1 + line % (LINES - 1)];
+    if (other->is_open) {
+        DEMAND(synicboard_split_line(&fuzz->lines[0], other) == SYNICBOARD_IS_OPEN);
+        synicboard_close_line(other);
+        return;
+    }
+    uint8_t result = synicboard_split_line(&fuzz->lines[0], other);
+    DEMAND(result == SYNICBOARD_OK || result == SYNICBOARD_NO_MORE_LINES);
+    DEMAND(other->is_open == (result == SYNICBOARD_OK));
+}
+
+/* ---- Queries ---- */
+
+static void compare_processor(struct fuzz *fuzz, uint8_t vp)
+{
+    DEMAND(synicboard_next(&fuzz->by_struct, vp) == synicboard_next(&fuzz->by_call, vp));
+    for (unsigned vector = 0; vector < 256; vector++)
+        DEMAND(synicboard_is_auto(&fuzz->by_struct, vp, (uint8_t)vector)
+               == synicboard_is_auto(&fuzz->by_call, vp, (uint8_t)vector));
+    for (uint8_t sint = 0; sint <= SOURCES; sint++)
+        DEMAND(synicboard_queued(&fuzz->by_struct, vp, sint) == synicboard_queued(&fuzz->by_call, vp, sint));
+}
+
+void fuzz_compare_queries(struct fuzz *fuzz)
+{
+    synicboard_due one = synicboard_earliest(&fuzz->by_struct), other = synicboard_earliest(&fuzz->by_call);
+    DEMAND(one.is_due == other.is_due && one.vp == other.vp && one.timer == other.timer);
+    DEMAND(one.low == other.low && one.high == other.high);
+    DEMAND(synicboard_moment(&fuzz->by_struct) == synicboard_moment(&fuzz->by_call));
+    DEMAND(synicboard_next_ticket(&fuzz->by_struct) == synicboard_next_ticket(&fuzz->by_call));
+    for (uint8_t vp = 0; vp <= fuzz->processors; vp++)
+        compare_processor(fuzz, vp);
+    for (uint64_t page = 0; page <= fuzz->pages; page++) {
+        synicboard_page_owner owner = synicboard_owner(&fuzz->by_struct, page);
+        synicboard_page_owner same = synicboard_owner(&fuzz->by_call, page);
+        DEMAND(owner.kind == same.kind && owner.vp == same.vp);
+        DEMAND((owner.kind == SYNICBOARD_OWNER_NOTHING) == (page == fuzz->pages));
+    }
+}
+
+/* As many notices are copied as fit, and no more. */
+void fuzz_short_notices(struct fuzz *fuzz, uint8_t length)
+{
+    synicboard_notice *notices = allocate((length + 1) * sizeof *notices);
+    memset(notices, FILLER, (length + 1) * sizeof *notices);
+    size_t count = synicboard_notices(&fuzz->by_struct, notices, length), copied = count < length ? count : length;
+    DEMAND(count <= SYNICBOARD_MOST_NOTICES);
+    for (size_t at = 0; at <= length; at++)
+        DEMAND((notices[at].kind == FILLER) == (at >= copied));
+    free(notices);
+}
+
+static void compare_pages(bool is_page, bool is_other, const uint8_t *page, const uint8_t *other)
+{
+    DEMAND(is_page == is_other);
+    if (is_page)
+        DEMAND(memcmp(page, other, PAGE) == 0);
+}
+
+void fuzz_pages(struct fuzz *fuzz, uint8_t number)
+{
+    const uint8_t *page = NULL, *other = NULL;
+    bool is_page = synicboard_guest_page(&fuzz->by_struct, number, &page);
+    compare_pages(is_page, synicboard_guest_page(&fuzz->by_call, number, &other), page, other);
+    DEMAND(is_page == (number < fuzz->pages));
+    is_page = synicboard_message_page(&fuzz->by_struct, number, &page);
+    compare_pages(is_page, synicboard_message_page(&fuzz->by_call, number, &other), page, other);
+    DEMAND(is_page == (number < fuzz->processors));
+    is_page = synicboard_flag_page(&fuzz->by_struct, number, &page);
+    compare_pages(is_page, synicboard_flag_page(&fuzz->by_call, number, &other), page, other);
+}
+
+/* ---- Texts ---- */
+
+static synicboard_end replay(const uint8_t *text, size_t length, uint8_t *room, size_t size)
+{
+    memset(room, FILLER, size + GUARD);
+    synicboard_end end = synicboard_replay(text, length, room, size);
+    size_t written = end.length < size ? end.length : size;
+    DEMAND(end.kind == SYNICBOARD_OK || end.kind == SYNICBOARD_WRONG_LINE);
+    DEMAND((end.kind == SYNICBOARD_WRONG_LINE) == (end.line != 0));
+    for (size_t at = written; at < size + GUARD; at++)
+        DEMAND(room[at] == FILLER);
+    return end;
+}
+
+void fuzz_text(const uint8_t *text, size_t length)
+{
+    uint8_t *exact = allocate(length + (length == 0)), few[7 + GUARD];
+    memcpy(exact, text, length);
+    synicboard_end end = replay(exact, length, few, 7);
+    uint8_t *whole = allocate(end.length + GUARD);
+    synicboard_end again = replay(exact, length, whole, end.length);
+    DEMAND(again.kind == end.kind && again.line == end.line && again.length == end.length);
+    DEMAND(memcmp(few, whole, end.length < 7 ? end.length : 7) == 0);
+    synicboard_verdict verdict = synicboard_check(exact, length);
+    DEMAND(verdict.kind == SYNICBOARD_OK || verdict.kind == SYNICBOARD_WRONG_LINE);
+    DEMAND((verdict.kind == SYNICBOARD_WRONG_LINE) == (verdict.line != 0));
+    free(whole);
+    free(exact);
+}

@@ -1,0 +1,113 @@
+"""Encodes scripts as inputs of the fuzz target (target.c has the form of the bytes)."""
+
+import glob
+import os
+
+ROOT = os.path.dirname(os.path.dirname(os.path.dirname(os.path.abspath(__file__))))
+
+TEXT = b"\xff"
+RAISE_AND_ABSORB = (18, 19)
+
+# The action of each event, with the words of its line by the letter of their field. `forms` of target.c has the same
+# letters in the same order, except that a payload and bytes are both B.
+LINES = {
+    ("open", "message"): (1, "p_vsb"), ("open", "event"): (2, "p_vsfc"), ("close",): (3, "p"), ("write",): (4, "vrx"),
+    ("read",): (5, "vr"), ("post",): (6, "ptB"), ("signal",): (7, "pf"), ("assert",): (8, "vV"), ("absorb",): (9, "vPx"),
+    ("store",): (10, "aB"), ("load",): (11, "al"), ("tick",): (12, "m"), ("take",): (13, "v"), ("suspend",): (14, "v"),
+    ("resume",): (15, "v"), ("reset",): (16, "v"),
+}
+HEXADECIMAL = "rxtaV"
+
+
+def number(value):
+    length = (value.bit_length() + 7) // 8
+    return bytes([length]) + value.to_bytes(length, "little")
+
+
+def register(value):
+    if 0x40000000 <= value < 0x400000FF:
+        return bytes([value - 0x40000000])
+    return b"\xff" + number(value)
+
+
+def payload(word):
+    data = b"" if word == "-" else bytes.fromhex(word)
+    return bytes([len(data)]) + data
+
+
+class Encoder:
+    """Encodes one script. Ticks are encoded as the time since the last tick that was not refused."""
+
+    def __init__(self):
+        self.moment = 0
+
+    def field(self, letter, word):
+        if letter == "B":
+            return payload(word)
+        value = int(word, 16 if letter in HEXADECIMAL else 10)
+        if letter == "r":
+            return register(value)
+        if letter == "m":
+            since = (value - self.moment) % 2 ** 64
+            self.moment = max(self.moment, value)
+            return number(since)
+        return number(value) if letter in "fctxa" else bytes([value])
+
+    def event(self, words):
+        action, letters = LINES[(words[0], words[2]) if words[0] == "open" else (words[0],)]
+        fields = [(letter, word) for letter, word in zip(letters, words[1:]) if letter != "_"]
+        if len(words) - 1 != len(letters):
+            raise ValueError(words)
+        return bytes([action]) + b"".join(self.field(letter, word) for letter, word in fields)
+
+    def script(self, text):
+        lines = [line.split() for line in text.splitlines() if line and not line.startswith("#")]
+        processors, pages, ticket = map(int, lines[0][1:])
+        head = bytes([processors - 1 + 8 * (len(lines) % 2), pages - 1]) + number(ticket)
+        return head + b"".join(b"\x00" if words[0] == "summary" else self.event(words) for words in lines[1:])
+
+
+def paths():
+    for pattern in ("cases/replay/*.script", "examples/*.script", "examples/differences/*.script", "conformance/*/*.script"):
+        yield from sorted(glob.glob(os.path.join(ROOT, pattern)))
+
+
+def traces():
+    for pattern in ("cases/check/*.trace", "examples/*.trace"):
+        yield from sorted(glob.glob(os.path.join(ROOT, pattern)))
+
+
+def lines_input():
+    """Raises and absorbs through lines, which no script has."""
+    both = b"".join(bytes([RAISE_AND_ABSORB[0], 0, vp, vector, RAISE_AND_ABSORB[0], 0, vp, vector, RAISE_AND_ABSORB[1], 0, vp, vector // 64])
+                    for vp in (0, 1) for vector in (15, 16, 64, 255))
+    return bytes([1, 1, 0, 20, 1]) + both + bytes([21, 3, 22, 0, 23, 0])
+
+
+def inputs():
+    """Each input with a name. A script that does not decode is an input as a text alone."""
+    yield "lines", lines_input()
+    for path in paths():
+        name = os.path.relpath(path, ROOT).replace(os.sep, "-")
+        with open(path, "rb") as file:
+            text = file.read()
+        if len(text) < 4096:
+            yield name + "-text", TEXT + text
+        try:
+            yield name, Encoder().script(text.decode("ascii"))
+        except (ValueError, KeyError, IndexError, OverflowError):
+            pass
+    for path in traces():
+        with open(path, "rb") as file:
+            text = file.read()
+        if len(text) < 4096:
+            yield os.path.relpath(path, ROOT).replace(os.sep, "-"), TEXT + text
+
+
+def write(folder):
+    count = 0
+    for name, data in inputs():
+        with open(os.path.join(folder, name), "wb") as file:
+            file.write(data)
+        count += 1
+    return count
