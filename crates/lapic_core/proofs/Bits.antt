@@ -83,7 +83,8 @@ pub word-is : (words : List ℕ) (value : Vectors) (k : ℕ) → word_members wo
 word-is words value k is h fits =
     same_from_bits_below 64 (slice_index_or words k 0) (word_of value k) fits (bits_where-lt (member value k) 64) (λ i low.
     same_digit _ _ (bit_at-lt (slice_index_or words k 0) i) (bit_at-lt (word_of value k) i) (sym (
-    bit_at-bits_where (member value k) 64 i ∙ sym (low_place i low) ∙ ap (λ (s : Vectors). set.contains s (64 * k + i)) (sym is) ∙ contains-word_members words (64 * k + i) ∙ within (64 * k + i) (holds words (64 * k + i)) (omega arith)
+    bit_at-bits_where (member value k) 64 i ∙ sym (low_place i low) ∙ ap (λ (s : Vectors). set.contains s (64 * k + i)) (sym is) ∙ contains-word_members words (64 * k + i)
+    ∙ within (64 * k + i) (holds words (64 * k + i)) (omega arith)
     ∙ (λ j. bit_at (slice_index_or words (quotient i low j) 0) (remainder i low j) == 1))))
   where
     low_place : (i : ℕ) → i < 64 → member value k i ≡ (nat_lt i 64 && member value k i)

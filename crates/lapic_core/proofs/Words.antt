@@ -10,7 +10,7 @@ use Rattle.std.specs.FinSet.{nat_cmp-IsAntisymmetric}
 use Rattle.std.proofs.Math.Nat.{div-eq_of_lt-le, pow-suc}
 use Rattle.std.proofs.lemmas.Bool.Decides.{nat_tests}
 use Rattle.std.proofs.lemmas.List.{get_or-set_same, get_or-set_other}
-use Rattle.std.proofs.lemmas.Nat.{leading_top}
+use Rattle.std.proofs.lemmas.Nat.{leading_top, le_or_l, le_or_r}
 use Rattle.std.proofs.lemmas.Nat.Bits.{bit_at_set_same, bit_at_set_other, bit_at_clear_same, bit_at_clear_other, shr_and_one, bit_at-zero, bit_at_above}
 use Rattle.lapic_core.specs.Vectors.{Vectors, greatest}
 use Rattle.lapic_core.specs.inside.Words.{word_members, holds, NoneBelow16}
@@ -59,8 +59,8 @@ other_word : (q v : ℕ) → q / 64 ≢ v / 64 → false ≡ eq_by_cmp nat_cmp q
 other_word q v e = let other : q ≢ v = λ s. e (ap (λ n. n / 64) s) in grind (arith, nat_tests)
 
 -- membership after a change of one bit, for a change that acts on that bit by `act`
-changed : (change : ℕ → ℕ → ℕ) (act : Bool → Bool → Bool) → ((word i j : ℕ) → i < 64 → j < 64 → stands (change word j) i ≡ act (i == j) (stands word i)) → ((b : Bool) → act false b ≡ b) → (words : List ℕ) (v q : ℕ) → v < 256 → length words ≡ 4 →
-    holds (with_bit change words v) q ≡ act (eq_by_cmp nat_cmp q v) (holds words q)
+changed : (change : ℕ → ℕ → ℕ) (act : Bool → Bool → Bool) → ((word i j : ℕ) → i < 64 → j < 64 → stands (change word j) i ≡ act (i == j) (stands word i)) → ((b : Bool) → act false b ≡ b)
+    → (words : List ℕ) (v q : ℕ) → v < 256 → length words ≡ 4 → holds (with_bit change words v) q ≡ act (eq_by_cmp nat_cmp q v) (holds words q)
 changed change act acts keeps words v q h l =
     let word : ℕ = slice_index_or words (v / 64) 0 in
     elim (q / 64 == v / 64) as (λ b. (q / 64 == v / 64) ≡ b → holds (with_bit change words v) q ≡ act (eq_by_cmp nat_cmp q v) (holds words q)) [
@@ -117,7 +117,8 @@ low_remove words n none h l = λ q low. holds-cleared words n q h l ∙ both (no
     both true b e = e
     both false b e = refl
 
-pub word_contains : (words : List ℕ) (value : Vectors) (n v : ℕ) → word_members words ≡ value → n ≡ v → n < 256 → (bit_and (slice_index_or words (n / 64) 0 / 2 ^ (n % 64)) 1 == 1) ≡ set.contains value v
+pub word_contains : (words : List ℕ) (value : Vectors) (n v : ℕ) → word_members words ≡ value → n ≡ v → n < 256
+    → (bit_and (slice_index_or words (n / 64) 0 / 2 ^ (n % 64)) 1 == 1) ≡ set.contains value v
 word_contains words value n v is same h =
     let b : nat_lt n 256 ≡ true = grind (arith, nat_tests) in
     ap (λ k. k == 1) (shr_and_one (slice_index_or words (n / 64) 0) (n % 64)) ∙ sym (contains-word_members words n ∙ ap (λ t. t && holds words n) b) ∙ (λ i. set.contains (is i) (same i))
@@ -148,6 +149,21 @@ word_members-zero = set.same_set nat_cmp_total nat_cmp-IsAntisymmetric _ _ (λ q
 
 pub low_zero : NoneBelow16 (0 ∷ 0 ∷ 0 ∷ 0 ∷ [])
 low_zero q low = no_bits (0 ∷ 0 ∷ 0 ∷ 0 ∷ []) q zero_words (omega arith)
+
+-- the words are 0 if their bits together are
+pub or_zero : (words : List ℕ) (two three : ℕ) → two ≡ bit_or (slice_index_or words 0 0) (slice_index_or words 1 0)
+    → three ≡ bit_or two (slice_index_or words 2 0) → bit_or three (slice_index_or words 3 0) ≡ 0 → ZeroFrom words 0
+or_zero words two three is_two is_three none =
+    let zero_three : three ≡ 0 = omega (arith, le_or_l three (slice_index_or words 3 0), none) in
+    let zero_two : two ≡ 0 = omega (arith, le_or_l two (slice_index_or words 2 0), zero_three, is_three) in
+    at zero_two zero_three
+  where
+    at : two ≡ 0 → three ≡ 0 → ZeroFrom words 0
+    at a b zero _ _ = omega (arith, le_or_l (slice_index_or words 0 0) (slice_index_or words 1 0), is_two, a)
+    at a b (suc zero) _ _ = omega (arith, le_or_r (slice_index_or words 0 0) (slice_index_or words 1 0), is_two, a)
+    at a b (suc (suc zero)) _ _ = omega (arith, le_or_r two (slice_index_or words 2 0), is_three, b)
+    at a b (suc (suc (suc zero))) _ _ = omega (arith, le_or_r three (slice_index_or words 3 0), none)
+    at a b (suc (suc (suc (suc k)))) _ h = absurd (omega (arith, h))
 
 -- all words are 0
 pub no_greatest : (words : List ℕ) (value : Vectors) → word_members words ≡ value → ZeroFrom words 0 → None ≡ greatest value
@@ -194,8 +210,8 @@ member_at : (words : List ℕ) (v : ℕ) → v < 256 → holds words v ≡ true 
 member_at words v h marked = contains-word_members words v ∙ (let b : nat_lt v 256 ≡ true = grind (arith, nat_tests) in grind (arith, nat_tests))
 
 -- the top bit of the highest word that is not 0
-pub word_greatest : (words : List ℕ) (value : Vectors) (at n : ℕ) (o : Option ℕ) → word_members words ≡ value → NoneBelow16 words → at < 4 → ZeroFrom words (at + 1) → 0 < slice_index_or words at 0 → slice_index_or words at 0 < 18446744073709551616 →
-    n ≡ 64 * at + 63 - count_leading_zeros 64 (slice_index_or words at 0) → (16 ≤ n → IsSome o) → IfSome o (λ v. v ≡ n) → o ≡ greatest value
+pub word_greatest : (words : List ℕ) (value : Vectors) (at n : ℕ) (o : Option ℕ) → word_members words ≡ value → NoneBelow16 words → at < 4 → ZeroFrom words (at + 1)
+    → 0 < slice_index_or words at 0 → slice_index_or words at 0 < 18446744073709551616 → n ≡ 64 * at + 63 - count_leading_zeros 64 (slice_index_or words at 0) → (16 ≤ n → IsSome o) → IfSome o (λ v. v ≡ n) → o ≡ greatest value
 word_greatest words value at n o is low h zeros some fits e valid exact =
     let top = leading_top 64 (slice_index_or words at 0) some fits in
     let j : ℕ = top.0 in

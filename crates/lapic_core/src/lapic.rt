@@ -20,8 +20,11 @@ pub struct Lapic {
     // Cache: the task priority, or 255 while the processor is suspended, which blocks every vector.
     // So no call needs to test the flag. `set_task_priority` and `set_suspended` update it.
     floor: u8,
+    // Cache: the greatest vector in service, so an EOI searches `in_service` only for the vector
+    // that it interrupted. `take` and `end` update it.
+    highest: Option<Vector>,
     // Cache: the greatest number that the processor priority (PPR) blocks, the last of its class. A
-    // vector has to exceed it. It depends on `in_service` and `floor`, so `take`, `end` and the
+    // vector has to exceed it. It depends on `highest` and `floor`, so `take`, `end` and the
     // writers of `floor` update it.
     threshold: u8,
     // Cache: the greatest requested vector above `threshold`, which is the next vector. Each call
@@ -55,6 +58,7 @@ impl Lapic {
             task_priority: 0,
             suspended: false,
             floor: 0,
+            highest: None,
             threshold: 15,
             next: None,
         }
@@ -71,14 +75,16 @@ impl Lapic {
         ensures { result ≡ record { requested = requested; in_service = in_service; task_priority = task_priority; suspended = suspended } }
     {
         let floor = floor_of(suspended, task_priority);
-        let threshold = threshold_of(&in_service, floor);
+        let threshold = threshold_of(highest_of(&in_service), floor);
         let next = next_above(&requested, threshold);
+        let highest = highest_of(&in_service);
         Lapic {
             requested,
             in_service,
             task_priority,
             suspended,
             floor,
+            highest,
             threshold,
             next,
         }
@@ -142,6 +148,7 @@ impl Lapic {
             self.next = next_above(&self.requested, self.threshold);
         } else {
             self.in_service.insert(vector);
+            self.highest = Some(vector);
             // Its class is now the priority, and it was the greatest request.
             self.threshold = last_of_class(vector.number());
             self.next = None;
@@ -156,9 +163,10 @@ impl Lapic {
         ensures vector { result ≡ greatest self.old.in_service }
         ensures after { self.new ≡ after_end self.old }
     {
-        let vector = self.in_service.greatest()?;
+        let vector = self.highest?;
         self.in_service.remove(vector);
-        self.threshold = threshold_of(&self.in_service, self.floor);
+        self.highest = highest_of(&self.in_service);
+        self.threshold = threshold_of(self.highest, self.floor);
         self.next = next_above(&self.requested, self.threshold);
         Some(vector)
     }
@@ -169,7 +177,7 @@ impl Lapic {
     {
         self.task_priority = value;
         self.floor = floor_of(self.suspended, value);
-        self.threshold = threshold_of(&self.in_service, self.floor);
+        self.threshold = threshold_of(self.highest, self.floor);
         self.next = next_above(&self.requested, self.threshold);
     }
 
@@ -199,7 +207,7 @@ impl Lapic {
     {
         self.suspended = suspended;
         self.floor = floor_of(suspended, self.task_priority);
-        self.threshold = threshold_of(&self.in_service, self.floor);
+        self.threshold = threshold_of(self.highest, self.floor);
         self.next = next_above(&self.requested, self.threshold);
     }
 
@@ -236,18 +244,28 @@ fn floor_of(suspended: bool, task_priority: u8) -> u8
     if suspended { 255 } else { task_priority }
 }
 
+/// The greatest member of a set.
+#[inline(always)]
+fn highest_of(set: &VectorSet) -> Option<Vector>
+    ensures { result ≡ greatest set.now }
+{
+    set.greatest()
+}
+
 /// The greatest number that the processor priority blocks. The priority is the greater of the
 /// classes of the floor and of the greatest vector in service.
-fn threshold_of(in_service: &VectorSet, floor: u8) -> u8
-    ensures { (requested : Vectors) → result ≡ threshold (serving in_service.now floor requested) }
+#[inline(always)]
+fn threshold_of(highest: Option<Vector>, floor: u8) -> u8
+    ensures { (in_service requested : Vectors) → highest ≡ greatest in_service → result ≡ threshold (serving in_service floor requested) }
 {
-    match in_service.greatest() {
+    match highest {
         Some(vector) => last_of_class(floor.max(vector.number())),
         None => last_of_class(floor),
     }
 }
 
 /// The greatest requested vector above a number.
+#[inline(always)]
 fn next_above(requested: &VectorSet, threshold: u8) -> Option<Vector>
     ensures none { 255 ≤ threshold → result ≡ None }
     ensures greatest { result ≡ greatest (above requested.now threshold) }

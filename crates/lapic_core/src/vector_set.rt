@@ -77,7 +77,19 @@ impl VectorSet {
     }
 
     /// The greatest member; `None` if the set is empty.
+    #[inline(always)]
     pub fn greatest(&self) -> Option<Vector>
+        ensures { result ≡ greatest self.now }
+    {
+        if self.words[0] | self.words[1] | self.words[2] | self.words[3] == 0 {
+            return None;
+        }
+        self.search()
+    }
+
+    // Out of line, since an empty set, the usual case, needs no search.
+    #[inline(never)]
+    fn search(&self) -> Option<Vector>
         ensures { result ≡ greatest self.now }
     {
         // from the top down: the first word that is not 0 has the greatest member
