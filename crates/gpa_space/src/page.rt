@@ -146,7 +146,7 @@ impl Page {
     {
         let at = SLOT_SIZE * sint.number() as usize;
         let size = HEADER_SIZE + payload.len();
-        self.store(at, header);
+        self.put(at, header, HEADER_SIZE);
         self.store(at + HEADER_SIZE, payload);
         self.clear(at + size, SLOT_SIZE - size);
     }

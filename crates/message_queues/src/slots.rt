@@ -63,26 +63,14 @@ fn flags_of(pending: bool) -> u8
 pub fn header(kind: u32, size: u8, pending: bool, port: u64) -> [u8; 16]
     ensures { result ≡ header kind size pending port }
 {
-    let [a, b, c, d] = kind.to_le_bytes();
-    let [e, f, g, h, i, j, k, l] = port.to_le_bytes();
-    [
-        a,
-        b,
-        c,
-        d,
-        size,
-        flags_of(pending),
-        0,
-        0,
-        e,
-        f,
-        g,
-        h,
-        i,
-        j,
-        k,
-        l,
-    ]
+    // two words, written whole
+    let first = kind as u64
+        + 0x1_0000_0000 * size as u64
+        + 0x100_0000_0000 * flags_of(pending) as u64;
+    let mut header = [0; 16];
+    header[..8].copy_from_slice(&first.to_le_bytes());
+    header[8..].copy_from_slice(&port.to_le_bytes());
+    header
 }
 
 /// The payload of a timer's message.
@@ -104,5 +92,7 @@ pub fn slot_type(page: &[u8], sint: Sint) -> u32
     ensures { result ≡ slot_type page.now sint }
 {
     let at = SLOT * sint.number() as usize;
-    u32::from_le_bytes([page[at], page[at + 1], page[at + 2], page[at + 3]])
+    let mut kind = [0; 4];
+    kind.copy_from_slice(&page[at..at + 4]);
+    u32::from_le_bytes(kind)
 }
