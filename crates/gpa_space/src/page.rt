@@ -73,9 +73,10 @@ impl Page {
         requires { at + 8 ≤ 4096 }
         ensures { result.items ≡ take 8 (drop at self.now) }
     {
-        let mut word = [0; 8];
-        word.copy_from_slice(&self.bytes[at..at + 8]);
-        ArrayVec::from(word)
+        let Some(word) = self.bytes[at..at + 8].as_array::<8>() else {
+            unreachable!()
+        };
+        ArrayVec::from(*word)
     }
 
     /// Any number of bytes up to eight. Out of line: guests mostly load eight.
@@ -99,21 +100,34 @@ impl Page {
         ensures len { length self.old ≡ 4096 }
     {
         match bytes.len() {
-            8 => self.put(at, bytes, 8),
-            4 => self.put(at, bytes, 4),
-            count => self.put(at, bytes, count),
+            8 => self.put::<8>(at, bytes),
+            4 => self.put::<4>(at, bytes),
+            count => self.bytes[at..at + count].copy_from_slice(bytes),
         }
     }
 
-    /// Replaces `count` bytes, all that there are. If the caller knows the count, so does the copy.
+    /// Replaces N bytes, all that there are.
     #[inline(always)]
-    fn put(&mut self, at: usize, bytes: &[u8], count: usize)
-        requires count { count ≡ length bytes.now }
-        requires inside { at + count ≤ 4096 }
+    fn put<const N: usize>(&mut self, at: usize, bytes: &[u8])
+        requires count { length bytes.now ≡ N }
+        requires inside { at + N ≤ 4096 }
         ensures after { self.new ≡ overwritten self.old at bytes.now }
         ensures len { length self.old ≡ 4096 }
     {
-        self.bytes[at..at + count].copy_from_slice(bytes);
+        let Some(whole) = bytes.as_array::<N>() else {
+            unreachable!()
+        };
+        self.put_whole(at, whole);
+    }
+
+    /// Replaces as many bytes as an array has.
+    #[inline(always)]
+    fn put_whole<const N: usize>(&mut self, at: usize, bytes: &[u8; N])
+        requires { at + N ≤ 4096 }
+        ensures after { self.new ≡ overwritten self.old at bytes.now }
+        ensures len { length self.old ≡ 4096 }
+    {
+        assign(&mut self.bytes[at..at + N], bytes);
     }
 
     /// Replaces the slot of a source.
@@ -121,7 +135,7 @@ impl Page {
         ensures { self.new ≡ with_slot self.old sint slot.now }
     {
         let at = SLOT_SIZE * sint.number() as usize;
-        self.bytes[at..at + SLOT_SIZE].copy_from_slice(slot);
+        self.put_whole(at, slot);
     }
 
     /// Sets some of the bytes to zero.
@@ -146,7 +160,7 @@ impl Page {
     {
         let at = SLOT_SIZE * sint.number() as usize;
         let size = HEADER_SIZE + payload.len();
-        self.put(at, header, HEADER_SIZE);
+        self.put_whole(at, header);
         self.store(at + HEADER_SIZE, payload);
         self.clear(at + size, SLOT_SIZE - size);
     }
@@ -164,4 +178,18 @@ impl Page {
         self.bytes[at] = before | mask;
         before & mask == 0
     }
+}
+
+/// Replaces all bytes of a slice by those of an array. An array is moved as words, with no test
+/// whether the two places overlap.
+#[inline(always)]
+fn assign<const N: usize>(place: &mut [u8], bytes: &[u8; N])
+    requires { length place.old ≡ N }
+    ensures after { place.new ≡ bytes.now }
+    ensures len { length place.new ≡ length place.old }
+{
+    let Some(place) = place.as_mut_array::<N>() else {
+        unreachable!()
+    };
+    *place = *bytes;
 }
