@@ -270,7 +270,19 @@ fn next_above(requested: &VectorSet, threshold: u8) -> Option<Vector>
     ensures none { 255 ≤ threshold → result ≡ None }
     ensures greatest { result ≡ greatest (above requested.now threshold) }
 {
-    let vector = requested.greatest()?;
+    if requested.is_empty() {
+        return None;
+    }
+    search_above(requested, threshold)
+}
+
+/// The same as `next_above`. Out of line, since usually nothing is requested when a vector ends.
+#[inline(never)]
+fn search_above(requested: &VectorSet, threshold: u8) -> Option<Vector>
+    ensures none { 255 ≤ threshold → result ≡ None }
+    ensures greatest { result ≡ greatest (above requested.now threshold) }
+{
+    let vector = requested.search()?;
     if vector.number() > threshold {
         Some(vector)
     } else {

@@ -1,5 +1,5 @@
 // A set of vectors, as four words of 64 bits.
-ghost use Rattle.std.specs.Prelude.{◌≡◌, ◌<◌};
+ghost use Rattle.std.specs.Prelude.{◌≡◌, ◌<◌, None, true};
 ghost use Rattle.std.specs.FinSet as set;
 ghost use Rattle.lapic_core.specs.Vectors.{greatest, word_of};
 
@@ -81,15 +81,23 @@ impl VectorSet {
     pub fn greatest(&self) -> Option<Vector>
         ensures { result ≡ greatest self.now }
     {
-        if self.words[0] | self.words[1] | self.words[2] | self.words[3] == 0 {
+        if self.is_empty() {
             return None;
         }
         self.search()
     }
 
-    // Out of line, since an empty set, the usual case, needs no search.
+    /// Whether the set is empty, which needs no search.
+    #[inline(always)]
+    pub(crate) fn is_empty(&self) -> bool
+        ensures { result ≡ true → None ≡ greatest self.now }
+    {
+        self.words[0] | self.words[1] | self.words[2] | self.words[3] == 0
+    }
+
+    /// The same as `greatest`. Out of line, since an empty set, the usual case, needs no search.
     #[inline(never)]
-    fn search(&self) -> Option<Vector>
+    pub(crate) fn search(&self) -> Option<Vector>
         ensures { result ≡ greatest self.now }
     {
         // from the top down: the first word that is not 0 has the greatest member
