@@ -254,7 +254,8 @@ impl Machine {
         ensures value { IfSome result (λ vp. vp ≡ number) }
     {
         if number < self.processors() {
-            Vp::new(number)
+            // At most 8 are, so the remainder is the number, and `new` tests nothing.
+            Vp::new(number % 8)
         } else {
             None
         }

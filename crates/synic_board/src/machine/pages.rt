@@ -136,7 +136,8 @@ fn touched(at: usize, count: usize) -> Option<Sint>
 {
     let slot = (at + count - 1) / SLOT_SIZE;
     if at < SLOT_SIZE * slot + TYPE_SIZE {
-        Sint::new(slot as u8)
+        // A page has 16 slots, so the remainder is the slot, and `new` tests nothing.
+        Sint::new((slot % 16) as u8)
     } else {
         None
     }
