@@ -1,7 +1,7 @@
 -- The outcome of several plain events, one after another.
 use Rattle.std.specs.Prelude.{◌≡◌, List, [], ◌∷◌, ◌++◌, length, Option, Some, None}
 use Rattle.std.specs.Option.{option_map_or}
-use Rattle.c_board.specs.declared.BoardWithNotices.{BoardWithNotices}
+use Rattle.c_handles.specs.declared.board.BoardWithNotices.{BoardWithNotices}
 use Rattle.board_terms.specs.declared.notices.Notice.{Notice}
 use Rattle.c_terms.specs.declared.event.CEvent.{CEvent}
 use Rattle.c_terms.specs.declared.reply.CReply.{CReply}

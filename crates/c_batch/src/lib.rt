@@ -6,7 +6,7 @@ ghost use Rattle.c_terms.specs.Notices.{notice_to_c};
 ghost use Rattle.c_terms.specs.Rooms.{Fronts};
 ghost use Rattle.c_batch.specs.Batches.{view_of, batch, IsNotAnEvent};
 
-use c_board::BoardWithNotices;
+use c_handles::BoardWithNotices;
 use c_terms::{CEvent, CNotice, CReply, perform_c, put_plain, reply_to_c};
 
 /// The greatest number of notices of an event.

@@ -1,8 +1,8 @@
 -- What a call does to the line that a handle owns, and what it returns.
 use Rattle.std.specs.Prelude.{◌≡◌, ℕ, nat_lt, nat_eq, ◌&&◌, not, Bool, false, Option, Some, None, List, [], if◌then◌else◌}
 use Rattle.board_terms.specs.declared.notices.Notice.{Notice}
-use Rattle.c_board.specs.declared.BoardWithNotices.{BoardWithNotices}
-use Rattle.c_line.specs.Lines.{LineModel, line_model, new_line, with_step, with_one_split_off}
+use Rattle.c_handles.specs.declared.board.BoardWithNotices.{BoardWithNotices}
+use Rattle.c_handles.specs.Lines.{LineModel, line_model, new_line, with_step, with_one_split_off}
 use Rattle.c_terms.specs.declared.reply.CReply.{CReply}
 use Rattle.c_terms.specs.declared.reply.Fault.TheVariants.{Closed, NoLine}
 use Rattle.c_terms.specs.Replies.{fault_to_c}

@@ -7,7 +7,7 @@ use Rattle.board_terms.specs.declared.pages.Owner.{Owner}
 use Rattle.board_terms.specs.declared.pages.Owner.TheVariants.{Guest, Sim, Sief, Nothing}
 use Rattle.board_terms.specs.Sources.{source_number}
 use Rattle.gpa_space.specs.Space.{overlay_of}
-use Rattle.c_board.specs.declared.BoardWithNotices.{BoardWithNotices}
+use Rattle.c_handles.specs.declared.board.BoardWithNotices.{BoardWithNotices}
 use Rattle.c_terms.specs.declared.notice.CNotice.{CNotice}
 use Rattle.c_terms.specs.Notices.{notice_to_c}
 use Rattle.c_calls.specs.declared.looks.COwner.{COwner}

@@ -1,7 +1,7 @@
 -- A board that was opened.
 use Rattle.std.specs.Prelude.{◌≡◌, ℕ, Option, Some, None, []}
 use Rattle.board_terms.specs.Quantities.{Ticket}
-use Rattle.c_board.specs.declared.BoardWithNotices.{BoardWithNotices}
+use Rattle.c_handles.specs.declared.board.BoardWithNotices.{BoardWithNotices}
 use Rattle.synic_board.specs.State.{opened}
 
 -- the board of a newly opened board, without notices

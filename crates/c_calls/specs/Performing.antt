@@ -1,7 +1,7 @@
 -- What a call does to the board that a handle owns, and what it returns.
 use Rattle.std.specs.Prelude.{◌≡◌, ℕ, nat_lt, Option, Some, None, List, length, if◌then◌else◌}
 use Rattle.board_terms.specs.declared.notices.Notice.{Notice}
-use Rattle.c_board.specs.declared.BoardWithNotices.{BoardWithNotices}
+use Rattle.c_handles.specs.declared.board.BoardWithNotices.{BoardWithNotices}
 use Rattle.c_terms.specs.declared.reply.CReply.{CReply}
 use Rattle.c_terms.specs.declared.reply.Fault.TheVariants.{Closed, NoEvent}
 use Rattle.c_terms.specs.Replies.{reply_to_c, fault_to_c}

@@ -1,7 +1,7 @@
 -- What a run loop acts on, and which of it has changed.
 use Rattle.std.specs.Prelude.{◌≡◌, ◌≢◌, ◌↔◌, ◌<◌, ℕ, List, Option, slice_index_or}
 use Rattle.std.specs.Int.{bit_at}
-use Rattle.c_board.specs.declared.BoardWithNotices.{BoardWithNotices}
+use Rattle.c_handles.specs.declared.board.BoardWithNotices.{BoardWithNotices}
 use Rattle.c_calls.specs.Looks.{next_vector_of, earliest_of, owner_at}
 use Rattle.c_calls.specs.declared.looks.COwner.{COwner}
 use Rattle.c_calls.specs.declared.views.CView.{CView}

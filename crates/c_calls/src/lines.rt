@@ -3,8 +3,7 @@ ghost use Rattle.std.specs.Prelude.{◌≡◌, ◌≢◌, ◌<◌, ◌↔◌, tr
 ghost use Rattle.posted_words.specs.Words.{AreWordSizes};
 ghost use Rattle.c_calls.specs.Lines.{IsFirstLine, gives_none, IsSplit, has_bit, IsRaised, IsAbsorbed};
 
-use c_handles::{BoardHandle, LineHandle};
-use c_line::{OwnedLine, SplitFault};
+use c_handles::{BoardHandle, LineHandle, OwnedLine, SplitFault};
 use c_terms::{CReply, Fault, fault_to_c, reply_to_c};
 use posted_words::{PostedFault, Raised};
 use std::alloc::Global;

@@ -3,8 +3,7 @@ ghost use Rattle.std.specs.Prelude.{◌≡◌, ◌≢◌, ◌<◌, ◌↔◌, Is
 ghost use Rattle.synic_board.specs.State.{AreSizes};
 ghost use Rattle.c_calls.specs.Opened.{IsNewBoard};
 
-use c_board::BoardWithNotices;
-use c_handles::BoardHandle;
+use c_handles::{BoardHandle, BoardWithNotices};
 use std::alloc::Global;
 use synic_board::OpenFault;
 

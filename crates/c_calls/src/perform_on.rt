@@ -12,7 +12,7 @@ use synic_board::Event;
 pub(crate) fn perform_on(handle: &mut BoardHandle, event: &Event) -> CReply
     ensures { IsPerformed (Some event.now) handle.old.board handle.new.board result }
 {
-    // README c_board: begin
+    // README c_handles: begin
     match handle.board_mut() {
         Some(board) => {
             let reply = board.perform(event);
@@ -20,7 +20,7 @@ pub(crate) fn perform_on(handle: &mut BoardHandle, event: &Event) -> CReply
         }
         None => fault_to_c(Fault::Closed),
     }
-    // README c_board: end
+    // README c_handles: end
 }
 
 /// The reply of a call whose arguments encode no event.

@@ -4,7 +4,7 @@ use Rattle.std.specs.Prelude.{Option, None, Some}
 use Rattle.std.specs.Box.Ownership.{box_owns}
 use Rattle.std.specs.contracts.impls.GlobalAllocator.TheImpl.{ghosts}
 use Rattle.c_handles.specs.inside.Owned.{heap, owned}
-use Rattle.c_handles.specs.contracts.board.BoardHandle as board
+use Rattle.c_handles.specs.contracts.board_handle.BoardHandle as board
 
 -- the machine value of a handle: all have the same fields
 abbrev pub word : Ptr → Bool → Val

@@ -1,86 +1,68 @@
-// A C handle of a board.
-ghost use Rattle.std.specs.Prelude.{◌≡◌, Option, None, Some, IfSome, IfNone};
-ghost use Rattle.c_board.specs.contracts.BoardWithNotices.{the_row as board_row};
-ghost use Rattle.c_board.specs.declared.BoardWithNotices.{BoardWithNotices as BoardValue};
-ghost use Rattle.c_handles.specs.inside.Owned.{owned, code_of};
+// A board together with the notices of its last event, for one caller.
+ghost use Rattle.std.specs.Prelude.{◌≡◌, ◌↔◌, ◌≤◌, [], length, IfOk, IsErrOf};
+ghost use Rattle.synic_board.specs.declared.event.Event.TheVariants.{Post, Store};
+ghost use Rattle.synic_board.specs.Performing.{Performs};
+ghost use Rattle.synic_board.specs.State.{AreSizes, opened};
 
-mod lend;
-
-use c_board::BoardWithNotices;
+use board_terms::{Notices, Ticket};
 use std::alloc::Global;
-use std::marker::Model;
-use std::mem::replace;
-use std::ptr;
+use synic_board::{Board, Event, OpenFault, Reply};
 
-/// A C handle that owns an optional board: its address, if it is open.
-#[repr(C)]
-pub struct BoardHandle {
-    at: *mut u8,
-    is_open: bool,
-    pub ghost board: { Option BoardValue } by { code_of board_row },
+/// A board and the notices of its last event.
+#[derive(Drop)]
+pub struct BoardWithNotices {
+    /// The board.
+    pub board: Board,
+    /// The notices of the last event, in order.
+    pub notices: Notices,
 }
 
-impl Model for BoardHandle {
-    ghost also_owns = { λ h. owned board_row h.is_open h.at h.board };
-}
-
-// It owns at most a `Box<BoardWithNotices>`, which is `Send`.
-unsafe impl Send for BoardHandle {}
-
-impl BoardHandle {
-    /// A closed handle.
-    pub fn closed() -> BoardHandle
-        ensures { result.board ≡ None }
-    {
-        BoardHandle {
-            at: ptr::null_mut(),
-            is_open: false,
-        }
-    }
-
-    /// A handle that owns this board.
-    pub fn holding(board: Box<BoardWithNotices>) -> BoardHandle
-        ensures { result.board ≡ Some board.value }
-    {
-        let at = Box::into_raw(board);
-        BoardHandle {
-            at: at as *mut u8,
-            is_open: true,
-        }
-    }
-
-    /// The board of the handle, if it is open.
-    pub fn into_board(self, alloc: Global) -> Option<Box<BoardWithNotices>>
-        ensures found { IfSome result (λ b. self.board ≡ Some b.value) }
-        ensures none { IfNone result (self.board ≡ None) }
-    {
-        let BoardHandle { at, is_open } = self;
-        if !is_open {
-            return None;
-        }
-        let board = unsafe { Box::from_raw(alloc, at as *mut BoardWithNotices) };
-        Some(board)
-    }
-
-    /// Removes the board and closes the handle.
-    pub fn take(&mut self, alloc: Global) -> Option<Box<BoardWithNotices>>
-        ensures found { IfSome result (λ b. self.old.board ≡ Some b.value) }
-        ensures none { IfNone result (self.old.board ≡ None) }
-        ensures after { self.new.board ≡ None }
-    {
-        replace(self, BoardHandle::closed()).into_board(alloc)
-    }
-
-    /// Stores a board, and returns the previous one.
-    pub fn put(
-        &mut self,
+impl BoardWithNotices {
+    /// Opens a board of that many processors and guest pages at time 0, without notices. The first
+    /// message that it accepts gets the ticket `first_ticket`. `BadSize` unless there are 1 to 8
+    /// processors and 1 to 64 pages. Allocates all memory that events need.
+    pub fn open(
         alloc: Global,
-        board: Box<BoardWithNotices>,
-    ) -> Option<Box<BoardWithNotices>>
-        ensures found { IfSome result (λ b. self.old.board ≡ Some b.value) }
-        ensures none { IfNone result (self.old.board ≡ None) }
-        ensures after { self.new.board ≡ Some board.value }
+        processors: u8,
+        pages: u8,
+        first_ticket: Ticket,
+    ) -> Result<BoardWithNotices, OpenFault>
+        ensures size { IsErrOf result OpenFault.BadSize ↔ (¬ AreSizes processors pages) }
+        ensures board { IfOk result (λ d. d.board.state ≡ opened processors pages first_ticket) }
+        ensures notices { IfOk result (λ d. d.notices ≡ []) }
     {
-        replace(self, BoardHandle::holding(board)).into_board(alloc)
+        let board = Board::open(alloc, processors, pages, first_ticket)?;
+        match Notices::open(alloc) {
+            Ok(notices) => Ok(BoardWithNotices { board, notices }),
+            Err(_) => Err(OpenFault::Memory),
+        }
+    }
+
+    /// Performs an event and replaces the notices by its own. Never allocates. Inlined, as
+    /// `Board::perform` is.
+    #[inline(always)]
+    pub fn perform(&mut self, event: &Event) -> Reply
+        ensures performs { Performs self.old.board event.now self.new.board result self.new.notices }
+        ensures most { length self.new.notices ≤ 276 }
+    {
+        self.board.perform(event, &mut self.notices)
+    }
+
+    /// `perform` of a post, with a borrowed payload of at most 240 bytes.
+    #[inline(always)]
+    pub fn post(&mut self, port: u8, kind: u32, payload: &[u8]) -> Reply
+        requires { length payload.now ≤ 240 }
+        ensures performs { Performs self.old.board (Post port kind (record { items = payload.now })) self.new.board result self.new.notices }
+    {
+        self.board.post(port, kind, payload, &mut self.notices)
+    }
+
+    /// `perform` of a store, with borrowed bytes. With 1 to 8 bytes it is the event `Event::Store`;
+    /// no bytes or more than 8 are refused with `BadLength`.
+    #[inline(always)]
+    pub fn store(&mut self, address: u64, bytes: &[u8]) -> Reply
+        ensures performs { Performs self.old.board (Store address (record { items = bytes.now })) self.new.board result self.new.notices }
+    {
+        self.board.store(address, bytes, &mut self.notices)
     }
 }

@@ -1,82 +1,132 @@
-// A C handle of a line.
-ghost use Rattle.std.specs.Prelude.{◌≡◌, Option, None, Some, IfSome, IfNone};
-ghost use Rattle.c_line.specs.contracts.OwnedLine.{the_row as line_row};
-ghost use Rattle.c_line.specs.Lines.{LineModel};
-ghost use Rattle.c_handles.specs.inside.Owned.{owned, code_of};
+// A line that owns a share of its words, for one thread.
+ghost use Rattle.std.specs.Prelude.{◌≡◌, ◌<◌, ◌≤◌, ◌↔◌, [], IfOk, OnErr, IfSome, IfNone, IsErrOf, IsSome, replicate, vec_len};
+ghost use Rattle.std.specs.Arc.{arc_value};
+ghost use Rattle.posted_words.specs.Answers.{is_fresh};
+ghost use Rattle.posted_words.specs.Words.{AreWordSizes, shared_words, raise_of, sweep_of, token};
+ghost use Rattle.c_handles.specs.Lines.{line_model, new_line, with_step, with_one_split_off};
 
-mod lend;
-
-use c_line::OwnedLine;
+use board_terms::{Vector, Vp};
+use posted_words::{Line, PostedFault, PostedWords, Raised};
 use std::alloc::Global;
 use std::marker::Model;
-use std::mem::replace;
-use std::ptr;
+use std::sync::Arc;
+use thiserror::Error;
 
-/// A C handle that owns an optional line: its address, if it is open.
-#[repr(C)]
-pub struct LineHandle {
-    at: *mut u8,
-    is_open: bool,
-    pub ghost line: { Option LineModel } by { code_of line_row },
+/// Why no line was split off.
+#[derive(Clone, Copy, PartialEq, Eq, Debug, Drop, Error)]
+pub enum SplitFault {
+    #[error("all lines are given away")]
+    NoMore = 1,
+    #[error("out of memory")]
+    Memory = 2,
 }
 
-impl Model for LineHandle {
-    ghost also_owns = { λ h. owned line_row h.is_open h.at h.line };
+/// A line with a share of its words, and the lines that it may still split off. Its contract shows
+/// the words, the steps of the line, and how many lines are left.
+#[derive(Drop)]
+pub struct OwnedLine {
+    words: Arc<PostedWords>,
+    line: Line,
+    spare: Vec<Line>,
 }
 
-// It owns at most a `Box<OwnedLine>`, which is `Send`.
-unsafe impl Send for LineHandle {}
+impl Model for OwnedLine {
+    ghost use Rattle.std.specs.Prelude.{◌≡◌, [], replicate, vec_len};
+    ghost use Rattle.std.specs.Arc.{arc_value};
+    ghost use Rattle.posted_words.specs.Words.{token};
+    ghost use Rattle.c_handles.specs.Lines.{LineModel, line_model};
 
-impl LineHandle {
-    /// A closed handle.
-    pub fn closed() -> LineHandle
-        ensures { result.line ≡ None }
+    ghost Value = { LineModel };
+
+    ghost view = { λ h. line_model (arc_value h.words) h.line.actions (vec_len h.spare) };
+
+    ghost invariant = { λ h. (h.line.of ≡ (arc_value h.words).name) × (h.spare.items ≡ replicate (vec_len h.spare) (token (arc_value h.words).name [])) };
+}
+
+impl OwnedLine {
+    /// The first line of new words for that many processors, with all bits clear. It has no steps
+    /// and may split off 31 lines. `BadSize` unless there are 1 to 8 processors, which is checked
+    /// first; `Memory` if an allocation fails.
+    pub fn open(alloc: Global, processors: u8) -> Result<OwnedLine, PostedFault>
+        ensures size { IsErrOf result PostedFault.BadSize ↔ (¬ AreWordSizes processors 16 16) }
+        ensures line { IfOk result (λ l. l ≡ line_model (shared_words l.words.name processors 16 16) [] 31) }
     {
-        LineHandle {
-            at: ptr::null_mut(),
-            is_open: false,
+        let (words, mut spare, mut lines) = PostedWords::open(alloc, processors, 16, 16)?;
+        let Some(line) = lines.pop() else {
+            unreachable!()
+        };
+        if spare.append(&mut lines).is_err() {
+            return Err(PostedFault::Memory);
+        }
+        match Arc::new(alloc, words) {
+            Ok(words) => Ok(OwnedLine { words, line, spare }),
+            Err(_) => Err(PostedFault::Memory),
         }
     }
 
-    /// A handle that owns this line.
-    pub fn holding(line: Box<OwnedLine>) -> LineHandle
-        ensures { result.line ≡ Some line.value }
+    /// Splits off a line of the same words, without steps. `NoMore` if none is left, which is
+    /// checked first; `Memory` if an allocation fails, or the reference count of the words is at
+    /// its limit.
+    pub fn split(&mut self, alloc: Global) -> Result<Box<OwnedLine>, SplitFault>
+        ensures more { IsErrOf result SplitFault.NoMore ↔ (self.old.spare ≡ 0) }
+        ensures given { IfOk result (λ line. line.value ≡ new_line self.old.words) }
+        ensures less { IfOk result (λ _. self.new ≡ with_one_split_off self.old) }
+        ensures unchanged { OnErr result (self.new ≡ self.old) }
     {
-        let at = Box::into_raw(line);
-        LineHandle {
-            at: at as *mut u8,
-            is_open: true,
+        let Some(line) = self.spare.pop() else {
+            return Err(SplitFault::NoMore);
+        };
+        let Ok(words) = Arc::try_clone(&self.words) else {
+            self.spare.push_reserved(line);
+            return Err(SplitFault::Memory);
+        };
+        let spare = Vec::new(alloc);
+        match Box::new(alloc, OwnedLine { words, line, spare }) {
+            Ok(line) => Ok(line),
+            Err(refused) => {
+                self.spare.push_reserved(refused.value.line);
+                Err(SplitFault::Memory)
+            }
         }
     }
 
-    /// The line of the handle, if it is open.
-    pub fn into_line(self, alloc: Global) -> Option<Box<OwnedLine>>
-        ensures found { IfSome result (λ b. self.line ≡ Some b.value) }
-        ensures none { IfNone result (self.line ≡ None) }
+    /// Raises a vector, 16 to 255, of a processor of the words. Never blocks. `None`, and no
+    /// effect, if there is no such vector or processor. `Fresh` means that the bit was clear, so
+    /// the thread must kick the processor; `PostedWords::raise` says what is proved of this.
+    pub fn raise(&mut self, vp: u8, vector: u8) -> Option<Raised>
+        ensures there { IsSome result ↔ ((vp < self.old.words.processors) × (16 ≤ vector)) }
+        ensures raised { IfSome result (λ r. self.new ≡ with_step self.old (raise_of vp vector (is_fresh r))) }
+        ensures unchanged { IfNone result (self.new ≡ self.old) }
     {
-        let LineHandle { at, is_open } = self;
-        if !is_open {
-            return None;
+        let vp = self.processor(vp)?;
+        let vector = Vector::new(vector)?;
+        Some(self.words.raise(&mut self.line, vp, vector))
+    }
+
+    /// Takes the bits of a part, 0 to 3, of a processor of the words. Never blocks. Bit `n` of part
+    /// `p` is vector `64 * p + n`. `None`, and no effect, if there is no such part or processor.
+    pub fn sweep(&mut self, vp: u8, part: u8) -> Option<u64>
+        ensures there { IsSome result ↔ ((vp < self.old.words.processors) × (part < 4)) }
+        ensures swept { IfSome result (λ bits. self.new ≡ with_step self.old (sweep_of vp part bits)) }
+        ensures unchanged { IfNone result (self.new ≡ self.old) }
+    {
+        let vp = self.processor(vp)?;
+        if part < 4 {
+            Some(self.words.sweep(&mut self.line, vp, part))
+        } else {
+            None
         }
-        let line = unsafe { Box::from_raw(alloc, at as *mut OwnedLine) };
-        Some(line)
     }
 
-    /// Removes the line and closes the handle.
-    pub fn take(&mut self, alloc: Global) -> Option<Box<OwnedLine>>
-        ensures found { IfSome result (λ b. self.old.line ≡ Some b.value) }
-        ensures none { IfNone result (self.old.line ≡ None) }
-        ensures after { self.new.line ≡ None }
+    /// The processor with this number, if the words have it.
+    fn processor(&self, number: u8) -> Option<Vp>
+        ensures there { IsSome result ↔ (number < self.now.words.processors) }
+        ensures value { IfSome result (λ vp. vp ≡ number) }
     {
-        replace(self, LineHandle::closed()).into_line(alloc)
-    }
-
-    /// Stores a line, and returns the previous one.
-    pub fn put(&mut self, alloc: Global, line: Box<OwnedLine>) -> Option<Box<OwnedLine>>
-        ensures found { IfSome result (λ b. self.old.line ≡ Some b.value) }
-        ensures none { IfNone result (self.old.line ≡ None) }
-        ensures after { self.new.line ≡ Some line.value }
-    {
-        replace(self, LineHandle::holding(line)).into_line(alloc)
+        if number < self.words.processors() {
+            Vp::new(number)
+        } else {
+            None
+        }
     }
 }

@@ -1,6 +1,6 @@
 // Batches that stop early, and the least capacity that suffices.
 use c_batch::{Batch, BatchEnd, perform_batch};
-use c_board::BoardWithNotices;
+use c_handles::BoardWithNotices;
 use c_terms::{CEvent, CNotice, CReply};
 use std::alloc::Global;
 
@@ -218,9 +218,9 @@ fn end_of(alloc: Global, perform_on: Performing) -> Option<Ended> {
     let events = events.get(perform_on.first..perform_on.last)?;
     let replies = replies.get_mut(..perform_on.replies)?;
     let notices = notices.get_mut(..perform_on.notices)?;
-    // README c_board: begin
+    // README c_handles: begin
     let mut board = BoardWithNotices::open(alloc, 2, 1, 7).ok()?;
-    // README c_board: end
+    // README c_handles: end
     let Batch { end, done, emitted } = perform_batch(&mut board, events, replies, notices);
     // README c_batch: end
     Some(Ended {

@@ -1,8 +1,6 @@
 // Open and closed handles. That a handle is `Send` is checked by the prover, at `crosses`: a
 // closure for a thread would have to be dropped, which a handle does not allow.
-use c_board::BoardWithNotices;
-use c_handles::{BoardHandle, LineHandle};
-use c_line::OwnedLine;
+use c_handles::{BoardHandle, BoardWithNotices, LineHandle, OwnedLine};
 use std::alloc::Global;
 
 fn crosses<T: Send>(value: T) -> T {
@@ -12,7 +10,7 @@ fn crosses<T: Send>(value: T) -> T {
 /// The number of processors of the board that a handle owns: borrowed, and then taken out.
 fn processors_behind(mut handle: BoardHandle, alloc: Global) -> (Option<u8>, Option<u8>) {
     // README c_handles: begin
-    let lent = match handle.board_mut() {
+    let borrowed = match handle.board_mut() {
         Some(board) => Some(board.board.processors()),
         None => None,
     };
@@ -20,7 +18,7 @@ fn processors_behind(mut handle: BoardHandle, alloc: Global) -> (Option<u8>, Opt
         Some(board) => Some(board.board.processors()),
         None => None,
     };
-    (lent, taken)
+    (borrowed, taken)
     // README c_handles: end
 }
 

@@ -1,5 +1,5 @@
 // Lines of the same words, and of others.
-use c_line::{OwnedLine, SplitFault};
+use c_handles::{OwnedLine, SplitFault};
 use posted_words::Raised;
 use std::alloc::Global;
 use std::test::Fail;
@@ -112,11 +112,11 @@ const CALLS: [(Which, Call, Answer); 19] = [
 impl Lines {
     /// `None` if an allocation fails.
     fn open(alloc: Global) -> Option<Lines> {
-        // README c_line: begin
+        // README c_handles: begin
         let mut first = OwnedLine::open(alloc, 2).ok()?;
         let second = first.split(alloc).ok()?;
         let apart = OwnedLine::open(alloc, 2).ok()?;
-        // README c_line: end
+        // README c_handles: end
         Some(Lines {
             first,
             second,
@@ -134,7 +134,7 @@ impl Lines {
 }
 
 fn answer_of(line: &mut OwnedLine, alloc: Global, call: Call) -> Answer {
-    // README c_line: begin
+    // README c_handles: begin
     match call {
         Call::Raise { vp, vector } => Answer::Raised(line.raise(vp, vector)),
         Call::Sweep { vp, part } => Answer::Swept(line.sweep(vp, part)),
@@ -143,7 +143,7 @@ fn answer_of(line: &mut OwnedLine, alloc: Global, call: Call) -> Answer {
             Err(fault) => Answer::Split(Err(fault)),
         },
     }
-    // README c_line: end
+    // README c_handles: end
 }
 
 #[test]

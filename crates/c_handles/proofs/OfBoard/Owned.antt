@@ -2,11 +2,11 @@
 use Rattle.c_handles.proofs.Steps.{List, [], ◌∷◌, refl, Ura, Val, vbool, Logic, Item, Goal, Step, step, ‵, ◌$◌, drop, fsplit, fjoin, fpack, feq_i, bool, Valss, Is, RawPtr, ptr_val, nothing, within, shape}
 use denote.Laws.{Tells}
 use Rattle.c_handles.specs.inside.Owned.{owned}
-use Rattle.c_handles.specs.declared.board.BoardHandle.{BoardHandle}
-use Rattle.c_handles.specs.contracts.board.BoardHandle as handle
-use Rattle.c_handles.proofs.board.BoardHandle.TheLaws.{lowers}
+use Rattle.c_handles.specs.declared.board_handle.BoardHandle.{BoardHandle}
+use Rattle.c_handles.specs.contracts.board_handle.BoardHandle as handle
+use Rattle.c_handles.proofs.board_handle.BoardHandle.TheLaws.{lowers}
 use Rattle.c_handles.proofs.Owned.{word}
-use Rattle.c_board.specs.contracts.BoardWithNotices as board
+use Rattle.c_handles.specs.contracts.board.BoardWithNotices as board
 
 pub handle_Tells : Tells handle.the_row (Is handle.the_row) (λ h. word h.at h.is_open ∷ [])
 handle_Tells h vs is = lowers.val_is h vs is

@@ -5,12 +5,12 @@ use Rattle.std.proofs.alloc.Global.TheLaws as heap_laws
 use Rattle.std.specs.contracts.impls.GlobalAllocator.TheImpl.{ghosts}
 use Rattle.std.specs.contracts.boxed.Box as boxed
 use Rattle.std.proofs.boxed.Box.TheLaws as boxed_laws
-use Rattle.c_line.specs.contracts.OwnedLine as line
-use Rattle.c_line.proofs.OwnedLine.TheLaws as line_laws
-use Rattle.c_handles.proofs.c_line++OwnedLine+Destruct.drop.Symbol as line_drop
-use Rattle.c_handles.proofs.c_line++OwnedLine+Destruct.drop.Kinds as line_kinds
-use Rattle.c_handles.proofs.c_line++OwnedLine+Destruct.drop.Reads as line_reads
-use Rattle.c_handles.proofs.c_line++OwnedLine+Destruct.drop.Met as line_met
+use Rattle.c_handles.specs.contracts.line.OwnedLine as line
+use Rattle.c_handles.proofs.line.OwnedLine.TheLaws as line_laws
+use Rattle.c_handles.proofs.c_handles++line++OwnedLine+Destruct.drop.Symbol as line_drop
+use Rattle.c_handles.proofs.c_handles++line++OwnedLine+Destruct.drop.Kinds as line_kinds
+use Rattle.c_handles.proofs.c_handles++line++OwnedLine+Destruct.drop.Reads as line_reads
+use Rattle.c_handles.proofs.c_handles++line++OwnedLine+Destruct.drop.Met as line_met
 use seplogic.Ra.Ura.{Ura}
 use base.Fml.{Fml}
 use mir.Syntax.{Callee, method, no_args}

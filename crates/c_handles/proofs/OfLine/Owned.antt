@@ -2,11 +2,11 @@
 use Rattle.c_handles.proofs.Steps.{List, [], ◌∷◌, refl, Ura, Val, vbool, Logic, Item, Goal, Step, step, ‵, ◌$◌, drop, fsplit, fjoin, fpack, feq_i, bool, Valss, Is, RawPtr, ptr_val, nothing, within, shape}
 use denote.Laws.{Tells}
 use Rattle.c_handles.specs.inside.Owned.{owned}
-use Rattle.c_handles.specs.declared.line.LineHandle.{LineHandle}
-use Rattle.c_handles.specs.contracts.line.LineHandle as handle
-use Rattle.c_handles.proofs.line.LineHandle.TheLaws.{lowers}
+use Rattle.c_handles.specs.declared.line_handle.LineHandle.{LineHandle}
+use Rattle.c_handles.specs.contracts.line_handle.LineHandle as handle
+use Rattle.c_handles.proofs.line_handle.LineHandle.TheLaws.{lowers}
 use Rattle.c_handles.proofs.Owned.{word}
-use Rattle.c_line.specs.contracts.OwnedLine as line
+use Rattle.c_handles.specs.contracts.line.OwnedLine as line
 
 pub handle_Tells : Tells handle.the_row (Is handle.the_row) (λ h. word h.at h.is_open ∷ [])
 handle_Tells h vs is = lowers.val_is h vs is
