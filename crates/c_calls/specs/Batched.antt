@@ -1,7 +1,7 @@
 -- What a batch does to the board that a handle owns, and what it returns.
 use Rattle.std.specs.Prelude.{◌≡◌, List, length, map, Option, Some, None}
 use Rattle.c_handles.specs.declared.board.BoardWithNotices.{BoardWithNotices}
-use Rattle.c_batch.specs.Batches.{Performed, batch, view_of}
+use Rattle.c_terms.specs.Batches.{Performed, batch, view_of}
 use Rattle.c_terms.specs.declared.event.CEvent.{CEvent}
 use Rattle.c_terms.specs.declared.notice.CNotice.{CNotice}
 use Rattle.c_terms.specs.declared.reply.CReply.{CReply}

@@ -1,12 +1,11 @@
 // Batches of plain events.
 ghost use Rattle.std.specs.Prelude.{◌≡◌, ◌≤◌, ◌<◌, ◌+◌, ◌⊎◌, ◌↔◌, true, [], ◌∷◌, None, length, take, slice_get};
-ghost use Rattle.c_batch.specs.Batches.{IsNotAnEvent};
+ghost use Rattle.c_terms.specs.Batches.{IsNotAnEvent};
 ghost use Rattle.c_calls.specs.Batched.{IsBatch};
 ghost use Rattle.c_calls.specs.Outcomes.{is_among};
 
-use c_batch::perform_batch;
 use c_handles::BoardHandle;
-use c_terms::{CEvent, CNotice, CReply};
+use c_terms::{CEvent, CNotice, CReply, perform_batch};
 
 /// The result of a batch.
 #[repr(C)]

@@ -4,13 +4,12 @@ ghost use Rattle.text_trace.specs.Trace.{IsTrace};
 ghost use Rattle.text_trace.specs.Verdicts.{FirstWrong};
 ghost use Rattle.c_terms.specs.Events.{event_from_c};
 ghost use Rattle.c_terms.specs.Replies.{reply_from_c};
-ghost use Rattle.c_trace.specs.Entries.{entry_text};
+ghost use Rattle.c_terms.specs.Entries.{entry_text};
 ghost use Rattle.c_calls.specs.Outcomes.{is_among};
 ghost use Rattle.c_calls.specs.Texts.{IsReplay, AreLines};
 
 use board_script::{ReplayEnd, replay};
-use c_terms::{CEvent, CReply, put_bytes};
-use c_trace::{EntryFault, lines_of};
+use c_terms::{CEvent, CReply, EntryFault, lines_of, put_bytes};
 use std::alloc::Global;
 use text_trace::{CheckEnd, check_trace};
 

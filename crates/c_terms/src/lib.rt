@@ -1,12 +1,17 @@
-//! Events, replies and notices as plain structs, for C callers.
+//! Events, replies and notices as plain structs, for C callers, with batches of such events and
+//! their trace entries.
 #![tactic(auto)]
 
+mod batches;
+mod entries;
 mod event;
 pub mod laws;
 mod notice;
 mod reply;
 mod room;
 
+pub use batches::{Batch, BatchEnd, perform_batch};
+pub use entries::{EntryFault, lines_of};
 pub use event::{CEvent, event_of, perform_c};
 pub use notice::{CNotice, notice_to_c, put_plain};
 pub use reply::{CReply, Fault, fault_to_c, reply_of, reply_to_c};

@@ -1,7 +1,6 @@
 // Batches that stop early, and the least capacity that suffices.
-use c_batch::{Batch, BatchEnd, perform_batch};
 use c_handles::BoardWithNotices;
-use c_terms::{CEvent, CNotice, CReply};
+use c_terms::{Batch, BatchEnd, CEvent, CNotice, CReply, perform_batch};
 use std::alloc::Global;
 
 /// An event of this kind, for processor 1 and port 4.
@@ -213,7 +212,7 @@ fn events() -> [CEvent; 7] {
 
 /// The result of a batch on a board of two processors whose first ticket is 7.
 fn end_of(alloc: Global, perform_on: Performing) -> Option<Ended> {
-    // README c_batch: begin
+    // README c_terms: begin
     let (events, mut replies, mut notices) = (events(), [no_reply(); 7], [no_notice(); 300]);
     let events = events.get(perform_on.first..perform_on.last)?;
     let replies = replies.get_mut(..perform_on.replies)?;
@@ -222,7 +221,7 @@ fn end_of(alloc: Global, perform_on: Performing) -> Option<Ended> {
     let mut board = BoardWithNotices::open(alloc, 2, 1, 7).ok()?;
     // README c_handles: end
     let Batch { end, done, emitted } = perform_batch(&mut board, events, replies, notices);
-    // README c_batch: end
+    // README c_terms: end
     Some(Ended {
         end,
         done,

@@ -1,4 +1,4 @@
-//! Tests of the parts of the C library, one file per crate.
+//! Tests of the parts of the C library: handles, lines, batches and trace entries.
 #![tactic(auto)]
 
 #[cfg(test)]

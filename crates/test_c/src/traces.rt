@@ -1,6 +1,5 @@
 // The text of an entry, and which fault is reported.
-use c_terms::{CEvent, CReply};
-use c_trace::{EntryFault, lines_of};
+use c_terms::{CEvent, CReply, EntryFault, lines_of};
 use std::alloc::Global;
 use std::test::Fail;
 
@@ -52,11 +51,11 @@ fn reply(kind: u8, vector: u8) -> CReply {
 
 #[test]
 fn an_entry_has_two_lines(rt: HostRuntime) -> Result<(), Fail> {
-    // README c_trace: begin
+    // README c_terms: begin
     let lines = lines_of(rt.alloc(), 255, &event(POST, 0), &reply(ACCEPTED, 0))?;
     let text = b"255 post 15 7fffffff 00fe00\n= accepted 18446744073709551615\n";
     assert_eq!(rt; lines.as_slice(), text.as_slice());
-    // README c_trace: end
+    // README c_terms: end
     Ok(())
 }
 

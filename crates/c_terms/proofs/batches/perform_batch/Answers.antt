@@ -1,8 +1,8 @@
 use Rattle.std.proofs.Common.{arith}
 use Rattle.std.proofs.lemmas.List.{take_rest}
-use Rattle.c_batch.proofs.Batches.{next_none, done_none, done_more}
-use Rattle.c_batch.proofs.Rooms.{put_rest}
-use Rattle.c_batch.proofs.perform_batch.Goals as goal
+use Rattle.c_terms.proofs.Batching.{next_none, done_none, done_more}
+use Rattle.c_terms.proofs.Rooms.{put_rest}
+use Rattle.c_terms.proofs.batches.perform_batch.Goals as goal
 
 pub loop-done-init : goal.loop-done-init
 loop-done-init c = done_none _ _ _

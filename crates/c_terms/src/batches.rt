@@ -1,13 +1,11 @@
-//! Batches of plain events.
-#![tactic(auto)]
-
+// Batches of plain events.
 ghost use Rattle.std.specs.Prelude.{◌≡◌, ◌≤◌, ◌<◌, ◌+◌, ◌⊎◌, length, take, map, slice_get};
 ghost use Rattle.c_terms.specs.Notices.{notice_to_c};
 ghost use Rattle.c_terms.specs.Rooms.{Fronts};
-ghost use Rattle.c_batch.specs.Batches.{view_of, batch, IsNotAnEvent};
+ghost use Rattle.c_terms.specs.Batches.{view_of, batch, IsNotAnEvent};
 
+use crate::{CEvent, CNotice, CReply, perform_c, put_plain, reply_to_c};
 use c_handles::BoardWithNotices;
-use c_terms::{CEvent, CNotice, CReply, perform_c, put_plain, reply_to_c};
 
 /// The greatest number of notices of an event.
 const MOST_NOTICES: usize = 276;

@@ -1,12 +1,10 @@
-//! Trace entries of plain events and replies.
-#![tactic(auto)]
-
+// Trace entries of plain events and replies.
 ghost use Rattle.std.specs.Prelude.{◌≡◌, ◌≢◌, ◌↔◌, Some, None, IfOk, IsErrOf};
 ghost use Rattle.c_terms.specs.Events.{event_from_c};
 ghost use Rattle.c_terms.specs.Replies.{reply_from_c};
-ghost use Rattle.c_trace.specs.Entries.{entry_text};
+ghost use Rattle.c_terms.specs.Entries.{entry_text};
 
-use c_terms::{CEvent, CReply, event_of, reply_of};
+use crate::{CEvent, CReply, event_of, reply_of};
 use std::alloc::Global;
 use synic_board::Entry;
 use text_trace::put_entry;

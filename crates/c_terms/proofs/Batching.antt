@@ -13,8 +13,8 @@ use Rattle.synic_board.specs.declared.event.Event.{Event}
 use Rattle.synic_board.specs.State.{State}
 use Rattle.synic_board.specs.Effects.{Outcome}
 use Rattle.synic_board.specs.Step.{step}
-use Rattle.c_batch.specs.Batches.{Performed, BoardView, batch, empty, followed_by, IsNotAnEvent}
-use Rattle.c_batch.proofs.Rooms.{fronts_none, fronts_push, fronts_more}
+use Rattle.c_terms.specs.Batches.{Performed, BoardView, batch, empty, followed_by, IsNotAnEvent}
+use Rattle.c_terms.proofs.Rooms.{fronts_none, fronts_push, fronts_more}
 
 -- a batch, and then one more outcome
 abbrev pub and_then : Performed → Outcome → Performed
