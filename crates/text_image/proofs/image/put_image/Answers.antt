@@ -1,0 +1,22 @@
+use Rattle.std.proofs.Common.{◌≡◌, ◌++◌, ◌∷◌, [], OnOk, length, rules, codes}
+use Rattle.std.proofs.lemmas.Result.{on_ok_weaker}
+use Rattle.synic_board.specs.State.{processors}
+use Rattle.text_lines.specs.Printing.{text_of}
+use Rattle.text_image.specs.Image.{image, each_below, head_lines, lapic_lines, register_lines, guest_lines, own_lines, port_lines, timers_lines, queues_lines, slots_lines}
+use Rattle.text_image.proofs.Rows.{sections}
+use Rattle.text_image.proofs.image.put_image.Goals as goal
+
+pub returns : goal.returns
+unfolding image
+returns c =
+    let s = c.args.board.now.state in
+    let n = processors s in
+    let last : OnOk c.extend_from_slice.result (c.extend_from_slice.new.self.items ≡ c.put_slots.new.out.items ++ text_of ((codes "end" ∷ []) ∷ [])) = search rules in
+    on_ok_weaker c.extend_from_slice.result
+    (λ h. sections (head_lines s) (each_below n (lapic_lines s)) (each_below n (register_lines s)) (each_below (length s.pages) (guest_lines s)) (each_below n (own_lines s)) (each_below 16 (port_lines s))
+    (each_below n (timers_lines s)) (each_below n (queues_lines s)) (each_below n (slots_lines s)) ((codes "end" ∷ []) ∷ [])
+    c.args.out.now.items c.put_head.new.out.items c.put_lapics.new.out.items c.put_registers.new.out.items c.put_guest_pages.new.out.items c.put_own_pages.new.out.items c.put_ports.new.out.items
+    c.put_timers.new.out.items c.put_queues.new.out.items c.put_slots.new.out.items c.extend_from_slice.new.self.items
+    c.in_ok-put_head.ensures c.in_ok-put_lapics.ensures c.in_ok-put_registers.ensures c.in_ok-put_guest_pages.ensures c.in_ok-put_own_pages.ensures c.in_ok-put_ports.ensures
+    c.in_ok-put_timers.ensures c.in_ok-put_queues.ensures c.in_ok-put_slots.ensures h)
+    last

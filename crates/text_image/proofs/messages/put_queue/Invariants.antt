@@ -1,0 +1,7 @@
+use Rattle.std.proofs.Common.{◌≡◌, ◌++◌}
+use Rattle.text_lines.specs.Printing.{text_of}
+use Rattle.text_image.specs.Image.{each_below, queued_lines}
+use Rattle.text_image.proofs.messages.put_queue.Given as goal
+
+abbrev pub invariant-loop-index : goal.invariant-loop-index
+invariant-loop-index l = l.out.items ≡ l.fn.out.items ++ text_of (each_below l.index (queued_lines l.board.state l.vp l.sint))

@@ -1,0 +1,102 @@
+// The lines of an image, section by section. Each function appends to `out`; an error is an
+// allocation failure.
+ghost use Rattle.std.specs.Prelude.{◌≡◌, ◌++◌, ◌≤◌, OnOk};
+ghost use Rattle.text_base.specs.Fields.{line_of};
+ghost use Rattle.text_lines.specs.Items.{Opening, item_fields};
+ghost use Rattle.text_lines.specs.Printing.{text_of};
+ghost use Rattle.event_ports.specs.Ports.{port_at};
+ghost use Rattle.synic_board.specs.State.{processors, ports_of};
+ghost use Rattle.text_image.specs.Image.{image, each_below, moment_lines, head_lines, port_lines};
+
+use crate::messages::{put_queues, put_slots};
+use crate::pages::{put_guest_pages, put_own_pages};
+use crate::processors::{put_lapics, put_registers};
+use crate::timers::put_timers;
+use board_terms::{Moment, Ticket};
+use std::alloc::AllocError;
+use synic_board::{Board, Event};
+use text_base::put_decimal;
+use text_lines::put_event;
+
+/// Appends the image of a board to `out`: what its state holds beside that of a newly opened board,
+/// as lines. The cached summary, the order of the timers and the count of writes are not in it.
+pub fn put_image(out: &mut Vec<u8>, board: &Board) -> Result<(), AllocError>
+    ensures { OnOk result (out.new.items ≡ out.old.items ++ image board.now.state) }
+{
+    put_head(out, board)?;
+    put_lapics(out, board)?;
+    put_registers(out, board)?;
+    put_guest_pages(out, board)?;
+    put_own_pages(out, board)?;
+    put_ports(out, board)?;
+    put_timers(out, board)?;
+    put_queues(out, board)?;
+    put_slots(out, board)?;
+    out.extend_from_slice(b"end\n")
+}
+
+/// Appends the title, the board line and the moment.
+fn put_head(out: &mut Vec<u8>, board: &Board) -> Result<(), AllocError>
+    ensures { OnOk result (out.new.items ≡ out.old.items ++ text_of (head_lines board.now.state)) }
+{
+    out.extend_from_slice(b"image 1\n")?;
+    put_opening(out, board.processors(), board.pages(), board.next_ticket())?;
+    put_moment(out, board.moment())
+}
+
+/// Appends the board line.
+fn put_opening(
+    out: &mut Vec<u8>,
+    processors: u8,
+    pages: u8,
+    next_ticket: Ticket,
+) -> Result<(), AllocError>
+    ensures { OnOk result (out.new.items ≡ out.old.items ++ line_of (item_fields (Opening processors pages next_ticket))) }
+{
+    out.extend_from_slice(b"board ")?;
+    put_decimal(out, processors)?;
+    out.extend_from_slice(b" ")?;
+    put_decimal(out, pages)?;
+    out.extend_from_slice(b" ")?;
+    put_decimal(out, next_ticket)?;
+    out.extend_from_slice(b"\n")
+}
+
+/// Appends the present time, unless it is 0.
+fn put_moment(out: &mut Vec<u8>, moment: Moment) -> Result<(), AllocError>
+    ensures { OnOk result (out.new.items ≡ out.old.items ++ text_of (moment_lines moment)) }
+{
+    if moment == 0 {
+        return Ok(());
+    }
+    out.extend_from_slice(b"moment ")?;
+    put_decimal(out, moment)?;
+    out.extend_from_slice(b"\n")
+}
+
+/// Appends the open ports.
+fn put_ports(out: &mut Vec<u8>, board: &Board) -> Result<(), AllocError>
+    ensures { OnOk result (out.new.items ≡ out.old.items ++ text_of (each_below 16 (port_lines board.now.state))) }
+{
+    for number in 0..16 {
+        put_port(out, board, number)?;
+    }
+    Ok(())
+}
+
+/// Appends a port, if it is open.
+fn put_port(out: &mut Vec<u8>, board: &Board, number: u8) -> Result<(), AllocError>
+    ensures { OnOk result (out.new.items ≡ out.old.items ++ text_of (port_lines board.now.state number)) }
+{
+    let Some(port) = board.port(number) else {
+        return Ok(());
+    };
+    let event = Event::OpenPort {
+        port: number,
+        vp: port.vp.number(),
+        sint: port.sint.number(),
+        shape: port.shape,
+    };
+    put_event(out, &event)?;
+    out.extend_from_slice(b"\n")
+}
