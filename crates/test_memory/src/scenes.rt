@@ -24,9 +24,10 @@ enum Scene {
     Script,
     Trace,
     CrewScript,
+    Image,
 }
 
-const SCENES: [Scene; 16] = [
+const SCENES: [Scene; 17] = [
     Scene::Space,
     Scene::Queues,
     Scene::Board,
@@ -43,6 +44,7 @@ const SCENES: [Scene; 16] = [
     Scene::Script,
     Scene::Trace,
     Scene::CrewScript,
+    Scene::Image,
 ];
 
 /// Plays a scene, in which all calls must return what they return without a failure. Returns
@@ -65,6 +67,7 @@ fn play<R: Threads + Wait + Sync>(rt: &R, alloc: Global, scene: Scene) -> Result
         Scene::Script => texts::replayed(alloc),
         Scene::Trace => texts::checked(alloc),
         Scene::CrewScript => texts::crewed(rt, alloc),
+        Scene::Image => texts::saved(alloc),
     }
 }
 

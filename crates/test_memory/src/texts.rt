@@ -1,4 +1,4 @@
-// A script, a crew script and a trace, with a reader and a writer that do not allocate.
+// A script, a crew script, a trace and an image, with a reader and a writer that do not allocate.
 use crate::stopped::{Stopped, ended};
 use board_script::{CheckEnd, CrewRun, ReplayEnd, check_trace, crew, replay};
 use board_threads::OpenGate;
@@ -6,6 +6,8 @@ use std::alloc::Global;
 use std::io::Cursor;
 use std::sync::Wait;
 use std::thread::Threads;
+use synic_board::Board;
+use text_image::{SaveEnd, save};
 
 /// The output and its length.
 type Written = Cursor<[u8; 256]>;
@@ -72,5 +74,21 @@ pub(crate) fn crewed<R: Threads + Wait + Sync>(rt: &R, alloc: Global) -> Result<
         CrewRun::Done => ended(has(&written, TRACE.as_bytes())),
         CrewRun::Memory | CrewRun::NoThread => wanted(&written, TRACE.as_bytes()),
         _ => Err(Stopped::Otherwise),
+    }
+}
+
+/// An allocation failure leaves nothing written, since the image is formatted first.
+pub(crate) fn saved(alloc: Global) -> Result<bool, Stopped> {
+    let Ok(board) = Board::open(alloc, 1, 1, 5) else {
+        return Err(Stopped::Memory);
+    };
+    let mut written = nothing();
+    match save(alloc, &board, &mut written) {
+        SaveEnd::Done => {
+            let image = b"image 1\nboard 1 1 5\nlapic 0 0 0 0 0 0 0 0 0 0 running\nend\n";
+            ended(has(&written, image))
+        }
+        SaveEnd::Memory => wanted(&written, b""),
+        SaveEnd::Writing => Err(Stopped::Otherwise),
     }
 }

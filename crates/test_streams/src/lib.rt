@@ -1,4 +1,4 @@
-//! Tests of texts and their streams: numbers, lines of a reader, scripts, crews and traces.
+//! Tests of texts and their streams: numbers, lines of a reader, scripts, crews, traces and images.
 #![tactic(auto)]
 
 #[cfg(test)]
@@ -9,6 +9,8 @@ mod failing;
 mod full;
 #[cfg(test)]
 mod gates;
+#[cfg(test)]
+mod images;
 #[cfg(test)]
 mod jobs;
 #[cfg(test)]

@@ -66,8 +66,8 @@ abbrev pub register_lines : State → Processor → Lines
 register_lines s p = changed_line p (codes "scontrol") (regs_of s p).control 0 ++ (changed_line p (codes "siefp") (regs_of s p).sief 0 ++ (changed_line p (codes "simp") (regs_of s p).sim 0 ++ each_below 16 (source_lines s p)))
 
 abbrev pub kind_word : Kind → List ℕ
-kind_word kind.Sim = codes "simp"
-kind_word kind.Sief = codes "siefp"
+kind_word kind.Sim = codes "sim"
+kind_word kind.Sief = codes "sief"
 
 -- a guest page, or a page of a processor, visible or not
 abbrev pub name_fields : PageName → List (List ℕ)

@@ -137,12 +137,12 @@ fn put_name(out: &mut Vec<u8>, name: &PageName) -> Result<(), AllocError>
     }
 }
 
-/// Appends which page of a processor it is, by the register that maps it.
+/// Appends which page of a processor it is.
 fn put_kind(out: &mut Vec<u8>, kind: Kind) -> Result<(), AllocError>
     ensures { OnOk result (out.new.items ≡ out.old.items ++ 32 ∷ kind_word kind) }
 {
     match kind {
-        Kind::Sim => out.extend_from_slice(b" simp"),
-        Kind::Sief => out.extend_from_slice(b" siefp"),
+        Kind::Sim => out.extend_from_slice(b" sim"),
+        Kind::Sief => out.extend_from_slice(b" sief"),
     }
 }
