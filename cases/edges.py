@@ -501,7 +501,7 @@ def a_lazy_timer_is_looked_at_last(period, told, due):
     return scene
 
 
-def a_message_tells_the_last_moment():
+def a_message_has_the_last_moment():
     scene = Scene(1, 1)
     scene.write(0, SCONTROL, 1)
     scene.write(0, SIMP, 1)
@@ -524,7 +524,7 @@ def scenes():
         a_suspended_processor_takes_nothing, a_suspended_timer_is_tried_by_a_later_tick,
         the_processor_is_judged_before_its_suspension, the_largest_count_is_the_last_moment,
         nothing_is_behind_the_last_moment, due_moments_may_need_more_than_64_bits,
-        the_shortest_period_is_looked_at_last, a_message_tells_the_last_moment,
+        the_shortest_period_is_looked_at_last, a_message_has_the_last_moment,
     )
     for scene in plain:
         yield scene.__name__.replace("_", " "), scene()

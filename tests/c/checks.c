@@ -130,7 +130,7 @@ static void add(struct text *text, const char *form, ...)
     int length = vsnprintf(text->bytes + text->length, room, form, numbers);
     va_end(numbers);
     if (length < 0 || (size_t)length >= room) {
-        printf("a board has more to tell than there is room for\n");
+        printf("a board has more output than there is room for\n");
         exit(1);
     }
     text->length += (size_t)length;
@@ -209,7 +209,7 @@ void check_same(const struct text *one, const struct text *other, int line)
         if (one->bytes[at++] == '\n')
             first = at;
     bool is_same = at == one->length && at == other->length;
-    check(is_same, "two boards tell the same", line);
+    check(is_same, "two boards have the same output", line);
     if (!is_same) {
         printf("    %.*s\n", (int)strcspn(one->bytes + first, "\n"), one->bytes + first);
         printf("    %.*s\n", (int)strcspn(other->bytes + first, "\n"), other->bytes + first);

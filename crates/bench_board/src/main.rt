@@ -35,7 +35,7 @@ fn run(rt: &HostRuntime) -> Result<ExitCode, Fault> {
     // README bench_cli: begin
     let program = Program {
         name: "bench_board",
-        about: "Performs events on a board, and tells what one costs",
+        about: "Performs events on a board, and reports what one costs",
         workloads: names.as_slice(),
         unit: "events",
         unit_help: "How many events it performs [default: 10000]",

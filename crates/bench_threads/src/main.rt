@@ -37,7 +37,7 @@ fn run<R: Threads + Wait + Sync>(rt: &HostRuntime, threads: &R) -> Result<ExitCo
     let names = Workload::ALL.map(|workload| workload.name());
     let program = Program {
         name: "bench_threads",
-        about: "Runs threads on a shared board, and tells what a call costs",
+        about: "Runs threads on a shared board, and reports what a call costs",
         workloads: names.as_slice(),
         unit: "calls",
         unit_help: "How many calls each thread makes [default: 40000]",

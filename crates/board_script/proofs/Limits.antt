@@ -34,7 +34,8 @@ fault-near : (result : ReplayEnd) (line : ℕ) (fault : ScriptFault) (r0 r1 w0 w
 fault-near (Script l f) line fault r0 r1 w0 w1 ends near = let is = ends.0 in let same : (line, fault) ≡ (l, f) = cc in subst (λ (p : ℕ × ScriptFault). ReadsNear p.0 r0 r1) same near
 fault-near result line fault r0 r1 w0 w1 ends near = tt
 
-pub concluded-within : (end : End ScriptFault) (opened : Bool) (result : ReplayEnd) (r0 r1 w0 w1 : Option (List ℕ)) → Concludes (conclusion end opened) result w0 w1 → ReadsUpTo (most_of end) r0 r1 → ReadsUpTo (most_read result) r0 r1
+pub concluded-within : (end : End ScriptFault) (opened : Bool) (result : ReplayEnd) (r0 r1 w0 w1 : Option (List ℕ)) → Concludes (conclusion end opened) result w0 w1 →
+    ReadsUpTo (most_of end) r0 r1 → ReadsUpTo (most_read result) r0 r1
 concluded-within (ends.Last line) opened result r0 r1 w0 w1 f h = within result _ r0 r1 w0 w1 f h
 concluded-within (ends.Wrong line g) opened result r0 r1 w0 w1 f h = within result _ r0 r1 w0 w1 f h
 concluded-within (ends.Long line) opened result r0 r1 w0 w1 f h = within result _ r0 r1 w0 w1 f h
@@ -43,7 +44,8 @@ concluded-within ends.Memory opened result r0 r1 w0 w1 f h = rw f.0 h
 concluded-within ends.Reading opened result r0 r1 w0 w1 f h = rw f.0 h
 concluded-within ends.Writing opened result r0 r1 w0 w1 f h = rw f.0 h
 
-pub concluded-near : (end : End ScriptFault) (opened : Bool) (result : ReplayEnd) (r0 r1 w0 w1 : Option (List ℕ)) → Concludes (conclusion end opened) result w0 w1 → driving.StopsNear end r0 r1 → StopsNear result r0 r1
+pub concluded-near : (end : End ScriptFault) (opened : Bool) (result : ReplayEnd) (r0 r1 w0 w1 : Option (List ℕ)) → Concludes (conclusion end opened) result w0 w1 →
+    driving.StopsNear end r0 r1 → StopsNear result r0 r1
 concluded-near (ends.Last line) true result r0 r1 w0 w1 f near = done-near result r0 r1 w0 w1 f
 concluded-near (ends.Last line) false result r0 r1 w0 w1 f near = fault-near result line faults.First r0 r1 w0 w1 f near
 concluded-near (ends.Wrong line g) opened result r0 r1 w0 w1 f near = fault-near result line g r0 r1 w0 w1 f near

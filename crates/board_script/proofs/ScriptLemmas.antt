@@ -19,7 +19,8 @@ use Rattle.board_script.specs.inside.Judging.{after_maybe, answer_maybe, Answers
 use Rattle.text_lines.specs.declared.fault.ScriptFault.{ScriptFault}
 use Rattle.text_lines.specs.declared.fault.ScriptFault.TheVariants as faults
 
-opens_by : (long skip : Bool) (machine : Machine) (item : Option Item) → cond long (Some faults.Long) (cond skip None (item_fault (is_some machine) item)) ≡ None → is_some (after_maybe machine (cond skip None item)) ≡ (is_some machine || not skip)
+opens_by : (long skip : Bool) (machine : Machine) (item : Option Item) → cond long (Some faults.Long) (cond skip None (item_fault (is_some machine) item)) ≡ None →
+    is_some (after_maybe machine (cond skip None item)) ≡ (is_some machine || not skip)
 opens_by true skip machine item e = cc
 opens_by false true None item e = refl
 opens_by false true (Some s) item e = refl
@@ -35,7 +36,8 @@ opens_by false false (Some s) (Some Summary) e = refl
 opens-after : (machine : Machine) (line : List ℕ) → line_fault (is_some machine) line ≡ None → is_some (after_maybe machine (item_in line)) ≡ opens (is_some machine) line
 opens-after machine line e = opens_by (nat_lt 640 (length line)) (is_skipped line) machine (item_at line) e
 
-pub output_from-line : (machine : Machine) (line : List ℕ) (lines : List (List ℕ)) → line_fault (is_some machine) line ≡ None → output_from machine (line ∷ lines) ≡ answer_maybe machine (item_in line) ++ output_from (after_maybe machine (item_in line)) lines
+pub output_from-line : (machine : Machine) (line : List ℕ) (lines : List (List ℕ)) → line_fault (is_some machine) line ≡ None →
+    output_from machine (line ∷ lines) ≡ answer_maybe machine (item_in line) ++ output_from (after_maybe machine (item_in line)) lines
 output_from-line machine line lines e = rw (opens-after machine line e, e) (by_item (item_in line))
   where
     rest : List Item
@@ -45,24 +47,28 @@ output_from-line machine line lines e = rw (opens-after machine line e, e) (by_i
     by_item None = refl
     by_item (Some item) = refl
 
-pub first_fault-line : (k : ℕ) (machine : Machine) (line : List ℕ) (lines : List (List ℕ)) (rest : List ℕ) → line_fault (is_some machine) line ≡ None → first_fault k (is_some machine) (line ∷ lines) rest ≡ first_fault (k + 1) (is_some (after_maybe machine (item_in line))) lines rest
+pub first_fault-line : (k : ℕ) (machine : Machine) (line : List ℕ) (lines : List (List ℕ)) (rest : List ℕ) → line_fault (is_some machine) line ≡ None →
+    first_fault k (is_some machine) (line ∷ lines) rest ≡ first_fault (k + 1) (is_some (after_maybe machine (item_in line))) lines rest
 first_fault-line k machine line lines rest e = rw (opens-after machine line e, e) refl
 
 pub output_from-bad : (machine : Machine) (line : List ℕ) (lines : List (List ℕ)) (fault : ScriptFault) → line_fault (is_some machine) line ≡ Some fault → output_from machine (line ∷ lines) ≡ []
 output_from-bad machine line lines fault e = rw e refl
 
-pub first_fault-bad : (k : ℕ) (opened : Bool) (line : List ℕ) (lines : List (List ℕ)) (rest : List ℕ) (fault : ScriptFault) → line_fault opened line ≡ Some fault → first_fault k opened (line ∷ lines) rest ≡ Some (k, fault)
+pub first_fault-bad : (k : ℕ) (opened : Bool) (line : List ℕ) (lines : List (List ℕ)) (rest : List ℕ) (fault : ScriptFault) → line_fault opened line ≡ Some fault →
+    first_fault k opened (line ∷ lines) rest ≡ Some (k, fault)
 first_fault-bad k opened line lines rest fault e = rw e refl
 
 item-at : (line word : List ℕ) (rest : Fields) → fields_of line ≡ word ∷ rest → item_at line ≡ parse_item (word ∷ rest)
 unfolding item_at
 item-at line word rest e = ap parse_item e
 
-judged : (opened : Bool) (line : List ℕ) (item : Option Item) → length line ≤ 640 → is_skipped line ≡ false → item_at line ≡ item → (line_fault opened line ≡ item_fault opened item) × (item_in line ≡ item)
+judged : (opened : Bool) (line : List ℕ) (item : Option Item) → length line ≤ 640 → is_skipped line ≡ false → item_at line ≡ item →
+    (line_fault opened line ≡ item_fault opened item) × (item_in line ≡ item)
 judged opened line item short not is = rw (le-ltb 640 (length line) short, not, is) (refl, refl)
 
 -- the answer to the item is the answer to the line
-pub answers-line : (result : Taken ScriptFault) (line word : List ℕ) (rest : Fields) (old new : Machine) (out : List ℕ) → length line ≤ 640 → is_skipped line ≡ false → fields_of line ≡ word ∷ rest → AnswersItem result (parse_item (word ∷ rest)) old new out → Judges IsAnswered IsFaulty result old new line out
+pub answers-line : (result : Taken ScriptFault) (line word : List ℕ) (rest : Fields) (old new : Machine) (out : List ℕ) → length line ≤ 640 → is_skipped line ≡ false →
+    fields_of line ≡ word ∷ rest → AnswersItem result (parse_item (word ∷ rest)) old new out → Judges IsAnswered IsFaulty result old new line out
 answers-line taken.Good line word rest old new out short not fields h =
     let j = judged (is_some old) line (parse_item (word ∷ rest)) short not (item-at line word rest fields) in
     rw (j.0, j.1) h

@@ -25,7 +25,8 @@ others n m [] differ = refl
 others n m (e ∷ h) differ = one (m == e.actor) (λ is. grind (arith, nat_tests)) (others n m h differ)
   where
     one : (b : Bool) → (b ≡ true → (n == e.actor) ≡ false) → filter (λ x. n == x.actor) (filter (λ x. not (m == x.actor)) h) ≡ filter (λ x. n == x.actor) h
-        → filter (λ x. n == x.actor) (cond (not b) (e ∷ filter (λ x. not (m == x.actor)) h) (filter (λ x. not (m == x.actor)) h)) ≡ cond (n == e.actor) (e ∷ filter (λ x. n == x.actor) h) (filter (λ x. n == x.actor) h)
+        → filter (λ x. n == x.actor) (cond (not b) (e ∷ filter (λ x. not (m == x.actor)) h) (filter (λ x. not (m == x.actor)) h)) ≡ cond (n == e.actor)
+        (e ∷ filter (λ x. n == x.actor) h) (filter (λ x. n == x.actor) h)
     one true other rest = rest ∙ (λ i. cond (sym (other refl) i) (e ∷ filter (λ x. n == x.actor) h) (filter (λ x. n == x.actor) h))
     one false other rest = ap (λ (l : List Entry). cond (n == e.actor) (e ∷ l) l) rest
 
@@ -55,8 +56,10 @@ module _ (f : Event → Reply → ℕ) where
       let sums = sum_by-filter_both mine (λ e. not (mine e)) (λ _. refl) of_entry h in
       let many : length (filter mine h) ≡ length a.calls.items = sym (length-map (filter mine h) call_of) ∙ ap length first in
       let counted : sum_by of_entry (filter mine h) ≡ of_actor a = sym (sum-map of_call call_of (filter mine h)) ∙ ap (sum_by of_call) first in
-      let r = by_actors left rest numbers.1 (λ k d lt. ap (map call_of) (others _ a.number h (numbers.0 k d lt)) ∙ later k d lt) (omega (arith, lengths, many, all, sum_by-cons (λ (b : ActorCalls). length b.calls.items) a rest)) in
+      let r = by_actors left rest numbers.1 (λ k d lt. ap (map call_of) (others _ a.number h (numbers.0 k d lt)) ∙ later k d lt)
+      (omega (arith, lengths, many, all, sum_by-cons (λ (b : ActorCalls). length b.calls.items) a rest)) in
       omega (arith, r, sums, counted, sum_by-cons of_actor a rest)
 
-pub counted : (f : Event → Reply → ℕ) (h : List Entry) (actors : List ActorCalls) → AreAllOf h actors → sum_by (λ (e : Entry). f e.event e.reply) h ≡ sum_by (λ (a : ActorCalls). sum_by (λ (c : Call). f c.0 c.1) a.calls.items) actors
+pub counted : (f : Event → Reply → ℕ) (h : List Entry) (actors : List ActorCalls) → AreAllOf h actors →
+    sum_by (λ (e : Entry). f e.event e.reply) h ≡ sum_by (λ (a : ActorCalls). sum_by (λ (c : Call). f c.0 c.1) a.calls.items) actors
 counted f h actors all = by_actors f h actors all.numbers all.own all.all

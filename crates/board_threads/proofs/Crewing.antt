@@ -51,17 +51,20 @@ there n (s ∷ scripts) h (suc k) d lt = there n scripts (or-none (is_bad_line n
 
 pub all-there : (setup : Setup) (scripts : Scripts) → has_bad_step setup scripts ≡ false → All (λ (s : Vec (ℕ × ℕ) Global). IsThere setup.processors s.items) scripts.lines.items
 all-there setup scripts h =
-    there setup.processors scripts.lines.items (or-none (list_any is_absorb setup.events.items || list_any is_bad_script scripts.actors.items) (list_any (is_bad_line setup.processors) scripts.lines.items) h).1
+    there setup.processors scripts.lines.items
+    (or-none (list_any is_absorb setup.events.items || list_any is_bad_script scripts.actors.items) (list_any (is_bad_line setup.processors) scripts.lines.items) h).1
 
 -- all actors belong to the board
-of-each : (name : TableId) (scripts : List (Vec Step Global)) (others : List Acting) → AllZip (λ (s : Vec Step Global) (a : Acting). HasActed name a.number s.items a) scripts others → All (λ (a : Acting). a.of ≡ name) others
+of-each : (name : TableId) (scripts : List (Vec Step Global)) (others : List Acting) →
+    AllZip (λ (s : Vec Step Global) (a : Acting). HasActed name a.number s.items a) scripts others → All (λ (a : Acting). a.of ≡ name) others
 of-each name [] [] h k d lt = absurd (omega arith)
 of-each name [] (a ∷ others) h k d lt = absurd h
 of-each name (s ∷ scripts) [] h k d lt = absurd (omega arith)
 of-each name (s ∷ scripts) (a ∷ others) h zero d lt = h.0.of
 of-each name (s ∷ scripts) (a ∷ others) h (suc k) d lt = of-each name scripts others h.1 k d (omega arith)
 
-pub all-of : (name : TableId) (setup : Setup) (scripts : Scripts) (actors : List Acting) (lines : List Token) (raised : List (Vec Raised Global)) → HaveWorked name setup scripts actors lines raised → All (λ (a : Acting). a.of ≡ name) actors
+pub all-of : (name : TableId) (setup : Setup) (scripts : Scripts) (actors : List Acting) (lines : List Token) (raised : List (Vec Raised Global)) →
+    HaveWorked name setup scripts actors lines raised → All (λ (a : Acting). a.of ≡ name) actors
 all-of name setup scripts actors lines raised w = subst (All (λ (a : Acting). a.of ≡ name)) (sym w.actors_are) own
   where
     own : All (λ (a : Acting). a.of ≡ name) (w.main ∷ w.others)
@@ -91,16 +94,19 @@ only-log : (script : List (ℕ × ℕ)) (answers : List Raised) → only_raises 
 only-log [] answers = refl
 only-log (s ∷ script) [] = refl
 only-log (s ∷ script) (a ∷ answers) =
-    ap only_raises (reverse-append (raise_of s.0 s.1 (is_fresh a) ∷ []) (raises_of script answers)) ∙ only-append (log_of script answers) (raise_of s.0 s.1 (is_fresh a) ∷ []) (only-log script answers) refl
+    ap only_raises (reverse-append (raise_of s.0 s.1 (is_fresh a) ∷ []) (raises_of script answers))
+    ∙ only-append (log_of script answers) (raise_of s.0 s.1 (is_fresh a) ∷ []) (only-log script answers) refl
 
-only-lines : (name : TableId) (scripts : List (Vec (ℕ × ℕ) Global)) (ran : List Ran) → AllZip (DidRaise name) scripts ran → All (λ (t : Token). only_raises t.actions ≡ true) (map (λ (x : Ran). x.0) ran)
+only-lines : (name : TableId) (scripts : List (Vec (ℕ × ℕ) Global)) (ran : List Ran) → AllZip (DidRaise name) scripts ran →
+    All (λ (t : Token). only_raises t.actions ≡ true) (map (λ (x : Ran). x.0) ran)
 only-lines name [] [] h k d lt = absurd (omega arith)
 only-lines name [] (r ∷ ran) h k d lt = absurd h
 only-lines name (s ∷ scripts) [] h k d lt = absurd (omega arith)
 only-lines name (s ∷ scripts) (r ∷ ran) h zero d lt = ap only_raises h.0.actions ∙ only-log s.items r.1.items
 only-lines name (s ∷ scripts) (r ∷ ran) h (suc k) d lt = only-lines name scripts ran h.1 k d (omega arith)
 
-logs : (name : TableId) (scripts : List (Vec (ℕ × ℕ) Global)) (ran : List Ran) → AllZip (DidRaise name) scripts ran → map actions_of (map (λ (x : Ran). x.0) ran) ≡ logs_of (lists scripts) (lists (map (λ (x : Ran). x.1) ran))
+logs : (name : TableId) (scripts : List (Vec (ℕ × ℕ) Global)) (ran : List Ran) → AllZip (DidRaise name) scripts ran →
+    map actions_of (map (λ (x : Ran). x.0) ran) ≡ logs_of (lists scripts) (lists (map (λ (x : Ran). x.1) ran))
 logs name [] [] h = refl
 logs name [] (r ∷ ran) h = absurd h
 logs name (s ∷ scripts) [] h = absurd h
@@ -112,7 +118,8 @@ each name [] (r ∷ ran) h = absurd h
 each name (s ∷ scripts) [] h = absurd h
 each name (s ∷ scripts) (r ∷ ran) h = (h.0.each, each name scripts ran h.1)
 
-module _ (name : TableId) (setup : Setup) (scripts : Scripts) (actors : List Acting) (lines : List Token) (raised : List (Vec Raised Global)) (w : HaveWorked name setup scripts actors lines raised) where
+module _ (name : TableId) (setup : Setup) (scripts : Scripts) (actors : List Acting) (lines : List Token) (raised : List (Vec Raised Global))
+    (w : HaveWorked name setup scripts actors lines raised) where
   pub all-lines-of : All (λ (t : Token). t.of ≡ name) lines
   all-lines-of = subst (All (λ (t : Token). t.of ≡ name)) (sym w.lines_are) (lines-of name scripts.lines.items w.ran w.did_raise)
 
@@ -126,7 +133,8 @@ module _ (name : TableId) (setup : Setup) (scripts : Scripts) (actors : List Act
   each-answered = subst (λ l. AllZip HasEach (lists scripts.lines.items) (lists l)) (sym w.answers_are) (each name scripts.lines.items w.ran w.did_raise)
 
 -- actor 0, and the others
-pub cut : (name : TableId) (all : List Acting) (n m : ℕ) → all ≡ map (new_actor name) (range_with_len 0 m) → m ≡ suc n → (take 1 all ≡ new_actor name 0 ∷ []) × (drop 1 all ≡ map (new_actor name) (range_with_len 1 n))
+pub cut : (name : TableId) (all : List Acting) (n m : ℕ) → all ≡ map (new_actor name) (range_with_len 0 m) → m ≡ suc n →
+    (take 1 all ≡ new_actor name 0 ∷ []) × (drop 1 all ≡ map (new_actor name) (range_with_len 1 n))
 cut name all n m is more = let e = is ∙ ap (λ k. map (new_actor name) (range_with_len 0 k)) more in (ap (take 1) e, ap (drop 1) e)
 
 pub single : (front : List Acting) (a b : Acting) → front ++ a ∷ [] ≡ b ∷ [] → (front ≡ []) × (a ≡ b)

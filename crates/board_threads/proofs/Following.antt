@@ -51,7 +51,8 @@ swept_on front more s start old new vp part bits r actions is was step goes =
 -- by an event of the setup
 pub performed : (front more : List Event) (e e' : Event) (start old new : Acting) (r : Reply) (actions : List Action) → more ≡ front ++ e ∷ [] → GoesOn (acts front) start old
     → new ≡ acting old.of old.number (old.calls ++ (e', r) ∷ []) actions → e' ≡ e → GoesOn (acts more) start new
-performed front more e e' start old new r actions is was goes same = went_on (acts front) (acts more) (Act e) start old new e' r actions (ap acts is ∙ map-append (λ x. Act x) front (e ∷ [])) was goes same
+performed front more e e' start old new r actions is was goes same = went_on (acts front) (acts more) (Act e) start old new e' r actions
+    (ap acts is ∙ map-append (λ x. Act x) front (e ∷ [])) was goes same
 
 -- by one of the last absorbs
 pub absorbed : (k : ℕ) (start old new : Acting) (calls more : List Call) (bits : ℕ) (r : Reply) (actions : List Action) → old.calls ≡ calls ++ more → AreSteps (map last_step (range_with_len 0 k)) more
@@ -60,10 +61,12 @@ pub absorbed : (k : ℕ) (start old new : Acting) (calls more : List Call) (bits
 absorbed k start old new calls more bits r actions was follows goes =
     let c : Call = (Absorb (k / 4) (k % 4) bits, r) in (
       ap (λ (a : Acting). a.calls) goes ∙ ap (λ (l : List Call). l ++ c ∷ []) was ∙ append_assoc calls more (c ∷ []),
-      subst (λ (l : List Step). AreSteps l (more ++ c ∷ [])) (sym (map-range_with_len_more last_step 0 k k (omega arith))) (zip-push IsStep (map last_step (range_with_len 0 k)) more (last_step k) c follows (bits, refl)),
+      subst (λ (l : List Step). AreSteps l (more ++ c ∷ [])) (sym (map-range_with_len_more last_step 0 k k (omega arith)))
+          (zip-push IsStep (map last_step (range_with_len 0 k)) more (last_step k) c follows (bits, refl)),
     )
 
-raises-push : (script : List (ℕ × ℕ)) (answers : List Raised) (s : ℕ × ℕ) (a : Raised) → length answers ≡ length script → raises_of (script ++ s ∷ []) (answers ++ a ∷ []) ≡ raises_of script answers ++ raise_of s.0 s.1 (is_fresh a) ∷ []
+raises-push : (script : List (ℕ × ℕ)) (answers : List Raised) (s : ℕ × ℕ) (a : Raised) → length answers ≡ length script →
+    raises_of (script ++ s ∷ []) (answers ++ a ∷ []) ≡ raises_of script answers ++ raise_of s.0 s.1 (is_fresh a) ∷ []
 raises-push [] [] s a e = refl
 raises-push [] (b ∷ answers) s a e = absurd (omega arith)
 raises-push (t ∷ script) [] s a e = absurd (omega arith)

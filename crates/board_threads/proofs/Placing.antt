@@ -65,7 +65,8 @@ between-calls n first between last some f l =
     calls_by-append n first (between ++ last) ∙ (λ i. map call_of (none-other n first some f i) ++ calls_by-append n between last i)
     ∙ (λ i. calls_by n between ++ map call_of (none-other n last some l i)) ∙ append-nil (calls_by n between)
 
-others-between : (n : ℕ) (scripts : List (List Step)) (h first between last : List Entry) → 0 < n → h ≡ first ++ (between ++ last) → All IsMain first → All IsMain last → EachFollows n scripts h → EachFollows n scripts between
+others-between : (n : ℕ) (scripts : List (List Step)) (h first between last : List Entry) → 0 < n → h ≡ first ++ (between ++ last) → All IsMain first → All IsMain last →
+    EachFollows n scripts h → EachFollows n scripts between
 others-between n [] h first between last some is f l each = tt
 others-between n (s ∷ scripts) h first between last some is f l each =
     (subst (AreSteps s) (ap (calls_by n) is ∙ between-calls n first between last some f l) each.0, others-between (n + 1) scripts h first between last (omega arith) is f l each.1)
@@ -97,7 +98,8 @@ crewed name n setup scripts h main place served own each many =
     }
 
 -- the actors' calls are as many as were returned
-pub calls-add-up : (ended : List ActorCalls) (actors : List Acting) → map calls_given ended ≡ map calls_held actors → sum_by (λ (a : ActorCalls). length a.calls.items) ended ≡ sum_by (λ (a : Acting). length a.calls) actors
+pub calls-add-up : (ended : List ActorCalls) (actors : List Acting) → map calls_given ended ≡ map calls_held actors →
+    sum_by (λ (a : ActorCalls). length a.calls.items) ended ≡ sum_by (λ (a : Acting). length a.calls) actors
 calls-add-up [] [] is = refl
 calls-add-up [] (a ∷ actors) is = absurd (cc)
 calls-add-up (e ∷ ended) [] is = absurd (cc)
@@ -114,13 +116,20 @@ steps-add-up name [] [] acted = refl
 steps-add-up name [] (a ∷ others) acted = absurd acted
 steps-add-up name (s ∷ scripts) [] acted = absurd acted
 steps-add-up name (s ∷ scripts) (a ∷ others) acted =
-    omega (arith, same-length s.items a.calls acted.0.follows, steps-add-up name scripts others acted.1, sum_by-cons (λ (b : Acting). length b.calls) a others, sum_by-cons (λ (t : List Step). length t) s.items (lists scripts))
+    omega (
+      arith,
+      same-length s.items a.calls acted.0.follows,
+      steps-add-up name scripts others acted.1,
+      sum_by-cons (λ (b : Acting). length b.calls) a others,
+      sum_by-cons (λ (t : List Step). length t) s.items (lists scripts),
+    )
 
 abbrev pub StandsIn : List Entry → Acting → Type 0
 StandsIn h a = calls_by a.number h ≡ a.calls
 
 -- the entries of each actor are its calls, in its order
-pub stand : (h : List Entry) (ended : List ActorCalls) (actors : List Acting) → map calls_given ended ≡ map calls_held actors → All (λ (a : ActorCalls). calls_by a.number h ≡ a.calls.items) ended → All (StandsIn h) actors
+pub stand : (h : List Entry) (ended : List ActorCalls) (actors : List Acting) → map calls_given ended ≡ map calls_held actors →
+    All (λ (a : ActorCalls). calls_by a.number h ≡ a.calls.items) ended → All (StandsIn h) actors
 stand h [] [] is own k d lt = absurd (omega arith)
 stand h [] (a ∷ actors) is own k d lt = absurd (cc)
 stand h (e ∷ ended) [] is own k d lt = absurd (omega arith)
@@ -139,8 +148,10 @@ each-stands name n [] (a ∷ others) h numbers acted own = absurd acted
 each-stands name n (s ∷ scripts) [] h numbers acted own = absurd acted
 each-stands name n (s ∷ scripts) (a ∷ others) h numbers acted own =
     let head : a.number ≡ n = cc in
-    let tail : map (λ (b : Acting). b.number) others ≡ range_with_len (n + 1) (length scripts) = cc in
-    (subst (AreSteps s.items) (sym (All-head (StandsIn h) a others own) ∙ ap (λ k. calls_by k h) head) acted.0.follows, each-stands name (n + 1) scripts others h tail acted.1 (All-tail (StandsIn h) a others own))
+    let tail : map (λ (b : Acting). b.number) others ≡ range_with_len (n + 1) (length scripts) = cc in (
+      subst (AreSteps s.items) (sym (All-head (StandsIn h) a others own) ∙ ap (λ k. calls_by k h) head) acted.0.follows,
+      each-stands name (n + 1) scripts others h tail acted.1 (All-tail (StandsIn h) a others own),
+    )
 
 pub numbers-are : (ended : List ActorCalls) (actors : List Acting) → map calls_given ended ≡ map calls_held actors → map (λ (a : ActorCalls). a.number) ended ≡ map (λ (a : Acting). a.number) actors
 numbers-are [] [] is = refl

@@ -15,13 +15,15 @@ events-push : (h now : List Entry) (n : ℕ) (e : Event) (r : Reply) → now ≡
 events-push h now n e r is = ap events_of is ∙ map-append (λ (x : Entry). x.event) h (entry n e r ∷ [])
 
 -- it stays legal
-pub legal-push : (start board : State) (h now : List Entry) (n : ℕ) (e : Event) (r : Reply) → IsLegal start h → board ≡ leads_to start h → now ≡ h ++ entry n e r ∷ [] → r ≡ (step board e).1 → IsLegal start now
+pub legal-push : (start board : State) (h now : List Entry) (n : ℕ) (e : Event) (r : Reply) → IsLegal start h → board ≡ leads_to start h → now ≡ h ++ entry n e r ∷ [] →
+    r ≡ (step board e).1 → IsLegal start now
 legal-push start board h now n e r legal leads is same =
     ap replies_of is ∙ map-append (λ (x : Entry). x.reply) h (entry n e r ∷ []) ∙ (λ i. legal i ++ (same ∙ ap (λ s. (step s e).1) leads) i ∷ [])
     ∙ sym (ap (λ (x : Run). x.1) (run_of-push start (events_of h) e)) ∙ ap (λ es. (run_of start es).1) (sym (events-push h now n e r is))
 
 -- and leads to the next state
-pub leads-push : (start board next : State) (h now : List Entry) (n : ℕ) (e : Event) (r : Reply) → board ≡ leads_to start h → now ≡ h ++ entry n e r ∷ [] → next ≡ (step board e).0 → next ≡ leads_to start now
+pub leads-push : (start board next : State) (h now : List Entry) (n : ℕ) (e : Event) (r : Reply) → board ≡ leads_to start h → now ≡ h ++ entry n e r ∷ [] →
+    next ≡ (step board e).0 → next ≡ leads_to start now
 leads-push start board next h now n e r leads is goes =
     goes ∙ ap (λ s. (step s e).0) leads ∙ sym (ap (λ (x : Run). x.0) (run_of-push start (events_of h) e)) ∙ ap (λ es. (run_of start es).0) (sym (events-push h now n e r is))
 

@@ -41,7 +41,8 @@ module _ (name name' : TableId) where
     follows = subst (λ (l : List Step). AreSteps l a.calls) (ap (λ (p : TableId × List Step). p.1) is) h.follows;
   }
 
-  pub raised : (script : List (ℕ × ℕ)) (s : Vec (ℕ × ℕ) Global) (x : Token × Vec Raised Global) → pair name' script ≡ pair name s.items → HasRaised name' script x.0 x.1.items → HasRaised name s.items x.0 x.1.items
+  pub raised : (script : List (ℕ × ℕ)) (s : Vec (ℕ × ℕ) Global) (x : Token × Vec Raised Global) → pair name' script ≡ pair name s.items →
+      HasRaised name' script x.0 x.1.items → HasRaised name s.items x.0 x.1.items
   raised script s x is h = record {
     of = h.of ∙ ap (λ (p : TableId × List (ℕ × ℕ)). p.0) is;
     each = h.each ∙ ap (λ (p : TableId × List (ℕ × ℕ)). length p.1) is;

@@ -10,7 +10,8 @@ use Rattle.c_terms.specs.Rooms.{Fronts}
 use Rattle.c_calls.specs.declared.batches.CBatch.{CBatch}
 
 -- a batch was performed: the board after it, its replies and notices at the front of their buffers, and their numbers
-pub record IsBatchPerformed (performed : Performed) (after : BoardWithNotices) (replies_before replies_after : List CReply) (notices_before notices_after : List CNotice) (result : CBatch) : Type 0 where
+pub record IsBatchPerformed (performed : Performed) (after : BoardWithNotices) (replies_before replies_after : List CReply) (notices_before notices_after : List CNotice)
+    (result : CBatch) : Type 0 where
   pub board : view_of after ≡ performed.board
   pub replies : Fronts performed.replies replies_before replies_after
   pub notices : Fronts (map notice_to_c performed.notices) notices_before notices_after

@@ -51,6 +51,7 @@ with_bits bits (s, reply, notices) = (s, record reply { value = bits }, notices)
 
 -- the board absorbed what the line swept: without a board or without a line nothing changes
 abbrev pub IsAbsorbed : ℕ → ℕ → Option BoardWithNotices → Option LineModel → Option BoardWithNotices → Option LineModel → CReply → Type 0
-IsAbsorbed vp part (Some board) (Some line) board_after line_after reply = (bits : ℕ) × IsSwept board line vp part bits line_after × IsOutcome (with_bits bits (outcome_to_c (step board.board.state (Absorb vp part bits)))) board_after reply
+IsAbsorbed vp part (Some board) (Some line) board_after line_after reply = (bits : ℕ) × IsSwept board line vp part bits line_after
+    × IsOutcome (with_bits bits (outcome_to_c (step board.board.state (Absorb vp part bits)))) board_after reply
 IsAbsorbed vp part None line board_after line_after reply = (board_after ≡ None) × (line_after ≡ line) × (reply ≡ fault_to_c Closed)
 IsAbsorbed vp part (Some board) None board_after line_after reply = (board_after ≡ Some board) × (line_after ≡ None) × (reply ≡ fault_to_c NoLine)

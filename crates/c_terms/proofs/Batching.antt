@@ -21,7 +21,8 @@ abbrev pub and_then : Performed → Outcome → Performed
 and_then b o = record { board = (o.0, o.2); replies = b.replies ++ reply_to_c o.1 (length o.2) ∷ []; notices = b.notices ++ o.2 }
 
 -- the first event is valid, or it is not
-goes : (d : BoardView) (e : CEvent) (es : List CEvent) (event : Event) → event_from_c e ≡ Some event → batch d (e ∷ es) ≡ followed_by (step d.0 event) (batch ((step d.0 event).0, (step d.0 event).2) es)
+goes : (d : BoardView) (e : CEvent) (es : List CEvent) (event : Event) → event_from_c e ≡ Some event →
+    batch d (e ∷ es) ≡ followed_by (step d.0 event) (batch ((step d.0 event).0, (step d.0 event).2) es)
 unfolding batch
 goes d e es event means = rw means
 
@@ -74,7 +75,8 @@ means_one (Some event) s o is = (event, refl, is)
 
 -- the next event is valid, is performed, and its reply and notices are appended
 pub done_more : (d : BoardView) (es : List CEvent) (x : CEvent) (now : BoardView) (o : Outcome) (n m : ℕ) (rs rs' : List CReply) (ns ns' rest : List CNotice) →
-    IsDone (batch d (take n es)) now n m rs rs' ns ns' → n < length es → HasOutcome (event_from_c (get_or es n x)) now.0 o → n < length rs → m + length o.2 ≤ length ns → Fronts (map notice_to_c o.2) (drop m ns') rest →
+    IsDone (batch d (take n es)) now n m rs rs' ns ns' → n < length es → HasOutcome (event_from_c (get_or es n x)) now.0 o → n < length rs → m + length o.2 ≤ length ns →
+    Fronts (map notice_to_c o.2) (drop m ns') rest →
     IsDone (batch d (take (n + 1) es)) (o.0, o.2) (n + 1) (m + length o.2) rs (set rs' n (reply_to_c o.1 (length o.2))) ns (take m ns' ++ rest)
 done_more d es x now o n m rs rs' ns ns' rest h lt comes answered emitted put =
     let one : (event : Event) × (event_from_c (get_or es n x) ≡ Some event) × (o ≡ step now.0 event) = means_one (event_from_c (get_or es n x)) now.0 o comes in
@@ -89,7 +91,8 @@ done_more d es x now o n m rs rs' ns ns' rest h lt comes answered emitted put =
     let done : IsDone next (o.0, o.2) (n + 1) (m + length o.2) rs (set rs' n (reply_to_c o.1 (length o.2))) ns (take m ns' ++ rest) = record {
       board = refl;
       replies = fronts_push b.replies (reply_to_c o.1 (length o.2)) rs rs' n h.replies h.done (omega (arith, h.replies.many));
-      notices = rw (map-append notice_to_c b.notices o.2) (fronts_more (map notice_to_c b.notices) (map notice_to_c o.2) ns ns' rest m h.notices put (length-map b.notices notice_to_c ∙ h.emitted) (omega (arith, h.fits, h.notices.many)));
+      notices = rw (map-append notice_to_c b.notices o.2)
+          (fronts_more (map notice_to_c b.notices) (map notice_to_c o.2) ns ns' rest m h.notices put (length-map b.notices notice_to_c ∙ h.emitted) (omega (arith, h.fits, h.notices.many)));
       done = length_push b.replies (reply_to_c o.1 (length o.2)) ∙ ap (λ k. k + 1) h.done;
       emitted = length-append b.notices o.2 ∙ ap (λ k. k + length o.2) h.emitted;
       fits = (omega arith, emitted);

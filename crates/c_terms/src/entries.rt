@@ -13,9 +13,9 @@ use thiserror::Error;
 /// Why no entry was formatted.
 #[derive(Clone, Copy, PartialEq, Eq, Debug, Drop, Error)]
 pub enum EntryFault {
-    #[error("the numbers mean no event")]
+    #[error("the numbers decode to no event")]
     NoEvent = 1,
-    #[error("the numbers tell no reply")]
+    #[error("the numbers decode to no reply")]
     NoReply = 2,
     #[error("out of memory")]
     Memory = 3,

@@ -31,7 +31,8 @@ no-bytes [] none = refl
 no-bytes (b ∷ bytes) none = absurd (omega arith)
 
 -- one entry more, with its bytes at the end
-pub entries-push : (bytes own : List ℕ) (es : List CompactEntry) (e : CompactEntry) → sum_by size es ≡ length bytes → entries_in (bytes ++ own) (es ++ e ∷ []) ≡ entries_in bytes es ++ entry_with own e ∷ []
+pub entries-push : (bytes own : List ℕ) (es : List CompactEntry) (e : CompactEntry) → sum_by size es ≡ length bytes →
+    entries_in (bytes ++ own) (es ++ e ∷ []) ≡ entries_in bytes es ++ entry_with own e ∷ []
 entries-push bytes own [] e whole = ap (λ (l : List ℕ). entry_with (l ++ own) e ∷ []) (no-bytes bytes whole)
 entries-push bytes own (x ∷ es) e whole =
     let sum = sum_by-cons size x es in

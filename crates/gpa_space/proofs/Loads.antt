@@ -24,11 +24,13 @@ abbrev Loads : Space → ℕ → List ℕ → Type 0
 Loads t address bytes = loaded t address (length bytes) ≡ Ok (record { items = bytes })
 
 -- what is loaded from a page whose bytes were replaced
-loads : (t : Space) (address : ℕ) (page bytes : List ℕ) → refusal_of t address (length bytes) ≡ None → visible_page t (address / 4096) ≡ overwritten page (address % 4096) bytes → length page ≡ 4096 → Loads t address bytes
+loads : (t : Space) (address : ℕ) (page bytes : List ℕ) → refusal_of t address (length bytes) ≡ None →
+    visible_page t (address / 4096) ≡ overwritten page (address % 4096) bytes → length page ≡ 4096 → Loads t address bytes
 loads t address page bytes none is len = rw (none, is, put_there page bytes (address % 4096) (omega arith)) refl
 
 -- a store to the guest page
-below : (s : Space) (address : ℕ) (bytes : List ℕ) → IsWhole s → refusal_of s address (length bytes) ≡ None → visible s (address / 4096) ≡ None → Loads (with_visible_page s (address / 4096) (overwritten (visible_page s (address / 4096)) (address % 4096) bytes)) address bytes
+below : (s : Space) (address : ℕ) (bytes : List ℕ) → IsWhole s → refusal_of s address (length bytes) ≡ None → visible s (address / 4096) ≡ None →
+    Loads (with_visible_page s (address / 4096) (overwritten (visible_page s (address / 4096)) (address % 4096) bytes)) address bytes
 below s address bytes whole none e =
     let g : ℕ = address / 4096 in
     let page : List ℕ = get_or s.pages g [] in
@@ -37,7 +39,8 @@ below s address bytes whole none e =
     rw e (loads (record s { pages = set s.pages g stored }) address page bytes (rw (length-set s.pages g stored) none) (rw e (get_or-set_same s.pages g stored [] within)) (whole.pages g [] within))
 
 -- a store to an overlay
-above : (s : Space) (address : ℕ) (bytes : List ℕ) (k : ℕ) → IsWhole s → refusal_of s address (length bytes) ≡ None → visible s (address / 4096) ≡ Some k → Loads (with_visible_page s (address / 4096) (overwritten (visible_page s (address / 4096)) (address % 4096) bytes)) address bytes
+above : (s : Space) (address : ℕ) (bytes : List ℕ) (k : ℕ) → IsWhole s → refusal_of s address (length bytes) ≡ None → visible s (address / 4096) ≡ Some k →
+    Loads (with_visible_page s (address / 4096) (overwritten (visible_page s (address / 4096)) (address % 4096) bytes)) address bytes
 above s address bytes k whole none e =
     let g : ℕ = address / 4096 in
     let page : List ℕ = get_or s.own k [] in
@@ -48,7 +51,8 @@ above s address bytes k whole none e =
 
 pub stored_are_loaded : StoredBytesAreLoaded
 stored_are_loaded s address bytes whole none =
-    rw none (elim (visible s (address / 4096)) as (λ o. visible s (address / 4096) ≡ o → Loads (with_visible_page s (address / 4096) (overwritten (visible_page s (address / 4096)) (address % 4096) bytes)) address bytes) [
+    rw none (elim (visible s (address / 4096)) as
+    (λ o. visible s (address / 4096) ≡ o → Loads (with_visible_page s (address / 4096) (overwritten (visible_page s (address / 4096)) (address % 4096) bytes)) address bytes) [
       | None ↦ λ e. below s address bytes whole none e
       | Some k ↦ λ e. above s address bytes k whole none e
     ] refl)

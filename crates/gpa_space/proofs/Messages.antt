@@ -27,7 +27,8 @@ message-written page header payload sint whole low long bound =
     let zeros : List ℕ = replicate (240 - length payload) 0 in
     let first = subst (λ n. overwritten (overwritten page at header) (at + n) payload ≡ overwritten page at (header ++ payload)) long (both page header payload at (omega arith)) in
     let size : length (header ++ payload) ≡ 16 + length payload = length-append header payload ∙ ap (λ n. n + length payload) long in
-    let second = subst (λ n. overwritten (overwritten page at (header ++ payload)) (at + n) zeros ≡ overwritten page at (message_bytes header payload)) size (both page (header ++ payload) zeros at (omega (arith, size))) in
+    let second = subst (λ n. overwritten (overwritten page at (header ++ payload)) (at + n) zeros ≡ overwritten page at (message_bytes header payload)) size
+    (both page (header ++ payload) zeros at (omega (arith, size))) in
     let left : 256 - (16 + length payload) ≡ 240 - length payload = omega arith in
     let full : length (message_bytes header payload) ≡ 256 = length-append (header ++ payload) zeros ∙ (let rest = length-replicate {A = ℕ} (240 - length payload) 0 in omega (arith, size, rest)) in
     ap (λ n. overwritten (overwritten (overwritten page at header) (at + 16) payload) (at + (16 + length payload)) (replicate n 0)) left

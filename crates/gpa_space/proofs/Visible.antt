@@ -10,14 +10,16 @@ use Rattle.gpa_space.specs.Space.{is_mapped_at}
 use Rattle.gpa_space.specs.inside.OverlaysAt.{AreOverlaysAt, IsLowest, Marks}
 
 -- the overlay with the lowest bit set is visible, and none if no bit is set
-pub lowest-visible : (registers words : List ℕ) (page : ℕ) (first : Option ℕ) → AreOverlaysAt registers words → page < length words → length registers ≤ 16 → IsLowest (get_or words page 0) first → first ≡ position (is_mapped_at page) registers
+pub lowest-visible : (registers words : List ℕ) (page : ℕ) (first : Option ℕ) → AreOverlaysAt registers words → page < length words → length registers ≤ 16 →
+    IsLowest (get_or words page 0) first → first ≡ position (is_mapped_at page) registers
 lowest-visible registers words page None are within bound none =
     let first : position_or_len (is_mapped_at page) registers ≡ length registers =
     position_or_len_is (is_mapped_at page) registers (length registers) 0 (omega arith) (λ k below. sym (are page k within (omega arith)) ∙ ap (λ b. b == 1) (none k)) (λ lt. absurd (omega arith)) in
     grind (arith, nat_tests)
 lowest-visible registers words page (Some k) are within bound low =
     let is_mapped : is_mapped_at page (get_or registers k 0) ≡ true = sym (are page k within low.0) ∙ ap (λ b. b == 1) low.1 in
-    let inside : k < length registers = ⊎_elim (λ lt. lt) (λ beyond. let none = ap (is_mapped_at page) (get_or_past registers k 0 beyond) in let no : true ≡ false = sym is_mapped ∙ none in absurd (cc)) (cases_lt k (length registers)) in
+    let inside : k < length registers = ⊎_elim (λ lt. lt)
+    (λ beyond. let none = ap (is_mapped_at page) (get_or_past registers k 0 beyond) in let no : true ≡ false = sym is_mapped ∙ none in absurd (cc)) (cases_lt k (length registers)) in
     let first : position_or_len (is_mapped_at page) registers ≡ k =
     position_or_len_is (is_mapped_at page) registers k 0 (omega arith) (λ i below. sym (are page i within (omega (arith, low.0))) ∙ ap (λ b. b == 1) (low.2 i below)) (λ _. is_mapped) in
     grind (arith, nat_tests)

@@ -215,7 +215,8 @@ member_at words v h marked = contains-word_members words v ∙ (let b : nat_lt v
 
 -- the top bit of the highest word that is not 0
 pub word_greatest : (words : List ℕ) (value : Vectors) (at n : ℕ) (o : Option ℕ) → word_members words ≡ value → NoneBelow16 words → at < 4 → ZeroFrom words (at + 1)
-    → 0 < slice_index_or words at 0 → slice_index_or words at 0 < 18446744073709551616 → n ≡ 64 * at + 63 - count_leading_zeros 64 (slice_index_or words at 0) → (16 ≤ n → IsSome o) → IfSome o (λ v. v ≡ n) → o ≡ greatest value
+    → 0 < slice_index_or words at 0 → slice_index_or words at 0 < 18446744073709551616 → n ≡ 64 * at + 63 - count_leading_zeros 64 (slice_index_or words at 0) →
+    (16 ≤ n → IsSome o) → IfSome o (λ v. v ≡ n) → o ≡ greatest value
 word_greatest words value at n o is low h zeros some fits e valid exact =
     let top = leading_top 64 (slice_index_or words at 0) some fits in
     let j : ℕ = top.0 in

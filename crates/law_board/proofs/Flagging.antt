@@ -61,7 +61,8 @@ none-withdrawn q j [] p i flag = refl
 none-withdrawn q j (t ∷ tickets) p i flag = none-withdrawn q j tickets p i flag
 
 none-expired : (t : ℕ × ℕ) (signal : Option ℕ) (skipped : ℕ) → TellNone (expiry_notices t signal skipped)
-none-expired t signal skipped = none-joined (expired_notices t signal) (skipped_notices t skipped) (first signal) (either TellNone (skipped == 0) [] (Skipped t.0 t.1 skipped ∷ []) (λ _ _ _ _. refl) (λ _ _ _ _. refl))
+none-expired t signal skipped = none-joined (expired_notices t signal) (skipped_notices t skipped) (first signal)
+    (either TellNone (skipped == 0) [] (Skipped t.0 t.1 skipped ∷ []) (λ _ _ _ _. refl) (λ _ _ _ _. refl))
   where
     first : (o : Option ℕ) → TellNone (expired_notices t o)
     first None p i flag = refl
@@ -136,9 +137,11 @@ repeated : (test set : Bool) → (test ≡ true → set ≡ true) → (test && t
 repeated true set h = ap not (h refl)
 repeated false set h = refl
 
-repeats : (s : State) (port number q j lit : ℕ) → flag_place_of (ports_of s) port number ≡ Ok (q, j, lit) → is_flag_set (space_of s) q j lit ≡ true → IsFlagged s (Signal port number) (unchanged (with_flag s q j lit) replies.FlagWasSet)
+repeats : (s : State) (port number q j lit : ℕ) → flag_place_of (ports_of s) port number ≡ Ok (q, j, lit) → is_flag_set (space_of s) q j lit ≡ true →
+    IsFlagged s (Signal port number) (unchanged (with_flag s q j lit) replies.FlagWasSet)
 repeats s port number q j lit place stands = silent s (Signal port number) (unchanged (with_flag s q j lit) replies.FlagWasSet) (λ _ _ _. refl) (λ p i flag.
-    ap (λ r. is_place p i flag r && true && not (is_flag_set (space_of s) p i flag)) place ∙ repeated (p == q && i == j && flag == lit) (is_flag_set (space_of s) p i flag) (λ e. here s p i flag q j lit e ∙ stands))
+    ap (λ r. is_place p i flag r && true && not (is_flag_set (space_of s) p i flag)) place
+    ∙ repeated (p == q && i == j && flag == lit) (is_flag_set (space_of s) p i flag) (λ e. here s p i flag q j lit e ∙ stands))
 
 -- a flag that was set is set afterwards
 flag-stands : (s : State) (p i flag : ℕ) → IsSound s → p < processors s → i < 16 → flag < 2048 → is_flag_set (space_of (with_flag s p i flag)) p i flag ≡ true
@@ -149,7 +152,8 @@ flag-stands s p i flag h below inside bound =
     let new : List ℕ = with_bit page at (flag % 8) in
     let within : 2 * p + 1 < length s.own = omega (arith, h.whole.own, below) in
     let long : length page ≡ 4096 = h.whole.pages (2 * p + 1) [] within in
-    let bit : bit_at (bit_or byte (2 ^ (flag % 8))) (flag % 8) ≡ 1 = bit_at_or byte (2 ^ (flag % 8)) (flag % 8) ∙ ap (max (bit_at byte (flag % 8))) (bit_at-pow_same (flag % 8)) ∙ max-eq_right (omega (arith, bit_at-lt byte (flag % 8))) in
+    let bit : bit_at (bit_or byte (2 ^ (flag % 8))) (flag % 8) ≡ 1 = bit_at_or byte (2 ^ (flag % 8)) (flag % 8)
+    ∙ ap (max (bit_at byte (flag % 8))) (bit_at-pow_same (flag % 8)) ∙ max-eq_right (omega (arith, bit_at-lt byte (flag % 8))) in
     ap (λ (l : List ℕ). is_set l at (flag % 8)) (get_or-set_same s.own (2 * p + 1) new [] within)
     ∙ ap (λ b. bit_at b (flag % 8) == 1) (get_or-set_same page at (bit_or byte (2 ^ (flag % 8))) 0 (omega (arith, long, inside, bound)))
     ∙ ap (λ b. b == 1) bit
@@ -169,11 +173,13 @@ test-emitted : (test rest : Bool) → rest ≡ false → (test || rest) ≡ true
 test-emitted true rest none e = refl
 test-emitted false rest none e = let no : true ≡ false = sym e ∙ none in absurd (cc)
 
-signals : (s : State) (port number q j lit : ℕ) → flag_place_of (ports_of s) port number ≡ Ok (q, j, lit) → is_flag_set (space_of s) q j lit ≡ false → IsMute (with_flag s q j lit) (raised (with_flag s q j lit) q j)
+signals : (s : State) (port number q j lit : ℕ) → flag_place_of (ports_of s) port number ≡ Ok (q, j, lit) → is_flag_set (space_of s) q j lit ≡ false →
+    IsMute (with_flag s q j lit) (raised (with_flag s q j lit) q j)
     → IsFlagged s (Signal port number) (answered replies.FlagWasClear (after (flagged s q j lit) (raised (with_flag s q j lit) q j)))
 signals s port number q j lit place clear h = record {
   emitted = λ p i flag.
-      found (p == q && i == j && flag == lit) (has_flag_notice p i flag (raised (with_flag s q j lit) q j).1) (is_flag_set (space_of s) p i flag) (h.none p i flag) (λ e. here s p i flag q j lit e ∙ clear)
+      found (p == q && i == j && flag == lit) (has_flag_notice p i flag (raised (with_flag s q j lit) q j).1) (is_flag_set (space_of s) p i flag) (h.none p i flag)
+      (λ e. here s p i flag q j lit e ∙ clear)
       ∙ sym (ap (λ r. is_place p i flag r && true && not (is_flag_set (space_of s) p i flag)) place);
   stands = λ p i flag sound below inside bound emitted.
       let e : (p == q && i == j && flag == lit) ≡ true = test-emitted (p == q && i == j && flag == lit) (has_flag_notice p i flag (raised (with_flag s q j lit) q j).1) (h.none p i flag) emitted in
@@ -205,5 +211,6 @@ flags = throughout IsMute IsFlagged mute (record {
 pub emitted-flag : (s : State) (event : Event) (p i flag : ℕ) → has_flag_notice p i flag (step s event).2 ≡ found_clear s p i flag event (step s event).1
 emitted-flag s event = (flags s event).emitted
 
-pub flag-set : (s : State) (event : Event) (p i flag : ℕ) → IsSound s → p < processors s → i < 16 → flag < 2048 → has_flag_notice p i flag (step s event).2 ≡ true → is_flag_set (space_of (step s event).0) p i flag ≡ true
+pub flag-set : (s : State) (event : Event) (p i flag : ℕ) → IsSound s → p < processors s → i < 16 → flag < 2048 → has_flag_notice p i flag (step s event).2 ≡ true →
+    is_flag_set (space_of (step s event).0) p i flag ≡ true
 flag-set s event = (flags s event).stands

@@ -59,7 +59,8 @@ there s page bytes o = option_map_or (λ overlay. record s { own = set s.own ove
 visible_page-there : (s : State) (page : ℕ) (bytes : List ℕ) → with_space s (with_visible_page (space_of s) page bytes) ≡ there s page bytes (visible (space_of s) page)
 visible_page-there s page bytes = seen (visible (space_of s) page)
   where
-    seen : (o : Option ℕ) → with_space s (option_map_or (λ overlay. record (space_of s) { own = set s.own overlay bytes }) o (record (space_of s) { pages = set s.pages page bytes })) ≡ there s page bytes o
+    seen : (o : Option ℕ) →
+        with_space s (option_map_or (λ overlay. record (space_of s) { own = set s.own overlay bytes }) o (record (space_of s) { pages = set s.pages page bytes })) ≡ there s page bytes o
     seen None = refl
     seen (Some k) = refl
 
@@ -80,7 +81,8 @@ leaves-hidden-there s page bytes None is = record { overlays = λ k other. refl;
 leaves-hidden-there s page bytes (Some k) is = record { overlays = λ n other. get_or-set_other s.own k n bytes [] (λ same. other (is ∙ ap Some (sym same))); guest = λ other which. refl }
 
 -- a store is refused, or it writes its bytes and messages are consumed
-stored : (P : State → Type 0) (s : State) (address : ℕ) (bytes : List ℕ) → P s → ((now : State) → (new : List ℕ) → IsLike (there s (address / 4096) new (visible (space_of s) (address / 4096))) now → P now) → P (stored_bytes s address bytes).0
+stored : (P : State → Type 0) (s : State) (address : ℕ) (bytes : List ℕ) → P s →
+    ((now : State) → (new : List ℕ) → IsLike (there s (address / 4096) new (visible (space_of s) (address / 4096))) now → P now) → P (stored_bytes s address bytes).0
 stored P s address bytes same other = judged (refusal_of (space_of s) address (length bytes)) refl
   where
     judged : (o : Option Refusal) → refusal_of (space_of s) address (length bytes) ≡ o → P (stored_bytes s address bytes).0
@@ -101,4 +103,7 @@ pub leaves-hidden : (s : State) (address : ℕ) (bytes : ArrayVec ℕ) → Leave
 unfolding step
 leaves-hidden s address bytes = stored (λ now. LeavesHidden s now (address / 4096)) s address bytes.items (record { overlays = λ k other. refl; guest = λ other which. refl }) (λ now new like.
     let first = leaves-hidden-there s (address / 4096) new (visible (space_of s) (address / 4096)) refl in
-    record { overlays = λ k other. ap (λ (own : List (List ℕ)). get_or own k []) like.own ∙ first.overlays k other; guest = λ other which. ap (λ (pages : List (List ℕ)). get_or pages other []) like.pages ∙ first.guest other which })
+    record {
+      overlays = λ k other. ap (λ (own : List (List ℕ)). get_or own k []) like.own ∙ first.overlays k other;
+      guest = λ other which. ap (λ (pages : List (List ℕ)). get_or pages other []) like.pages ∙ first.guest other which;
+    })

@@ -107,7 +107,8 @@ counted-expiry t s u same due =
     record {
       one_shot = λ h. ap (λ (y : Timer). is_periodic y.config) now ∙ (expires-once x s.moment (ap (λ (y : Timer). is_periodic y.config) (sym was) ∙ h)).0;
       bound = λ h.
-          let ends : armed (expired_state s u) t ≡ 0 = ap (λ (y : Timer). if is_some y.due then 1 else 0) now ∙ ap (λ b. if b then 1 else 0) (expires-once x s.moment (ap (λ (y : Timer). is_periodic y.config) (sym was) ∙ h)).1 in
+          let ends : armed (expired_state s u) t ≡ 0 = ap (λ (y : Timer). if is_some y.due then 1 else 0) now
+          ∙ ap (λ b. if b then 1 else 0) (expires-once x s.moment (ap (λ (y : Timer). is_periodic y.config) (sym was) ∙ h)).1 in
           let begins : armed s t ≡ 1 = ap (λ (y : Timer). if is_some y.due then 1 else 0) was ∙ ap (λ b. if b then 1 else 0) (due-some x s.moment due) in
           omega (arith, ends, begins, emitted-once t u (expiry_at s u).signal (expiry_at s u).skipped);
     }
@@ -122,7 +123,8 @@ record IsCountedEvent (t : ℕ × ℕ) (s : State) (event : Event) (outcome : Ou
 
 -- an effect after a write of the timer
 writes-one : (t : ℕ × ℕ) (s : State) (event : Event) (reply : Reply) (u : ℕ × ℕ) (x : Timer) (e : Effect) → number_of u ≡ number_of t → writes_timer t event ≡ true
-    → (makes_periodic t event ≡ false → is_periodic (timer_in (bank_of s) u).config ≡ false → is_periodic x.config ≡ false) → IsCounted t (replaced s u x) e → IsCountedEvent t s event (answered reply e)
+    → (makes_periodic t event ≡ false → is_periodic (timer_in (bank_of s) u).config ≡ false → is_periodic x.config ≡ false) → IsCounted t (replaced s u x) e →
+    IsCountedEvent t s event (answered reply e)
 writes-one t s event reply u x e same writes keeps h = record {
   one_shot = λ quiet o. h.one_shot (is quiet o);
   bound = λ quiet o. let one : written t event ≡ 1 = ap (λ b. if b then 1 else 0) writes in omega (arith, h.bound (is quiet o), one-at-most (is_some (timer_in (bank_of (replaced s u x)) t).due), one);
@@ -136,17 +138,21 @@ writes-one t s event reply u x e same writes keeps h = record {
         within (inr beyond) = ap (λ (y : Timer). is_periodic y.config) (same-timer (replaced s u x) t u same ∙ replaced-past s u x beyond)
 
 -- a write of its configuration
-configures : (t : ℕ × ℕ) (s : State) (p n number value : ℕ) (e : Effect) → register_of number ≡ Some (TimerConfig n) → number_of (p, n) ≡ number_of t → IsCounted t (with_bank s (with_config (bank_of s) (p, n) value s.moment)) e
+configures : (t : ℕ × ℕ) (s : State) (p n number value : ℕ) (e : Effect) → register_of number ≡ Some (TimerConfig n) → number_of (p, n) ≡ number_of t →
+    IsCounted t (with_bank s (with_config (bank_of s) (p, n) value s.moment)) e
     → IsCountedEvent t s (Write p number value) (answered Done e)
 configures t s p n number value e is same =
     writes-one t s (Write p number value) Done (p, n) (after_config (timer_in (bank_of s) (p, n)) value s.moment) e same (config-writes t p n number value is same)
-    (λ quiet _. period-config value ∙ sym (ap (λ b. b && is_periodic value) (ap (λ (o : Option Register). option_map_or (is_config_of t p) o false) is ∙ same-number (number_of (p, n)) (number_of t) same)) ∙ quiet)
+    (λ quiet _. period-config value
+    ∙ sym (ap (λ b. b && is_periodic value) (ap (λ (o : Option Register). option_map_or (is_config_of t p) o false) is ∙ same-number (number_of (p, n)) (number_of t) same)) ∙ quiet)
 
 -- and of its count
-counts : (t : ℕ × ℕ) (s : State) (p n number value : ℕ) (e : Effect) → register_of number ≡ Some (TimerCount n) → number_of (p, n) ≡ number_of t → IsCounted t (with_bank s (with_count (bank_of s) (p, n) value s.moment)) e
+counts : (t : ℕ × ℕ) (s : State) (p n number value : ℕ) (e : Effect) → register_of number ≡ Some (TimerCount n) → number_of (p, n) ≡ number_of t →
+    IsCounted t (with_bank s (with_count (bank_of s) (p, n) value s.moment)) e
     → IsCountedEvent t s (Write p number value) (answered Done e)
 counts t s p n number value e is same =
-    writes-one t s (Write p number value) Done (p, n) (after_count (timer_in (bank_of s) (p, n)) value s.moment) e same (count-writes t p n number value is same) (λ _ o. period-count (timer_in (bank_of s) (p, n)).config value ∙ o)
+    writes-one t s (Write p number value) Done (p, n) (after_count (timer_in (bank_of s) (p, n)) value s.moment) e same (count-writes t p n number value is same)
+    (λ _ o. period-count (timer_in (bank_of s) (p, n)).config value ∙ o)
 
 -- each event
 event-counted : (t : ℕ × ℕ) (s : State) (event : Event) → IsCountedEvent t s event (step s event)

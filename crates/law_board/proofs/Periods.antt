@@ -50,7 +50,8 @@ goes-after t s e f a b due h =
     let middle : ℕ = due + x.count * periods t e.1 in
     b middle (still-periodic x y due (periods t e.1) h first)
     ∙ ap (λ (z : Timer). after_periods z middle (periods t f.1)) first
-    ∙ ap (λ d. record { config = x.config; count = x.count; due = Some d }) (sums due x.count (periods t e.1) (periods t f.1) (periods t (e.1 ++ f.1)) (omega (arith, expiries-joined t e.1 f.1, skips-joined t e.1 f.1)))
+    ∙ ap (λ d. record { config = x.config; count = x.count; due = Some d })
+    (sums due x.count (periods t e.1) (periods t f.1) (periods t (e.1 ++ f.1)) (omega (arith, expiries-joined t e.1 f.1, skips-joined t e.1 f.1)))
   where
     sums : (d c m n l : ℕ) → l ≡ m + n → d + c * m + c * n ≡ d + c * l
     sums d c m n l e = rw e (grind arith)

@@ -61,7 +61,9 @@ fits-load s address count = long (nat_lt 8 count) refl
         either_true true = refl
         either_true false = refl
 
-        by : (t : Bool) → t ≡ true → IsReply (load_reply (option_map_or (λ r. Err r) (cond t (Some BadLength) (cond (not (nat_lt (address / 4096) (length s.pages))) (Some OutsideSpace) (cond (nat_lt 4096 (address % 4096 + count)) (Some CrossesPage) None))) (Ok (record { items = bytes }))))
+        by : (t : Bool) → t ≡ true → IsReply (load_reply (option_map_or (λ r. Err r)
+            (cond t (Some BadLength) (cond (not (nat_lt (address / 4096) (length s.pages))) (Some OutsideSpace) (cond (nat_lt 4096 (address % 4096 + count)) (Some CrossesPage) None)))
+            (Ok (record { items = bytes }))))
         by true e = tt
         by false e = cc
     long false is = answered (refusal_of (space_of s) address count) (ltb-false 8 count is)

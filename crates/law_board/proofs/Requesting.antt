@@ -68,7 +68,8 @@ mute s e same none = record {
 tells-after : (s : State) (e f : Effect) → Tells s e → Tells e.0 f → Tells s (after e f)
 tells-after s e f a b = record {
   many = b.many ∙ a.many;
-  joins = λ p v on. b.joins p v (subst (λ n. p < n) (sym a.many) on) ∙ ap (λ r. r || has_request_notice p v f.1) (a.joins p v on) ∙ or-assoc (is_requested s p v) (has_request_notice p v e.1) (has_request_notice p v f.1) ∙ ap (λ r. is_requested s p v || r) (sym (emitted-joined p v e.1 f.1));
+  joins = λ p v on. b.joins p v (subst (λ n. p < n) (sym a.many) on) ∙ ap (λ r. r || has_request_notice p v f.1) (a.joins p v on)
+      ∙ or-assoc (is_requested s p v) (has_request_notice p v e.1) (has_request_notice p v f.1) ∙ ap (λ r. is_requested s p v || r) (sym (emitted-joined p v e.1 f.1));
   fresh = λ p v on emitted. split p v on (has_request_notice p v e.1) refl (sym (emitted-joined p v e.1 f.1) ∙ emitted);
 }
   where
@@ -87,7 +88,8 @@ tells-request s p v clear = record { many = length-set s.apics p (request (apic_
 
     joins : (q w : ℕ) → q < processors s → (q ≡ p) ⊎ (q ≢ p) → is_requested (with_apic s p apic) q w ≡ (is_requested s q w || ((q == p && w == v) || false))
     joins q w on (inl here) =
-        let stands : get_or (set_list s.apics p apic) q empty_apic ≡ apic = ap (λ i. get_or (set_list s.apics p apic) i empty_apic) here ∙ get_or-set_same s.apics p apic empty_apic (subst (λ i. i < processors s) here on) in
+        let stands : get_or (set_list s.apics p apic) q empty_apic ≡ apic = ap (λ i. get_or (set_list s.apics p apic) i empty_apic) here
+        ∙ get_or-set_same s.apics p apic empty_apic (subst (λ i. i < processors s) here on) in
         let member = contains-insert nat_cmp_total (apic_of s p).requested v w in
         let same : is_requested s q w ≡ is_requested s p w = ap (λ i. is_requested s i w) here in
         ap (λ (a : Apic). set.contains a.requested w) stands ∙ grind (arith, nat_tests)
@@ -106,7 +108,8 @@ emitted-withdrawn p v q i [] = refl
 emitted-withdrawn p v q i (t ∷ tickets) = emitted-withdrawn p v q i tickets
 
 emitted-expiry : (p v : ℕ) (t : ℕ × ℕ) (signal : Option ℕ) (skipped : ℕ) → has_request_notice p v (expiry_notices t signal skipped) ≡ false
-emitted-expiry p v t signal skipped = emitted-joined p v (expired_notices t signal) (skipped_notices t skipped) ∙ both (first signal) (either (λ ns. has_request_notice p v ns ≡ false) (skipped == 0) _ _ (λ _. refl) (λ _. refl))
+emitted-expiry p v t signal skipped = emitted-joined p v (expired_notices t signal) (skipped_notices t skipped)
+    ∙ both (first signal) (either (λ ns. has_request_notice p v ns ≡ false) (skipped == 0) _ _ (λ _. refl) (λ _. refl))
   where
     both : {a b : Bool} → a ≡ false → b ≡ false → (a || b) ≡ false
     both {a} {b} h k = ap (λ x. x || b) h ∙ k
@@ -121,7 +124,8 @@ emitted = record {
   joins = tells-after;
   requests = tells-request;
   accepts = λ s p i m. mute s _ refl (λ _ _. refl);
-  locations = λ s p i m rest _ _. either (λ ns. Tells s (placed_state s p i m rest, Placed (ticket_of m) p i ∷ ns)) (nat_lt 0 (length rest)) _ _ (λ _. mute s _ refl (λ _ _. refl)) (λ _. mute s _ refl (λ _ _. refl));
+  locations = λ s p i m rest _ _. either (λ ns. Tells s (placed_state s p i m rest, Placed (ticket_of m) p i ∷ ns)) (nat_lt 0 (length rest)) _ _
+      (λ _. mute s _ refl (λ _ _. refl)) (λ _. mute s _ refl (λ _ _. refl));
   marks = λ s p i. either (λ ns. Tells s (with_space s (after_pending (space_of s) p i), ns)) (is_pending (space_of s) p i) _ _ (λ _. mute s _ refl (λ _ _. refl)) (λ _. mute s _ refl (λ _ _. refl));
   consumes = λ s p i t _. mute s _ refl (λ _ _. refl);
   withdraws = λ s p i port. mute s _ refl (λ q v. emitted-withdrawn q v p i (withdrawn_of port (queue_of s.queues p i)));
@@ -152,23 +156,27 @@ tells s t event reply e same h = record {
   emitted = λ p v on.
       let was : is_requested t p v ≡ is_requested s p v = ap (λ (l : List Apic). set.contains (get_or l p empty_apic).requested v) same in
       let within : p < processors t = subst (λ n. p < n) (sym (ap (λ (l : List Apic). length l) same)) on in
-      came (is_requested s p v) (has_request_notice p v e.1) (is_requested e.0 p v) (h.joins p v within ∙ ap (λ r. r || has_request_notice p v e.1) was) (λ emitted. sym was ∙ h.fresh p v within emitted);
+      came (is_requested s p v) (has_request_notice p v e.1) (is_requested e.0 p v) (h.joins p v within ∙ ap (λ r. r || has_request_notice p v e.1) was)
+      (λ emitted. sym was ∙ h.fresh p v within emitted);
 }
 
 -- an outcome without Requested, and without new requests
-quiet : (s t : State) (event : Event) (reply : Reply) → processors t ≡ processors s → ((p v : ℕ) → p < processors s → is_requested t p v ≡ true → is_requested s p v ≡ true) → NotifiesRequests s event (unchanged t reply)
+quiet : (s t : State) (event : Event) (reply : Reply) → processors t ≡ processors s →
+    ((p v : ℕ) → p < processors s → is_requested t p v ≡ true → is_requested s p v ≡ true) → NotifiesRequests s event (unchanged t reply)
 quiet s t event reply many fewer = record { many = many; emitted = λ p v on. stayed (is_requested s p v) (is_requested t p v) (fewer p v on) }
 
 silent : (s : State) (event : Event) (reply : Reply) → NotifiesRequests s event (unchanged s reply)
 silent s event reply = quiet s s event reply refl (λ _ _ _ e. e)
 
 -- an APIC in which no more is requested
-fewer : (s : State) (p : ℕ) (apic : Apic) → ((v : ℕ) → set.contains apic.requested v ≡ true → is_requested s p v ≡ true) → (q v : ℕ) → q < processors s → is_requested (with_apic s p apic) q v ≡ true → is_requested s q v ≡ true
+fewer : (s : State) (p : ℕ) (apic : Apic) → ((v : ℕ) → set.contains apic.requested v ≡ true → is_requested s p v ≡ true) → (q v : ℕ) → q < processors s →
+    is_requested (with_apic s p apic) q v ≡ true → is_requested s q v ≡ true
 fewer s p apic less q v on is = by (cases_eq q p)
   where
     by : (q ≡ p) ⊎ (q ≢ p) → is_requested s q v ≡ true
     by (inl here) =
-        let stands : get_or (set_list s.apics p apic) q empty_apic ≡ apic = ap (λ i. get_or (set_list s.apics p apic) i empty_apic) here ∙ get_or-set_same s.apics p apic empty_apic (subst (λ i. i < processors s) here on) in
+        let stands : get_or (set_list s.apics p apic) q empty_apic ≡ apic = ap (λ i. get_or (set_list s.apics p apic) i empty_apic) here
+        ∙ get_or-set_same s.apics p apic empty_apic (subst (λ i. i < processors s) here on) in
         ap (λ i. is_requested s i v) here ∙ less v (sym (ap (λ (a : Apic). set.contains a.requested v) stands) ∙ is)
     by (inr away) = sym (ap (λ (a : Apic). set.contains a.requested v) (get_or-set_other s.apics p q apic empty_apic away)) ∙ is
 
@@ -182,7 +190,8 @@ none-emptied s p (suc i) q v =
     emitted-joined q v e.1 (source_emptied e.0 p i).1
     ∙ ap (λ b. b || has_request_notice q v (source_emptied e.0 p i).1) (none-emptied s p i q v)
     ∙ emitted-joined q v freed.1 (queue_emptied freed.0 p i).1
-    ∙ ap (λ b. b || has_request_notice q v (queue_emptied freed.0 p i).1) (elim (slot_of e.0 p i) as (λ o. has_request_notice q v (option_map_or (withdrawn_ticket e.0 p i) o (nothing e.0)).1 ≡ false) [ None ↦ refl | Some t ↦ refl ])
+    ∙ ap (λ b. b || has_request_notice q v (queue_emptied freed.0 p i).1)
+    (elim (slot_of e.0 p i) as (λ o. has_request_notice q v (option_map_or (withdrawn_ticket e.0 p i) o (nothing e.0)).1 ≡ false) [ None ↦ refl | Some t ↦ refl ])
     ∙ emitted-withdrawn q v p i (map ticket_of (queue_of freed.0.queues p i))
 
 -- a processor that is reset has nothing requested, and the others have what they had
@@ -214,8 +223,10 @@ steps s event = throughout Tells NotifiesRequests emitted (record {
   configures = λ s p n number value e _ _ h. tells s _ _ _ e refl h;
   counts = λ s p n number value e _ _ h. tells s _ _ _ e refl h;
   repeats = λ s port flag p i f _ _. quiet s (with_flag s p i f) _ _ refl (λ _ _ _ e. e);
-  signals = λ s port flag p i f _ _ h. let lit : State = with_flag s p i f in tells s s _ _ (after (flagged s p i f) (raised lit p i)) refl (tells-after s (flagged s p i f) (raised lit p i) (mute s _ refl (λ _ _. refl)) h);
-  pauses = λ s event p mark _ _. quiet s (with_suspension s p mark) event _ (length-set s.apics p (apic_with_suspension (apic_of s p) mark)) (fewer s p (apic_with_suspension (apic_of s p) mark) (λ v is. is));
+  signals = λ s port flag p i f _ _ h. let lit : State = with_flag s p i f in tells s s _ _ (after (flagged s p i f) (raised lit p i)) refl
+      (tells-after s (flagged s p i f) (raised lit p i) (mute s _ refl (λ _ _. refl)) h);
+  pauses = λ s event p mark _ _. quiet s (with_suspension s p mark) event _ (length-set s.apics p (apic_with_suspension (apic_of s p) mark))
+      (fewer s p (apic_with_suspension (apic_of s p) mark) (λ v is. is));
   resets = λ s p _ h. resets s p h;
 }) s event
 
@@ -231,15 +242,19 @@ or-second true b h = refl
 or-second false b h = h
 
 -- every vector that becomes requested during a run has a notice
-emitted-over : (s : State) (events : List Event) (p v : ℕ) → p < processors s → is_requested s p v ≡ false → is_requested (run_of s events).0 p v ≡ true → has_request_notice p v (run_of s events).2 ≡ true
+emitted-over : (s : State) (events : List Event) (p v : ℕ) → p < processors s → is_requested s p v ≡ false → is_requested (run_of s events).0 p v ≡ true →
+    has_request_notice p v (run_of s events).2 ≡ true
 unfolding run_of
 emitted-over s [] p v on clear stands = absurd (cc)
-emitted-over s (event ∷ events) p v on clear stands = emitted-joined p v (step s event).2 (run_of now events).2 ∙ by (is_requested (step s event).0 p v) refl (emitted-over (step s event).0 events p v (subst (λ n. p < n) (sym (steps s event).many) on))
+emitted-over s (event ∷ events) p v on clear stands = emitted-joined p v (step s event).2 (run_of now events).2
+    ∙ by (is_requested (step s event).0 p v) refl (emitted-over (step s event).0 events p v (subst (λ n. p < n) (sym (steps s event).many) on))
   where
     now : State
     now = (step s event).0
 
-    by : (b : Bool) → is_requested now p v ≡ b → (is_requested now p v ≡ false → is_requested (run_of now events).0 p v ≡ true → has_request_notice p v (run_of now events).2 ≡ true) → (has_request_notice p v (step s event).2 || has_request_notice p v (run_of now events).2) ≡ true
+    by : (b : Bool) → is_requested now p v ≡ b →
+        (is_requested now p v ≡ false → is_requested (run_of now events).0 p v ≡ true → has_request_notice p v (run_of now events).2 ≡ true) →
+        (has_request_notice p v (step s event).2 || has_request_notice p v (run_of now events).2) ≡ true
     by true e rest = or-first (has_request_notice p v (step s event).2) (has_request_notice p v (run_of now events).2) (emitted-of s event p v on ∙ ap (λ b. not b && is_requested now p v) clear ∙ e)
     by false e rest = or-second (has_request_notice p v (step s event).2) (has_request_notice p v (run_of now events).2) (rest e stands)
 
@@ -279,7 +294,8 @@ unfolding step
 taken-clear s p v on is =
     let apic : Apic = taken_at s p v in
     let below : nat_lt p (processors s) ≡ true = grind (arith, nat_tests) in
-    let now : (step s (Take p)).0 ≡ with_apic s p apic = ap (λ (b : Bool). (if b then taken s p else refused s NoSuchProcessor).0) below ∙ ap (λ (o : Option ℕ). option_map_or (λ w. with_apic s p (taken_at s p w)) o s) is in
+    let now : (step s (Take p)).0 ≡ with_apic s p apic = ap (λ (b : Bool). (if b then taken s p else refused s NoSuchProcessor).0) below
+    ∙ ap (λ (o : Option ℕ). option_map_or (λ w. with_apic s p (taken_at s p w)) o s) is in
     let member : set.contains apic.requested v ≡ (not (eq_by_cmp nat_cmp v v) && is_requested s p v) = contains-remove nat_cmp_total (apic_of s p).requested v v in
     ap (λ (t : State). is_requested t p v) now ∙ ap (λ (a : Apic). set.contains a.requested v) (get_or-set_same s.apics p apic empty_apic on) ∙ grind (arith, nat_tests)
 
@@ -288,4 +304,5 @@ emitted-between s events p v first second =
     let now : State = (step s (Take p)).0 in
     let taken_first = taken-next s p v first in
     let taken_second = taken-next (run_of now events).0 p v second in
-    emitted-over now events p v (subst (λ n. p < n) (sym (steps s (Take p)).many) taken_first.0) (taken-clear s p v taken_first.0 taken_first.1) (next-requested (apic_of (run_of now events).0 p) v taken_second.1)
+    emitted-over now events p v (subst (λ n. p < n) (sym (steps s (Take p)).many) taken_first.0) (taken-clear s p v taken_first.0 taken_first.1)
+    (next-requested (apic_of (run_of now events).0 p) v taken_second.1)

@@ -16,16 +16,17 @@ use Rattle.law_board.specs.Saved.{changed, put_back, is_zero_page, is_idle, is_e
 use Rattle.synic_board.specs.Sound.{HasShape}
 use Rattle.synic_board.specs.Settled.{IsSettled}
 
--- an element behind a front is replaced
+-- an element after a prefix is replaced
 set-behind : {A : Type 0} (front : List A) (x y : A) (rest : List A) (k : ℕ) → k ≡ length front → slice_set (front ++ y ∷ rest) k x ≡ front ++ x ∷ rest
 set-behind [] x y rest zero e = refl
 set-behind [] x y rest (suc k) e = absurd (omega (arith, e))
 set-behind (z ∷ front) x y rest zero e = absurd (omega (arith, e))
 set-behind (z ∷ front) x y rest (suc k) e = ap (λ xs. z ∷ xs) (set-behind front x y rest k (omega (arith, e)))
 
--- one element more stands, whether it was put back or is as at first
+-- one more element is equal, whether it was put back or has its first value
 back-step : {A : Type 0} (first : A) (front xs : List A) (x : A) (k : ℕ) (b : Bool) (tickets_monotone : List (ℕ × A)) → k ≡ length front → (b ≡ true → x ≡ first) →
-    put_back ((front ++ x ∷ []) ++ replicate (length xs) first) tickets_monotone ≡ (front ++ x ∷ []) ++ xs → put_back (front ++ first ∷ replicate (length xs) first) (if b then tickets_monotone else (k, x) ∷ tickets_monotone) ≡ front ++ x ∷ xs
+    put_back ((front ++ x ∷ []) ++ replicate (length xs) first) tickets_monotone ≡ (front ++ x ∷ []) ++ xs →
+    put_back (front ++ first ∷ replicate (length xs) first) (if b then tickets_monotone else (k, x) ∷ tickets_monotone) ≡ front ++ x ∷ xs
 back-step {A} first front xs x k true tickets_monotone e known rest =
     let reps : List A = replicate (length xs) first in
     ap (λ ys. put_back ys tickets_monotone) (sym (append_assoc front (x ∷ []) reps ∙ ap (λ z. front ++ z ∷ reps) (known refl))) ∙ rest ∙ append_assoc front (x ∷ []) xs
@@ -33,14 +34,16 @@ back-step {A} first front xs x k false tickets_monotone e known rest =
     let reps : List A = replicate (length xs) first in
     ap (λ ys. put_back ys tickets_monotone) (set-behind front x first reps k e ∙ sym (append_assoc front (x ∷ []) reps)) ∙ rest ∙ append_assoc front (x ∷ []) xs
 
--- behind a front that stands already, the elements come back
-back-behind : {A : Type 0} (is_first : A → Bool) (first : A) (P : A → Type 0) → ((x : A) → P x → is_first x ≡ true → x ≡ first) → (front xs : List A) (k : ℕ) → k ≡ length front → All P xs → put_back (front ++ replicate (length xs) first) (changed is_first k xs) ≡ front ++ xs
+-- after a prefix that is equal already, the elements are put back
+back-behind : {A : Type 0} (is_first : A → Bool) (first : A) (P : A → Type 0) → ((x : A) → P x → is_first x ≡ true → x ≡ first) → (front xs : List A) (k : ℕ) →
+    k ≡ length front → All P xs → put_back (front ++ replicate (length xs) first) (changed is_first k xs) ≡ front ++ xs
 back-behind is_first first P known front [] k e all = refl
 back-behind is_first first P known front (x ∷ xs) k e all =
     back-step first front xs x k (is_first x) (changed is_first (suc k) xs) e (known x (All-head P x xs all))
     (back-behind is_first first P known (front ++ x ∷ []) xs (suc k) (omega (arith, e, length-append front (x ∷ []))) (All-tail P x xs all))
 
-pub back : {A : Type 0} (is_first : A → Bool) (first : A) (P : A → Type 0) → ((x : A) → P x → is_first x ≡ true → x ≡ first) → (xs : List A) (n : ℕ) → length xs ≡ n → All P xs → put_back (replicate n first) (changed is_first 0 xs) ≡ xs
+pub back : {A : Type 0} (is_first : A → Bool) (first : A) (P : A → Type 0) → ((x : A) → P x → is_first x ≡ true → x ≡ first) → (xs : List A) (n : ℕ) → length xs ≡ n →
+    All P xs → put_back (replicate n first) (changed is_first 0 xs) ≡ xs
 back is_first first P known xs n e all = ap (λ m. put_back (replicate m first) (changed is_first 0 xs)) (sym e) ∙ back-behind is_first first P known [] xs 0 refl all
 
 -- each way to be as at first
@@ -98,18 +101,31 @@ saved-back s h settled =
     let slots = back is_none None IsAny known-none s.slots (16 * length s.apics) h.slots (all-any s.slots) in
     let timers = back is_idle idle_timer IsAny known-timer s.timers 32 h.timers (all-any s.timers) in
     let suspended = marks-back s settled in
-    (λ i. record { moment = s.moment; next_ticket = s.next_ticket; apics = s.apics; regs = s.regs; pages = pages i; own = own i; ports = ports i; queues = queues i; slots = slots i; timers = timers i; suspended = suspended i })
+    (λ i. record {
+      moment = s.moment;
+      next_ticket = s.next_ticket;
+      apics = s.apics;
+      regs = s.regs;
+      pages = pages i;
+      own = own i;
+      ports = ports i;
+      queues = queues i;
+      slots = slots i;
+      timers = timers i;
+      suspended = suspended i;
+    })
 
 pub saved-once : (s t : State) → HasShape s → IsSettled s → HasShape t → IsSettled t → saved s ≡ saved t → s ≡ t
 saved-once s t h settled k also e = sym (saved-back s h settled) ∙ ap restored e ∙ saved-back t k also
 
--- an element that is put behind all that were changed is changed last
+-- an element that is put after all that were changed is changed last
 none-changed : {A : Type 0} (is_first : A → Bool) (first : A) (xs : List A) (k : ℕ) → ((i : ℕ) → i < length xs → is_first (slice_index_or xs i first) ≡ true) → changed is_first k xs ≡ []
 none-changed is_first first [] k h = refl
 none-changed {A} is_first first (x ∷ xs) k h =
     ap (λ b. if b then changed is_first (suc k) xs else (k, x) ∷ changed is_first (suc k) xs) (h 0 (omega arith)) ∙ none-changed is_first first xs (suc k) (λ i below. h (suc i) (omega arith))
 
-changed-last : {A : Type 0} (is_first : A → Bool) (first : A) (xs : List A) (k j : ℕ) (x : A) → j < length xs → is_first x ≡ false → ((i : ℕ) → j ≤ i → i < length xs → is_first (slice_index_or xs i first) ≡ true) →
+changed-last : {A : Type 0} (is_first : A → Bool) (first : A) (xs : List A) (k j : ℕ) (x : A) → j < length xs → is_first x ≡ false →
+    ((i : ℕ) → j ≤ i → i < length xs → is_first (slice_index_or xs i first) ≡ true) →
     changed is_first k (slice_set xs j x) ≡ changed is_first k xs ++ (k + j, x) ∷ []
 changed-last is_first first [] k j x below new h = absurd (omega arith)
 changed-last {A} is_first first (y ∷ xs) k zero x below new h =
@@ -124,10 +140,12 @@ changed-last {A} is_first first (y ∷ xs) k (suc j) x below new h =
     by (is_first y) (more ∙ ap (λ n. changed is_first (suc k) xs ++ (n, x) ∷ []) place)
   where
     by : (b : Bool) → changed is_first (suc k) (slice_set xs j x) ≡ changed is_first (suc k) xs ++ (k + suc j, x) ∷ [] →
-        (if b then changed is_first (suc k) (slice_set xs j x) else (k, y) ∷ changed is_first (suc k) (slice_set xs j x)) ≡ (if b then changed is_first (suc k) xs else (k, y) ∷ changed is_first (suc k) xs) ++ (k + suc j, x) ∷ []
+        (if b then changed is_first (suc k) (slice_set xs j x) else (k, y) ∷ changed is_first (suc k) (slice_set xs j x)) ≡
+        (if b then changed is_first (suc k) xs else (k, y) ∷ changed is_first (suc k) xs) ++ (k + suc j, x) ∷ []
     by true e = e
     by false e = ap (λ ys. (k, y) ∷ ys) e
 
-pub last-saved : {A : Type 0} (is_first : A → Bool) (first : A) (xs : List A) (j : ℕ) (x : A) → j < length xs → is_first x ≡ false → ((i : ℕ) → j ≤ i → i < length xs → is_first (slice_index_or xs i first) ≡ true) →
+pub last-saved : {A : Type 0} (is_first : A → Bool) (first : A) (xs : List A) (j : ℕ) (x : A) → j < length xs → is_first x ≡ false →
+    ((i : ℕ) → j ≤ i → i < length xs → is_first (slice_index_or xs i first) ≡ true) →
     changed is_first 0 (slice_set xs j x) ≡ changed is_first 0 xs ++ (j, x) ∷ []
 last-saved is_first first xs j x below new h = changed-last is_first first xs 0 j x below new h ∙ ap (λ n. changed is_first 0 xs ++ (n, x) ∷ []) (zero-add j)

@@ -52,13 +52,15 @@ stays-seen s t p i same (inl none) = inl (same.queue ∙ none)
 stays-seen s t p i same (inr (full, marked)) = inr (ap (λ k. k == 0) same.slot ∙ full, same.pending ∙ marked)
 
 alike-requested : (s : State) (q v p i : ℕ) → IsAlike s (requested s q v).0 p i
-alike-requested s q v p i = either (λ (e : Effect). IsAlike s e.0 p i) (set.contains (apic_of s q).requested v) _ _ (λ _. alike s p i) (λ _. record { regs = refl; queue = refl; slot = refl; pending = refl })
+alike-requested s q v p i = either (λ (e : Effect). IsAlike s e.0 p i) (set.contains (apic_of s q).requested v) _ _ (λ _. alike s p i)
+    (λ _. record { regs = refl; queue = refl; slot = refl; pending = refl })
 
 alike-raised : (s : State) (q j p i : ℕ) → IsAlike s (raised s q j).0 p i
 alike-raised s q j p i = elim (raised_by (regs_of s q) j) as (λ o. IsAlike s (option_map_or (requested s q) o (nothing s)).0 p i) [ None ↦ alike s p i | Some v ↦ alike-requested s q v p i ]
 
 -- the pending bit of a page in which a slot is written, of this source or another
-pending-other : (page bytes : List ℕ) (j i : ℕ) → length page ≡ 4096 → length bytes ≡ 256 → j < 16 → i < 16 → i ≢ j → is_set (with_slot page j bytes) (pending_place i) 0 ≡ is_set page (pending_place i) 0
+pending-other : (page bytes : List ℕ) (j i : ℕ) → length page ≡ 4096 → length bytes ≡ 256 → j < 16 → i < 16 → i ≢ j →
+    is_set (with_slot page j bytes) (pending_place i) 0 ≡ is_set page (pending_place i) 0
 pending-other page bytes j i long size below under ne = ap (λ b. bit_at b 0 == 1) (outside page bytes j (256 * i + 5) (omega (arith, long, below)) size (apart (cases_lt i j)))
   where
     apart : (i < j) ⊎ (j ≤ i) → (256 * i + 5 < 256 * j) ⊎ (256 * j + 256 ≤ 256 * i + 5)
@@ -70,7 +72,8 @@ unfolding image
 pending-byte (FromPort ticket port kind payload) moment = refl
 pending-byte (FromTimer ticket timer expiration) moment = refl
 
-pending-written : (page : List ℕ) (i : ℕ) (m : Message) (pending : Bool) (moment : ℕ) → length page ≡ 4096 → i < 16 → length (image m pending moment) ≡ 256 → pending ≡ true → is_set (with_slot page i (image m pending moment)) (pending_place i) 0 ≡ true
+pending-written : (page : List ℕ) (i : ℕ) (m : Message) (pending : Bool) (moment : ℕ) → length page ≡ 4096 → i < 16 → length (image m pending moment) ≡ 256 →
+    pending ≡ true → is_set (with_slot page i (image m pending moment)) (pending_place i) 0 ≡ true
 pending-written page i m pending moment long under size is =
     ap (λ b. bit_at b 0 == 1) (inside page (image m pending moment) i 5 (omega (arith, long, under)) (omega (arith, size)) ∙ ap (λ b. get_or (image m b moment) 5 0) is ∙ pending-byte m moment)
 
@@ -140,7 +143,11 @@ seen-placed n s p i h below under = head (queue_of s.queues p i) refl
         let bytes : List ℕ = image_of s m (next ∷ rest) in
         let size : length bytes ≡ 256 = length-image m (nat_lt 0 (length (next ∷ rest))) s.moment good.2 in
         let full = occupied n s p i m (next ∷ rest) h below under good in
-        inr (grind (arith, nat_tests, full), ap (λ page. is_set page (pending_place i) 0) (own n s p (with_slot (page_of s p) i bytes) h below) ∙ pending-written (page_of s p) i m (nat_lt 0 (length (next ∷ rest))) s.moment (page-long n s p h.whole below) under size more)
+        inr (
+          grind (arith, nat_tests, full),
+          ap (λ page. is_set page (pending_place i) 0) (own n s p (with_slot (page_of s p) i bytes) h below)
+              ∙ pending-written (page_of s p) i m (nat_lt 0 (length (next ∷ rest))) s.moment (page-long n s p h.whole below) under size more,
+        )
 
 seen-tried : (n : ℕ) (s : State) (p i : ℕ) → IsIntact n s → p < n → i < 16 → delivers s p ≡ true → IsSeen (tried s p i).0 p i
 unfolding tried
@@ -149,7 +156,12 @@ seen-tried n s p i h below under on =
     either Seen (delivers s p && nat_lt 0 (length (queue_of s.queues p i))) _ _
     (λ _. either Seen (is_slot_empty s p i) _ _
     (λ _. stays-seen (placed s p i).0 (raised (placed s p i).0 p i).0 p i (alike-raised (placed s p i).0 p i p i) (seen-placed n s p i h below under))
-    (λ full. inr (ap (λ k. k == 0) (marked-type n s p i p i h.whole below) ∙ full, ap (λ page. is_set page (pending_place i) 0) (own n s p (with_bit (page_of s p) (pending_place i) 0) h below) ∙ pending-marked (page_of s p) i (page-long n s p h.whole below) under)))
+    (λ full. inr (
+      ap (λ k. k == 0) (marked-type n s p i p i h.whole below)
+          ∙ full,
+      ap (λ page. is_set page (pending_place i) 0) (own n s p (with_bit (page_of s p) (pending_place i) 0) h below)
+          ∙ pending-marked (page_of s p) i (page-long n s p h.whole below) under,
+    )))
     (λ idle. inl (none (queue_of s.queues p i) (ap (λ b. b && nat_lt 0 (length (queue_of s.queues p i))) (sym on) ∙ idle)))
   where
     none : (q : List Message) → nat_lt 0 (length q) ≡ false → q ≡ []
@@ -186,10 +198,13 @@ seen-below n s p (suc k) h below bound on =
     let still : delivers t p ≡ true = ap (λ regs. delivers (record t { regs = regs }) p) first.regs ∙ on in
     record { regs = regs-tried t p k ∙ first.regs; each = λ i less. each i less (cases_eq i k) first intact still }
   where
-    each : (i : ℕ) → i < suc k → (i ≡ k) ⊎ (i ≢ k) → AreSeen s (tried_below s p k).0 p k → IsIntact n (tried_below s p k).0 → delivers (tried_below s p k).0 p ≡ true → IsSeen (tried (tried_below s p k).0 p k).0 p i
-    each i less (inl same) first intact still = subst (λ j. IsSeen (tried (tried_below s p k).0 p k).0 p j) (sym same) (seen-tried n (tried_below s p k).0 p k intact below (omega (arith, bound)) still)
+    each : (i : ℕ) → i < suc k → (i ≡ k) ⊎ (i ≢ k) → AreSeen s (tried_below s p k).0 p k → IsIntact n (tried_below s p k).0 → delivers (tried_below s p k).0 p ≡ true →
+        IsSeen (tried (tried_below s p k).0 p k).0 p i
+    each i less (inl same) first intact still = subst (λ j. IsSeen (tried (tried_below s p k).0 p k).0 p j) (sym same)
+        (seen-tried n (tried_below s p k).0 p k intact below (omega (arith, bound)) still)
     each i less (inr ne) first intact still =
-        stays-seen (tried_below s p k).0 (tried (tried_below s p k).0 p k).0 p i (alike-tried n (tried_below s p k).0 p k i intact below (omega (arith, bound)) (omega (arith, bound, less)) ne) (first.each i (omega (arith, less, ne)))
+        stays-seen (tried_below s p k).0 (tried (tried_below s p k).0 p k).0 p i
+        (alike-tried n (tried_below s p k).0 p k i intact below (omega (arith, bound)) (omega (arith, bound, less)) ne) (first.each i (omega (arith, less, ne)))
 
 pub seen-behind : (s : State) (p i value : ℕ) → IsSound s → p < processors s → i < 16 → delivers s p ≡ true → IsSeen (step s (Write p (number_of_register Eom) value)).0 p i
 unfolding step

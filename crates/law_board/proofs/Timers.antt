@@ -95,7 +95,8 @@ due-inside s u due = by (cases_lt (number_of u) (length s.timers))
         let no : true ≡ false = sym due ∙ never in absurd (cc)
 
 -- the timer that expires
-pub expires-here : (s : State) (t u : ℕ × ℕ) → number_of u ≡ number_of t → is_due (timer_in (bank_of s) u) s.moment ≡ true → timer_in (bank_of (expired_state s u)) t ≡ (after_expiry (timer_in (bank_of s) u) s.moment).0
+pub expires-here : (s : State) (t u : ℕ × ℕ) → number_of u ≡ number_of t → is_due (timer_in (bank_of s) u) s.moment ≡ true →
+    timer_in (bank_of (expired_state s u)) t ≡ (after_expiry (timer_in (bank_of s) u) s.moment).0
 expires-here s t u same due = replaced-here s t u (after_expiry (timer_in (bank_of s) u) s.moment).0 same (due-inside s u due)
 
 -- a Skipped notice reports no expiry
@@ -162,8 +163,10 @@ of-timer t P h = record {
 -- a property of outcomes: of an effect, and of one after a write of the timer
 pub record OfTimerAnswers (t : ℕ × ℕ) (P : State → Effect → Type 0) (Q : State → Event → Outcome → Type 0) : Type 0 where
   pub acts : (s : State) (event : Event) (reply : Reply) (e : Effect) → P s e → Q s event (answered reply e)
-  pub configures : (s : State) (p n number value : ℕ) (e : Effect) → register_of number ≡ Some (TimerConfig n) → number_of (p, n) ≡ number_of t → P (with_bank s (with_config (bank_of s) (p, n) value s.moment)) e → Q s (Write p number value) (answered Done e)
-  pub counts : (s : State) (p n number value : ℕ) (e : Effect) → register_of number ≡ Some (TimerCount n) → number_of (p, n) ≡ number_of t → P (with_bank s (with_count (bank_of s) (p, n) value s.moment)) e → Q s (Write p number value) (answered Done e)
+  pub configures : (s : State) (p n number value : ℕ) (e : Effect) → register_of number ≡ Some (TimerConfig n) → number_of (p, n) ≡ number_of t →
+      P (with_bank s (with_config (bank_of s) (p, n) value s.moment)) e → Q s (Write p number value) (answered Done e)
+  pub counts : (s : State) (p n number value : ℕ) (e : Effect) → register_of number ≡ Some (TimerCount n) → number_of (p, n) ≡ number_of t →
+      P (with_bank s (with_count (bank_of s) (p, n) value s.moment)) e → Q s (Write p number value) (answered Done e)
   pub resets : (s : State) (p : ℕ) → number_of t / 4 ≡ p → P s (emptied s p) → timer_in (bank_of (reset s p).0) t ≡ idle_timer → Q s (Reset p) (reset s p)
 
 -- it holds of each way to answer
@@ -176,10 +179,12 @@ of-timer-answers t P Q h k = record {
   acts = λ s event reply moment ports regs e _ g. from s _ event reply e refl g;
   eases = λ s event reply p a _ _ _. silent s _ event reply refl;
   stores = λ s address bytes e g. from s _ _ _ e refl g;
-  configures = λ s p n number value e _ is g. writes s (Write p number value) (p, n) (after_config (timer_in (bank_of s) (p, n)) value s.moment) e g (λ same. k.configures s p n number value e is same g);
+  configures = λ s p n number value e _ is g. writes s (Write p number value) (p, n) (after_config (timer_in (bank_of s) (p, n)) value s.moment) e g
+      (λ same. k.configures s p n number value e is same g);
   counts = λ s p n number value e _ is g. writes s (Write p number value) (p, n) (after_count (timer_in (bank_of s) (p, n)) value s.moment) e g (λ same. k.counts s p n number value e is same g);
   repeats = λ s port flag p i f _ _. silent s (with_flag s p i f) _ _ refl;
-  signals = λ s port flag p i f _ _ g. let lit : State = with_flag s p i f in k.acts s (Signal port flag) FlagWasClear (after (flagged s p i f) (raised lit p i)) (h.joins s (flagged s p i f) (raised lit p i) (h.still s (flagged s p i f) refl refl refl) g);
+  signals = λ s port flag p i f _ _ g. let lit : State = with_flag s p i f in k.acts s (Signal port flag) FlagWasClear (after (flagged s p i f) (raised lit p i))
+      (h.joins s (flagged s p i f) (raised lit p i) (h.still s (flagged s p i f) refl refl refl) g);
   pauses = λ s event p mark _ _. silent s (with_suspension s p mark) event _ refl;
   resets = λ s p _ g. resets s p g (cases_eq (number_of t / 4) p);
 }
@@ -217,7 +222,8 @@ same-number m n e = grind (arith, nat_tests)
 
 -- a write of its configuration writes the timer
 pub config-writes : (t : ℕ × ℕ) (p n number value : ℕ) → register_of number ≡ Some (TimerConfig n) → number_of (p, n) ≡ number_of t → writes_timer t (Write p number value) ≡ true
-config-writes t p n number value is same = ap (λ (o : Option Register). option_map_or (λ r. is_config_of t p r || is_count_of t p r) o false) is ∙ ap (λ b. b || false) (same-number (number_of (p, n)) (number_of t) same)
+config-writes t p n number value is same = ap (λ (o : Option Register). option_map_or (λ r. is_config_of t p r || is_count_of t p r) o false) is
+    ∙ ap (λ b. b || false) (same-number (number_of (p, n)) (number_of t) same)
 
 -- and one of its count
 pub count-writes : (t : ℕ × ℕ) (p n number value : ℕ) → register_of number ≡ Some (TimerCount n) → number_of (p, n) ≡ number_of t → writes_timer t (Write p number value) ≡ true

@@ -86,8 +86,10 @@ timely = record {
   joins = timely-after;
   requests = λ s p v _. record { same = refl; emitted = (tt, tt) };
   accepts = λ s p i m. record { same = refl; emitted = (tt, tt) };
-  locations = λ s p i m rest _ _. either (λ ns. Timely s (placed_state s p i m rest, Placed (ticket_of m) p i ∷ ns)) (nat_lt 0 (length rest)) _ _ (λ _. record { same = refl; emitted = (tt, (tt, tt)) }) (λ _. record { same = refl; emitted = (tt, tt) });
-  marks = λ s p i. either (λ ns. Timely s (with_space s (after_pending (space_of s) p i), ns)) (is_pending (space_of s) p i) _ _ (λ _. record { same = refl; emitted = tt }) (λ _. record { same = refl; emitted = (tt, tt) });
+  locations = λ s p i m rest _ _. either (λ ns. Timely s (placed_state s p i m rest, Placed (ticket_of m) p i ∷ ns)) (nat_lt 0 (length rest)) _ _
+      (λ _. record { same = refl; emitted = (tt, (tt, tt)) }) (λ _. record { same = refl; emitted = (tt, tt) });
+  marks = λ s p i. either (λ ns. Timely s (with_space s (after_pending (space_of s) p i), ns)) (is_pending (space_of s) p i) _ _
+      (λ _. record { same = refl; emitted = tt }) (λ _. record { same = refl; emitted = (tt, tt) });
   consumes = λ s p i t _. record { same = refl; emitted = (tt, tt) };
   withdraws = λ s p i port. record { same = refl; emitted = timely-withdrawals s.moment p i (withdrawn_of port (queue_of s.queues p i)) };
   frees = λ s p i t. record { same = refl; emitted = (tt, tt) };
@@ -117,7 +119,8 @@ on-time s event = (throughout Timely IsOnTime timely (record {
   configures = λ s p n number value e _ _ h. tells s _ _ _ e h;
   counts = λ s p n number value e _ _ h. tells s _ _ _ e h;
   repeats = λ s port flag p i f _ _. silent s _ _ _;
-  signals = λ s port flag p i f _ _ h. let lit : State = with_flag s p i f in tells s s _ _ (after (flagged s p i f) (raised lit p i)) (timely-after s (flagged s p i f) (raised lit p i) (record { same = refl; emitted = (tt, tt) }) h);
+  signals = λ s port flag p i f _ _ h. let lit : State = with_flag s p i f in tells s s _ _ (after (flagged s p i f) (raised lit p i))
+      (timely-after s (flagged s p i f) (raised lit p i) (record { same = refl; emitted = (tt, tt) }) h);
   pauses = λ s event p mark _ _. silent s _ event _;
   resets = λ s p _ h. let e : Effect = emptied s p in tells s s _ _ (after e (cleared e.0 p, [])) (timely-after s e (cleared e.0 p, []) h (record { same = refl; emitted = tt }));
 }) s event).emitted

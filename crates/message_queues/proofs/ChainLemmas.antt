@@ -48,32 +48,49 @@ low-more : (a b c : ℕ) → a ≤ b → suc b ≤ c → a ≤ c
 low-more a b c x y = omega arith
 
 -- the buffers may get other owners and ranks, if those in the chain keep theirs
-pub links-frame : (m n : Buffers) (o r o' r' : ℕ → ℕ) (q low : ℕ) (p s : Option ℕ) (ks : List ℕ) (t l : Option ℕ) (top : ℕ) → ((k : ℕ) → IsKey m o r q low top k → (n k ≡ m k) × (o' k ≡ q) × (r' k ≡ r k)) → Links m o r q low p s ks t l top → Links n o' r' q low p s ks t l top
+pub links-frame : (m n : Buffers) (o r o' r' : ℕ → ℕ) (q low : ℕ) (p s : Option ℕ) (ks : List ℕ) (t l : Option ℕ) (top : ℕ) →
+    ((k : ℕ) → IsKey m o r q low top k → (n k ≡ m k) × (o' k ≡ q) × (r' k ≡ r k)) → Links m o r q low p s ks t l top → Links n o' r' q low p s ks t l top
 links-frame m n o r o' r' q low p s [] t l top f h = h
 links-frame m n o r o' r' q low p s (k ∷ ks) t l top f h =
     let room = links-room m o r q (suc (r k)) (Some k) h.0.behind ks t l top h.6 in
     let here = f k (record { b = h.0; owned = h.2; above = h.3; below = room; there = h.4 }) in
-    let above : low ≤ r k = h.3 in
-    (h.0, h.1, here.1, rw here.2 above, here.0 ∙ h.4, h.5, rw here.2 (links-frame m n o r o' r' q (suc (r k)) (Some k) h.0.behind ks t l top (λ j w. f j (record { b = w.b; owned = w.owned; above = low-more low (r k) (r j) above w.above; below = w.below; there = w.there })) h.6))
+    let above : low ≤ r k = h.3 in (
+      h.0,
+      h.1,
+      here.1,
+      rw here.2 above,
+      here.0 ∙ h.4,
+      h.5,
+      rw here.2 (links-frame m n o r o' r' q (suc (r k)) (Some k) h.0.behind ks t l top
+          (λ j w. f j (record { b = w.b; owned = w.owned; above = low-more low (r k) (r j) above w.above; below = w.below; there = w.there })) h.6),
+    )
 
-pub those-frame : (m n : Buffers) (o r : ℕ → ℕ) (q low : ℕ) (p s : Option ℕ) (ks : List ℕ) (t l : Option ℕ) (top : ℕ) → ((k : ℕ) → IsKey m o r q low top k → message_at n k ≡ message_at m k) → Links m o r q low p s ks t l top → those n ks ≡ those m ks
+pub those-frame : (m n : Buffers) (o r : ℕ → ℕ) (q low : ℕ) (p s : Option ℕ) (ks : List ℕ) (t l : Option ℕ) (top : ℕ) →
+    ((k : ℕ) → IsKey m o r q low top k → message_at n k ≡ message_at m k) → Links m o r q low p s ks t l top → those n ks ≡ those m ks
 those-frame m n o r q low p s [] t l top f h = refl
 those-frame m n o r q low p s (k ∷ ks) t l top f h =
     let room = links-room m o r q (suc (r k)) (Some k) h.0.behind ks t l top h.6 in
     let above : low ≤ r k = h.3 in
-    rw (f k (record { b = h.0; owned = h.2; above = h.3; below = room; there = h.4 }), those-frame m n o r q (suc (r k)) (Some k) h.0.behind ks t l top (λ j w. f j (record { b = w.b; owned = w.owned; above = low-more low (r k) (r j) above w.above; below = w.below; there = w.there })) h.6) refl
+    rw (
+      f k (record { b = h.0; owned = h.2; above = h.3; below = room; there = h.4 }),
+      those-frame m n o r q (suc (r k)) (Some k) h.0.behind ks t l top
+          (λ j w. f j (record { b = w.b; owned = w.owned; above = low-more low (r k) (r j) above w.above; below = w.below; there = w.there })) h.6,
+    ) refl
 
 -- two parts
-pub links-join : (m : Buffers) (o r : ℕ → ℕ) (q low mid top : ℕ) (p s : Option ℕ) (xs ys : List ℕ) (t l u v : Option ℕ) → Links m o r q low p s xs u v mid → Links m o r q mid v u ys t l top → Links m o r q low p s (xs ++ ys) t l top
+pub links-join : (m : Buffers) (o r : ℕ → ℕ) (q low mid top : ℕ) (p s : Option ℕ) (xs ys : List ℕ) (t l u v : Option ℕ) → Links m o r q low p s xs u v mid →
+    Links m o r q mid v u ys t l top → Links m o r q low p s (xs ++ ys) t l top
 links-join m o r q low mid top p s [] ys t l u v h k = rw (h.0, ← h.1) (links-lower m o r q low mid v u ys t l top h.2 k)
   where
-    links-lower : (m : Buffers) (o r : ℕ → ℕ) (q low mid : ℕ) (p s : Option ℕ) (ks : List ℕ) (t l : Option ℕ) (top : ℕ) → low ≤ mid → Links m o r q mid p s ks t l top → Links m o r q low p s ks t l top
+    links-lower : (m : Buffers) (o r : ℕ → ℕ) (q low mid : ℕ) (p s : Option ℕ) (ks : List ℕ) (t l : Option ℕ) (top : ℕ) → low ≤ mid → Links m o r q mid p s ks t l top →
+        Links m o r q low p s ks t l top
     links-lower m o r q low mid p s [] t l top le h = (h.0, h.1, omega (arith, h.2))
     links-lower m o r q low mid p s (k ∷ ks) t l top le h = (h.0, h.1, h.2, omega (arith, h.3), h.4, h.5, h.6)
 links-join m o r q low mid top p s (x ∷ xs) ys t l u v h k = (h.0, h.1, h.2, h.3, h.4, h.5, links-join m o r q (suc (r x)) mid top (Some x) h.0.behind xs ys t l u v h.6 k)
 
 -- the last key
-pub links-last : (m : Buffers) (o r : ℕ → ℕ) (q low : ℕ) (p s : Option ℕ) (ks : List ℕ) (t l : Option ℕ) (top e : ℕ) → Links m o r q low p s ks t l top → l ≡ Some e → (p ≡ Some e) ⊎ IsKey m o r q low top e
+pub links-last : (m : Buffers) (o r : ℕ → ℕ) (q low : ℕ) (p s : Option ℕ) (ks : List ℕ) (t l : Option ℕ) (top e : ℕ) → Links m o r q low p s ks t l top → l ≡ Some e →
+    (p ≡ Some e) ⊎ IsKey m o r q low top e
 links-last m o r q low p s [] t l top e h is = inl (sym h.1 ∙ is)
 links-last m o r q low p s (k ∷ ks) t l top e h is = go (links-last m o r q (suc (r k)) (Some k) h.0.behind ks t l top e h.6 is)
   where
@@ -192,7 +209,8 @@ cut_start m o r q low s (k ∷ ks) t l top it h = go l (last_there m o r q (suc 
     go (Some x) e = refl
 
 -- a push gives the chain with the key at its end
-pub push-chain : (m n : Buffers) (o r : ℕ → ℕ) (q : ℕ) (c d : Chain) (message : Message) (key : ℕ) (h : IsChain m o r q c) → Pushed m n c d message key → (after : IsChain n (at_key key q o) (at_key key h.top r) q d) × (after.keys ≡ h.keys ++ key ∷ [])
+pub push-chain : (m n : Buffers) (o r : ℕ → ℕ) (q : ℕ) (c d : Chain) (message : Message) (key : ℕ) (h : IsChain m o r q c) → Pushed m n c d message key →
+    (after : IsChain n (at_key key q o) (at_key key h.top r) q d) × (after.keys ≡ h.keys ++ key ∷ [])
 push-chain m n o r q c d message key h move = (
   record {
     keys = h.keys ++ key ∷ [];
@@ -230,7 +248,15 @@ push-chain m n o r q c d message key h move = (
         go (inr w) = other key w refl
 
     single : Links n o' r' q h.top c.last (Some key) (key ∷ []) None (Some key) (suc h.top)
-    single = (record { message = message; before = c.last; behind = None }, refl, at_key-same key q o, omega (arith, at_key-same key h.top r), move.here last_other, refl, (refl, refl, omega (arith, at_key-same key h.top r)))
+    single = (
+      record { message = message; before = c.last; behind = None },
+      refl,
+      at_key-same key q o,
+      omega (arith, at_key-same key h.top r),
+      move.here last_other,
+      refl,
+      (refl, refl, omega (arith, at_key-same key h.top r)),
+    )
 
 -- the first key
 pub links-first : (m : Buffers) (o r : ℕ → ℕ) (q low : ℕ) (p s : Option ℕ) (ks : List ℕ) (l : Option ℕ) (top e : ℕ) → Links m o r q low p s ks None l top → s ≡ Some e → IsKey m o r q low top e
@@ -247,12 +273,18 @@ cut_end m o r q low p s [] l top it h = rw h.0 refl
 cut_end m o r q low p s (k ∷ ks) l top it h = rw h.1 refl
 
 -- unlinking a key joins its predecessor and its successor
-pub unlink-chain : (m n : Buffers) (o r : ℕ → ℕ) (q : ℕ) (c d : Chain) (key : ℕ) (b : Buffer) (message : Message) (h : IsChain m o r q c) (xs ys : List ℕ) → h.keys ≡ xs ++ key ∷ ys → Unlinked m n c d key b message → (after : IsChain n o r q d) × (after.keys ≡ xs ++ ys)
+pub unlink-chain : (m n : Buffers) (o r : ℕ → ℕ) (q : ℕ) (c d : Chain) (key : ℕ) (b : Buffer) (message : Message) (h : IsChain m o r q c) (xs ys : List ℕ) →
+    h.keys ≡ xs ++ key ∷ ys → Unlinked m n c d key b message → (after : IsChain n o r q d) × (after.keys ≡ xs ++ ys)
 unlink-chain m n o r q c d key b message h xs ys split move = (
   record {
     keys = xs ++ ys;
     top = h.top;
-    links = rw (move.first ∙ ap (λ (x : Option ℕ). if_none x b.behind c.first) before_is ∙ cut_start m o r q 0 c.first xs cut.u cut.v cut.mid b.behind cut.front, move.last ∙ ap (λ (x : Option ℕ). if_none b.behind x c.last) before_is ∙ cut_end m o r q (suc (r key)) (Some key) b.behind ys c.last h.top cut.v back)
+    links = rw (
+      move.first ∙ ap (λ (x : Option ℕ). if_none x b.behind c.first) before_is
+          ∙ cut_start m o r q 0 c.first xs cut.u cut.v cut.mid b.behind cut.front,
+      move.last ∙ ap (λ (x : Option ℕ). if_none b.behind x c.last) before_is
+          ∙ cut_end m o r q (suc (r key)) (Some key) b.behind ys c.last h.top cut.v back,
+    )
         (links-join n o r q 0 cut.mid h.top None (new_start c.first b.behind xs) xs ys None (new_end cut.v ys c.last) b.behind cut.v front' back');
     len = omega (arith, move.len, h.len, ap length split, length-append xs (key ∷ ys), length-append xs ys);
   },
@@ -312,7 +344,8 @@ slice_get-set_other (y ∷ xs) (suc i) zero x h = refl
 slice_get-set_other (y ∷ xs) (suc i) (suc j) x h = slice_get-set_other xs i j x (λ e. h (ap (λ (k : ℕ). suc k) e))
 
 -- one chain is replaced, and the others have the same messages
-pub queues-set : (m n : Buffers) (chains : List Chain) (q : ℕ) (d : Chain) → ((i : ℕ) (c : Chain) → slice_get chains i ≡ Some c → i ≢ q → queue_at n c ≡ queue_at m c) → queues_at n (slice_set chains q d) ≡ slice_set (queues_at m chains) q (queue_at n d)
+pub queues-set : (m n : Buffers) (chains : List Chain) (q : ℕ) (d : Chain) → ((i : ℕ) (c : Chain) → slice_get chains i ≡ Some c → i ≢ q → queue_at n c ≡ queue_at m c) →
+    queues_at n (slice_set chains q d) ≡ slice_set (queues_at m chains) q (queue_at n d)
 queues-set m n [] q d same = refl
 queues-set m n (c ∷ cs) zero d same = ap (λ (x : Queues). queue_at n d ∷ x) (all n m cs (λ i e h. same (suc i) e h (omega arith)))
   where
@@ -361,17 +394,31 @@ moved m n chains q c d o' r' after k at others chain view = record {
     each i e h (inr not) =
         let ne : i ≢ q = λ is. not (ap (λ (x : ℕ). Some x) (sym is)) in
         let old = k.each i e (sym (slice_get-set_other chains q i d ne) ∙ h) in
-        record { keys = old.keys; top = old.top; links = links-frame m n k.owner k.rank o' r' i 0 None e.first old.keys None e.last old.top (λ key w. others i key old.top ne w) old.links; len = old.len }
+        record {
+          keys = old.keys;
+          top = old.top;
+          links = links-frame m n k.owner k.rank o' r' i 0 None e.first old.keys None e.last old.top (λ key w. others i key old.top ne w) old.links;
+          len = old.len;
+        }
 
     same : (i : ℕ) (e : Chain) → slice_get chains i ≡ Some e → i ≢ q → queue_at n e ≡ queue_at m e
     same i e h ne =
         let old = k.each i e h in
-        let new : IsChain n o' r' i e = record { keys = old.keys; top = old.top; links = links-frame m n k.owner k.rank o' r' i 0 None e.first old.keys None e.last old.top (λ key w. others i key old.top ne w) old.links; len = old.len } in
-        row-chain n o' r' i e new ∙ those-frame m n k.owner k.rank i 0 None e.first old.keys None e.last old.top (λ key w. ap (option_map (λ (b : Buffer). b.message)) (others i key old.top ne w).0) old.links ∙ sym (row-chain m k.owner k.rank i e old)
+        let new : IsChain n o' r' i e = record {
+          keys = old.keys;
+          top = old.top;
+          links = links-frame m n k.owner k.rank o' r' i 0 None e.first old.keys None e.last old.top (λ key w. others i key old.top ne w) old.links;
+          len = old.len;
+        } in
+        row-chain n o' r' i e new
+        ∙ those-frame m n k.owner k.rank i 0 None e.first old.keys None e.last old.top (λ key w. ap (option_map (λ (b : Buffer). b.message)) (others i key old.top ne w).0) old.links
+        ∙ sym (row-chain m k.owner k.rank i e old)
 
-pub push-moved : (m n : Buffers) (chains : List Chain) (q : ℕ) (c d : Chain) (message : Message) (key : ℕ) → AreChains m chains → slice_get chains q ≡ Some c → Pushed m n c d message key → Moved m n chains q d (queue_at m c ++ message ∷ [])
+pub push-moved : (m n : Buffers) (chains : List Chain) (q : ℕ) (c d : Chain) (message : Message) (key : ℕ) → AreChains m chains → slice_get chains q ≡ Some c →
+    Pushed m n c d message key → Moved m n chains q d (queue_at m c ++ message ∷ [])
 push-moved m n chains q c d message key k at move = moved m n chains q c d (at_key key q k.owner) (at_key key h.top k.rank) (queue_at m c ++ message ∷ []) k at others after.0
-    (row-chain n (at_key key q k.owner) (at_key key h.top k.rank) q d after.0 ∙ ap (those n) after.1 ∙ filter_map-append (message_at n) h.keys (key ∷ []) ∙ rw (messages_same, move.here last_other) (ap (λ (x : List Message). x ++ message ∷ []) (sym (row-chain m k.owner k.rank q c h))))
+    (row-chain n (at_key key q k.owner) (at_key key h.top k.rank) q d after.0 ∙ ap (those n) after.1 ∙ filter_map-append (message_at n) h.keys (key ∷ [])
+    ∙ rw (messages_same, move.here last_other) (ap (λ (x : List Message). x ++ message ∷ []) (sym (row-chain m k.owner k.rank q c h))))
   where
     h : IsChain m k.owner k.rank q c
     h = k.each q c at
@@ -412,7 +459,8 @@ pub record Taken (m n : Buffers) (o r : ℕ → ℕ) (q : ℕ) (d : Chain) (xs y
   pub back_same : those n ys ≡ those m ys
   pub others : (j : ℕ) → o j ≢ q → n j ≡ m j
 
-pub unlink-taken : (m n : Buffers) (o r : ℕ → ℕ) (q : ℕ) (c d : Chain) (key : ℕ) (b : Buffer) (message : Message) (h : IsChain m o r q c) (xs ys : List ℕ) → h.keys ≡ xs ++ key ∷ ys → Unlinked m n c d key b message → Taken m n o r q d xs ys
+pub unlink-taken : (m n : Buffers) (o r : ℕ → ℕ) (q : ℕ) (c d : Chain) (key : ℕ) (b : Buffer) (message : Message) (h : IsChain m o r q c) (xs ys : List ℕ) →
+    h.keys ≡ xs ++ key ∷ ys → Unlinked m n c d key b message → Taken m n o r q d xs ys
 unlink-taken m n o r q c d key b message h xs ys split move = record { after = taken.0; keys = taken.1; front_same = front_same; back_same = back_same; others = others }
   where
     taken : (a : IsChain n o r q d) × (a.keys ≡ xs ++ ys)
@@ -480,7 +528,8 @@ unlink-taken m n o r q c d key b message h xs ys split move = record { after = t
         by j w (inr not) = ap (option_map (λ (x : Buffer). x.message)) (move.others j (apart j w.above) (past j w.above) not)
 
 -- Unlinking the key between xs and ys removes its message from the queue.
-pub unlink-moved : (m n : Buffers) (chains : List Chain) (q : ℕ) (c d : Chain) (key : ℕ) (b : Buffer) (message : Message) (k : AreChains m chains) (at : slice_get chains q ≡ Some c) (xs ys : List ℕ) → (k.each q c at).keys ≡ xs ++ key ∷ ys → Unlinked m n c d key b message →
+pub unlink-moved : (m n : Buffers) (chains : List Chain) (q : ℕ) (c d : Chain) (key : ℕ) (b : Buffer) (message : Message) (k : AreChains m chains)
+    (at : slice_get chains q ≡ Some c) (xs ys : List ℕ) → (k.each q c at).keys ≡ xs ++ key ∷ ys → Unlinked m n c d key b message →
     Moved m n chains q d (those m xs ++ those m ys) × (queue_at m c ≡ those m xs ++ message ∷ those m ys)
 unlink-moved m n chains q c d key b message k at xs ys split move =
     let h = k.each q c at in
@@ -504,9 +553,11 @@ chain_at m chains view q c is within read = slice_get_read chains (length view) 
 pub queue-is : (m : Buffers) (chains : List Chain) (q : ℕ) (c : Chain) → slice_get chains q ≡ Some c → slice_index_or (queues_at m chains) q [] ≡ queue_at m c
 queue-is m chains q c at = get_or-map (queue_at m) chains q c [] (slice_get_within chains q c at) ∙ ap (queue_at m) (get_or_from_slice_get chains q c c at)
 
-sum-queues : (m : Buffers) (chains : List Chain) → ((q : ℕ) (c : Chain) → slice_get chains q ≡ Some c → length (queue_at m c) ≡ c.len) → total_of chains ≡ sum_by (length {A = Message}) (queues_at m chains)
+sum-queues : (m : Buffers) (chains : List Chain) → ((q : ℕ) (c : Chain) → slice_get chains q ≡ Some c → length (queue_at m c) ≡ c.len) →
+    total_of chains ≡ sum_by (length {A = Message}) (queues_at m chains)
 sum-queues m [] f = refl
-sum-queues m (c ∷ cs) f = let here = f 0 c refl in let more = sum-queues m cs (λ i e h. f (suc i) e h) in omega (arith, sum_by-cons (λ (c : Chain). c.len) c cs, sum_by-cons (length {A = Message}) (queue_at m c) (queues_at m cs))
+sum-queues m (c ∷ cs) f = let here = f 0 c refl in let more = sum-queues m cs (λ i e h. f (suc i) e h) in omega
+    (arith, sum_by-cons (λ (c : Chain). c.len) c cs, sum_by-cons (length {A = Message}) (queue_at m c) (queues_at m cs))
 
 -- the chains have as many buffers as the queues have messages
 pub total-queues : (m : Buffers) (chains : List Chain) → AreChains m chains → total_of chains ≡ sum_by (length {A = Message}) (queues_at m chains)
@@ -527,7 +578,8 @@ keys-forward : (m : Buffers) (o r : ℕ → ℕ) (q low : ℕ) (p s : Option ℕ
 keys-forward m o r q low p s [] t l top h = refl
 keys-forward m o r q low p s (k ∷ ks) t l top h = rw (h.1, h.4) (ap (λ (x : List ℕ). k ∷ x) (keys-forward m o r q (suc (r k)) (Some k) h.0.behind ks t l top h.6))
 
-keys-backward : (m : Buffers) (o r : ℕ → ℕ) (q low : ℕ) (p s : Option ℕ) (ks : List ℕ) (t l : Option ℕ) (top n : ℕ) → Links m o r q low p s ks t l top → keys_from (λ b. b.before) m (length ks + n) l ≡ reverse ks ++ keys_from (λ b. b.before) m n p
+keys-backward : (m : Buffers) (o r : ℕ → ℕ) (q low : ℕ) (p s : Option ℕ) (ks : List ℕ) (t l : Option ℕ) (top n : ℕ) → Links m o r q low p s ks t l top →
+    keys_from (λ b. b.before) m (length ks + n) l ≡ reverse ks ++ keys_from (λ b. b.before) m n p
 keys-backward m o r q low p s [] t l top n h = ap (λ (x : ℕ). keys_from (λ b. b.before) m x l) (zero-add n) ∙ ap (keys_from (λ b. b.before) m n) h.1
 keys-backward m o r q low p s (k ∷ ks) t l top n h =
     let more = keys-backward m o r q (suc (r k)) (Some k) h.0.behind ks t l top (suc n) h.6 in

@@ -140,13 +140,15 @@ is_from_port-owner port (FromTimer ticket timer expiration) h = sym (ne_eqb (own
 -- the buffers of a port are those of the owner with its number
 pub port_used-owner : (qs : Queues) (port : ℕ) → port < 16 → port_used qs port ≡ used_by port qs
 port_used-owner qs port h =
-    sum_by-same (count_by (is_from_port port)) (count_of port) qs (λ q. sum_by-same (λ m. cond (is_from_port port m) 1 0) (λ m. cond (owner_of m == port) 1 0) q (λ m. ap (λ (b : Bool). cond b 1 0) (is_from_port-owner port m h)))
+    sum_by-same (count_by (is_from_port port)) (count_of port) qs
+    (λ q. sum_by-same (λ m. cond (is_from_port port m) 1 0) (λ m. cond (owner_of m == port) 1 0) q (λ m. ap (λ (b : Bool). cond b 1 0) (is_from_port-owner port m h)))
 
 is_from_timer-owner : (timer : ℕ × ℕ) (m : Message) → timer.1 < 4 → HasOwner m → is_from_timer timer m ≡ (owner_of m == owner_of_timer timer)
 is_from_timer-owner timer (FromPort ticket n kind payload) h k = sym (ne_eqb n (owner_of_timer timer) (λ e. omega (arith, e)))
 is_from_timer-owner timer (FromTimer ticket t expiration) h k = go (eqb_tells t.0 timer.0) (eqb_tells t.1 timer.1)
   where
-    go : ((nat_eq t.0 timer.0 ≡ true) × (t.0 ≡ timer.0)) ⊎ ((nat_eq t.0 timer.0 ≡ false) × (t.0 ≢ timer.0)) → ((nat_eq t.1 timer.1 ≡ true) × (t.1 ≡ timer.1)) ⊎ ((nat_eq t.1 timer.1 ≡ false) × (t.1 ≢ timer.1))
+    go : ((nat_eq t.0 timer.0 ≡ true) × (t.0 ≡ timer.0)) ⊎ ((nat_eq t.0 timer.0 ≡ false) × (t.0 ≢ timer.0)) →
+        ((nat_eq t.1 timer.1 ≡ true) × (t.1 ≡ timer.1)) ⊎ ((nat_eq t.1 timer.1 ≡ false) × (t.1 ≢ timer.1))
         → (nat_eq t.0 timer.0 && nat_eq t.1 timer.1) ≡ nat_eq (owner_of_timer t) (owner_of_timer timer)
     go (inl a) (inl b) = rw (a.0, b.0) (sym (eq-eqb (owner_of_timer t) (owner_of_timer timer) (omega (arith, a.1, b.1))))
     go (inl a) (inr b) = rw (a.0, b.0) (sym (ne_eqb (owner_of_timer t) (owner_of_timer timer) (λ e. b.1 (omega (arith, a.1, e)))))
@@ -203,7 +205,8 @@ buffer-left qs (FromTimer ticket timer expiration) owned h b =
 
 -- one queue is replaced, and one owner has more or fewer messages
 pub counted-set : (qs : Queues) (in_use : List ℕ) (q : ℕ) (r : List Message) (o v : ℕ) → IsCounted qs in_use → q < length qs → o < 48 →
-    ((x : ℕ) → x ≢ o → count_of x r ≡ count_of x (slice_index_or qs q [])) → v + count_of o (slice_index_or qs q []) ≡ used_by o qs + count_of o r → v ≤ share o → IsCounted (slice_set qs q r) (slice_set in_use o v)
+    ((x : ℕ) → x ≢ o → count_of x r ≡ count_of x (slice_index_or qs q [])) → v + count_of o (slice_index_or qs q []) ≡ used_by o qs + count_of o r → v ≤ share o →
+    IsCounted (slice_set qs q r) (slice_set in_use o v)
 counted-set qs in_use q r o v counts at below same now bound = record {
   size = length-set in_use o v ∙ counts.size;
   counted = λ x k. counted x k (eqb_tells x o);
@@ -239,7 +242,8 @@ pub count-le-used : (qs : Queues) (q o : ℕ) → q < length qs → count_of o (
 count-le-used qs q o at = get_or-le-sum_by (count_of o) qs q [] at
 
 -- the head leaves a queue
-pub head-used : (qs : Queues) (in_use : List ℕ) (q : ℕ) (m : Message) (rest : List Message) → IsCounted qs in_use → q < length qs → owner_of m < 48 → slice_index_or qs q [] ≡ m ∷ rest → 1 ≤ slice_index_or in_use (owner_of m) 0
+pub head-used : (qs : Queues) (in_use : List ℕ) (q : ℕ) (m : Message) (rest : List Message) → IsCounted qs in_use → q < length qs → owner_of m < 48 →
+    slice_index_or qs q [] ≡ m ∷ rest → 1 ≤ slice_index_or in_use (owner_of m) 0
 head-used qs in_use q m rest counts at below is =
     let here = ap (count_of (owner_of m)) is ∙ count_of-cons (owner_of m) m rest in
     let yes = at_place-same (owner_of m) (owner_of m) refl in

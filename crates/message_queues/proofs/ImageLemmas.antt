@@ -44,7 +44,8 @@ first-word kind size flags a b c =
     λ i. byte_0 i ∷ byte_1 i ∷ byte_2 i ∷ byte_3 i ∷ byte_4 i ∷ byte_5 i ∷ byte_6 i ∷ byte_7 i ∷ []
 
 -- a header and a payload, written over zeros
-pub assembled-is : (h p zeros : List ℕ) → zeros ≡ replicate 240 0 → length h ≡ 16 → length p ≤ 240 → take 16 (h ++ zeros) ++ (p ++ drop (16 + length p - 16) (drop 16 (h ++ zeros))) ≡ h ++ p ++ replicate (240 - length p) 0
+pub assembled-is : (h p zeros : List ℕ) → zeros ≡ replicate 240 0 → length h ≡ 16 → length p ≤ 240 →
+    take 16 (h ++ zeros) ++ (p ++ drop (16 + length p - 16) (drop 16 (h ++ zeros))) ≡ h ++ p ++ replicate (240 - length p) 0
 assembled-is h p zeros z a b =
     let n : 16 + length p - 16 ≡ length p = omega arith in
     rw (take_at h zeros 16 a, drop_at h zeros 16 a, n, z, drop-replicate {X = ℕ} (length p) 240 0) (sym (append_assoc h p (replicate (240 - length p) 0)))

@@ -1,4 +1,4 @@
--- The message that stands at a place of a chain.
+-- The message at a place of a chain.
 use Rattle.std.proofs.Common.{◌≡◌, ℕ, zero, suc, ◌<◌, List, [], ◌∷◌, length, Option, Some, None, refl, sym, ap, ◌∙◌, arith}
 use Rattle.std.specs.Option.{option_and_then, option_map}
 use Rattle.std.specs.List.{slice_get}
@@ -22,7 +22,8 @@ first-step : (m : Buffers) (i : ℕ) (s : Option ℕ) (k : ℕ) (b : Buffer) →
 first-step m zero s k b is there = ap (next_of m) is ∙ ap behind_of there
 first-step m (suc i) s k b is there = ap (next_of m) (first-step m i s k b is there)
 
-at-links : (m : Buffers) (o r : ℕ → ℕ) (q low : ℕ) (p s : Option ℕ) (ks : List ℕ) (l : Option ℕ) (top : ℕ) → Links m o r q low p s ks None l top → (i : ℕ) → i < length ks → At m s (messages (length ks) m s) i
+at-links : (m : Buffers) (o r : ℕ → ℕ) (q low : ℕ) (p s : Option ℕ) (ks : List ℕ) (l : Option ℕ) (top : ℕ) → Links m o r q low p s ks None l top → (i : ℕ) →
+    i < length ks → At m s (messages (length ks) m s) i
 at-links m o r q low p s [] l top h i below = absurd (omega arith)
 at-links m o r q low p s (k ∷ ks) l top h zero below = record {
   key = k;
@@ -38,13 +39,14 @@ at-links m o r q low p s (k ∷ ks) l top h (suc i) below =
       b = rest.b;
       is = first-step m i s k h.0 h.1 h.4 ∙ rest.is;
       there = rest.there;
-      message = ap (λ (from : Option ℕ). slice_get (messages (suc (length ks)) m from) (suc i)) h.1 ∙ ap (λ (x : Option Buffer). slice_get (put_first x (messages (length ks) m (behind_of x))) (suc i)) h.4 ∙ rest.message;
+      message = ap (λ (from : Option ℕ). slice_get (messages (suc (length ks)) m from) (suc i)) h.1
+          ∙ ap (λ (x : Option Buffer). slice_get (put_first x (messages (length ks) m (behind_of x))) (suc i)) h.4 ∙ rest.message;
     }
 
 pub at-chain : (m : Buffers) (o r : ℕ → ℕ) (q : ℕ) (c : Chain) (h : IsChain m o r q c) (i : ℕ) → i < c.len → At m c.first (queue_at m c) i
 at-chain m o r q c h i below = rw h.len (at-links m o r q 0 None c.first h.keys c.last h.top h.links i (omega (arith, h.len)))
 
--- the same of a key that is known to stand there
+-- the same of a key that is known to be there
 pub record AtKey (m : Buffers) (ms : List Message) (i key : ℕ) : Type 0 where
   pub b : Buffer
   pub there : m key ≡ Some b

@@ -89,7 +89,8 @@ one-owned m own = by
     by zero d below = own
     by (suc k) d below = absurd (omega arith)
 
-pub append-step : (a : Inside) (qs : Queues) (q : ℕ) (c d : Chain) (key : ℕ) (message : Message) (o : ℕ) (new : Slab Buffer) → QueuesInvariant a → queues_of a ≡ qs → q < length qs → c ≡ get_or a.chains.items q c → HasOwner message → HasBuffer qs message → o ≡ owner_of message →
+pub append-step : (a : Inside) (qs : Queues) (q : ℕ) (c d : Chain) (key : ℕ) (message : Message) (o : ℕ) (new : Slab Buffer) → QueuesInvariant a → queues_of a ≡ qs →
+    q < length qs → c ≡ get_or a.chains.items q c → HasOwner message → HasBuffer qs message → o ≡ owner_of message →
     Pushed (get a.buffers) (get new) c d message key → slab_len new ≡ slab_len a.buffers + 1 → new.capacity ≡ a.buffers.capacity →
     Step new (slice_set a.chains.items q d) (slice_set a.in_use o (slice_index_or a.in_use o 0 + 1)) (slice_set qs q (slice_index_or qs q [] ++ message ∷ []))
 append-step a qs q c d key message o new k shown within read own has is pushed len capacity =
@@ -103,7 +104,8 @@ append-step a qs q c d key message o new k shown within read own has is pushed l
       both_ways = both-ways (get new) (slice_set a.chains.items q d) m.kept;
       held = omega (arith, total-set a.chains.items q c d h.at, k.held, len, pushed.len);
       room = omega (arith, k.room, capacity);
-      owned = rw view (owned-set a q (slice_index_or (queues_of a) q [] ++ message ∷ []) k (All-append HasOwner (slice_index_or (queues_of a) q []) (message ∷ []) (owned-at a q k h.within) (one-owned message own)));
+      owned = rw view (owned-set a q (slice_index_or (queues_of a) q [] ++ message ∷ []) k
+          (All-append HasOwner (slice_index_or (queues_of a) q []) (message ∷ []) (owned-at a q k h.within) (one-owned message own)));
       counts = rw (view, is) (counted-append (queues_of a) a.in_use q message k.counts h.within (owner-below message own) left);
       view_is = view ∙ ap (λ (x : Queues). slice_set x q (slice_index_or x q [] ++ message ∷ [])) shown;
     }
@@ -139,15 +141,18 @@ head-at a qs q c key k shown within read first =
       used = head-used (queues_of a) a.in_use q links.0.message rest k.counts h.within (owner-below links.0.message own) row;
     }
 
-pub head-message : (a : Inside) (qs : Queues) (q : ℕ) (c d : Chain) (key : ℕ) (new : Buffers) (b : Buffer) (message : Message) (h : Head a qs q c key) → Unlinked (get a.buffers) new c d key b message → h.b.message ≡ message
+pub head-message : (a : Inside) (qs : Queues) (q : ℕ) (c d : Chain) (key : ℕ) (new : Buffers) (b : Buffer) (message : Message) (h : Head a qs q c key) →
+    Unlinked (get a.buffers) new c d key b message → h.b.message ≡ message
 head-message a qs q c d key new b message h gone =
     let two : Some h.b ≡ Some b = sym h.there ∙ gone.was in
     let same : h.b ≡ b = cc in
     ap (λ (x : Buffer). x.message) same ∙ sym gone.message_is
 
-pub place-step : (a : Inside) (qs : Queues) (q : ℕ) (c d : Chain) (key : ℕ) (b : Buffer) (message : Message) (o : ℕ) (new : Slab Buffer) → QueuesInvariant a → queues_of a ≡ qs → q < length qs → c ≡ get_or a.chains.items q c → c.first ≡ Some key → o ≡ owner_of message →
+pub place-step : (a : Inside) (qs : Queues) (q : ℕ) (c d : Chain) (key : ℕ) (b : Buffer) (message : Message) (o : ℕ) (new : Slab Buffer) → QueuesInvariant a →
+    queues_of a ≡ qs → q < length qs → c ≡ get_or a.chains.items q c → c.first ≡ Some key → o ≡ owner_of message →
     Unlinked (get a.buffers) (get new) c d key b message → slab_len new + 1 ≡ slab_len a.buffers → new.capacity ≡ a.buffers.capacity →
-    Step new (slice_set a.chains.items q d) (slice_set a.in_use o (slice_index_or a.in_use o 0 - 1)) (slice_set qs q (drop 1 (slice_index_or qs q []))) × (slice_get (slice_index_or qs q []) 0 ≡ Some message)
+    Step new (slice_set a.chains.items q d) (slice_set a.in_use o (slice_index_or a.in_use o 0 - 1)) (slice_set qs q (drop 1 (slice_index_or qs q [])))
+    × (slice_get (slice_index_or qs q []) 0 ≡ Some message)
 place-step a qs q c d key b message o new k shown within read first is gone len capacity =
     let h = here a qs q c k shown within read in
     let chain = k.linked.each q c h.at in
@@ -179,13 +184,16 @@ place-none a qs q c k shown within read none =
 
 -- the port's messages of a queue are its buffers there
 withdrawn-count : (port : ℕ) (q : List Message) → port < 16 → length (withdrawn_of port q) ≡ count_of port q
-withdrawn-count port q below = length-map (filter (is_from_port port) q) ticket_of ∙ length-filter (is_from_port port) q ∙ sum_by-same (λ m. cond (is_from_port port m) 1 0) (λ m. cond (owner_of m == port) 1 0) q (λ m. ap (λ (b : Bool). cond b 1 0) (is_from_port-owner port m below))
+withdrawn-count port q below = length-map (filter (is_from_port port) q) ticket_of ∙ length-filter (is_from_port port) q
+    ∙ sum_by-same (λ m. cond (is_from_port port m) 1 0) (λ m. cond (owner_of m == port) 1 0) q (λ m. ap (λ (b : Bool). cond b 1 0) (is_from_port-owner port m below))
 
 left-count : (port o : ℕ) (q : List Message) → port < 16 → o ≢ port → count_of o (left_of port q) ≡ count_of o q
 left-count port o [] below ne = refl
 left-count port o (m ∷ ms) below ne = go (left-count port o ms below ne) (is_from_port port m) refl (eqb_tells (owner_of m) port)
   where
-    go : count_of o (left_of port ms) ≡ count_of o ms → (b : Bool) → is_from_port port m ≡ b → ((nat_eq (owner_of m) port ≡ true) × (owner_of m ≡ port)) ⊎ ((nat_eq (owner_of m) port ≡ false) × (owner_of m ≢ port)) → count_of o (cond (not b) (m ∷ left_of port ms) (left_of port ms)) ≡ count_of o (m ∷ ms)
+    go : count_of o (left_of port ms) ≡ count_of o ms → (b : Bool) → is_from_port port m ≡ b →
+        ((nat_eq (owner_of m) port ≡ true) × (owner_of m ≡ port)) ⊎ ((nat_eq (owner_of m) port ≡ false) × (owner_of m ≢ port)) →
+        count_of o (cond (not b) (m ∷ left_of port ms) (left_of port ms)) ≡ count_of o (m ∷ ms)
     go more true e (inl t) = let other = at_place-other (owner_of m) o (λ is. ne (sym is ∙ t.1)) in omega (arith, more, other, count_of-cons o m ms)
     go more true e (inr t) = let bad : true ≡ false = sym e ∙ is_from_port-owner port m below ∙ t.0 in cc
     go more false e t = omega (arith, more, count_of-cons o m (left_of port ms), count_of-cons o m ms)
@@ -224,7 +232,8 @@ found a qs q c port k shown within read below =
       in_use = omega (arith, count, k.counts.within port (omega arith), share-le port);
     }
 
-pub withdrawn-step : (a : Inside) (qs : Queues) (q : ℕ) (c d : Chain) (port n : ℕ) (tickets : List ℕ) (new : Slab Buffer) (k : QueuesInvariant a) → queues_of a ≡ qs → q < length qs → c ≡ get_or a.chains.items q c → port < 16 →
+pub withdrawn-step : (a : Inside) (qs : Queues) (q : ℕ) (c d : Chain) (port n : ℕ) (tickets : List ℕ) (new : Slab Buffer) (k : QueuesInvariant a) → queues_of a ≡ qs →
+    q < length qs → c ≡ get_or a.chains.items q c → port < 16 →
     Withdrawn (get a.buffers) (get new) k.linked.owner k.linked.rank q c d port tickets → slab_len new + length tickets ≡ slab_len a.buffers → new.capacity ≡ a.buffers.capacity → n ≡ length tickets →
     Step new (slice_set a.chains.items q d) (slice_set a.in_use port (slice_index_or a.in_use port 0 - n)) (slice_set qs q (left_of port (slice_index_or qs q [])))
 withdrawn-step a qs q c d port n tickets new k shown within read below w len capacity is =
@@ -255,8 +264,10 @@ none-there : (port : ℕ) (q : List Message) → count_by (is_from_port port) q 
 none-there port [] none = (refl, refl)
 none-there port (m ∷ ms) none = go (λ fewer. none-there port ms fewer) (is_from_port port m) refl
   where
-    go : (count_by (is_from_port port) ms ≡ 0 → (filter (is_from_port port) ms ≡ []) × (left_of port ms ≡ ms)) → (b : Bool) → is_from_port port m ≡ b → (cond b (m ∷ filter (is_from_port port) ms) (filter (is_from_port port) ms) ≡ []) × (cond (not b) (m ∷ left_of port ms) (left_of port ms) ≡ m ∷ ms)
-    go rest true e = let one : count_by (is_from_port port) (m ∷ ms) ≡ 1 + count_by (is_from_port port) ms = sum_by-cons (λ x. cond (is_from_port port x) 1 0) m ms ∙ ap (λ (b : Bool). cond b 1 0 + count_by (is_from_port port) ms) e in absurd (omega (arith, none, one))
+    go : (count_by (is_from_port port) ms ≡ 0 → (filter (is_from_port port) ms ≡ []) × (left_of port ms ≡ ms)) → (b : Bool) → is_from_port port m ≡ b →
+        (cond b (m ∷ filter (is_from_port port) ms) (filter (is_from_port port) ms) ≡ []) × (cond (not b) (m ∷ left_of port ms) (left_of port ms) ≡ m ∷ ms)
+    go rest true e = let one : count_by (is_from_port port) (m ∷ ms) ≡ 1 + count_by (is_from_port port) ms = sum_by-cons (λ x. cond (is_from_port port x) 1 0) m ms
+        ∙ ap (λ (b : Bool). cond b 1 0 + count_by (is_from_port port) ms) e in absurd (omega (arith, none, one))
     go rest false e =
         let more = rest (omega (arith, none, sum_by-cons (λ x. cond (is_from_port port x) 1 0) m ms)) in
         (more.0, ap (λ (y : List Message). m ∷ y) more.1)

@@ -61,7 +61,8 @@ pub record AtKey (m0 m : Buffers) (o r : ℕ → ℕ) (q : ℕ) (c0 c : Chain) (
   pub there : m key ≡ Some b
   pub behind : b.behind ≡ first_of rest
 
-pub at_key_now : (m0 m : Buffers) (o r : ℕ → ℕ) (q : ℕ) (c0 c : Chain) (port : ℕ) (next : Option ℕ) (i : ℕ) (tickets : List ℕ) (key : ℕ) (w : Walk m0 m o r q c0 c port next i tickets) → next ≡ Some key → AtKey m0 m o r q c0 c port next i tickets key w
+pub at_key_now : (m0 m : Buffers) (o r : ℕ → ℕ) (q : ℕ) (c0 c : Chain) (port : ℕ) (next : Option ℕ) (i : ℕ) (tickets : List ℕ) (key : ℕ) (w : Walk m0 m o r q c0 c port next i tickets) →
+    next ≡ Some key → AtKey m0 m o r q c0 c port next i tickets key w
 at_key_now m0 m o r q c0 c port next i tickets key w is = by w.back refl
   where
     by : (ks : List ℕ) → w.back ≡ ks → AtKey m0 m o r q c0 c port next i tickets key w
@@ -72,13 +73,21 @@ at_key_now m0 m o r q c0 c port next i tickets key w is = by w.back refl
         let back : w.back ≡ key ∷ ks = e ∙ ap (λ (x : ℕ). x ∷ ks) same in
         let split : w.now.keys ≡ w.front ++ key ∷ ks = w.split ∙ ap (λ (x : List ℕ). w.front ++ x) back in
         let cut = links-cut m o r q 0 None c.first w.front (key ∷ ks) None c.last w.now.top (rw (← split) w.now.links) in
-        record { rest = ks; back_is = back; split = split; b = cut.back.0; there = cut.back.4; behind = links-first_of m o r q (suc (r key)) (Some key) cut.back.0.behind ks c.last w.now.top cut.back.6 }
+        record {
+          rest = ks;
+          back_is = back;
+          split = split;
+          b = cut.back.0;
+          there = cut.back.4;
+          behind = links-first_of m o r q (suc (r key)) (Some key) cut.back.0.behind ks c.last w.now.top cut.back.6;
+        }
 
 seen_more : (m : Buffers) (key : ℕ) (rest : List ℕ) (b : Buffer) → m key ≡ Some b → those m (key ∷ rest) ≡ b.message ∷ those m rest
 seen_more m key rest b e = rw e refl
 
 -- before the last iteration there is a key left
-pub walk-more : (m0 m : Buffers) (o r : ℕ → ℕ) (q : ℕ) (c0 c : Chain) (port : ℕ) (next : Option ℕ) (i : ℕ) (tickets : List ℕ) (w : Walk m0 m o r q c0 c port next i tickets) → IsChain m0 o r q c0 → i < c0.len → (key : ℕ) × (next ≡ Some key)
+pub walk-more : (m0 m : Buffers) (o r : ℕ → ℕ) (q : ℕ) (c0 c : Chain) (port : ℕ) (next : Option ℕ) (i : ℕ) (tickets : List ℕ) (w : Walk m0 m o r q c0 c port next i tickets) → IsChain m0 o r q c0 →
+    i < c0.len → (key : ℕ) × (next ≡ Some key)
 walk-more m0 m o r q c0 c port next i tickets w h0 more = by w.back refl
   where
     by : (ks : List ℕ) → w.back ≡ ks → (key : ℕ) × (next ≡ Some key)
@@ -89,7 +98,8 @@ walk-more m0 m o r q c0 c port next i tickets w h0 more = by w.back refl
     by (k ∷ ks) e = (k, w.next_is ∙ ap first_of e)
 
 -- after the last iteration there is none
-walk-end : (m0 m : Buffers) (o r : ℕ → ℕ) (q : ℕ) (c0 c : Chain) (port : ℕ) (next : Option ℕ) (i : ℕ) (tickets : List ℕ) (w : Walk m0 m o r q c0 c port next i tickets) → IsChain m0 o r q c0 → c0.len ≤ i → w.back ≡ []
+walk-end : (m0 m : Buffers) (o r : ℕ → ℕ) (q : ℕ) (c0 c : Chain) (port : ℕ) (next : Option ℕ) (i : ℕ) (tickets : List ℕ) (w : Walk m0 m o r q c0 c port next i tickets) →
+    IsChain m0 o r q c0 → c0.len ≤ i → w.back ≡ []
 walk-end m0 m o r q c0 c port next i tickets w h0 turns = by w.back refl
   where
     by : (ks : List ℕ) → w.back ≡ ks → w.back ≡ []
@@ -100,7 +110,8 @@ walk-end m0 m o r q c0 c port next i tickets w h0 turns = by w.back refl
         let total = ap length (w.total ∙ ap (λ (x : List Message). w.seen ++ x) (ap (those m) a.back_is ∙ seen_more m k a.rest a.b a.there)) in
         absurd (omega (arith, long, total, w.count, length-append w.seen (a.b.message ∷ those m a.rest)))
 
-pub walk-done : (m0 m : Buffers) (o r : ℕ → ℕ) (q : ℕ) (c0 c : Chain) (port : ℕ) (next : Option ℕ) (i : ℕ) (tickets : List ℕ) (w : Walk m0 m o r q c0 c port next i tickets) → IsChain m0 o r q c0 → c0.len ≤ i → Withdrawn m0 m o r q c0 c port tickets
+pub walk-done : (m0 m : Buffers) (o r : ℕ → ℕ) (q : ℕ) (c0 c : Chain) (port : ℕ) (next : Option ℕ) (i : ℕ) (tickets : List ℕ) (w : Walk m0 m o r q c0 c port next i tickets) → IsChain m0 o r q c0 →
+    c0.len ≤ i → Withdrawn m0 m o r q c0 c port tickets
 walk-done m0 m o r q c0 c port next i tickets w h0 turns =
     let none = walk-end m0 m o r q c0 c port next i tickets w h0 turns in
     let all : queue_at m0 c0 ≡ w.seen = w.total ∙ rw none (append-nil w.seen) in
@@ -121,7 +132,8 @@ record Added (port : ℕ) (seen : List Message) (message : Message) (stay : List
   left : left_of port (seen ++ message ∷ []) ≡ left_of port seen ++ stay
   withdrawn : withdrawn_of port (seen ++ message ∷ []) ≡ withdrawn_of port seen ++ tickets
 
-added : (port : ℕ) (seen : List Message) (message : Message) (stay : List Message) (tickets : List ℕ) → left_of port (message ∷ []) ≡ stay → withdrawn_of port (message ∷ []) ≡ tickets → Added port seen message stay tickets
+added : (port : ℕ) (seen : List Message) (message : Message) (stay : List Message) (tickets : List ℕ) → left_of port (message ∷ []) ≡ stay →
+    withdrawn_of port (message ∷ []) ≡ tickets → Added port seen message stay tickets
 added port seen message stay tickets l t = record {
   left = filter-append (λ x. not (is_from_port port x)) seen (message ∷ []) ∙ ap (λ (x : List Message). left_of port seen ++ x) l;
   withdrawn = withdrawn-append port seen (message ∷ []) ∙ ap (λ (x : List ℕ). withdrawn_of port seen ++ x) t;
@@ -131,7 +143,8 @@ those_push : (m : Buffers) (front : List ℕ) (key : ℕ) (b : Buffer) → m key
 those_push m front key b e = filter_map-append (message_at m) front (key ∷ []) ∙ ap (λ (x : List Message). those m front ++ x) (seen_more m key [] b e)
 
 -- the message stays
-pub walk-keep : (m0 m : Buffers) (o r : ℕ → ℕ) (q : ℕ) (c0 c : Chain) (port : ℕ) (next : Option ℕ) (i : ℕ) (tickets : List ℕ) (key : ℕ) (b : Buffer) → Walk m0 m o r q c0 c port next i tickets → next ≡ Some key → m key ≡ Some b → is_from_port port b.message ≡ false → Walk m0 m o r q c0 c port b.behind (i + 1) tickets
+pub walk-keep : (m0 m : Buffers) (o r : ℕ → ℕ) (q : ℕ) (c0 c : Chain) (port : ℕ) (next : Option ℕ) (i : ℕ) (tickets : List ℕ) (key : ℕ) (b : Buffer) →
+    Walk m0 m o r q c0 c port next i tickets → next ≡ Some key → m key ≡ Some b → is_from_port port b.message ≡ false → Walk m0 m o r q c0 c port b.behind (i + 1) tickets
 walk-keep m0 m o r q c0 c port next i tickets key b w is there from =
     let a = at_key_now m0 m o r q c0 c port next i tickets key w is in
     let two : Some a.b ≡ Some b = sym a.there ∙ there in
@@ -153,7 +166,8 @@ walk-keep m0 m o r q c0 c port next i tickets key b w is there from =
     }
 
 -- the message leaves
-pub walk-take : (m0 m n : Buffers) (o r : ℕ → ℕ) (q : ℕ) (c0 c d : Chain) (port : ℕ) (next : Option ℕ) (i : ℕ) (tickets : List ℕ) (key : ℕ) (b b' : Buffer) (message : Message) → Walk m0 m o r q c0 c port next i tickets → next ≡ Some key → m key ≡ Some b → is_from_port port b.message ≡ true →
+pub walk-take : (m0 m n : Buffers) (o r : ℕ → ℕ) (q : ℕ) (c0 c d : Chain) (port : ℕ) (next : Option ℕ) (i : ℕ) (tickets : List ℕ) (key : ℕ) (b b' : Buffer) (message : Message) →
+    Walk m0 m o r q c0 c port next i tickets → next ≡ Some key → m key ≡ Some b → is_from_port port b.message ≡ true →
     Unlinked m n c d key b' message → Walk m0 n o r q c0 d port b.behind (i + 1) (tickets ++ ticket_of message ∷ [])
 walk-take m0 m n o r q c0 c d port next i tickets key b b' message w is there from move =
     let a = at_key_now m0 m o r q c0 c port next i tickets key w is in
@@ -170,7 +184,9 @@ walk-take m0 m n o r q c0 c d port next i tickets key b b' message w is there fr
       back = a.rest;
       seen = w.seen ++ b.message ∷ [];
       split = t.keys;
-      total = w.total ∙ ap (λ (x : List Message). w.seen ++ x) (ap (those m) a.back_is ∙ seen_more m key a.rest b there ∙ ap (λ (x : List Message). b.message ∷ x) (sym t.back_same)) ∙ sym (append_assoc w.seen (b.message ∷ []) (those n a.rest));
+      total = w.total
+          ∙ ap (λ (x : List Message). w.seen ++ x) (ap (those m) a.back_is ∙ seen_more m key a.rest b there ∙ ap (λ (x : List Message). b.message ∷ x) (sym t.back_same))
+          ∙ sym (append_assoc w.seen (b.message ∷ []) (those n a.rest));
       stay = t.front_same ∙ w.stay ∙ sym (more.left ∙ append-nil (left_of port w.seen));
       tickets_are = ap (λ (x : List ℕ). x ++ ticket_of message ∷ []) w.tickets_are ∙ ap (λ (k : ℕ). withdrawn_of port w.seen ++ k ∷ []) gone ∙ sym more.withdrawn;
       count = omega (arith, length-append w.seen (b.message ∷ []), w.count);
@@ -184,7 +200,8 @@ pub record Leaves (m0 : Buffers) (c0 c : Chain) (port : ℕ) (tickets : List ℕ
   pub room : length tickets < length (withdrawn_of port (queue_at m0 c0))
   pub some : 1 ≤ c.len
 
-pub walk-leaves : (m0 m : Buffers) (o r : ℕ → ℕ) (q : ℕ) (c0 c : Chain) (port : ℕ) (next : Option ℕ) (i : ℕ) (tickets : List ℕ) (key : ℕ) (b : Buffer) → Walk m0 m o r q c0 c port next i tickets → next ≡ Some key → m key ≡ Some b → is_from_port port b.message ≡ true → Leaves m0 c0 c port tickets
+pub walk-leaves : (m0 m : Buffers) (o r : ℕ → ℕ) (q : ℕ) (c0 c : Chain) (port : ℕ) (next : Option ℕ) (i : ℕ) (tickets : List ℕ) (key : ℕ) (b : Buffer) →
+    Walk m0 m o r q c0 c port next i tickets → next ≡ Some key → m key ≡ Some b → is_from_port port b.message ≡ true → Leaves m0 c0 c port tickets
 walk-leaves m0 m o r q c0 c port next i tickets key b w is there from =
     let a = at_key_now m0 m o r q c0 c port next i tickets key w is in
     let total = w.total ∙ ap (λ (x : List Message). w.seen ++ x) (ap (those m) a.back_is ∙ seen_more m key a.rest b there) in
@@ -196,5 +213,7 @@ walk-leaves m0 m o r q c0 c port next i tickets key b w is there from =
     }
 
 -- the queues after a withdrawal
-pub withdrawn-moved : (m n : Buffers) (chains : List Chain) (q : ℕ) (c d : Chain) (port : ℕ) (tickets : List ℕ) (k : AreChains m chains) (at : slice_get chains q ≡ Some c) → Withdrawn m n k.owner k.rank q c d port tickets → Moved m n chains q d (left_of port (queue_at m c))
-withdrawn-moved m n chains q c d port tickets k at w = moved m n chains q c d k.owner k.rank (left_of port (queue_at m c)) k at (λ i j top ne key. (w.others j (λ is. ne (sym key.owned ∙ is)), key.owned, refl)) w.after w.stay
+pub withdrawn-moved : (m n : Buffers) (chains : List Chain) (q : ℕ) (c d : Chain) (port : ℕ) (tickets : List ℕ) (k : AreChains m chains) (at : slice_get chains q ≡ Some c) →
+    Withdrawn m n k.owner k.rank q c d port tickets → Moved m n chains q d (left_of port (queue_at m c))
+withdrawn-moved m n chains q c d port tickets k at w = moved m n chains q c d k.owner k.rank (left_of port (queue_at m c)) k at
+    (λ i j top ne key. (w.others j (λ is. ne (sym key.owned ∙ is)), key.owned, refl)) w.after w.stay

@@ -10,7 +10,13 @@ use Rattle.message_queues.specs.Image.{header, image, type_of, FitsSlot, slot_ty
 pub length-image : (m : Message) (pending : Bool) (moment : ℕ) → FitsSlot m → length (image m pending moment) ≡ 256
 unfolding image
 length-image (FromPort ticket port kind payload) pending moment fits =
-    omega (arith, fits, length-append (header kind (length payload.items) pending port ++ payload.items) (replicate (240 - length payload.items) 0), length-append (header kind (length payload.items) pending port) payload.items, length-replicate {A = ℕ} (240 - length payload.items) 0)
+    omega (
+      arith,
+      fits,
+      length-append (header kind (length payload.items) pending port ++ payload.items) (replicate (240 - length payload.items) 0),
+      length-append (header kind (length payload.items) pending port) payload.items,
+      length-replicate {A = ℕ} (240 - length payload.items) 0,
+    )
 length-image (FromTimer ticket timer expiration) pending moment fits = refl
 
 -- the bytes of a page, one slot of which holds others
@@ -22,7 +28,8 @@ inside page bytes s k fits below =
     let front : length (take (256 * s) page) ≡ 256 * s = omega (arith, length-take (256 * s) page) in
     let whole : 256 * s + k < length (take (256 * s) page ++ bytes) = omega (arith, front, length-append (take (256 * s) page) bytes) in
     let e : 256 * s + k - 256 * s ≡ k = omega arith in
-    get_or_append_left (take (256 * s) page ++ bytes) (drop (256 * s + 256) page) 0 (256 * s + k) whole ∙ get_or-append_right (take (256 * s) page) bytes (256 * s) (256 * s + k) 0 front (omega arith) ∙ ap (λ j. get_or bytes j 0) e
+    get_or_append_left (take (256 * s) page ++ bytes) (drop (256 * s + 256) page) 0 (256 * s + k) whole
+    ∙ get_or-append_right (take (256 * s) page) bytes (256 * s) (256 * s + k) 0 front (omega arith) ∙ ap (λ j. get_or bytes j 0) e
 
 pub outside : (page bytes : List ℕ) (s k : ℕ) → 256 * s + 256 ≤ length page → length bytes ≡ 256 → (k < 256 * s) ⊎ (256 * s + 256 ≤ k) → get_or (written page s bytes) k 0 ≡ get_or page k 0
 outside page bytes s k fits l (inl below) =
@@ -38,7 +45,9 @@ outside page bytes s k fits l (inr above) =
 four-bytes-of : (n : ℕ) → n < 2 ^ 32 → n % 256 + 0x100 * (n / 256 % 256) + 0x10000 * (n / 256 / 256 % 256) + 0x1000000 * (n / 256 / 256 / 256 % 256) ≡ n
 four-bytes-of n below = omega arith
 
-type-byte : (m : Message) (pending : Bool) (moment : ℕ) → (get_or (image m pending moment) 0 0 ≡ type_of m % 256) × (get_or (image m pending moment) 1 0 ≡ type_of m / 256 % 256) × (get_or (image m pending moment) 2 0 ≡ type_of m / 256 / 256 % 256) × (get_or (image m pending moment) 3 0 ≡ type_of m / 256 / 256 / 256 % 256)
+type-byte : (m : Message) (pending : Bool) (moment : ℕ) → (get_or (image m pending moment) 0 0 ≡ type_of m % 256)
+    × (get_or (image m pending moment) 1 0 ≡ type_of m / 256 % 256) × (get_or (image m pending moment) 2 0 ≡ type_of m / 256 / 256 % 256)
+    × (get_or (image m pending moment) 3 0 ≡ type_of m / 256 / 256 / 256 % 256)
 unfolding image
 type-byte (FromPort ticket port kind payload) pending moment = (refl, refl, refl, refl)
 type-byte (FromTimer ticket timer expiration) pending moment = (refl, refl, refl, refl)

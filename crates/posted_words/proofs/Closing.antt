@@ -28,8 +28,10 @@ closes key id v words slots final whole =
     let parts : View → ℕ = λ u. u.parts in
     let o = found-le-sum_by parts s.views id v at in
     let all : sum_by parts s.views ≡ parts v = omega (arith, h.whole) in
-    let F : (w b : ℕ) → views_fresh s.views w b ≡ all_fresh v.logs w b = λ w b. sum_by-alone parts (fresh_of w b) s.views id v at all (All-weaker IsIdle (Follows parts (fresh_of w b)) (λ u idle z. ap (λ logs. all_fresh logs w b) (idle z)) s.views h.idle) in
-    let T : (w b : ℕ) → views_taken s.views w b ≡ all_taken v.logs w b = λ w b. sum_by-alone parts (taken_of w b) s.views id v at all (All-weaker IsIdle (Follows parts (taken_of w b)) (λ u idle z. ap (λ logs. all_taken logs w b) (idle z)) s.views h.idle) in
+    let F : (w b : ℕ) → views_fresh s.views w b ≡ all_fresh v.logs w b = λ w b. sum_by-alone parts (fresh_of w b) s.views id v at all
+    (All-weaker IsIdle (Follows parts (fresh_of w b)) (λ u idle z. ap (λ logs. all_fresh logs w b) (idle z)) s.views h.idle) in
+    let T : (w b : ℕ) → views_taken s.views w b ≡ all_taken v.logs w b = λ w b. sum_by-alone parts (taken_of w b) s.views id v at all
+    (All-weaker IsIdle (Follows parts (taken_of w b)) (λ u idle z. ap (λ logs. all_taken logs w b) (idle z)) s.views h.idle) in
     record {
       even = λ w b lt. (let p = F w b in let q = T w b in let e = h.even w b lt in let is = ap (λ ws. bit_at (slice_index ws w) b) final.2 in omega arith);
       bounded = All-weaker (Bounded (views_fresh s.views) (views_taken s.views)) (Bounded (all_fresh v.logs) (all_taken v.logs))
@@ -58,7 +60,8 @@ pub stands_for_all : (seat : View) (rest all : List Token) (t : Token) (n : ℕ)
     → view_of (seat.parts + n) (map actions_of rest ++ seat.logs) ≡ view_of (length all) (map actions_of all)
 stands_for_all seat rest all t n own is many =
     let parts : seat.parts + n ≡ length all = omega (arith, ap (λ (v : View). v.parts) own, many, ap (λ (ts : List Token). length ts) is, length-append rest (t ∷ [])) in
-    let logs : map actions_of rest ++ seat.logs ≡ map actions_of all = ap (λ (v : View). map actions_of rest ++ v.logs) own ∙ sym (map-append actions_of rest (t ∷ [])) ∙ ap (map actions_of) (sym is) in
+    let logs : map actions_of rest ++ seat.logs ≡ map actions_of all = ap (λ (v : View). map actions_of rest ++ v.logs) own ∙ sym (map-append actions_of rest (t ∷ []))
+    ∙ ap (map actions_of) (sym is) in
     λ i. view_of (parts i) (logs i)
 
 -- a seat that held all sweepers, after it took over the lines
@@ -69,7 +72,8 @@ pub gathered : (key : ℕ × ℕ) (n tokens id : ℕ) (seat v : View) (words : L
 gathered key n tokens id seat v words slots sweepers lines m is final first last many enough =
     let parts : key.1 ≤ v.parts = omega (arith, ap (λ (k : ℕ × ℕ). k.1) is, ap (λ (u : View). u.parts) first, ap (λ (u : View). u.parts) last) in
     let logs : v.logs ≡ map actions_of lines ++ map actions_of sweepers = ap (λ (u : View). u.logs) last ∙ ap (λ (u : View). map actions_of lines ++ u.logs) first in
-    let all : Settled n (map actions_of lines ++ map actions_of sweepers) words = subst (λ (z : ℕ × List (List Action)). Settled z.0 z.1 words) (λ i. ((is i).0, logs i)) (closes key id v words slots final parts) in
+    let all : Settled n (map actions_of lines ++ map actions_of sweepers) words = subst (λ (z : ℕ × List (List Action)). Settled z.0 z.1 words) (λ i. ((is i).0, logs i))
+    (closes key id v words slots final parts) in
     subst (λ ls. Settled n ls words) (sym (map-append actions_of sweepers lines)) (Settled-append_comm n (map actions_of lines) (map actions_of sweepers) words all)
 
 -- a log has a raise of the bit

@@ -31,8 +31,10 @@ deals key id v more s h at =
     let rest = view_of (v.parts - 1) v.logs in
     let views : List View = set s.views id rest in
     let last : List View = views ++ unused ∷ [] in
-    let F : (w b : ℕ) → views_fresh last w b ≡ views_fresh s.views w b = λ w b. (let e = sum_by-set_found (fresh_of w b) s.views id v rest at in let a = sum_by-append (fresh_of w b) views (unused ∷ []) in omega arith) in
-    let T : (w b : ℕ) → views_taken last w b ≡ views_taken s.views w b = λ w b. (let e = sum_by-set_found (taken_of w b) s.views id v rest at in let a = sum_by-append (taken_of w b) views (unused ∷ []) in omega arith) in
+    let F : (w b : ℕ) → views_fresh last w b ≡ views_fresh s.views w b = λ w b.
+    (let e = sum_by-set_found (fresh_of w b) s.views id v rest at in let a = sum_by-append (fresh_of w b) views (unused ∷ []) in omega arith) in
+    let T : (w b : ℕ) → views_taken last w b ≡ views_taken s.views w b = λ w b.
+    (let e = sum_by-set_found (taken_of w b) s.views id v rest at in let a = sum_by-append (taken_of w b) views (unused ∷ []) in omega arith) in
     let P = IsBounded (views_fresh last) (views_taken last) in
     let bounds : All P s.views = kept (views_fresh s.views) (views_taken s.views) (views_fresh last) (views_taken last) s.views F T h.bounded in
     record {
@@ -40,7 +42,8 @@ deals key id v more s h at =
       whole = (let e = sum_by-set_found (λ (u : View). u.parts) s.views id v rest at in let a = sum_by-append (λ (u : View). u.parts) views (unused ∷ []) in let p = h.whole in omega arith);
       idle = All-push IsIdle views unused (All-set IsIdle s.views id rest (λ z. absurd (omega arith)) h.idle) (λ (z : 1 ≡ 0). absurd (omega arith));
       even = λ w b lt. (let p = F w b in let q = T w b in let e = h.even w b lt in omega arith);
-      bounded = All-push P views unused (All-set P s.views id rest (All-found P s.views id v at bounds) bounds) (bounded_own (views_fresh last) (views_taken last) [] (Bounded-nil (views_fresh last) (views_taken last)));
+      bounded = All-push P views unused (All-set P s.views id rest (All-found P s.views id v at bounds) bounds)
+          (bounded_own (views_fresh last) (views_taken last) [] (Bounded-nil (views_fresh last) (views_taken last)));
     }
 
 pub joins : (key : ℕ × ℕ) (id : ℕ) (v : View) (other : ℕ) (w : View) → 0 < v.parts → Joins (Posted key) id v other w (view_of (v.parts + w.parts) (w.logs ++ v.logs)) (view_of 0 [])
@@ -50,8 +53,10 @@ joins key id v other w some_part s h at apart there =
     let views : List View = set s.views id both in
     let last : List View = set views other gone in
     let was : get_elem? s.views other ≡ some w = ⊎_elim (λ x. absurd (apart x.0)) (λ x. x.1) (at_set s.views id other both w there) in
-    let F : (x b : ℕ) → views_fresh last x b ≡ views_fresh s.views x b = λ x b. (let e = sum_by-set_found (fresh_of x b) s.views id v both at in let e' = sum_by-set_found (fresh_of x b) views other w gone there in let a = sum_by-append (fresh x b) w.logs v.logs in omega arith) in
-    let T : (x b : ℕ) → views_taken last x b ≡ views_taken s.views x b = λ x b. (let e = sum_by-set_found (taken_of x b) s.views id v both at in let e' = sum_by-set_found (taken_of x b) views other w gone there in let a = sum_by-append (times_taken x b) w.logs v.logs in omega arith) in
+    let F : (x b : ℕ) → views_fresh last x b ≡ views_fresh s.views x b = λ x b. (let e = sum_by-set_found
+    (fresh_of x b) s.views id v both at in let e' = sum_by-set_found (fresh_of x b) views other w gone there in let a = sum_by-append (fresh x b) w.logs v.logs in omega arith) in
+    let T : (x b : ℕ) → views_taken last x b ≡ views_taken s.views x b = λ x b. (let e = sum_by-set_found
+    (taken_of x b) s.views id v both at in let e' = sum_by-set_found (taken_of x b) views other w gone there in let a = sum_by-append (times_taken x b) w.logs v.logs in omega arith) in
     let B = Bounded (views_fresh last) (views_taken last) in
     let P = IsBounded (views_fresh last) (views_taken last) in
     let bounds : All P s.views = kept (views_fresh s.views) (views_taken s.views) (views_fresh last) (views_taken last) s.views F T h.bounded in
@@ -77,5 +82,6 @@ opens n tokens some_token =
       whole = omega arith;
       idle = All-cons IsIdle first [] (λ z. absurd (omega arith)) (All-nil IsIdle);
       even = λ w b lt. (let z : bit_at (slice_index (replicate n 0) w) b ≡ 0 = ap (λ m. bit_at m b) (slice_index-zeros n w) ∙ bit_at-zero b in omega arith);
-      bounded = All-cons (IsBounded (views_fresh views) (views_taken views)) first [] (bounded_own (views_fresh views) (views_taken views) [] (Bounded-nil (views_fresh views) (views_taken views))) (All-nil _);
+      bounded = All-cons (IsBounded (views_fresh views) (views_taken views)) first []
+          (bounded_own (views_fresh views) (views_taken views) [] (Bounded-nil (views_fresh views) (views_taken views))) (All-nil _);
     }

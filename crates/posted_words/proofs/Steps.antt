@@ -28,10 +28,14 @@ Bounded-nil F T = record { raises = λ w b later before f is. absurd (none later
 
 -- lower bounds stay true while the counts of all tokens grow
 pub Bounded-more : (F T F' T' : ℕ → ℕ → ℕ) (ds : List Action) → ((w b : ℕ) → F w b ≤ F' w b) → ((w b : ℕ) → T w b ≤ T' w b) → Bounded F T ds → Bounded F' T' ds
-Bounded-more F T F' T' ds f t h = record { raises = λ w b later before g is. (let p = h.raises w b later before g is in let q = f w b in omega arith); sweeps = λ w b bits later before is. (let p = h.sweeps w b bits later before is in let q = t w b in omega arith) }
+Bounded-more F T F' T' ds f t h = record {
+  raises = λ w b later before g is. (let p = h.raises w b later before g is in let q = f w b in omega arith);
+  sweeps = λ w b bits later before is. (let p = h.sweeps w b bits later before is in let q = t w b in omega arith);
+}
 
 -- One more step: its own bounds hold, and those of the earlier steps are unchanged.
-Bounded-cons : (F T : ℕ → ℕ → ℕ) (d : Action) (ds : List Action) → ((w b : ℕ) (g : Bool) → d ≡ Raise w b g → times_taken w b ds + 1 ≤ F w b) → ((w b bits : ℕ) → d ≡ Sweep w bits → fresh w b ds ≤ T w b) → Bounded F T ds → Bounded F T (d ∷ ds)
+Bounded-cons : (F T : ℕ → ℕ → ℕ) (d : Action) (ds : List Action) → ((w b : ℕ) (g : Bool) → d ≡ Raise w b g → times_taken w b ds + 1 ≤ F w b) →
+    ((w b bits : ℕ) → d ≡ Sweep w bits → fresh w b ds ≤ T w b) → Bounded F T ds → Bounded F T (d ∷ ds)
 Bounded-cons F T d ds raise sweep h = record { raises = raised; sweeps = swept }
   where
     raised : (w b : ℕ) (later before : List Action) (g : Bool) → d ∷ ds ≡ later ++ Raise w b g ∷ before → times_taken w b before + 1 ≤ F w b
@@ -98,8 +102,10 @@ raises key slots id w k ds in_words small s h _ at _ =
     let wide : w < length s.words = omega (arith, h.width) in
     let F : (x b : ℕ) → views_fresh views x b ≡ views_fresh s.views x b + one_if (is_fresh_at x b d) = λ x b. (let e = sum_by-set_found (fresh_of x b) s.views id (own ds) u at in omega arith) in
     let T : (x b : ℕ) → views_taken views x b ≡ views_taken s.views x b = λ x b. (let e = sum_by-set_found (taken_of x b) s.views id (own ds) u at in omega arith) in
-    let even : (x b : ℕ) → x < key.0 → views_fresh views x b ≡ views_taken views x b + bit_at (slice_index words x) b = λ x b lt. (let p = F x b in let q = T x b in let r = raised-bit s.words w k x b n wide refl small in let e = h.even x b lt in omega (arith, p, q, r, e)) in
-    let before : Bounded (views_fresh s.views) (views_taken s.views) ds = own_bounded (views_fresh s.views) (views_taken s.views) ds (All-found (IsBounded (views_fresh s.views) (views_taken s.views)) s.views id (own ds) at h.bounded) in
+    let even : (x b : ℕ) → x < key.0 → views_fresh views x b ≡ views_taken views x b + bit_at (slice_index words x) b = λ x b lt.
+    (let p = F x b in let q = T x b in let r = raised-bit s.words w k x b n wide refl small in let e = h.even x b lt in omega (arith, p, q, r, e)) in
+    let before : Bounded (views_fresh s.views) (views_taken s.views) ds = own_bounded (views_fresh s.views) (views_taken s.views) ds
+    (All-found (IsBounded (views_fresh s.views) (views_taken s.views)) s.views id (own ds) at h.bounded) in
     let mine : Bounded (views_fresh views) (views_taken views) (d ∷ ds) =
     Bounded-cons (views_fresh views) (views_taken views) d ds
     (λ x b g is.
@@ -131,8 +137,10 @@ sweeps key slots id w ds in_words s h _ at _ =
     let wide : w < length s.words = omega (arith, h.width) in
     let F : (x b : ℕ) → views_fresh views x b ≡ views_fresh s.views x b = λ x b. (let e = sum_by-set_found (fresh_of x b) s.views id (own ds) u at in omega arith) in
     let T : (x b : ℕ) → views_taken views x b ≡ views_taken s.views x b + takes_at x b d = λ x b. (let e = sum_by-set_found (taken_of x b) s.views id (own ds) u at in omega arith) in
-    let even : (x b : ℕ) → x < key.0 → views_fresh views x b ≡ views_taken views x b + bit_at (slice_index words x) b = λ x b lt. (let p = F x b in let q = T x b in let r = swept-bit s.words w x b n wide refl in let e = h.even x b lt in omega (arith, p, q, r, e)) in
-    let before : Bounded (views_fresh s.views) (views_taken s.views) ds = own_bounded (views_fresh s.views) (views_taken s.views) ds (All-found (IsBounded (views_fresh s.views) (views_taken s.views)) s.views id (own ds) at h.bounded) in
+    let even : (x b : ℕ) → x < key.0 → views_fresh views x b ≡ views_taken views x b + bit_at (slice_index words x) b = λ x b lt.
+    (let p = F x b in let q = T x b in let r = swept-bit s.words w x b n wide refl in let e = h.even x b lt in omega (arith, p, q, r, e)) in
+    let before : Bounded (views_fresh s.views) (views_taken s.views) ds = own_bounded (views_fresh s.views) (views_taken s.views) ds
+    (All-found (IsBounded (views_fresh s.views) (views_taken s.views)) s.views id (own ds) at h.bounded) in
     let mine : Bounded (views_fresh views) (views_taken views) (d ∷ ds) =
     Bounded-cons (views_fresh views) (views_taken views) d ds
     (λ x b g is. absurd (cc))
@@ -156,7 +164,8 @@ sweeps key slots id w ds in_words s h _ at _ =
 pub raises_as : (key : ℕ × ℕ) (slots id w k : ℕ) (me : Me (Unit {0}) View) (ds : List Action) → me ≡ (own ds, []) → w < key.0 → k < 64
     → Allows (Posted key) slots id me w (λ n. bit_or n (mask_of k)) (raised_as (step slots w (mask_of k) 0 none) me)
 raises_as key slots id w k me ds is in_words small =
-    subst (λ (m : Me (Unit {0}) View). Allows (Posted key) slots id m w (λ n. bit_or n (mask_of k)) (raised_as (step slots w (mask_of k) 0 none) m)) (sym is) (raises key slots id w k ds in_words small)
+    subst (λ (m : Me (Unit {0}) View). Allows (Posted key) slots id m w (λ n. bit_or n (mask_of k)) (raised_as (step slots w (mask_of k) 0 none) m)) (sym is)
+    (raises key slots id w k ds in_words small)
 
 -- a sweep by a seat of one token
 pub sweeps_as : (key : ℕ × ℕ) (slots id w : ℕ) (me : Me (Unit {0}) View) (ds : List Action) → me ≡ (own ds, []) → w < key.0

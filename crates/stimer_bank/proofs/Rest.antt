@@ -93,7 +93,8 @@ same_order m n (t ∷ ts) s o =
     (each_two (λ u. due_of n u ≡ due_of m u) (Before m t) (Before n t) ts (λ u same before a b e f. before a b (sym s.0 ∙ e) (sym same ∙ f)) s.1 o.0, same_order m n ts s.1 o.1)
 
 -- the first is tried: the deadlines of the others stay, and it is no longer marked
-module _ (m n : Dues) (moment word left : ℕ) (t : ℕ × ℕ) (us : Timers) (h : IsRest m moment word (t ∷ us)) (others : (k : ℕ) → k ≢ number_of t → get_or n k None ≡ get_or m k None) (cleared : bit_at left (number_of t) ≡ 0)
+module _ (m n : Dues) (moment word left : ℕ) (t : ℕ × ℕ) (us : Timers) (h : IsRest m moment word (t ∷ us))
+    (others : (k : ℕ) → k ≢ number_of t → get_or n k None ≡ get_or m k None) (cleared : bit_at left (number_of t) ≡ 0)
     (stored : (k : ℕ) → k < 32 → k ≢ number_of t → bit_at left k ≡ bit_at word k) where
   other : Each (λ u. number_of u ≢ number_of t) us
   other = each_two (IsDueBy m moment 32) (Before m t) (λ u. number_of u ≢ number_of t) us (λ u due before. apart m moment t u h.each.0 due before) h.each.1 h.order.0
@@ -112,7 +113,8 @@ module _ (m n : Dues) (moment word left : ℕ) (t : ℕ × ℕ) (us : Timers) (h
   pub rest-next : IsRest n moment left us
   rest-next = record {
     index = h.index.1;
-    marked = each_two (IsDueBy n moment 32) (λ u. (number_of u ≢ number_of t) × (bit_at word (number_of u) ≡ 1)) (λ u. bit_at left (number_of u) ≡ 1) us (λ u due a. stored (number_of u) due.low a.0 ∙ a.1) later
+    marked = each_two (IsDueBy n moment 32) (λ u. (number_of u ≢ number_of t) × (bit_at word (number_of u) ≡ 1)) (λ u. bit_at left (number_of u) ≡ 1) us
+        (λ u due a. stored (number_of u) due.low a.0 ∙ a.1) later
         (each_two (λ u. number_of u ≢ number_of t) (λ u. bit_at word (number_of u) ≡ 1) (λ u. (number_of u ≢ number_of t) × (bit_at word (number_of u) ≡ 1)) us (λ u a b. (a, b)) other h.marked.1);
     each = later;
     order = same_order m n us still h.order.1;
@@ -120,7 +122,8 @@ module _ (m n : Dues) (moment word left : ℕ) (t : ℕ × ℕ) (us : Timers) (h
   }
     where
       later : Each (IsDueBy n moment 32) us
-      later = each_two (IsDueBy m moment 32) (λ u. due_of n u ≡ due_of m u) (IsDueBy n moment 32) us (λ u due same. record { due = due.due; is = same ∙ due.is; by = due.by; low = due.low }) h.each.1 still
+      later = each_two (IsDueBy m moment 32) (λ u. due_of n u ≡ due_of m u) (IsDueBy n moment 32) us
+          (λ u due same. record { due = due.due; is = same ∙ due.is; by = due.by; low = due.low }) h.each.1 still
 
 -- a list without some of its timers
 module _ (q : ℕ × ℕ → Bool) where
@@ -134,7 +137,8 @@ module _ (q : ℕ × ℕ → Bool) where
 
   order-filter : (m : Dues) (ts : Timers) → InOrder m ts → InOrder m (filter q ts)
   order-filter m [] h = tt
-  order-filter m (t ∷ ts) h = elim (q t) as (λ b. InOrder m (cond b (t ∷ filter q ts) (filter q ts))) [ true ↦ (each-filter (Before m t) ts h.0, order-filter m ts h.1) | false ↦ order-filter m ts h.1 ]
+  order-filter m (t ∷ ts) h = elim (q t) as
+      (λ b. InOrder m (cond b (t ∷ filter q ts) (filter q ts))) [ true ↦ (each-filter (Before m t) ts h.0, order-filter m ts h.1) | false ↦ order-filter m ts h.1 ]
 
   has-filter : (ts : Timers) (u : ℕ × ℕ) → q u ≡ true → Has ts u → Has (filter q ts) u
   has-filter [] u e g = absurd g
@@ -171,7 +175,8 @@ module _ (m : Dues) (moment : ℕ) where
       let q = two.1 (sym same) in
       omega (arith, p, q)
 
-  same-list : (xs ys : Timers) → Each (IsDueBy m moment 32) xs → Each (IsDueBy m moment 32) ys → InOrder m xs → InOrder m ys → ((t : ℕ × ℕ) → Has xs t → Has ys t) → ((t : ℕ × ℕ) → Has ys t → Has xs t) → xs ≡ ys
+  same-list : (xs ys : Timers) → Each (IsDueBy m moment 32) xs → Each (IsDueBy m moment 32) ys → InOrder m xs → InOrder m ys → ((t : ℕ × ℕ) → Has xs t → Has ys t) →
+      ((t : ℕ × ℕ) → Has ys t → Has xs t) → xs ≡ ys
   same-list [] [] a b o p there back = refl
   same-list [] (y ∷ ys) a b o p there back = absurd (back y (inl refl))
   same-list (x ∷ xs) [] a b o p there back = absurd (there x (inl refl))
@@ -217,12 +222,14 @@ unfolding due_below
 bound-below m moment zero = omega arith
 bound-below m moment (suc n) = by (bound-below m moment n) (get_or m n None)
   where
-    by : length (due_below m moment n) ≤ n → (o : Option ℕ) → length (option_map_or (λ d. if nat_le d moment then insert (due_below m moment n) (position_or_len (is_later m d) (due_below m moment n)) (timer_of n) else due_below m moment n) o (due_below m moment n)) ≤ suc n
+    by : length (due_below m moment n) ≤ n → (o : Option ℕ) → length (option_map_or
+        (λ d. if nat_le d moment then insert (due_below m moment n) (position_or_len (is_later m d) (due_below m moment n)) (timer_of n) else due_below m moment n) o (due_below m moment n)) ≤ suc n
     by bound None = omega arith
-    by bound (Some d) = elim (nat_le d moment) as (λ b. length (if b then insert (due_below m moment n) (position_or_len (is_later m d) (due_below m moment n)) (timer_of n) else due_below m moment n) ≤ suc n) [
-      | true ↦ omega (arith, ap length (inserted (is_later m d) (timer_of n) (due_below m moment n)), length-placed (is_later m d) (timer_of n) (due_below m moment n), bound)
-      | false ↦ omega (arith, bound)
-    ]
+    by bound (Some d) = elim (nat_le d moment) as
+        (λ b. length (if b then insert (due_below m moment n) (position_or_len (is_later m d) (due_below m moment n)) (timer_of n) else due_below m moment n) ≤ suc n) [
+          | true ↦ omega (arith, ap length (inserted (is_later m d) (timer_of n) (due_below m moment n)), length-placed (is_later m d) (timer_of n) (due_below m moment n), bound)
+          | false ↦ omega (arith, bound)
+        ]
 
 pub bound-due : (m : Dues) (moment : ℕ) → length (due_list m moment) ≤ 32
 unfolding due_list

@@ -55,7 +55,8 @@ module _ {X : Type 0} (xs : List X) (p : ℕ) (f : ℕ → X) where
   pub four-other : (k : ℕ) (d : X) → k / 4 ≢ p → get_or (four xs p f) k d ≡ get_or xs k d
   four-other k d n =
       let far : (i : ℕ) → i < 4 → k ≢ 4 * p + i = λ i h e. n (omega arith) in
-      get_or-set_other three (4 * p + 3) k (f 3) d (far 3 (omega arith)) ∙ get_or-set_other two (4 * p + 2) k (f 2) d (far 2 (omega arith)) ∙ get_or-set_other one (4 * p + 1) k (f 1) d (far 1 (omega arith)) ∙ get_or-set_other xs (4 * p + 0) k (f 0) d (far 0 (omega arith))
+      get_or-set_other three (4 * p + 3) k (f 3) d (far 3 (omega arith)) ∙ get_or-set_other two (4 * p + 2) k (f 2) d (far 2 (omega arith))
+      ∙ get_or-set_other one (4 * p + 1) k (f 1) d (far 1 (omega arith)) ∙ get_or-set_other xs (4 * p + 0) k (f 0) d (far 0 (omega arith))
 
 -- an element that is set to the default reads as the default, also past the end
 set-default : {X : Type 0} (xs : List X) (i : ℕ) (d : X) → get_or (set xs i d) i d ≡ d
@@ -147,7 +148,8 @@ module _ (b : Bank) (t : ℕ × ℕ) (x : Timer) where
         | inl i ↦
             let p : k / 4 ≡ t.0 = omega arith in
             let mark : is_suspended b (k / 4) ≡ false = ap (is_suspended b) p ∙ e in
-            let read : get_or (set b.timers (number_of t) x) k idle_timer ≡ x = ap (λ j. get_or (set b.timers (number_of t) x) j idle_timer) i ∙ get_or-set_same b.timers (number_of t) x idle_timer l in
+            let read : get_or (set b.timers (number_of t) x) k idle_timer ≡ x = ap (λ j. get_or (set b.timers (number_of t) x) j idle_timer) i
+            ∙ get_or-set_same b.timers (number_of t) x idle_timer l in
             ap (λ j. get_or (set (dues b) (number_of t) x.due) j None) i ∙ get_or-set_same (dues b) (number_of t) x.due None (omega (arith, length-dues b)) ∙ sym ((λ j. shown (mark j) (read j).due))
         | inr n ↦ get_or-set_other (dues b) (number_of t) k x.due None n ∙ due_at b k low ∙ sym (timer-other k n)
       ])
@@ -204,7 +206,8 @@ module _ (b : Bank) (p : ℕ) where
   dues-reset-here k e =
       let mark : is_suspended (reset b p) (k / 4) ≡ false = ap (is_suspended (reset b p)) e ∙ set-default b.suspended p false in
       let same : number_of (timer_of k) ≡ k = omega arith in
-      let idle : get_or (four b.timers p (λ _. idle_timer)) k idle_timer ≡ idle_timer = ap (λ j. get_or (four b.timers p (λ _. idle_timer)) j idle_timer) (sym same) ∙ reset-here (timer_of k) (ap (λ j. j / 4) same ∙ e) in
+      let idle : get_or (four b.timers p (λ _. idle_timer)) k idle_timer ≡ idle_timer = ap (λ j. get_or (four b.timers p (λ _. idle_timer)) j idle_timer) (sym same)
+      ∙ reset-here (timer_of k) (ap (λ j. j / 4) same ∙ e) in
       elim (cases_lt k 32) as (λ _. get_or (dues (reset b p)) k None ≡ None) [
         | inl h ↦ due_at (reset b p) k h ∙ (λ i. shown (mark i) (idle i).due)
         | inr h ↦ dues-past (reset b p) k h
@@ -225,7 +228,8 @@ module _ (b : Bank) (t : ℕ × ℕ) (moment : ℕ) (index : t.1 < 4) where
   -- a timer is due iff its processor is not suspended and its deadline has been reached
   pub due-by_dues : t.0 < 8 → is_due_in b t moment ≡ (not (is_suspended b t.0) && is_due (timer_in b t) moment)
   due-by_dues low =
-      ap (λ o. option_map_or (λ d. nat_le d moment) o false) (due_at b (number_of t) (omega arith) ∙ ap (λ q. shown (is_suspended b q) (timer_in b t).due) of-processor) ∙ due-shown_by moment (is_suspended b t.0) (timer_in b t).due
+      ap (λ o. option_map_or (λ d. nat_le d moment) o false) (due_at b (number_of t) (omega arith) ∙ ap (λ q. shown (is_suspended b q) (timer_in b t).due) of-processor)
+      ∙ due-shown_by moment (is_suspended b t.0) (timer_in b t).due
 
 -- the processor of a timer that is due is not suspended
 pub due-awake : (b : Bank) (t : ℕ × ℕ) (moment : ℕ) → t.1 < 4 → t.0 < 8 → is_due_in b t moment ≡ true → is_suspended b t.0 ≡ false

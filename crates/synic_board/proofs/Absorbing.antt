@@ -39,7 +39,8 @@ absorbed_more s now next p part bits behind bit skip number before emitted more 
     refl
     (step ∙ ap (preceded emitted) (ap (λ k. if nat_le 16 k then requested now p k else nothing now) named ∙ sym (set-bit now p part bits bit set)))
 
-pub absorbed_whole : (s now : State) (p part bits behind : ℕ) (before emitted : List Notice) → behind ≤ 64 → 0 ≡ bits / 2 ^ behind → (now, emitted) ≡ preceded before (absorbed_below s p part bits behind) →
+pub absorbed_whole : (s now : State) (p part bits behind : ℕ) (before emitted : List Notice) → behind ≤ 64 → 0 ≡ bits / 2 ^ behind →
+    (now, emitted) ≡ preceded before (absorbed_below s p part bits behind) →
     (now, emitted) ≡ preceded before (absorbed_below s p part bits 64)
 absorbed_whole s now p part bits behind before emitted bound none so_far =
     let clear : (j : ℕ) → bit_at bits (behind + j) ≡ 0 = λ j. sym (bit_at-left bits behind j) ∙ ap (λ n. bit_at n j) (sym none) ∙ bit_at-zero j in

@@ -40,13 +40,15 @@ delivering s p i h =
     let all = parts (delivers s p) (nat_lt 0 (length (queue_of s.queues p i))) (is_slot_empty s p i) h in
     record { enabled = all.0; none = nothing-queued (queue_of s.queues p i) all.1; empty = all.2 }
 
-pub at-once : (s : State) (p i : ℕ) (m : Message) → delivers_at_once s p i ≡ true → source_number p i < length s.queues → delivered s p i m ≡ after (placed_at_once s p i m) (raised (placed_at_once s p i m).0 p i)
+pub at-once : (s : State) (p i : ℕ) (m : Message) → delivers_at_once s p i ≡ true → source_number p i < length s.queues →
+    delivered s p i m ≡ after (placed_at_once s p i m) (raised (placed_at_once s p i m).0 p i)
 unfolding tried
 at-once s p i m free within =
     let h = delivering s p i free in
     let a : State = (accepted s p i m).0 in
     let one : queue_of a.queues p i ≡ m ∷ [] = get_or-set_same s.queues (source_number p i) (queue_of s.queues p i ++ m ∷ []) [] within ∙ ap (λ (q : List Message). q ++ m ∷ []) h.none in
-    let back : set a.queues (source_number p i) [] ≡ s.queues = set-set s.queues (source_number p i) (queue_of s.queues p i ++ m ∷ []) [] ∙ ap (set s.queues (source_number p i)) (sym h.none) ∙ set-get_or s.queues (source_number p i) [] in
+    let back : set a.queues (source_number p i) [] ≡ s.queues = set-set s.queues (source_number p i) (queue_of s.queues p i ++ m ∷ []) []
+    ∙ ap (set s.queues (source_number p i)) (sym h.none) ∙ set-get_or s.queues (source_number p i) [] in
     let tries : tried a p i ≡ after (placed_head a p i (m ∷ [])) (raised (placed_head a p i (m ∷ [])).0 p i) =
     (λ j. if h.enabled j && nat_lt 0 (length (one j)) then (if h.empty j then after (placed_head a p i (one j)) (raised (placed_head a p i (one j)).0 p i) else marked a p i) else nothing a) in
     ap (after (accepted s p i m)) tries ∙ ap emitted back
@@ -57,6 +59,7 @@ at-once s p i m free within =
         ((raised t p i).0, Accepted (ticket_of m) p i ∷ Placed (ticket_of m) p i ∷ (raised t p i).1)
 
 -- the image of a post after which nothing is queued
-pub post-image : (ticket port kind moment : ℕ) (payload : List ℕ) → image (FromPort ticket port kind (record { items = payload })) false moment ≡ message_bytes (header kind (length payload) false port) payload
+pub post-image : (ticket port kind moment : ℕ) (payload : List ℕ) →
+    image (FromPort ticket port kind (record { items = payload })) false moment ≡ message_bytes (header kind (length payload) false port) payload
 unfolding image
 post-image ticket port kind moment payload = refl

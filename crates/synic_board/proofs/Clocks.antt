@@ -21,7 +21,8 @@ use Rattle.synic_board.specs.Timers.{at_moment, attempted_all, ticked}
 use Rattle.synic_board.specs.inside.Steps.{is_any_due}
 
 -- the timers of processors that are not on the board stay idle
-pub idle-written : (b now : Bank) (t : ℕ × ℕ) (x : Timer) (m : ℕ) → now ≡ with_timer b t x → number_of t < 4 * m → ((k : ℕ) → 4 * m ≤ k → get_or (dues b) k None ≡ None) → (k : ℕ) → 4 * m ≤ k → get_or (dues now) k None ≡ None
+pub idle-written : (b now : Bank) (t : ℕ × ℕ) (x : Timer) (m : ℕ) → now ≡ with_timer b t x → number_of t < 4 * m →
+    ((k : ℕ) → 4 * m ≤ k → get_or (dues b) k None ≡ None) → (k : ℕ) → 4 * m ≤ k → get_or (dues now) k None ≡ None
 idle-written b now t x m is low idle k h = ap (λ (y : Bank). get_or (dues y) k None) is ∙ dues-timer-other b t x k (λ e. omega arith) ∙ idle k h
 
 -- and also if a processor on the board is suspended, resumed or reset

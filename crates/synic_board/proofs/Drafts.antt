@@ -64,24 +64,33 @@ draft-still s now tickets intact same ports settled h = record {
 }
 
 pub draft-opened : (n pages ticket : ℕ) → n ≤ 8 → IsDraft (opened n pages ticket) []
-draft-opened n pages ticket bound = record { sound = sound-opened n pages ticket; buffers = buffers-opened n pages ticket; settled = settled-opened n pages ticket bound; listed = λ t. sym (no-locations n pages ticket t) }
+draft-opened n pages ticket bound = record {
+  sound = sound-opened n pages ticket;
+  buffers = buffers-opened n pages ticket;
+  settled = settled-opened n pages ticket bound;
+  listed = λ t. sym (no-locations n pages ticket t);
+}
 
 pub draft-moment : (s : State) (moment : ℕ) (tickets : List ℕ) → IsDraft s tickets → IsDraft (at_moment s moment) tickets
-draft-moment s moment tickets h = draft-still s (at_moment s moment) tickets (kept-moment (processors s) s moment (kept_from_sound s h.sound)) (record { queues = refl; slots = refl; next = refl }) refl (settled-same s _ refl refl refl h.settled) h
+draft-moment s moment tickets h = draft-still s (at_moment s moment) tickets (kept-moment (processors s) s moment (kept_from_sound s h.sound))
+    (record { queues = refl; slots = refl; next = refl }) refl (settled-same s _ refl refl refl h.settled) h
 
 pub draft-processor : (s : State) (p : ℕ) (a : Apic) (tickets : List ℕ) → p < processors s → IsDraft s tickets → IsDraft (with_processor s p a) tickets
 draft-processor s p a tickets on h =
     let n = processors s in
     let first = kept-apic n s p a (kept_from_sound s h.sound) in
     let marked = bank_with_suspension (bank_of s) p a.suspended in
-    draft-still s (with_processor s p a) tickets (kept-bank n (with_apic s p a) marked (idle-marked (bank_of s) p n a.suspended on h.sound.whole.idle) first) (record { queues = refl; slots = refl; next = refl }) refl (settled-processor s p a on h.settled) h
+    draft-still s (with_processor s p a) tickets (kept-bank n (with_apic s p a) marked (idle-marked (bank_of s) p n a.suspended on h.sound.whole.idle) first)
+    (record { queues = refl; slots = refl; next = refl }) refl (settled-processor s p a on h.settled) h
 
 pub draft-timer : (s : State) (t : ℕ × ℕ) (x : Timer) (tickets : List ℕ) → t.0 < processors s → t.1 < 4 → IsDraft s tickets → IsDraft (with_saved_timer s t x) tickets
 draft-timer s t x tickets on low h =
-    draft-still s (with_saved_timer s t x) tickets (kept-timer (processors s) s t x (omega (arith, on, low)) (kept_from_sound s h.sound)) (record { queues = refl; slots = refl; next = refl }) refl (settled-timer s t x on low h.settled) h
+    draft-still s (with_saved_timer s t x) tickets (kept-timer (processors s) s t x (omega (arith, on, low)) (kept_from_sound s h.sound))
+    (record { queues = refl; slots = refl; next = refl }) refl (settled-timer s t x on low h.settled) h
 
 pub draft-regs : (s : State) (p : ℕ) (r : Regs) (tickets : List ℕ) → IsDraft s tickets → IsDraft (with_regs s p r) tickets
-draft-regs s p r tickets h = draft-still s (with_regs s p r) tickets (kept-regs (processors s) s p r (kept_from_sound s h.sound)) (record { queues = refl; slots = refl; next = refl }) refl (settled-same s _ refl refl refl h.settled) h
+draft-regs s p r tickets h = draft-still s (with_regs s p r) tickets (kept-regs (processors s) s p r (kept_from_sound s h.sound))
+    (record { queues = refl; slots = refl; next = refl }) refl (settled-same s _ refl refl refl h.settled) h
 
 pub draft-stored : (s : State) (p : ℕ) (r : Register) (value : ℕ) (tickets : List ℕ) → IsDraft s tickets → IsDraft (stored s p r value).0 tickets
 draft-stored s p r value tickets h = either (λ (o : Outcome). IsDraft o.0 tickets) (is_refused r value) _ _ (λ _. h) (λ _. draft-regs s p (with_value (regs_of s p) r value) tickets h)
@@ -105,7 +114,9 @@ draft-port s port p i shape tickets h =
     port-still : (s : State) (port p i : ℕ) (shape : PortShape) → ((opened_port s port p i shape).0.queues ≡ s.queues) × ((opened_port s port p i shape).0.slots ≡ s.slots)
     port-still s port p i shape = judged (open_refusal (ports_of s) port p i shape)
       where
-        judged : (o : Option Refusal) → ((option_map_or (refused s) o (unchanged (with_port s port (record { vp = p; sint = i; shape = shape })) Done)).0.queues ≡ s.queues) × ((option_map_or (refused s) o (unchanged (with_port s port (record { vp = p; sint = i; shape = shape })) Done)).0.slots ≡ s.slots)
+        judged : (o : Option Refusal) →
+            ((option_map_or (refused s) o (unchanged (with_port s port (record { vp = p; sint = i; shape = shape })) Done)).0.queues ≡ s.queues)
+            × ((option_map_or (refused s) o (unchanged (with_port s port (record { vp = p; sint = i; shape = shape })) Done)).0.slots ≡ s.slots)
         judged None = (refl, refl)
         judged (Some r) = (refl, refl)
 
@@ -128,7 +139,8 @@ draft-guest s page at bytes tickets h =
       empty = whole.empty;
     }) (record { queues = refl; slots = refl; next = refl }) refl (settled-same s _ refl refl refl h.settled) h
 
-pub draft-own : (s : State) (p : ℕ) (kind : Kind) (at : ℕ) (bytes : List ℕ) (tickets : List ℕ) → p < processors s → at + length bytes ≤ 4096 → HasNoTickets s p → IsDraft s tickets → IsDraft (with_own_bytes s p kind at bytes) tickets
+pub draft-own : (s : State) (p : ℕ) (kind : Kind) (at : ℕ) (bytes : List ℕ) (tickets : List ℕ) → p < processors s → at + length bytes ≤ 4096 → HasNoTickets s p →
+    IsDraft s tickets → IsDraft (with_own_bytes s p kind at bytes) tickets
 draft-own s p kind at bytes tickets below fits none h =
     draft-still s (with_own_bytes s p kind at bytes) tickets (record {
       count = refl;
@@ -163,7 +175,7 @@ draft-own s p kind at bytes tickets below fits none h =
     free q j within inside (inl same) z = ap (λ (x : ℕ). slot_of s x j) same ∙ none j inside
     free q j within inside (inr ne) z = own-other n s k q j page whole within inside (apart kind q ne) z
 
--- a ticket that stood nowhere
+-- a ticket that was nowhere
 one-other : (x t : ℕ) → x ≢ t → one x t ≡ 0
 one-other x t ne = grind (arith, nat_tests)
 
@@ -171,13 +183,17 @@ one-bound : (x t : ℕ) → one x t ≤ 1
 one-bound x t = grind (arith, nat_tests)
 
 tickets-joined : (s now : State) (x : ℕ) → now.next_ticket ≡ s.next_ticket → IsUnplaced s x → ((t : ℕ) → times t (locations now) ≡ times t (locations s) + one x t) → AreTickets s → AreTickets now
-tickets-joined s now x next loose more h = record { once = λ t. once t (cases_eq x t); given_before = λ t high. omega (arith, more t, h.given_before t (omega (arith, next, high)), one-other x t (λ e. omega (arith, e, next, high, loose.given))) }
+tickets-joined s now x next loose more h = record {
+  once = λ t. once t (cases_eq x t);
+  given_before = λ t high. omega (arith, more t, h.given_before t (omega (arith, next, high)), one-other x t (λ e. omega (arith, e, next, high, loose.given)));
+}
   where
     once : (t : ℕ) → (x ≡ t) ⊎ (x ≢ t) → times t (locations now) ≤ 1
     once t (inl same) = omega (arith, more t, one-bound x t, ap (λ y. times y (locations s)) same, loose.nowhere)
     once t (inr other) = omega (arith, more t, h.once t, one-other x t other)
 
-listed-joined : (s now : State) (tickets : List ℕ) (x : ℕ) → ((t : ℕ) → times t (locations now) ≡ times t (locations s) + one x t) → ((t : ℕ) → times t tickets ≡ times t (locations s)) → (t : ℕ) → times t (tickets ++ x ∷ []) ≡ times t (locations now)
+listed-joined : (s now : State) (tickets : List ℕ) (x : ℕ) → ((t : ℕ) → times t (locations now) ≡ times t (locations s) + one x t) →
+    ((t : ℕ) → times t tickets ≡ times t (locations s)) → (t : ℕ) → times t (tickets ++ x ∷ []) ≡ times t (locations now)
 listed-joined s now tickets x more h t = omega (arith, more t, h t, sum_by_push (λ y. one y t) tickets x)
 
 -- a message joins a queue
@@ -185,7 +201,8 @@ fits-of : (s : State) (p i : ℕ) (m : Message) → i < 16 → IsHome p m → Ha
 fits-of s p i (FromPort ticket port kind payload) under home buffer = port-fits s p i ticket port kind payload buffer.0 buffer.1
 fits-of s p i (FromTimer ticket t expiration) under home buffer = subst (λ q. Fits s q i (FromTimer ticket t expiration)) home.0 (timer-fits s t i ticket expiration under home.1 buffer)
 
-pub draft-message : (s : State) (p i : ℕ) (m : Message) (tickets : List ℕ) → p < processors s → i < 16 → MayJoin s p m → IsDraft s tickets → IsDraft (with_message s p i m) (tickets ++ ticket_of m ∷ [])
+pub draft-message : (s : State) (p i : ℕ) (m : Message) (tickets : List ℕ) → p < processors s → i < 16 → MayJoin s p m → IsDraft s tickets →
+    IsDraft (with_message s p i m) (tickets ++ ticket_of m ∷ [])
 draft-message s p i m tickets below under may h = record {
   sound = sound_from_kept n now intact (tickets-joined s now (ticket_of m) refl may.ticket moved h.sound.tickets);
   buffers = alike (accepted s p i m).0 now refl refl (buffers-accepted s p i m (fits-of s p i m under may.home may.buffer) h.buffers);
@@ -216,15 +233,22 @@ draft-message s p i m tickets below under may h = record {
         slots = whole.whole.slots;
         ports = whole.whole.ports;
         idle = whole.whole.idle;
-        messages = All-set (All IsMessage) s.queues (source_number p i) q (All-append IsMessage (queue_of s.queues p i) (m ∷ []) (queue-good n s p i whole.whole below under) (All-cons IsMessage m [] may.message (All-nil IsMessage))) whole.whole.messages;
+        messages = All-set (All IsMessage) s.queues (source_number p i) q
+            (All-append IsMessage (queue_of s.queues p i) (m ∷ []) (queue-good n s p i whole.whole below under) (All-cons IsMessage m [] may.message (All-nil IsMessage))) whole.whole.messages;
       };
       empty = whole.empty;
     }
 
     moved : (t : ℕ) → times t (locations now) ≡ times t (locations s) + one (ticket_of m) t
-    moved t = omega (arith, times-locations t s, times-locations t now, sum_by-set (in_queue t) s.queues (source_number p i) q [] (omega (arith, whole.whole.queues, below, under)), in_queue-push t (queue_of s.queues p i) m)
+    moved t = omega (
+      arith,
+      times-locations t s,
+      times-locations t now,
+      sum_by-set (in_queue t) s.queues (source_number p i) q [] (omega (arith, whole.whole.queues, below, under)),
+      in_queue-push t (queue_of s.queues p i) m,
+    )
 
--- a ticket stands in a slot
+-- a ticket is in a slot
 pub draft-ticket : (s : State) (p i x : ℕ) (tickets : List ℕ) → p < processors s → i < 16 → MayOccupy s p i x → IsDraft s tickets → IsDraft (with_slot_ticket s p i (Some x)) (tickets ++ x ∷ [])
 draft-ticket s p i x tickets below under may h = record {
   sound = sound_from_kept n now intact (tickets-joined s now x refl may.ticket moved h.sound.tickets);
@@ -243,8 +267,10 @@ draft-ticket s p i x tickets below under may h = record {
     whole = kept_from_sound s h.sound
 
     free : (q j : ℕ) → q < n → j < 16 → (p ≡ q) ⊎ (p ≢ q) → (i ≡ j) ⊎ (i ≢ j) → IsFree now q j
-    free q j within inside (inr ne) _ z = get_or-set_other s.slots (source_number p i) (source_number q j) (Some x) None (λ same. other_place p i q j under inside (λ e. absurd (ne e)) (sym same)) ∙ whole.empty q j within inside z
-    free q j within inside (inl e) (inr ne) z = get_or-set_other s.slots (source_number p i) (source_number q j) (Some x) None (λ same. other_place p i q j under inside (λ _. ne) (sym same)) ∙ whole.empty q j within inside z
+    free q j within inside (inr ne) _ z = get_or-set_other s.slots (source_number p i) (source_number q j) (Some x) None (λ same. other_place p i q j under inside (λ e. absurd (ne e)) (sym same))
+        ∙ whole.empty q j within inside z
+    free q j within inside (inl e) (inr ne) z = get_or-set_other s.slots (source_number p i) (source_number q j) (Some x) None (λ same. other_place p i q j under inside (λ _. ne) (sym same))
+        ∙ whole.empty q j within inside z
     free q j within inside (inl e) (inl f) z = let filled : is_slot_empty s q j ≡ false = (λ k. is_slot_empty s (sym e k) (sym f k)) ∙ may.occupied in absurd (grind (arith, nat_tests))
 
     intact : IsIntact n now
@@ -264,7 +290,13 @@ draft-ticket s p i x tickets below under may h = record {
     }
 
     moved : (t : ℕ) → times t (locations now) ≡ times t (locations s) + one x t
-    moved t = omega (arith, times-locations t s, times-locations t now, sum_by-set (in_slot t) s.slots (source_number p i) (Some x) None (omega (arith, whole.whole.slots, below, under)), ap (in_slot t) may.free)
+    moved t = omega (
+      arith,
+      times-locations t s,
+      times-locations t now,
+      sum_by-set (in_slot t) s.slots (source_number p i) (Some x) None (omega (arith, whole.whole.slots, below, under)),
+      ap (in_slot t) may.free,
+    )
 
 -- a test that finds none
 abbrev one_if : Bool → ℕ
@@ -286,7 +318,8 @@ none-found {X} p (x ∷ xs) e = by (p x) refl (none-found p xs)
     by true h more = absurd (omega (arith, sum_by-cons (λ y. cond (p y) 1 0) x xs, ap one_if h, e))
     by false h more = ap (λ b. b || list_any p xs) h ∙ more (omega (arith, sum_by-cons (λ y. cond (p y) 1 0) x xs, ap one_if h, e))
 
-pub loose-of : (s : State) (tickets : List ℕ) (t : ℕ) (r : Bool) → IsDraft s tickets → t < s.next_ticket → r ≡ list_any (λ y. y == t) tickets → (IsTrue (not r) → IsUnplaced s t) × (IsUnplaced s t → IsTrue (not r))
+pub loose-of : (s : State) (tickets : List ℕ) (t : ℕ) (r : Bool) → IsDraft s tickets → t < s.next_ticket → r ≡ list_any (λ y. y == t) tickets →
+    (IsTrue (not r) → IsUnplaced s t) × (IsUnplaced s t → IsTrue (not r))
 loose-of s tickets t r h given is = (forth, back)
   where
     forth : IsTrue (not r) → IsUnplaced s t

@@ -27,7 +27,8 @@ pub emptied_none : (s : State) (p : ℕ) (before : List Notice) → (s, before) 
 emptied_none s p before = fold_none (empties p) s before
 
 -- the slot of a source, and then its queue
-pub emptied_more : (s now between next : State) (p i v : ℕ) (before emitted half more : List Notice) → (now, emitted) ≡ preceded before (emptied_below s p i) → v ≡ i → (between, half) ≡ preceded emitted (slot_emptied now p v) →
+pub emptied_more : (s now between next : State) (p i v : ℕ) (before emitted half more : List Notice) → (now, emitted) ≡ preceded before (emptied_below s p i) → v ≡ i →
+    (between, half) ≡ preceded emitted (slot_emptied now p v) →
     (next, more) ≡ preceded half (queue_emptied between p v) → (next, more) ≡ preceded before (emptied_below s p (i + 1))
 emptied_more s now between next p i v before emitted half more so_far same first second =
     fold_more (empties p) s now next i v before emitted more so_far same (chained between next emitted half more (slot_emptied now p v) (λ t. queue_emptied t p v) first second)
@@ -52,7 +53,8 @@ queue-room s p i = by (cases_lt (source_number p i) (length s.queues))
 
 -- a slot emits at most one notice
 slot-room : (s : State) (p i : ℕ) → length (slot_emptied s p i).1 + total (slot_emptied s p i).0 ≤ 1 + total s
-slot-room s p i = elim (slot_of s p i) as (λ o. length (option_map_or (withdrawn_ticket s p i) o (nothing s)).1 + total (option_map_or (withdrawn_ticket s p i) o (nothing s)).0 ≤ 1 + total s) [ None ↦ omega arith | Some t ↦ omega arith ]
+slot-room s p i = elim (slot_of s p i) as (λ o. length (option_map_or (withdrawn_ticket s p i) o (nothing s)).1 + total
+    (option_map_or (withdrawn_ticket s p i) o (nothing s)).0 ≤ 1 + total s) [ None ↦ omega arith | Some t ↦ omega arith ]
 
 emptied-room : (s : State) (p n : ℕ) → length (emptied_below s p n).1 + total (emptied_below s p n).0 ≤ n + total s
 unfolding emptied_below
@@ -67,7 +69,8 @@ emptied-room s p (suc i) =
 pub same_left : (s : State) (p n : ℕ) → processors (emptied_below s p n).0 ≡ processors s
 unfolding emptied_below
 same_left s p zero = refl
-same_left s p (suc i) = elim (slot_of (emptied_below s p i).0 p i) as (λ o. processors (option_map_or (withdrawn_ticket (emptied_below s p i).0 p i) o (nothing (emptied_below s p i).0)).0 ≡ processors s) [ None ↦ same_left s p i | Some t ↦ same_left s p i ]
+same_left s p (suc i) = elim (slot_of (emptied_below s p i).0 p i) as
+    (λ o. processors (option_map_or (withdrawn_ticket (emptied_below s p i).0 p i) o (nothing (emptied_below s p i).0)).0 ≡ processors s) [ None ↦ same_left s p i | Some t ↦ same_left s p i ]
 
 slot-total : (s : State) (p i : ℕ) → total (slot_emptied s p i).0 ≡ total s
 slot-total s p i = elim (slot_of s p i) as (λ o. total (option_map_or (withdrawn_ticket s p i) o (nothing s)).0 ≡ total s) [ None ↦ refl | Some t ↦ refl ]
@@ -85,7 +88,8 @@ unfolding emptied_below
 slot-fits s p zero bound all = omega arith
 slot-fits s p (suc i) bound all = omega (arith, bound, all (omega arith), emptied-room s p (suc i))
 
-pub queue-fits : (s : State) (p n v : ℕ) → n < 16 → v ≡ n → total s ≤ 288 → length (emptied_below s p n).1 + length (slot_emptied (emptied_below s p n).0 p v).1 + total (slot_emptied (emptied_below s p n).0 p v).0 ≤ 304
+pub queue-fits : (s : State) (p n v : ℕ) → n < 16 → v ≡ n → total s ≤ 288 →
+    length (emptied_below s p n).1 + length (slot_emptied (emptied_below s p n).0 p v).1 + total (slot_emptied (emptied_below s p n).0 p v).0 ≤ 304
 queue-fits s p n v bound same all = omega (arith, bound, all, emptied-room s p n, slot-room (emptied_below s p n).0 p v)
 
 -- the messages queued after a slot was emptied are bounded by those queued at first

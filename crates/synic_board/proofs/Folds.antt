@@ -19,16 +19,19 @@ pub fold_none : {below one : State → ℕ → Effect} (f : IsFold below one) (s
 fold_none f s before = ap (λ ns. (s, ns)) (sym (append-nil before)) ∙ ap (preceded before) (sym (f.none s))
 
 -- one effect, and then another
-pub chained : (now next : State) (before emitted more : List Notice) (e : Effect) (f : State → Effect) → (now, emitted) ≡ preceded before e → (next, more) ≡ preceded emitted (f now) → (next, more) ≡ preceded before (after e (f e.0))
+pub chained : (now next : State) (before emitted more : List Notice) (e : Effect) (f : State → Effect) → (now, emitted) ≡ preceded before e →
+    (next, more) ≡ preceded emitted (f now) → (next, more) ≡ preceded before (after e (f e.0))
 chained now next before emitted more e f first second =
     let a : now ≡ e.0 = ap (λ (x : Effect). x.0) first in
     let b : emitted ≡ before ++ e.1 = ap (λ (x : Effect). x.1) first in
     second ∙ (λ j. preceded (b j) (f (a j))) ∙ ap (λ ns. ((f e.0).0, ns)) (append_assoc before e.1 (f e.0).1)
 
-pub fold_more : {below one : State → ℕ → Effect} (f : IsFold below one) (s now next : State) (i v : ℕ) (before emitted more : List Notice) → (now, emitted) ≡ preceded before (below s i) → v ≡ i → (next, more) ≡ preceded emitted (one now v) →
+pub fold_more : {below one : State → ℕ → Effect} (f : IsFold below one) (s now next : State) (i v : ℕ) (before emitted more : List Notice) →
+    (now, emitted) ≡ preceded before (below s i) → v ≡ i → (next, more) ≡ preceded emitted (one now v) →
     (next, more) ≡ preceded before (below s (i + 1))
 fold_more {below} {one} f s now next i v before emitted more so_far same step =
-    chained now next before emitted more (below s i) (λ t. one t i) so_far (step ∙ ap (λ n. preceded emitted (one now n)) same) ∙ ap (preceded before) (sym (f.more s i)) ∙ ap (λ k. preceded before (below s k)) (sym (add-one i))
+    chained now next before emitted more (below s i) (λ t. one t i) so_far (step ∙ ap (λ n. preceded emitted (one now n)) same) ∙ ap (preceded before) (sym (f.more s i))
+    ∙ ap (λ k. preceded before (below s k)) (sym (add-one i))
 
 -- steps that do nothing
 pub fold_skip : {below one : State → ℕ → Effect} (f : IsFold below one) (s : State) (i k : ℕ) → ((j : ℕ) → j < k → one (below s i).0 (i + j) ≡ nothing (below s i).0) → below s (i + k) ≡ below s i
@@ -70,18 +73,23 @@ untried s p i none = rw (none, both (delivers s p)) refl
 abbrev pub NoneFrom : State → ℕ → ℕ → ℕ → Type 0
 NoneFrom s p from to = (i : ℕ) → from ≤ i → i < to → length (queue_of s.queues p i) ≡ 0
 
-tried_skip : (s now : State) (p from to : ℕ) (before emitted : List Notice) → from ≤ to → NoneFrom now p from to → (now, emitted) ≡ preceded before (tried_below s p from) → (now, emitted) ≡ preceded before (tried_below s p to)
+tried_skip : (s now : State) (p from to : ℕ) (before emitted : List Notice) → from ≤ to → NoneFrom now p from to →
+    (now, emitted) ≡ preceded before (tried_below s p from) → (now, emitted) ≡ preceded before (tried_below s p to)
 tried_skip s now p from to before emitted le none so_far =
     let at : from + (to - from) ≡ to = omega arith in
     let same : now ≡ (tried_below s p from).0 = ap (λ (x : Effect). x.0) so_far in
     so_far
-    ∙ ap (preceded before) (sym (fold_skip (tries p) s from (to - from) (λ j h. subst (λ t. tried t p (from + j) ≡ nothing t) same (untried now p (from + j) (none (from + j) (omega arith) (omega arith))))) ∙ ap (tried_below s p) at)
+    ∙ ap (preceded before) (sym
+    (fold_skip (tries p) s from (to - from) (λ j h. subst (λ t. tried t p (from + j) ≡ nothing t) same (untried now p (from + j) (none (from + j) (omega arith) (omega arith))))) ∙ ap
+    (tried_below s p) at)
 
-pub tried_next : (s now next : State) (p from i v : ℕ) (before emitted more : List Notice) → from ≤ i → NoneFrom now p from i → (now, emitted) ≡ preceded before (tried_below s p from) → v ≡ i → (next, more) ≡ preceded emitted (tried now p v) →
+pub tried_next : (s now next : State) (p from i v : ℕ) (before emitted more : List Notice) → from ≤ i → NoneFrom now p from i →
+    (now, emitted) ≡ preceded before (tried_below s p from) → v ≡ i → (next, more) ≡ preceded emitted (tried now p v) →
     (next, more) ≡ preceded before (tried_below s p (i + 1))
 tried_next s now next p from i v before emitted more le none so_far same step = tried_more s now next p i v before emitted more (tried_skip s now p from i before emitted le none so_far) same step
 
-pub tried_whole : (s now : State) (p from : ℕ) (before emitted : List Notice) → from ≤ 16 → NoneFrom now p from 16 → (now, emitted) ≡ preceded before (tried_below s p from) → (now, emitted) ≡ preceded before (tried_below s p 16)
+pub tried_whole : (s now : State) (p from : ℕ) (before emitted : List Notice) → from ≤ 16 → NoneFrom now p from 16 →
+    (now, emitted) ≡ preceded before (tried_below s p from) → (now, emitted) ≡ preceded before (tried_below s p 16)
 tried_whole s now p from before emitted le none so_far = tried_skip s now p from 16 before emitted le none so_far
 
 -- timers one after another
@@ -90,18 +98,21 @@ unfolding attempted_all
 attempted_all-push s [] t = ap (λ ns. ((attempted s t).0, ns)) (append-nil (attempted s t).1)
 attempted_all-push s (u ∷ ts) t =
     ap (after (attempted s u)) (attempted_all-push (attempted s u).0 ts t)
-    ∙ ap (λ ns. ((attempted (attempted_all (attempted s u).0 ts).0 t).0, ns)) (sym (append_assoc (attempted s u).1 (attempted_all (attempted s u).0 ts).1 (attempted (attempted_all (attempted s u).0 ts).0 t).1))
+    ∙ ap (λ ns. ((attempted (attempted_all (attempted s u).0 ts).0 t).0, ns))
+    (sym (append_assoc (attempted s u).1 (attempted_all (attempted s u).0 ts).1 (attempted (attempted_all (attempted s u).0 ts).0 t).1))
 
 pub attempted_none : (s : State) (ts : List (ℕ × ℕ)) (before : List Notice) → (s, before) ≡ preceded before (attempted_all s (take 0 ts))
 unfolding attempted_all
 attempted_none s ts before = ap (λ ns. (s, ns)) (sym (append-nil before))
 
-pub attempted_more : (s now next : State) (ts : List (ℕ × ℕ)) (i : ℕ) (t : ℕ × ℕ) (before emitted more : List Notice) → i < length ts → t ≡ get_or ts i t → (now, emitted) ≡ preceded before (attempted_all s (take i ts)) → (next, more) ≡ preceded emitted (attempted now t) →
+pub attempted_more : (s now next : State) (ts : List (ℕ × ℕ)) (i : ℕ) (t : ℕ × ℕ) (before emitted more : List Notice) → i < length ts → t ≡ get_or ts i t →
+    (now, emitted) ≡ preceded before (attempted_all s (take i ts)) → (next, more) ≡ preceded emitted (attempted now t) →
     (next, more) ≡ preceded before (attempted_all s (take (i + 1) ts))
 attempted_more s now next ts i t before emitted more within at so_far step =
     chained now next before emitted more (attempted_all s (take i ts)) (λ u. attempted u t) so_far step
     ∙ ap (preceded before) (sym (attempted_all-push s (take i ts) t))
     ∙ ap (λ xs. preceded before (attempted_all s xs)) (ap (λ x. take i ts ++ x ∷ []) at ∙ sym (take_more ts i t within))
 
-pub attempted_whole : (s now : State) (ts : List (ℕ × ℕ)) (i : ℕ) (before emitted : List Notice) → length ts ≤ i → (now, emitted) ≡ preceded before (attempted_all s (take i ts)) → (now, emitted) ≡ preceded before (attempted_all s ts)
+pub attempted_whole : (s now : State) (ts : List (ℕ × ℕ)) (i : ℕ) (before emitted : List Notice) → length ts ≤ i →
+    (now, emitted) ≡ preceded before (attempted_all s (take i ts)) → (now, emitted) ≡ preceded before (attempted_all s ts)
 attempted_whole s now ts i before emitted h so_far = so_far ∙ ap (λ xs. preceded before (attempted_all s xs)) (take_all i ts h)

@@ -74,7 +74,8 @@ unfolding least
 none-due = ap (option_map (λ (r : ℕ × ℕ). (r.0, timer_of r.1))) (none_below 32)
 
 -- the cached summary when a board is opened
-pub summary_of-opened : (n pages ticket : ℕ) (v : Values) → v.nexts ≡ replicate n None → v.autos ≡ replicate n set.empty → v.owners ≡ replicate pages Guest → v.queued ≡ replicate (16 * n) 0 → v.earliest ≡ None → v ≡ summary_of (opened n pages ticket)
+pub summary_of-opened : (n pages ticket : ℕ) (v : Values) → v.nexts ≡ replicate n None → v.autos ≡ replicate n set.empty → v.owners ≡ replicate pages Guest →
+    v.queued ≡ replicate (16 * n) 0 → v.earliest ≡ None → v ≡ summary_of (opened n pages ticket)
 summary_of-opened n pages ticket v nexts autos owners queued earliest =
     let s = opened n pages ticket in
     let a : v.nexts ≡ map next s.apics = nexts ∙ ap (replicate n) (sym next-empty) ∙ sym (map-replicate next n empty_apic) in
@@ -87,6 +88,30 @@ summary_of-opened n pages ticket v nexts autos owners queued earliest =
 -- the state of the fields of a newly opened board
 pub state-opened : (n pages ticket : ℕ) (apics : List Apic) (regs : List Regs) (space : Space) (ports : Ports) (queues : Queues) (slots : List (Option ℕ)) (bank : Bank) →
     apics ≡ replicate n empty_apic → regs ≡ replicate n reset_regs → space ≡ opened_space n pages → ports ≡ no_ports n → queues ≡ no_messages n → slots ≡ replicate (16 * n) None → bank ≡ no_timers →
-    record { moment = 0; next_ticket = ticket; apics = apics; regs = regs; pages = space.pages; own = space.own; ports = ports.ports; queues = queues; slots = slots; timers = bank.timers; suspended = bank.suspended } ≡ opened n pages ticket
+    record {
+      moment = 0;
+      next_ticket = ticket;
+      apics = apics;
+      regs = regs;
+      pages = space.pages;
+      own = space.own;
+      ports = ports.ports;
+      queues = queues;
+      slots = slots;
+      timers = bank.timers;
+      suspended = bank.suspended;
+    } ≡ opened n pages ticket
 state-opened n pages ticket apics regs space ports queues slots bank a r s p q t b =
-    (λ i. record { moment = 0; next_ticket = ticket; apics = a i; regs = r i; pages = (s i).pages; own = (s i).own; ports = (p i).ports; queues = q i; slots = t i; timers = (b i).timers; suspended = (b i).suspended })
+    (λ i. record {
+      moment = 0;
+      next_ticket = ticket;
+      apics = a i;
+      regs = r i;
+      pages = (s i).pages;
+      own = (s i).own;
+      ports = (p i).ports;
+      queues = q i;
+      slots = t i;
+      timers = (b i).timers;
+      suspended = (b i).suspended;
+    })

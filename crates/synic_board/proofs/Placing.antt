@@ -25,7 +25,8 @@ left_behind qs now p i left h is count = count ∙ ap (λ xs. length (queue_of x
 -- after a message was placed, the fields and the notices are those of the definition
 pub placed_is : (s : State) (p i left at ticket : ℕ) (pending : Bool) (m : Message) (img : List ℕ) (b t : Space) (now : Queues) (slots : List (Option ℕ)) (before emitted : List Notice) →
     b ≡ space_of s → source_number p i < length s.queues → slice_get (queue_of s.queues p i) 0 ≡ Some m → now ≡ after_place s.queues p i → left ≡ length (queue_of now p i) →
-    img ≡ image m (nat_lt 0 left) s.moment → t ≡ after_slot b p i img → ticket ≡ ticket_of m → at ≡ source_number p i → slots ≡ set s.slots at (Some ticket) → pending ≡ nat_lt 0 left → emitted ≡ before ++ placed_notices ticket p i pending →
+    img ≡ image m (nat_lt 0 left) s.moment → t ≡ after_slot b p i img → ticket ≡ ticket_of m → at ≡ source_number p i → slots ≡ set s.slots at (Some ticket) →
+    pending ≡ nat_lt 0 left → emitted ≡ before ++ placed_notices ticket p i pending →
     (record s { pages = t.pages; own = t.own; queues = now; slots = slots }, emitted) ≡ preceded before (placed s p i)
 placed_is s p i left at ticket pending m img b t now slots before emitted space h first taken count picture written numbered place slot is_pending tells =
     let rest : List Message = drop 1 (queue_of s.queues p i) in

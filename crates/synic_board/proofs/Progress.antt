@@ -20,7 +20,8 @@ unfolding run_of
 run_of-push s [] e = ap (λ ns. ((step s e).0, (step s e).1 ∷ [], ns)) (append-nil (step s e).2)
 run_of-push s (x ∷ es) e =
     ap (followed_by (step s x)) (run_of-push (step s x).0 es e)
-    ∙ ap (λ ns. (((step (run_of (step s x).0 es).0 e).0, (step s x).1 ∷ (run_of (step s x).0 es).1 ++ (step (run_of (step s x).0 es).0 e).1 ∷ [], ns))) (sym (append_assoc (step s x).2 (run_of (step s x).0 es).2 (step (run_of (step s x).0 es).0 e).2))
+    ∙ ap (λ ns. (((step (run_of (step s x).0 es).0 e).0, (step s x).1 ∷ (run_of (step s x).0 es).1 ++ (step (run_of (step s x).0 es).0 e).1 ∷ [], ns)))
+    (sym (append_assoc (step s x).2 (run_of (step s x).0 es).2 (step (run_of (step s x).0 es).0 e).2))
 
 pub behind_none : (s : State) (es : List Event) (before : List Notice) (replies : List Reply) → replies ≡ [] → HasPerformed s es 0 before s replies before
 unfolding run_of
@@ -31,7 +32,8 @@ behind_none s es before replies e = record {
 }
 
 pub behind_more : (s : State) (es : List Event) (i : ℕ) (e : Event) (before : List Notice) (now next : State) (replies more : List Reply) (reply : Reply) (emitted louder ns : List Notice) →
-    i < length es → e ≡ get_or es i e → HasPerformed s es i before now replies emitted → (next, reply, ns) ≡ step now e → Conserves now next ns → now.next_ticket ≤ next.next_ticket → more ≡ replies ++ reply ∷ [] → louder ≡ emitted ++ ns →
+    i < length es → e ≡ get_or es i e → HasPerformed s es i before now replies emitted → (next, reply, ns) ≡ step now e → Conserves now next ns →
+    now.next_ticket ≤ next.next_ticket → more ≡ replies ++ reply ∷ [] → louder ≡ emitted ++ ns →
     HasPerformed s es (i + 1) before next more louder
 behind_more s es i e before now next replies more reply emitted louder ns lt at h stepped conserves tickets_monotone m l =
     let r : Run = run_of s (take i es) in

@@ -16,7 +16,8 @@ use Rattle.synic_board.specs.Stores.{consumed_in, with_bytes, stored_bytes}
 use Rattle.synic_board.specs.inside.Steps.{IsOn}
 
 -- a store that returns an owner was not refused, and writes the visible page
-pub store_is_good : (s : Space) (address : ℕ) (bytes : List ℕ) (owner : Owner) → Ok owner ≡ store_answer s address bytes → (refusal_of s address (length bytes) ≡ None) × (owner ≡ owner_of s (address / 4096))
+pub store_is_good : (s : Space) (address : ℕ) (bytes : List ℕ) (owner : Owner) → Ok owner ≡ store_answer s address bytes →
+    (refusal_of s address (length bytes) ≡ None) × (owner ≡ owner_of s (address / 4096))
 store_is_good s address bytes owner e = judged (refusal_of s address (length bytes)) refl
   where
     judged : (o : Option Refusal) → refusal_of s address (length bytes) ≡ o → (refusal_of s address (length bytes) ≡ None) × (owner ≡ owner_of s (address / 4096))

@@ -206,15 +206,21 @@ pub record OfAnswers (P : State → Effect → Type 0) (Q : State → Event → 
   pub faults : (s : State) (event : Event) → Q s event (unchanged s replies.GeneralProtection)
   pub reads : (s : State) (p number : ℕ) → Q s (Read p number) (unchanged s (read s p number))
   pub loads : (s : State) (address count : ℕ) → Q s (Load address count) (unchanged s (read_bytes s address count))
-  pub acts : (s : State) (event : Event) (reply : Reply) (moment : ℕ) (ports : List (Option Port)) (regs : List Regs) (e : Effect) → IsAnswer event reply → P (with_settings s moment ports regs) e → Q s event (answered reply e)
+  pub acts : (s : State) (event : Event) (reply : Reply) (moment : ℕ) (ports : List (Option Port)) (regs : List Regs) (e : Effect) → IsAnswer event reply →
+      P (with_settings s moment ports regs) e → Q s event (answered reply e)
   -- an APIC without new requests, and with the same suspension flag
-  pub eases : (s : State) (event : Event) (reply : Reply) (p : ℕ) (a : Apic) → IsAnswer event reply → ((v : ℕ) → set.contains a.requested v ≡ true → is_requested s p v ≡ true) → a.suspended ≡ is_suspended s p → Q s event (unchanged (with_apic s p a) reply)
+  pub eases : (s : State) (event : Event) (reply : Reply) (p : ℕ) (a : Apic) → IsAnswer event reply →
+      ((v : ℕ) → set.contains a.requested v ≡ true → is_requested s p v ≡ true) → a.suspended ≡ is_suspended s p → Q s event (unchanged (with_apic s p a) reply)
   pub stores : (s : State) (address : ℕ) (bytes : ArrayVec ℕ) (e : Effect) → P (with_bytes s address bytes.items) e → Q s (Store address bytes) (answered replies.Done e)
-  pub configures : (s : State) (p n number value : ℕ) (e : Effect) → p < processors s → register_of number ≡ Some (TimerConfig n) → P (with_bank s (with_config (bank_of s) (p, n) value s.moment)) e → Q s (Write p number value) (answered replies.Done e)
-  pub counts : (s : State) (p n number value : ℕ) (e : Effect) → p < processors s → register_of number ≡ Some (TimerCount n) → P (with_bank s (with_count (bank_of s) (p, n) value s.moment)) e → Q s (Write p number value) (answered replies.Done e)
+  pub configures : (s : State) (p n number value : ℕ) (e : Effect) → p < processors s → register_of number ≡ Some (TimerConfig n) →
+      P (with_bank s (with_config (bank_of s) (p, n) value s.moment)) e → Q s (Write p number value) (answered replies.Done e)
+  pub counts : (s : State) (p n number value : ℕ) (e : Effect) → p < processors s → register_of number ≡ Some (TimerCount n) →
+      P (with_bank s (with_count (bank_of s) (p, n) value s.moment)) e → Q s (Write p number value) (answered replies.Done e)
   -- a signal finds its flag set, or clear
-  pub repeats : (s : State) (port flag p i f : ℕ) → flag_place_of (ports_of s) port flag ≡ Ok (p, i, f) → is_flag_set (space_of s) p i f ≡ true → Q s (Signal port flag) (unchanged (with_flag s p i f) replies.FlagWasSet)
-  pub signals : (s : State) (port flag p i f : ℕ) → flag_place_of (ports_of s) port flag ≡ Ok (p, i, f) → is_flag_set (space_of s) p i f ≡ false → P (with_flag s p i f) (raised (with_flag s p i f) p i)
+  pub repeats : (s : State) (port flag p i f : ℕ) → flag_place_of (ports_of s) port flag ≡ Ok (p, i, f) → is_flag_set (space_of s) p i f ≡ true →
+      Q s (Signal port flag) (unchanged (with_flag s p i f) replies.FlagWasSet)
+  pub signals : (s : State) (port flag p i f : ℕ) → flag_place_of (ports_of s) port flag ≡ Ok (p, i, f) → is_flag_set (space_of s) p i f ≡ false →
+      P (with_flag s p i f) (raised (with_flag s p i f) p i)
       → Q s (Signal port flag) (answered replies.FlagWasClear (after (flagged s p i f) (raised (with_flag s p i f) p i)))
   -- a processor is suspended or resumed, and one is reset
   pub pauses : (s : State) (event : Event) (p : ℕ) (mark : Bool) → IsAnswer event replies.Done → p < processors s → Q s event (unchanged (with_suspension s p mark) replies.Done)
@@ -232,14 +238,18 @@ judged : (R : Outcome → Type 0) (s : State) (refusal : Option Refusal) (outcom
 judged R s None outcome refuses h = h
 judged R s (Some r) outcome refuses h = refuses r
 
-of-stored : (P : State → Effect → Type 0) (Q : State → Event → Outcome → Type 0) → OfEffects P → OfAnswers P Q → (s : State) (p number : ℕ) (r : Register) (value : ℕ) → Q s (Write p number value) (stored s p r value)
+of-stored : (P : State → Effect → Type 0) (Q : State → Event → Outcome → Type 0) → OfEffects P → OfAnswers P Q → (s : State) (p number : ℕ) (r : Register) (value : ℕ) →
+    Q s (Write p number value) (stored s p r value)
 of-stored P Q h k s p number r value =
     let regs : List Regs = (with_regs s p (with_value (regs_of s p) r value)).regs in
-    either (Q s (Write p number value)) (is_refused r value) (unchanged s replies.GeneralProtection) (unchanged (with_regs s p (with_value (regs_of s p) r value)) replies.Done) (λ _. k.faults s (Write p number value))
-    (λ _. k.acts s (Write p number value) replies.Done s.moment s.ports regs (nothing (with_settings s s.moment s.ports regs)) (λ never. never, tt, tt) (h.stays (with_settings s s.moment s.ports regs)))
+    either (Q s (Write p number value)) (is_refused r value) (unchanged s replies.GeneralProtection)
+    (unchanged (with_regs s p (with_value (regs_of s p) r value)) replies.Done) (λ _. k.faults s (Write p number value))
+    (λ _. k.acts s (Write p number value) replies.Done s.moment s.ports regs (nothing (with_settings s s.moment s.ports regs)) (λ never. never, tt, tt)
+    (h.stays (with_settings s s.moment s.ports regs)))
 
 -- with an effect from where the state is
-of-effect : (P : State → Effect → Type 0) (Q : State → Event → Outcome → Type 0) → OfAnswers P Q → (s : State) (event : Event) (reply : Reply) (e : Effect) → IsAnswer event reply → P s e → Q s event (answered reply e)
+of-effect : (P : State → Effect → Type 0) (Q : State → Event → Outcome → Type 0) → OfAnswers P Q → (s : State) (event : Event) (reply : Reply) (e : Effect) →
+    IsAnswer event reply → P s e → Q s event (answered reply e)
 of-effect P Q k s event reply e is h = k.acts s event reply s.moment s.ports s.regs e is h
 
 same-ended : (a : Apic) → (after_end a).requested ≡ a.requested
@@ -248,9 +258,11 @@ same-ended a = elim (greatest a.in_service) as (λ o. (option_map_or (λ v. end_
 same-mark : (a : Apic) → (after_end a).suspended ≡ a.suspended
 same-mark a = elim (greatest a.in_service) as (λ o. (option_map_or (λ v. end_vector v a) o a).suspended ≡ a.suspended) [ None ↦ refl | Some v ↦ refl ]
 
-of-written_register : (P : State → Effect → Type 0) (Q : State → Event → Outcome → Type 0) → OfEffects P → OfAnswers P Q → (s : State) (p number : ℕ) (r : Register) (value : ℕ) → p < processors s → register_of number ≡ Some r → Q s (Write p number value) (written_register s p r value)
+of-written_register : (P : State → Effect → Type 0) (Q : State → Event → Outcome → Type 0) → OfEffects P → OfAnswers P Q →
+    (s : State) (p number : ℕ) (r : Register) (value : ℕ) → p < processors s → register_of number ≡ Some r → Q s (Write p number value) (written_register s p r value)
 of-written_register P Q h k s p number ReferenceCounter value on is = k.faults s _
-of-written_register P Q h k s p number Eoi value on is = k.eases s (Write p number value) replies.Done p (after_end (apic_of s p)) (λ never. never, tt, tt) (λ v is. sym (ap (λ (r : Vectors). set.contains r v) (same-ended (apic_of s p))) ∙ is) (same-mark (apic_of s p))
+of-written_register P Q h k s p number Eoi value on is = k.eases s (Write p number value) replies.Done p (after_end (apic_of s p)) (λ never. never, tt, tt)
+    (λ v is. sym (ap (λ (r : Vectors). set.contains r v) (same-ended (apic_of s p))) ∙ is) (same-mark (apic_of s p))
 of-written_register P Q h k s p number Tpr value on is = k.eases s (Write p number value) replies.Done p (with_task_priority (apic_of s p) (value % 256)) (λ never. never, tt, tt) (λ v is. is) refl
 of-written_register P Q h k s p number Control value on is = of-stored P Q h k s p number Control value
 of-written_register P Q h k s p number Version value on is = k.faults s _
@@ -258,23 +270,29 @@ of-written_register P Q h k s p number SiefRegister value on is = of-stored P Q 
 of-written_register P Q h k s p number SimRegister value on is = of-stored P Q h k s p number SimRegister value
 of-written_register P Q h k s p number Eom value on is = of-effect P Q k s (Write p number value) replies.Done (tried_below s p 16) (λ never. never, tt, tt) (of-tried_below P h s p 16)
 of-written_register P Q h k s p number (Source n) value on is = of-stored P Q h k s p number (Source n) value
-of-written_register P Q h k s p number (TimerConfig n) value on is = let now : State = with_bank s (with_config (bank_of s) (p, n) value s.moment) in k.configures s p n number value (attempted now (p, n)) on is (of-attempted P h now (p, n))
-of-written_register P Q h k s p number (TimerCount n) value on is = let now : State = with_bank s (with_count (bank_of s) (p, n) value s.moment) in k.counts s p n number value (attempted now (p, n)) on is (of-attempted P h now (p, n))
+of-written_register P Q h k s p number (TimerConfig n) value on is = let now : State = with_bank s
+    (with_config (bank_of s) (p, n) value s.moment) in k.configures s p n number value (attempted now (p, n)) on is (of-attempted P h now (p, n))
+of-written_register P Q h k s p number (TimerCount n) value on is = let now : State = with_bank s
+    (with_count (bank_of s) (p, n) value s.moment) in k.counts s p n number value (attempted now (p, n)) on is (of-attempted P h now (p, n))
 
-of-written : (P : State → Effect → Type 0) (Q : State → Event → Outcome → Type 0) → OfEffects P → OfAnswers P Q → (s : State) (p number value : ℕ) → p < processors s → Q s (Write p number value) (written s p number value)
+of-written : (P : State → Effect → Type 0) (Q : State → Event → Outcome → Type 0) → OfEffects P → OfAnswers P Q → (s : State) (p number value : ℕ) → p < processors s →
+    Q s (Write p number value) (written s p number value)
 of-written P Q h k s p number value on = by (register_of number) refl
   where
     by : (r : Option Register) → register_of number ≡ r → Q s (Write p number value) (option_map_or (λ r. written_register s p r value) r (unchanged s replies.GeneralProtection))
     by None is = k.faults s _
     by (Some r) is = of-written_register P Q h k s p number r value on is
 
-of-place : (P : State → Effect → Type 0) (Q : State → Event → Outcome → Type 0) → OfEffects P → OfAnswers P Q → (s : State) (port flag : ℕ) (place : ℕ × ℕ × ℕ) → flag_place_of (ports_of s) port flag ≡ Ok place → Q s (Signal port flag) (signalled_place s place)
+of-place : (P : State → Effect → Type 0) (Q : State → Event → Outcome → Type 0) → OfEffects P → OfAnswers P Q → (s : State) (port flag : ℕ) (place : ℕ × ℕ × ℕ) →
+    flag_place_of (ports_of s) port flag ≡ Ok place → Q s (Signal port flag) (signalled_place s place)
 of-place P Q h k s port flag (p, i, f) is =
     let lit : State = with_flag s p i f in
     let found : Outcome = unchanged lit replies.FlagWasSet in
     let sets : Outcome = answered replies.FlagWasClear (after (flagged s p i f) (raised lit p i)) in
-    either (Q s (Signal port flag)) (not (has (regs_of s p).control enable && has (regs_of s p).sief enable)) (refused s SynicOff) (cond (is_flag_set (space_of s) p i f) found sets) (λ _. k.refuses s _ SynicOff)
-    (λ _. either (Q s (Signal port flag)) (is_flag_set (space_of s) p i f) found sets (λ lit_already. k.repeats s port flag p i f is lit_already) (λ clear. k.signals s port flag p i f is clear (of-raised P h lit p i)))
+    either (Q s (Signal port flag)) (not (has (regs_of s p).control enable && has (regs_of s p).sief enable)) (refused s SynicOff)
+    (cond (is_flag_set (space_of s) p i f) found sets) (λ _. k.refuses s _ SynicOff)
+    (λ _. either (Q s (Signal port flag)) (is_flag_set (space_of s) p i f) found sets (λ lit_already. k.repeats s port flag p i f is lit_already)
+    (λ clear. k.signals s port flag p i f is clear (of-raised P h lit p i)))
 
 same-taken : (s : State) (p v : ℕ) → (taken_at s p v).suspended ≡ is_suspended s p
 same-taken s p v = by (set.contains (auto_vectors (regs_of s p)) v)
@@ -286,7 +304,8 @@ same-taken s p v = by (set.contains (auto_vectors (regs_of s p)) v)
 of-taken : (P : State → Effect → Type 0) (Q : State → Event → Outcome → Type 0) → OfEffects P → OfAnswers P Q → (s : State) (p : ℕ) → Q s (Take p) (taken s p)
 of-taken P Q h k s p = elim (next (apic_of s p)) as (λ o. Q s (Take p) (option_map_or (λ v. with_apic s p (taken_at s p v)) o s, replies.Taken o, [])) [
   | None ↦ of-effect P Q k s (Take p) (replies.Taken None) (nothing s) (λ never. never, tt, tt) (h.stays s)
-  | Some v ↦ k.eases s (Take p) (replies.Taken (Some v)) p (taken_at s p v) (λ never. never, tt, tt) (λ w is. second-holds _ (is_requested s p w) (sym (contains-remove nat_cmp_total (apic_of s p).requested v w) ∙ is)) (same-taken s p v)
+  | Some v ↦ k.eases s (Take p) (replies.Taken (Some v)) p (taken_at s p v) (λ never. never, tt, tt)
+      (λ w is. second-holds _ (is_requested s p w) (sym (contains-remove nat_cmp_total (apic_of s p).requested v w) ∙ is)) (same-taken s p v)
 ]
 
 of-ticked : (P : State → Effect → Type 0) (Q : State → Event → Outcome → Type 0) → OfEffects P → OfAnswers P Q → (s : State) (moment : ℕ) → Q s (Tick moment) (ticked s moment)
@@ -303,11 +322,13 @@ pub throughout : (P : State → Effect → Type 0) (Q : State → Event → Outc
 unfolding step
 throughout P Q h k s (OpenPort port p i shape) =
     let now : State = with_port s port (record { vp = p; sint = i; shape = shape }) in
-    judged (Q s (OpenPort port p i shape)) s (open_refusal (ports_of s) port p i shape) (unchanged now replies.Done) (k.refuses s _) (k.acts s (OpenPort port p i shape) replies.Done s.moment now.ports s.regs (nothing now) (λ never. never, tt, tt) (h.stays now))
+    judged (Q s (OpenPort port p i shape)) s (open_refusal (ports_of s) port p i shape) (unchanged now replies.Done) (k.refuses s _)
+    (k.acts s (OpenPort port p i shape) replies.Done s.moment now.ports s.regs (nothing now) (λ never. never, tt, tt) (h.stays now))
 throughout P Q h k s (ClosePort port) = by (target_of (ports_of s) port)
   where
     by : (target : Result Port Refusal) → Q s (ClosePort port) (closed_at s port target)
-    by (Ok p) = let now : State = without_port s port in k.acts s (ClosePort port) replies.Done s.moment now.ports s.regs (withdrawn now p.vp p.sint port) (λ never. never, tt, tt) (h.withdraws now p.vp p.sint port)
+    by (Ok p) = let now : State = without_port s port in k.acts s (ClosePort port) replies.Done s.moment now.ports s.regs (withdrawn now p.vp p.sint port)
+        (λ never. never, tt, tt) (h.withdraws now p.vp p.sint port)
     by (Err r) = k.refuses s _ r
 throughout P Q h k s (Write p number value) = at_place (Q s (Write p number value)) s p (written s p number value) (k.refuses s _) (λ on. of-written P Q h k s p number value on)
 throughout P Q h k s (Read p number) = on_board (Q s (Read p number)) s p (unchanged s (read s p number)) (k.refuses s _) (k.reads s p number)
@@ -324,19 +345,23 @@ throughout P Q h k s (Signal port flag) = by (flag_place_of (ports_of s) port fl
     by : (target : Result (ℕ × ℕ × ℕ) Refusal) → flag_place_of (ports_of s) port flag ≡ target → Q s (Signal port flag) (signalled_at s target)
     by (Ok place) is = of-place P Q h k s port flag place is
     by (Err r) is = k.refuses s _ r
-throughout P Q h k s (Assert p v) = on_board (Q s (Assert p v)) s p (answered replies.Done (requested s p v)) (k.refuses s _) (of-effect P Q k s (Assert p v) replies.Done (requested s p v) (λ never. never, tt, tt) (of-requested P h s p v))
+throughout P Q h k s (Assert p v) = on_board (Q s (Assert p v)) s p (answered replies.Done (requested s p v)) (k.refuses s _)
+    (of-effect P Q k s (Assert p v) replies.Done (requested s p v) (λ never. never, tt, tt) (of-requested P h s p v))
 throughout P Q h k s (Absorb p part bits) = on_board (Q s (Absorb p part bits)) s p (absorbed s p part bits) (k.refuses s _)
     (either (Q s (Absorb p part bits)) (nat_le part 3) (answered replies.Done (absorbed_below s p part bits 64)) (refused s BadTarget)
     (λ _. of-effect P Q k s (Absorb p part bits) replies.Done (absorbed_below s p part bits 64) (λ never. never, tt, tt) (of-absorbed_below P h s p part bits 64)) (λ _. k.refuses s _ BadTarget))
 throughout P Q h k s (Store address bytes) =
     let now : State = with_bytes s address bytes.items in
     let owner : Owner = owner_of (space_of s) (address / 4096) in
-    judged (Q s (Store address bytes)) s (refusal_of (space_of s) address (length bytes.items)) (answered replies.Done (consumed_in now owner)) (k.refuses s _) (k.stores s address bytes (consumed_in now owner) (of-consumed_in P h now owner))
+    judged (Q s (Store address bytes)) s (refusal_of (space_of s) address (length bytes.items)) (answered replies.Done (consumed_in now owner)) (k.refuses s _)
+    (k.stores s address bytes (consumed_in now owner) (of-consumed_in P h now owner))
 throughout P Q h k s (Load address count) = k.loads s address count
 throughout P Q h k s (Tick moment) = of-ticked P Q h k s moment
 throughout P Q h k s (Take p) = on_board (Q s (Take p)) s p (taken s p) (k.refuses s _) (of-taken P Q h k s p)
 throughout P Q h k s (Suspend p) = at_place (Q s (Suspend p)) s p (suspended s p) (k.refuses s _)
-    (λ on. either (Q s (Suspend p)) (is_suspended s p) (refused s AlreadySuspended) (unchanged (with_suspension s p true) replies.Done) (λ _. k.refuses s _ AlreadySuspended) (λ _. k.pauses s (Suspend p) p true (λ never. never, tt, tt) on))
+    (λ on. either (Q s (Suspend p)) (is_suspended s p) (refused s AlreadySuspended) (unchanged (with_suspension s p true) replies.Done)
+    (λ _. k.refuses s _ AlreadySuspended) (λ _. k.pauses s (Suspend p) p true (λ never. never, tt, tt) on))
 throughout P Q h k s (Resume p) = at_place (Q s (Resume p)) s p (resumed s p) (k.refuses s _)
-    (λ on. either (Q s (Resume p)) (is_suspended s p) (unchanged (with_suspension s p false) replies.Done) (refused s NotSuspended) (λ _. k.pauses s (Resume p) p false (λ never. never, tt, tt) on) (λ _. k.refuses s _ NotSuspended))
+    (λ on. either (Q s (Resume p)) (is_suspended s p) (unchanged (with_suspension s p false) replies.Done) (refused s NotSuspended)
+    (λ _. k.pauses s (Resume p) p false (λ never. never, tt, tt) on) (λ _. k.refuses s _ NotSuspended))
 throughout P Q h k s (Reset p) = at_place (Q s (Reset p)) s p (reset s p) (k.refuses s _) (λ on. k.resets s p on (of-emptied_below P h s p 16))

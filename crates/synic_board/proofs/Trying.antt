@@ -64,7 +64,8 @@ leaves-tried : (s : State) (p i : ℕ) → LeavesTimers s (tried s p i)
 unfolding tried
 leaves-tried s p i =
     either (LeavesTimers s) (delivers s p && nat_lt 0 (length (queue_of s.queues p i))) _ _
-    (λ _. either (LeavesTimers s) (is_slot_empty s p i) _ _ (λ _. leaves-after s (placed s p i) (raised (placed s p i).0 p i) (leaves-placed s p i) (leaves-raised (placed s p i).0 p i)) (λ _. leaves-marked s p i))
+    (λ _. either (LeavesTimers s) (is_slot_empty s p i) _ _
+    (λ _. leaves-after s (placed s p i) (raised (placed s p i).0 p i) (leaves-placed s p i) (leaves-raised (placed s p i).0 p i)) (λ _. leaves-marked s p i))
     (λ _. leaves-nothing s)
 
 leaves-delivered : (s : State) (p i : ℕ) (m : Message) → LeavesTimers s (delivered s p i m)
@@ -98,7 +99,8 @@ unfolding attempted_all
 attempted_all-append s [] us = refl
 attempted_all-append s (t ∷ ts) us =
     ap (after (attempted s t)) (attempted_all-append (attempted s t).0 ts us)
-    ∙ ap (λ ns. ((attempted_all (attempted_all (attempted s t).0 ts).0 us).0, ns)) (sym (append_assoc (attempted s t).1 (attempted_all (attempted s t).0 ts).1 (attempted_all (attempted_all (attempted s t).0 ts).0 us).1))
+    ∙ ap (λ ns. ((attempted_all (attempted_all (attempted s t).0 ts).0 us).0, ns))
+    (sym (append_assoc (attempted s t).1 (attempted_all (attempted s t).0 ts).1 (attempted_all (attempted_all (attempted s t).0 ts).0 us).1))
 
 pub attempted_all-none : (s : State) (before : List Notice) → (s, before) ≡ preceded before (attempted_all s [])
 unfolding attempted_all
@@ -123,7 +125,8 @@ module _ (q : ℕ × ℕ → Bool) (xs : List (ℕ × ℕ)) (i : ℕ) (x : ℕ �
       let less = sum_by-take-le (λ y. cond (q y) 1 0) xs (i + 1) in
       omega (arith, now, all, part, less, length-append (filter q (take i xs)) (x ∷ []))
 
-  pub tried-more : (s now next : State) (before emitted said : List Notice) → q x ≡ true → (now, emitted) ≡ preceded before (attempted_all s (filter q (take i xs))) → (next, said) ≡ preceded emitted (attempted now x) → (next, said) ≡ preceded before (attempted_all s (filter q (take (i + 1) xs)))
+  pub tried-more : (s now next : State) (before emitted said : List Notice) → q x ≡ true → (now, emitted) ≡ preceded before (attempted_all s (filter q (take i xs))) →
+      (next, said) ≡ preceded emitted (attempted now x) → (next, said) ≡ preceded before (attempted_all s (filter q (take (i + 1) xs)))
   tried-more s now next before emitted said e so_far step =
       chained now next before emitted said (attempted_all s (filter q (take i xs))) (λ u. attempted u x) so_far step
       ∙ ap (preceded before) (sym (attempted_all-push s (filter q (take i xs)) x) ∙ ap (attempted_all s) (sym (passing-more e)))
@@ -187,19 +190,24 @@ module _ (before now : BoardModel) (emitted emitted_now : List Notice) (word : �
       subst (λ (ts : List (ℕ × ℕ)). Effected before emitted now emitted_now (attempted_all before.state ts)) all h.so_far
 
   -- a timer that is due first is one that was tried: the others are tried in order
-  pub tried-rest : (next : BoardModel) (more : List Notice) → Effected now emitted_now next more (attempted_all now.state (filter (is_in_set word) (due_list m now.state.moment))) → Effected before emitted next more (attempted_all before.state (due_list (dues (bank_of before.state)) before.state.moment))
+  pub tried-rest : (next : BoardModel) (more : List Notice) →
+      Effected now emitted_now next more (attempted_all now.state (filter (is_in_set word) (due_list m now.state.moment))) →
+      Effected before emitted next more (attempted_all before.state (due_list (dues (bank_of before.state)) before.state.moment))
   tried-rest next more e =
-      let same : filter (is_in_set word) (due_list m now.state.moment) ≡ h.rest = ap (λ x. filter (is_in_set word) (due_list m x)) h.moment ∙ rest-same m before.state.moment word _ _ (filtered-rest m before.state.moment word) h.left in
+      let same : filter (is_in_set word) (due_list m now.state.moment) ≡ h.rest = ap (λ x. filter (is_in_set word) (due_list m x)) h.moment
+      ∙ rest-same m before.state.moment word _ _ (filtered-rest m before.state.moment word) h.left in
       let step = e.effect ∙ ap (λ ts. preceded emitted_now (attempted_all now.state ts)) same in
       record {
-        effect = chained now.state next.state emitted emitted_now more (attempted_all before.state h.done) (λ s. attempted_all s h.rest) h.so_far.effect step ∙ ap (preceded emitted) (sym (attempted_all-append before.state h.done h.rest) ∙ ap (attempted_all before.state) h.whole);
+        effect = chained now.state next.state emitted emitted_now more (attempted_all before.state h.done) (λ s. attempted_all s h.rest) h.so_far.effect step
+            ∙ ap (preceded emitted) (sym (attempted_all-append before.state h.done h.rest) ∙ ap (attempted_all before.state) h.whole);
         writes_monotone = omega (arith, h.so_far.writes_monotone, e.writes_monotone);
         bound = omega (arith, h.so_far.bound, e.bound);
       }
 
   pub rest-room : length emitted ≡ 0 → length emitted_now + 6 * length (filter (is_in_set word) (due_list m now.state.moment)) ≤ 320
   rest-room none =
-      let same : filter (is_in_set word) (due_list m now.state.moment) ≡ h.rest = ap (λ x. filter (is_in_set word) (due_list m x)) h.moment ∙ rest-same m before.state.moment word _ _ (filtered-rest m before.state.moment word) h.left in
+      let same : filter (is_in_set word) (due_list m now.state.moment) ≡ h.rest = ap (λ x. filter (is_in_set word) (due_list m x)) h.moment
+      ∙ rest-same m before.state.moment word _ _ (filtered-rest m before.state.moment word) h.left in
       omega (arith, ap length same, bound-done, said, none)
 
   module _ (t : ℕ × ℕ) (p : t.0 < 8) (i : t.1 < 4) (first : first_due (least m) now.state.moment ≡ Some t) where
@@ -225,7 +233,8 @@ module _ (before now : BoardModel) (emitted emitted_now : List Notice) (word : �
       pub first-room : length emitted ≡ 0 → length emitted_now + 6 ≤ 320
       first-room none = omega (arith, ap length next.1, bound-done, said, none)
 
-      pub tries-next : (now' : BoardModel) (emitted_now' : List Notice) (left : ℕ) → Effected now emitted_now now' emitted_now' (attempted now.state t) → bit_at left (number_of t) ≡ 0 → ((k : ℕ) → k < 32 → k ≢ number_of t → bit_at left k ≡ bit_at word k) → IsTrying before emitted now' emitted_now' left
+      pub tries-next : (now' : BoardModel) (emitted_now' : List Notice) (left : ℕ) → Effected now emitted_now now' emitted_now' (attempted now.state t) →
+          bit_at left (number_of t) ≡ 0 → ((k : ℕ) → k < 32 → k ≢ number_of t → bit_at left k ≡ bit_at word k) → IsTrying before emitted now' emitted_now' left
       tries-next now' emitted_now' left e cleared kept =
           let us = next.0 in
           let state : now'.state ≡ (attempted now.state t).0 = ap (λ (x : Effect). x.0) e.effect in
@@ -235,10 +244,13 @@ module _ (before now : BoardModel) (emitted emitted_now : List Notice) (word : �
             rest = us;
             whole = append_assoc h.done (t ∷ []) us ∙ ap (λ ts. h.done ++ ts) (sym next.1) ∙ h.whole;
             so_far = record {
-              effect = chained now.state now'.state emitted emitted_now emitted_now' (attempted_all before.state h.done) (λ s. attempted s t) h.so_far.effect e.effect ∙ ap (preceded emitted) (sym (attempted_all-push before.state h.done t));
+              effect = chained now.state now'.state emitted emitted_now emitted_now' (attempted_all before.state h.done) (λ s. attempted s t) h.so_far.effect e.effect
+                  ∙ ap (preceded emitted) (sym (attempted_all-push before.state h.done t));
               writes_monotone = omega (arith, h.so_far.writes_monotone, e.writes_monotone);
               bound = omega (arith, h.so_far.bound, e.bound);
             };
             moment = ap (λ (s : State). s.moment) state ∙ leaves.moment ∙ h.moment;
-            left = rest-next m (dues (bank_of now'.state)) before.state.moment word left t us (subst (λ (ts : List (ℕ × ℕ)). IsRest m before.state.moment word ts) next.1 h.left) (λ k n. ap (λ (s : State). get_or (dues (bank_of s)) k None) state ∙ leaves.others k n) cleared kept;
+            left = rest-next m (dues (bank_of now'.state)) before.state.moment word left t us
+                (subst (λ (ts : List (ℕ × ℕ)). IsRest m before.state.moment word ts) next.1 h.left)
+                (λ k n. ap (λ (s : State). get_or (dues (bank_of s)) k None) state ∙ leaves.others k n) cleared kept;
           }

@@ -1,4 +1,5 @@
--- The invariant of the timers: they are suspended with the local APIC of their processor (TLFS, HvRegisterExplicitSuspend), and only a processor on the board has any that are not idle (TLFS, "Synthetic Timers").
+-- The invariant of the timers: they are suspended with the local APIC of their processor (TLFS, HvRegisterExplicitSuspend), and only a processor on the board
+-- has any that are not idle (TLFS, "Synthetic Timers").
 use Rattle.std.specs.Prelude.{◌≡◌, ◌≤◌, ◌*◌, ℕ, length, slice_index_or}
 use Rattle.stimer_bank.specs.Bank.{idle_timer, is_suspended as are_timers_suspended}
 use Rattle.synic_board.specs.State.{State, processors, bank_of}

@@ -41,7 +41,8 @@ auto_of_word word = if has word auto_eoi then raised_by_word word else None
 abbrev pub with_found : Vectors → Option ℕ → Vectors
 with_found s o = option_map_or (λ v. set.insert s v) o s
 
-contains-with_found : (s : Vectors) (auto silent : Bool) (v q : ℕ) → set.contains (with_found s (if auto then (if silent then None else Some v) else None)) q ≡ (set.contains s q || (auto && not silent && (v == q)))
+contains-with_found : (s : Vectors) (auto silent : Bool) (v q : ℕ) →
+    set.contains (with_found s (if auto then (if silent then None else Some v) else None)) q ≡ (set.contains s q || (auto && not silent && (v == q)))
 contains-with_found s true true v q = grind (arith, nat_tests)
 contains-with_found s true false v q = set.contains-insert nat_cmp_total s v q ∙ grind (arith, nat_tests)
 contains-with_found s false silent v q = grind (arith, nat_tests)
@@ -58,12 +59,14 @@ auto_eoi_of-more sints i h =
 pub auto_eoi_of-none : auto_eoi_of [] ≡ set.empty
 auto_eoi_of-none = set.same_set nat_cmp_total nat_cmp-IsAntisymmetric _ _ (λ q. contains-auto_eoi_of [] q ∙ sym (set.contains-empty nat_cmp q))
 
-pub more_found : (sints : List ℕ) (i : ℕ) (auto now : Vectors) (word v : ℕ) (o : Option ℕ) → auto ≡ auto_eoi_of (take i sints) → i < length sints → word ≡ get_or sints i 0 → o ≡ auto_of_word word → o ≡ Some v → now ≡ set.insert auto v → now ≡ auto_eoi_of (take (i + 1) sints)
+pub more_found : (sints : List ℕ) (i : ℕ) (auto now : Vectors) (word v : ℕ) (o : Option ℕ) → auto ≡ auto_eoi_of (take i sints) → i < length sints →
+    word ≡ get_or sints i 0 → o ≡ auto_of_word word → o ≡ Some v → now ≡ set.insert auto v → now ≡ auto_eoi_of (take (i + 1) sints)
 more_found sints i auto now word v o so_far h same found is put =
     let e : auto_of_word (get_or sints i 0) ≡ Some v = ap auto_of_word (sym same) ∙ sym found ∙ is in
     put ∙ ap (λ s. set.insert s v) so_far ∙ ap (with_found (auto_eoi_of (take i sints))) (sym e) ∙ sym (auto_eoi_of-more sints i h)
 
-pub more_none : (sints : List ℕ) (i : ℕ) (auto now : Vectors) (word : ℕ) (o : Option ℕ) → auto ≡ auto_eoi_of (take i sints) → i < length sints → word ≡ get_or sints i 0 → o ≡ auto_of_word word → o ≡ None → now ≡ auto → now ≡ auto_eoi_of (take (i + 1) sints)
+pub more_none : (sints : List ℕ) (i : ℕ) (auto now : Vectors) (word : ℕ) (o : Option ℕ) → auto ≡ auto_eoi_of (take i sints) → i < length sints →
+    word ≡ get_or sints i 0 → o ≡ auto_of_word word → o ≡ None → now ≡ auto → now ≡ auto_eoi_of (take (i + 1) sints)
 more_none sints i auto now word o so_far h same found is kept =
     let e : auto_of_word (get_or sints i 0) ≡ None = ap auto_of_word (sym same) ∙ sym found ∙ is in
     kept ∙ so_far ∙ ap (with_found (auto_eoi_of (take i sints))) (sym e) ∙ sym (auto_eoi_of-more sints i h)

@@ -88,7 +88,7 @@ fn each_scene_is_played_to_its_end(rt: HostRuntime) -> Result<(), Fail> {
     for scene in SCENES {
         let played = played(&rt, rt.alloc(), scene);
         if played == Ok(true) {
-            println!(rt; "memory was wanting")?;
+            println!(rt; "an allocation failed")?;
         }
         assert!(rt; played.is_ok(), "{scene:?}: {played:?}");
     }

@@ -36,7 +36,7 @@ pub(crate) enum Answer {
 use Answer::{Comparisons, Due, First, Marks, Never};
 use Call::{Clear, ClearProcessor, DueBy, DueOf, Least, Set, SetAll};
 
-fn judged(comparisons: u8, most: u8) -> Answer {
+fn within(comparisons: u8, most: u8) -> Answer {
     Comparisons(if comparisons == 0 {
         Made::No
     } else if comparisons <= most {
@@ -64,10 +64,10 @@ impl Part for TimerHeap {
     fn ask(&mut self, call: Call) -> Option<Answer> {
         // README timer_heap: begin
         Some(match call {
-            Set(number, due) => judged(self.set(TimerId::from_number(number)?, due), 10),
-            Clear(number) => judged(self.clear(TimerId::from_number(number)?), 10),
-            ClearProcessor(number) => judged(self.clear_processor(Vp::new(number)?), 40),
-            SetAll => judged(set_all(self), 10),
+            Set(number, due) => within(self.set(TimerId::from_number(number)?, due), 10),
+            Clear(number) => within(self.clear(TimerId::from_number(number)?), 10),
+            ClearProcessor(number) => within(self.clear_processor(Vp::new(number)?), 40),
+            SetAll => within(set_all(self), 10),
             Least => match self.least() {
                 Some((due, timer)) => First(due, timer.number()),
                 None => Never,

@@ -191,7 +191,7 @@ const ORDER: [(Call, Answer); 18] = [
 
 /// A timer in direct mode signals a vector, any other a source. A one-shot that has expired is
 /// disabled.
-const WHOM_A_TIMER_TELLS: [(Call, Answer); 10] = [
+const THE_TARGET_OF_A_TIMER: [(Call, Answer); 10] = [
     (Count(0, 7, 0), Done),
     (Config(0, 0x1401, 0), Done),
     (Call::Mode(0, 6), Nothing),
@@ -255,10 +255,10 @@ const TABLES: [(&str, &[(Call, Answer)]); 7] = [
         "a late periodic timer makes up eight periods",
         &A_LATE_PERIODIC_TIMER,
     ),
-    ("a lazy timer tells of the latest period", &A_LAZY_TIMER),
+    ("a lazy timer reports the latest period", &A_LAZY_TIMER),
     ("what registers keep", &REGISTERS),
     ("who is due first", &ORDER),
-    ("whom a timer tells", &WHOM_A_TIMER_TELLS),
+    ("the target of a timer", &THE_TARGET_OF_A_TIMER),
     (
         "a suspended processor hides its timers",
         &A_SUSPENDED_PROCESSOR,

@@ -335,7 +335,7 @@ fn sizes(
 }
 
 #[test]
-fn sizes_are_judged(rt: HostRuntime) {
+fn sizes_are_checked(rt: HostRuntime) {
     for (processors, sweepers, lines, opens) in SIZES {
         let expected = if opens {
             Ok((processors, sweepers as usize, lines as usize))

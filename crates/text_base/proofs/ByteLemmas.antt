@@ -47,7 +47,14 @@ next-byte text xs r bytes split h k e some = by (spelled-front xs r bytes h k (s
   where
     at : (more : List ℕ) → bytes ≡ xs ++ more → r ≡ spelled more → AreBytes more → Next xs r bytes
     at [] whole rest all = let none = ap length rest in absurd (omega arith)
-    at (b ∷ more) whole rest all = record { b = b; more = more; small = All-head IsByte b more all; whole = whole; high = ap (λ (y : List ℕ). get_or y 0 0) rest; low = ap (λ (y : List ℕ). get_or y 1 0) rest }
+    at (b ∷ more) whole rest all = record {
+      b = b;
+      more = more;
+      small = All-head IsByte b more all;
+      whole = whole;
+      high = ap (λ (y : List ℕ). get_or y 0 0) rest;
+      low = ap (λ (y : List ℕ). get_or y 1 0) rest;
+    }
 
     by : GoesOn xs r bytes → Next xs r bytes
     by g = at g.more g.whole g.rest g.all
@@ -57,18 +64,21 @@ two-first [] h = absurd (omega arith)
 two-first (x ∷ []) h = absurd (omega arith)
 two-first (x ∷ y ∷ r) h = let all = take_all (length (x ∷ y ∷ r) - 2) r (omega arith) in ap (λ (z : List ℕ). x ∷ y ∷ z) (sym all)
 
-pub grow : (text xs r out : List ℕ) (h l : ℕ) → text ≡ spelled xs ++ r → AreBytes xs → 2 ≤ length r → h < 16 → l < 16 → get_or r 0 0 ≡ digit_glyph false h → get_or r 1 0 ≡ digit_glyph false l → out ≡ xs ++ (h * 16 + l) ∷ [] →
+pub grow : (text xs r out : List ℕ) (h l : ℕ) → text ≡ spelled xs ++ r → AreBytes xs → 2 ≤ length r → h < 16 → l < 16 → get_or r 0 0 ≡ digit_glyph false h →
+    get_or r 1 0 ≡ digit_glyph false l → out ≡ xs ++ (h * 16 + l) ∷ [] →
     (text ≡ spelled out ++ take (length r - 2) (drop 2 r)) × AreBytes out
 grow text xs r out h l split all two hs ls high low is =
     let tail = take (length r - 2) (drop 2 r) in
     let cut : r ≡ digit_glyph false h ∷ digit_glyph false l ∷ tail = two-first r two ∙ ap (λ (y : ℕ). y ∷ get_or r 1 0 ∷ tail) high ∙ ap (λ (y : ℕ). digit_glyph false h ∷ y ∷ tail) low in
     rw is (
-      split ∙ ap (λ (y : List ℕ). spelled xs ++ y) cut ∙ sym (append_assoc (spelled xs) (digit_glyph false h ∷ digit_glyph false l ∷ []) tail) ∙ ap (λ (y : List ℕ). y ++ tail) (sym (spelled-push xs h l hs ls)),
+      split ∙ ap (λ (y : List ℕ). spelled xs ++ y) cut ∙ sym (append_assoc (spelled xs) (digit_glyph false h ∷ digit_glyph false l ∷ []) tail)
+          ∙ ap (λ (y : List ℕ). y ++ tail) (sym (spelled-push xs h l hs ls)),
       All-push IsByte xs (h * 16 + l) all (omega arith),
     )
 
 -- fewer than two digits are left
-pub at_end : (text xs r : List ℕ) (b : Bool) (most : ℕ) → text ≡ spelled xs ++ r → AreBytes xs → length r < 2 → b ≡ nat_eq (length r) 0 → MatchBool b ((text ≡ spelled xs) × AreBytes xs) ((bytes : List ℕ) → AreBytes bytes → length bytes ≤ most → text ≡ spelled bytes → ⊥)
+pub at_end : (text xs r : List ℕ) (b : Bool) (most : ℕ) → text ≡ spelled xs ++ r → AreBytes xs → length r < 2 → b ≡ nat_eq (length r) 0 →
+    MatchBool b ((text ≡ spelled xs) × AreBytes xs) ((bytes : List ℕ) → AreBytes bytes → length bytes ≤ most → text ≡ spelled bytes → ⊥)
 at_end text xs [] b most split all short is = rw is (split ∙ append-nil (spelled xs), all)
 at_end text xs (x ∷ []) b most split all short is = rw is (λ bytes every room e. by (spelled-front xs (x ∷ []) bytes all every (sym split ∙ e)))
   where

@@ -56,7 +56,8 @@ module _ (base : ℕ) where
       g : ℕ
       g = digit_glyph false (n % base)
 
-      go : (b : Bool) → onto k (n / base) (g ∷ acc ++ rest) ≡ onto k (n / base) (g ∷ acc) ++ rest → cond b (g ∷ acc ++ rest) (onto k (n / base) (g ∷ acc ++ rest)) ≡ cond b (g ∷ acc) (onto k (n / base) (g ∷ acc)) ++ rest
+      go : (b : Bool) → onto k (n / base) (g ∷ acc ++ rest) ≡ onto k (n / base) (g ∷ acc) ++ rest →
+          cond b (g ∷ acc ++ rest) (onto k (n / base) (g ∷ acc ++ rest)) ≡ cond b (g ∷ acc) (onto k (n / base) (g ∷ acc)) ++ rest
       go true e = refl
       go false e = e
 
@@ -74,8 +75,10 @@ module _ (base : ℕ) where
     onto-digits : (k n : ℕ) (acc : List ℕ) → AreDigits acc → AreDigits (onto k n acc)
     onto-digits zero n acc h = h
     onto-digits (suc k) n acc h =
-        let more : AreDigits (digit_glyph false (n % base) ∷ acc) = let last : IsDigit (digit_glyph false (n % base)) = (n % base, mod-lt n (omega arith), refl) in All-cons IsDigit (digit_glyph false (n % base)) acc last h in
-        either AreDigits (nat_eq (n / base) 0) (digit_glyph false (n % base) ∷ acc) (onto k (n / base) (digit_glyph false (n % base) ∷ acc)) more (onto-digits k (n / base) (digit_glyph false (n % base) ∷ acc) more)
+        let more : AreDigits (digit_glyph false (n % base) ∷ acc) = let last : IsDigit (digit_glyph false (n % base)) =
+        (n % base, mod-lt n (omega arith), refl) in All-cons IsDigit (digit_glyph false (n % base)) acc last h in
+        either AreDigits (nat_eq (n / base) 0) (digit_glyph false (n % base) ∷ acc) (onto k (n / base) (digit_glyph false (n % base) ∷ acc)) more
+        (onto-digits k (n / base) (digit_glyph false (n % base) ∷ acc) more)
 
     pub digits-are : (n : ℕ) → AreDigits (digits base false n)
     unfolding digits
@@ -116,7 +119,8 @@ module _ (base : ℕ) where
         let front : m / base ≡ n = div-mul-add n base d h in
         let whole = rw front at (div-add-mod' m base) in
         let last : m % base ≡ d = omega (arith, whole) in
-        onto-step 64 m [] (omega arith) (λ e. omega (arith, front, e, some)) ∙ ap (λ (x : ℕ). onto 63 x (digit_glyph false (m % base) ∷ [])) front ∙ ap (λ (x : ℕ). onto 63 n (digit_glyph false x ∷ [])) last
+        onto-step 64 m [] (omega arith) (λ e. omega (arith, front, e, some)) ∙ ap (λ (x : ℕ). onto 63 x (digit_glyph false (m % base) ∷ [])) front
+        ∙ ap (λ (x : ℕ). onto 63 n (digit_glyph false x ∷ [])) last
         ∙ onto-append 63 n [] (digit_glyph false d ∷ []) ∙ ap (λ (x : List ℕ). x ++ digit_glyph false d ∷ []) (onto-room 63 n [] (omega arith) fits)
 
     pub no_zero : (d : ℕ) → 0 < d → digit_glyph false d ≢ 48

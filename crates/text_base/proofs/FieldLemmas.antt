@@ -9,7 +9,8 @@ use Rattle.std.proofs.lemmas.List.Elements.{All-nil, All-cons}
 use Rattle.text_base.specs.Fields.{fields_of}
 use Rattle.text_base.proofs.PlainWords.{IsPlain, digits-plain, split-one}
 
-pub at_space : (text : List ℕ) (i : ℕ) → i < length text → All (λ (x : ℕ). nat_eq x 32 ≡ false) (take i text) → get_or text i 0 ≡ 32 → fields_of text ≡ take i text ∷ fields_of (take (length text - (i + 1)) (drop (i + 1) text))
+pub at_space : (text : List ℕ) (i : ℕ) → i < length text → All (λ (x : ℕ). nat_eq x 32 ≡ false) (take i text) → get_or text i 0 ≡ 32 →
+    fields_of text ≡ take i text ∷ fields_of (take (length text - (i + 1)) (drop (i + 1) text))
 at_space text i within others space =
     let rest = take_all (length text - (i + 1)) (drop (i + 1) text) (omega (arith, length-drop (i + 1) text)) in
     let here : drop i text ≡ 32 ∷ drop (i + 1) text = rw (drop-cons text i 0) (simp unary_clauses (ap (λ (x : ℕ). x ∷ drop (suc i) text) space)) in
@@ -21,7 +22,8 @@ no_spaces [] h = All-nil (λ (x : ℕ). nat_eq x 32 ≡ false)
 no_spaces (x ∷ xs) h = All-cons (λ (x : ℕ). nat_eq x 32 ≡ false) x xs (ne_eqb x 32 (λ e. let low = h.0 in omega arith)) (no_spaces xs h.1)
 
 -- a number, and a space after it
-pub at_number : (text : List ℕ) (i base n : ℕ) → i < length text → take i text ≡ digits base false n → get_or text i 0 ≡ 32 → fields_of text ≡ digits base false n ∷ fields_of (take (length text - (i + 1)) (drop (i + 1) text))
+pub at_number : (text : List ℕ) (i base n : ℕ) → i < length text → take i text ≡ digits base false n → get_or text i 0 ≡ 32 →
+    fields_of text ≡ digits base false n ∷ fields_of (take (length text - (i + 1)) (drop (i + 1) text))
 at_number text i base n within is space =
     let others = subst (λ (front : List ℕ). All (λ (x : ℕ). nat_eq x 32 ≡ false) front) (sym is) (no_spaces (digits base false n) (digits-plain base n)) in
     at_space text i within others space ∙ ap (λ (front : List ℕ). front ∷ fields_of (take (length text - (i + 1)) (drop (i + 1) text))) is

@@ -73,7 +73,8 @@ joined-append [] ys = refl
 joined-append (x ∷ xs) ys = ap (λ (z : List ℕ). x ++ 10 ∷ z) (joined-append xs ys) ∙ sym (append_assoc x (10 ∷ joined xs) (joined ys))
 
 pub joined-snoc : (lines : List (List ℕ)) (line ys : List ℕ) → joined (lines ++ line ∷ []) ++ ys ≡ joined lines ++ (line ++ 10 ∷ ys)
-joined-snoc lines line ys = ap (λ (x : List ℕ). x ++ ys) (joined-append lines (line ∷ [])) ∙ append_assoc (joined lines) (line ++ 10 ∷ []) ys ∙ ap (λ (x : List ℕ). joined lines ++ x) (append_assoc line (10 ∷ []) ys)
+joined-snoc lines line ys = ap (λ (x : List ℕ). x ++ ys) (joined-append lines (line ∷ [])) ∙ append_assoc (joined lines) (line ++ 10 ∷ []) ys
+    ∙ ap (λ (x : List ℕ). joined lines ++ x) (append_assoc line (10 ∷ []) ys)
 
 pub lines_of-joined : (lines : List (List ℕ)) (ys : List ℕ) → AreLines lines → lines_of (joined lines ++ ys) ≡ lines ++ lines_of ys
 lines_of-joined [] ys h = refl
@@ -97,6 +98,7 @@ pub cut : (text : List ℕ) → IsCut text (lines_of text) (rest_of text)
 cut [] = record { each = tt; one = tt; whole = refl }
 cut (b ∷ text) = by (eqb b 10) refl (cut text)
   where
-    by : (feed : Bool) → eqb b 10 ≡ feed → IsCut text (lines_of text) (rest_of text) → IsCut (b ∷ text) (cond feed ([] ∷ lines_of text) (onto_lines b (lines_of text))) (cond feed (rest_of text) (onto_rest b (lines_of text) (rest_of text)))
+    by : (feed : Bool) → eqb b 10 ≡ feed → IsCut text (lines_of text) (rest_of text) →
+        IsCut (b ∷ text) (cond feed ([] ∷ lines_of text) (onto_lines b (lines_of text))) (cond feed (rest_of text) (onto_rest b (lines_of text) (rest_of text)))
     by true e h = record { each = (tt, h.each); one = h.one; whole = ap (λ (x : ℕ). x ∷ text) (eqb-true b 10 e) ∙ ap (λ (x : List ℕ). 10 ∷ x) h.whole }
     by false e h = cut-more b text (lines_of text) (rest_of text) (λ is. let yes = eq-eqb b 10 is in cc) h

@@ -33,7 +33,8 @@ value-so_far : (base : ℕ) (text : List ℕ) (i n : ℕ) → 10 ≤ base → ba
 value-so_far base text zero n low high h = sym (h.start refl)
 value-so_far base text (suc i) n low high h = ap (digits_value base) (h.spells (omega arith)) ∙ digits-value base low high n (let wide = pow-le-pow_left low 64 in let small = h.small in omega arith)
 
-pub so_far-more : (base : ℕ) (text : List ℕ) (i n d : ℕ) → 10 ≤ base → base ≤ 16 → i < length text → get_or text 0 0 ≢ 48 → d < base → n * base + d < 2 ^ 64 → get_or text i 0 ≡ digit_glyph false d → SoFar base text i n → SoFar base text (i + 1) (n * base + d)
+pub so_far-more : (base : ℕ) (text : List ℕ) (i n d : ℕ) → 10 ≤ base → base ≤ 16 → i < length text → get_or text 0 0 ≢ 48 → d < base → n * base + d < 2 ^ 64 →
+    get_or text i 0 ≡ digit_glyph false d → SoFar base text i n → SoFar base text (i + 1) (n * base + d)
 so_far-more base [] i n d low high within first digit small is h = absurd (omega arith)
 so_far-more base (c ∷ cs) zero n d low high within first digit small is h =
     let none : n ≡ 0 = h.start refl in
@@ -56,7 +57,8 @@ so_far-more base text (suc i) n d low high within first digit small is h =
       small = small;
       start = λ e. absurd (omega arith);
       some = λ _. (let more : 0 < n * base = mul-pos some (omega arith) in omega arith);
-      spells = λ _. take_more text (suc i) 0 within ∙ ap (λ (x : ℕ). take (suc i) text ++ x ∷ []) is ∙ ap (λ (x : List ℕ). x ++ digit_glyph false d ∷ []) (h.spells (omega arith)) ∙ sym (digits-push base low high n d digit some (let bound = h.small in omega arith));
+      spells = λ _. take_more text (suc i) 0 within ∙ ap (λ (x : ℕ). take (suc i) text ++ x ∷ []) is
+          ∙ ap (λ (x : List ℕ). x ++ digit_glyph false d ∷ []) (h.spells (omega arith)) ∙ sym (digits-push base low high n d digit some (let bound = h.small in omega arith));
     }
 
 -- one more digit of a number that has capacity for it
@@ -85,7 +87,8 @@ no_digit base text i n d low high within is large e =
     let same = glyph-injective d h.0 (sym is ∙ h.2) in
     omega (arith, same, h.1)
 
-pub too_large : (base : ℕ) (text : List ℕ) (i n m d : ℕ) → 10 ≤ base → base ≤ 16 → m < 2 ^ 64 → i < length text → get_or text i 0 ≡ digit_glyph false d → d < base → 2 ^ 64 ≤ n * base + d → SoFar base text i n → text ≡ digits base false m → ⊥
+pub too_large : (base : ℕ) (text : List ℕ) (i n m d : ℕ) → 10 ≤ base → base ≤ 16 → m < 2 ^ 64 → i < length text → get_or text i 0 ≡ digit_glyph false d → d < base →
+    2 ^ 64 ≤ n * base + d → SoFar base text i n → text ≡ digits base false m → ⊥
 too_large base text i n m d low high bound within is digit large h e =
     let wide = pow-le-pow_left low 64 in
     let value : digits_value base text ≡ m = ap (digits_value base) e ∙ digits-value base low high m (omega arith) in
@@ -101,7 +104,8 @@ no_text base n low high small e = let some = digits-some base low high n (let wi
 
 pub no_zero-first : (base : ℕ) (text : List ℕ) (n : ℕ) → 10 ≤ base → base ≤ 16 → n < 2 ^ 64 → get_or text 0 0 ≡ 48 → 2 ≤ length text → text ≡ digits base false n → ⊥
 no_zero-first base text zero low high small first long e = let one = ap length (e ∙ digits-one base low high 0 (omega arith)) in omega arith
-no_zero-first base text (suc n) low high small first long e = digits-first base low high (suc n) (omega arith) (let wide = pow-le-pow_left low 64 in omega arith) (sym (ap (λ (x : List ℕ). get_or x 0 0) e) ∙ first)
+no_zero-first base text (suc n) low high small first long e = digits-first base low high (suc n) (omega arith) (let wide = pow-le-pow_left low 64 in omega arith)
+    (sym (ap (λ (x : List ℕ). get_or x 0 0) e) ∙ first)
 
 -- A text decodes to a number iff the number is spelled so.
 module _ (spell : ℕ → List ℕ) (value : List ℕ → ℕ) (limit : ℕ) (reads : (n : ℕ) → n < limit → value (spell n) ≡ n) where
@@ -123,7 +127,8 @@ module _ (spell : ℕ → List ℕ) (value : List ℕ → ℕ) (limit : ℕ) (re
       go true is e = let h = (Decides-and _ _ (leb-true v most, le-leb v most) (bytes_eq-Decides text (spell v))).0 is in let same : v ≡ n = cc in (rw (← same) h.0, h.1 ∙ ap spell same)
       go false is e = cc
 
-  number_at-answer : (most : ℕ) (text : List ℕ) (r : Option ℕ) → most < limit → IfSome r (λ n. (n ≤ most) × (text ≡ spell n)) → IfNone r ((n : ℕ) → n ≤ most → text ≡ spell n → ⊥) → r ≡ number_at most text
+  number_at-answer : (most : ℕ) (text : List ℕ) (r : Option ℕ) → most < limit → IfSome r (λ n. (n ≤ most) × (text ≡ spell n)) →
+      IfNone r ((n : ℕ) → n ≤ most → text ≡ spell n → ⊥) → r ≡ number_at most text
   number_at-answer most text (Some n) small found none = rw found.1 (sym (number_at-spelled most n small found.0))
   number_at-answer most text None small found none = go (nat_le v most && bytes_eq text (spell v)) refl
     where
@@ -140,7 +145,8 @@ decimal-value n small = digits-value 10 (omega arith) (omega arith) n (omega ari
 hex-value : (n : ℕ) → n < 2 ^ 64 → digits_value 16 (hex n) ≡ n
 hex-value n small = digits-value 16 (omega arith) (omega arith) n (omega arith)
 
-pub decimal_at-answer : (most : ℕ) (text : List ℕ) (r : Option ℕ) → most < 2 ^ 64 → IfSome r (λ n. (n ≤ most) × (text ≡ decimal n)) → IfNone r ((n : ℕ) → n ≤ most → text ≡ decimal n → ⊥) → r ≡ decimal_at most text
+pub decimal_at-answer : (most : ℕ) (text : List ℕ) (r : Option ℕ) → most < 2 ^ 64 → IfSome r (λ n. (n ≤ most) × (text ≡ decimal n)) →
+    IfNone r ((n : ℕ) → n ≤ most → text ≡ decimal n → ⊥) → r ≡ decimal_at most text
 decimal_at-answer = number_at-answer decimal (digits_value 10) (2 ^ 64) decimal-value
 
 pub hex_at-answer : (most : ℕ) (text : List ℕ) (r : Option ℕ) → most < 2 ^ 64 → IfSome r (λ n. (n ≤ most) × (text ≡ hex n)) → IfNone r ((n : ℕ) → n ≤ most → text ≡ hex n → ⊥) → r ≡ hex_at most text

@@ -40,13 +40,16 @@ either P false x y h k = k
 
 onto-plain : (k base n : ℕ) (acc : List ℕ) → IsPlain acc → IsPlain (digits_onto k base false n acc)
 onto-plain zero base n acc h = h
-onto-plain (suc k) base n acc h = either IsPlain (nat_eq (n / base) 0) (digit_glyph false (n % base) ∷ acc) (digits_onto k base false (n / base) (digit_glyph false (n % base) ∷ acc)) (glyph-plain (n % base), h) (onto-plain k base (n / base) (digit_glyph false (n % base) ∷ acc) (glyph-plain (n % base), h))
+onto-plain (suc k) base n acc h = either IsPlain (nat_eq (n / base) 0) (digit_glyph false (n % base) ∷ acc)
+    (digits_onto k base false (n / base) (digit_glyph false (n % base) ∷ acc)) (glyph-plain (n % base), h)
+    (onto-plain k base (n / base) (digit_glyph false (n % base) ∷ acc) (glyph-plain (n % base), h))
 
 onto-short : (k base n : ℕ) (acc : List ℕ) → length (digits_onto k base false n acc) ≤ k + length acc
 onto-short zero base n acc = omega arith
 onto-short (suc k) base n acc =
     let h = onto-short k base (n / base) (digit_glyph false (n % base) ∷ acc) in
-    either (λ x. length x ≤ suc k + length acc) (nat_eq (n / base) 0) (digit_glyph false (n % base) ∷ acc) (digits_onto k base false (n / base) (digit_glyph false (n % base) ∷ acc)) (omega arith) (omega arith)
+    either (λ x. length x ≤ suc k + length acc) (nat_eq (n / base) 0) (digit_glyph false (n % base) ∷ acc)
+    (digits_onto k base false (n / base) (digit_glyph false (n % base) ∷ acc)) (omega arith) (omega arith)
 
 pub digits-plain : (base n : ℕ) → IsPlain (digits base false n)
 unfolding digits

@@ -56,13 +56,15 @@ take_short (suc n) [] = omega arith
 take_short (suc n) (x ∷ xs) = let h = take_short n xs in omega arith
 
 -- the buffered bytes, cut at an index that is near enough
-pub piece-cut : (bytes : List ℕ) (at end n k : ℕ) → at ≤ end → k < length (take n (slice_range bytes at end)) → slice_range bytes at end ≡ take k (take n (slice_range bytes at end)) ++ get_or (take n (slice_range bytes at end)) k 0 ∷ slice_range bytes (at + (k + 1)) end
+pub piece-cut : (bytes : List ℕ) (at end n k : ℕ) → at ≤ end → k < length (take n (slice_range bytes at end)) →
+    slice_range bytes at end ≡ take k (take n (slice_range bytes at end)) ++ get_or (take n (slice_range bytes at end)) k 0 ∷ slice_range bytes (at + (k + 1)) end
 piece-cut bytes at end n k fits within =
     let w = slice_range bytes at end in
     let all = take-append-drop n w in
     let room : k + 1 ≤ length w = omega (arith, within, ap length all, length-append (take n w) (drop n w)) in
     let bound : length w ≤ end - at = take_short (end - at) (drop at bytes) in
-    sym all ∙ cut_at (take n w) (drop n w) k within ∙ ap (λ (x : List ℕ). take k (take n w) ++ get_or (take n w) k 0 ∷ x) (ap (drop (k + 1)) all ∙ range-left bytes at (k + 1) end (omega (arith, room, bound, fits)))
+    sym all ∙ cut_at (take n w) (drop n w) k within
+    ∙ ap (λ (x : List ℕ). take k (take n w) ++ get_or (take n w) k 0 ∷ x) (ap (drop (k + 1)) all ∙ range-left bytes at (k + 1) end (omega (arith, room, bound, fits)))
 
 -- the first of the buffered bytes
 pub range-front : (bytes : List ℕ) (at end n k : ℕ) → k ≤ n → k ≤ end - at → slice_range bytes at (at + k) ≡ take k (take n (slice_range bytes at end))
@@ -88,7 +90,8 @@ refill-bytes bytes buf at end room n range within fits long bound =
 -- The near part of the buffered bytes has a line feed, or is all of them, or has 641 bytes.
 module _ (bytes : List ℕ) (at end near : ℕ) (range : at ≤ end) (is : near ≡ min (length (slice_range bytes at end)) 641) where
   pub near-line : (k : ℕ) → k < length (take near (slice_range bytes at end)) → IsOneLine (take k (take near (slice_range bytes at end))) → get_or (take near (slice_range bytes at end)) k 0 ≡ 10 →
-      (slice_range bytes at end ≡ slice_range bytes at (at + k) ++ 10 ∷ slice_range bytes (at + (k + 1)) end) × IsOneLine (slice_range bytes at (at + k)) × (length (slice_range bytes at (at + k)) ≤ 640)
+      (slice_range bytes at end ≡ slice_range bytes at (at + k) ++ 10 ∷ slice_range bytes (at + (k + 1)) end) × IsOneLine (slice_range bytes at (at + k))
+      × (length (slice_range bytes at (at + k)) ≤ 640)
   near-line k within one feed =
       let bound = take_short near (slice_range bytes at end) in
       let room : k ≤ near = omega arith in
@@ -96,15 +99,22 @@ module _ (bytes : List ℕ) (at end near : ℕ) (range : at ≤ end) (is : near 
       let fits : k ≤ end - at = omega (arith, take_short (end - at) (drop at bytes)) in
       let front = range-front bytes at end near k room fits in
       let cut = piece-cut bytes at end near k range within in
-      rw front (cut ∙ ap (λ (b : ℕ). take k (take near (slice_range bytes at end)) ++ b ∷ slice_range bytes (at + (k + 1)) end) feed, one, omega (arith, take_short k (take near (slice_range bytes at end))))
+      rw front (
+        cut
+            ∙ ap (λ (b : ℕ). take k (take near (slice_range bytes at end)) ++ b ∷ slice_range bytes (at + (k + 1)) end) feed,
+        one,
+        omega (arith, take_short k (take near (slice_range bytes at end))),
+      )
 
-  pub near-all : IsOneLine (take near (slice_range bytes at end)) → length (take near (slice_range bytes at end)) ≤ 640 → IsOneLine (slice_range bytes at end) × (length (slice_range bytes at end) ≤ 640)
+  pub near-all : IsOneLine (take near (slice_range bytes at end)) → length (take near (slice_range bytes at end)) ≤ 640 →
+      IsOneLine (slice_range bytes at end) × (length (slice_range bytes at end) ≤ 640)
   near-all one short =
       let all = length-take near (slice_range bytes at end) in
       let bound : length (slice_range bytes at end) ≤ 640 = omega arith in
       (rw (take_all near (slice_range bytes at end) (omega arith)) at one, bound)
 
-  pub near-long : IsOneLine (take near (slice_range bytes at end)) → 640 < length (take near (slice_range bytes at end)) → IsOneLine (take 641 (slice_range bytes at end)) × (641 ≤ length (slice_range bytes at end))
+  pub near-long : IsOneLine (take near (slice_range bytes at end)) → 640 < length (take near (slice_range bytes at end)) →
+      IsOneLine (take 641 (slice_range bytes at end)) × (641 ≤ length (slice_range bytes at end))
   near-long one long =
       let all = length-take near (slice_range bytes at end) in
       let many : near ≡ 641 = omega arith in

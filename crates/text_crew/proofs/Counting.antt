@@ -22,7 +22,8 @@ open_of held.Setup = 0
 open_of (held.Actor steps) = vec_len steps
 open_of (held.Line raises) = 0
 
-by-section : (c : CrewScript) (section : Section) → c.section ≡ section → entries (crew_of c) ≡ vec_len c.setup.events + (sum_by (λ (s : Vec Step Global). vec_len s) c.scripts.actors.items + open_of section) + 4 * c.setup.processors
+by-section : (c : CrewScript) (section : Section) → c.section ≡ section →
+    entries (crew_of c) ≡ vec_len c.setup.events + (sum_by (λ (s : Vec Step Global). vec_len s) c.scripts.actors.items + open_of section) + 4 * c.setup.processors
 by-section c held.Setup is = rw is (omega (arith, lengths c.scripts.actors.items, c.setup.events.ok.0))
 by-section c (held.Actor steps) is =
     rw is (omega (

@@ -47,7 +47,8 @@ one-more : {X : Type 0} (xs : List X) (x : X) → length (xs ++ x ∷ []) ≡ le
 one-more xs x = length-append xs (x ∷ [])
 
 -- The next event, step and raise.
-event-more : (crew : Crew) (e : Event) → IsGood (over InSetup crew) → is_absorb e ≡ false → length crew.setup + steps_in crew.actors + 4 * crew.processors < 65536 → IsGood (over InSetup (record crew { setup = crew.setup ++ e ∷ [] }))
+event-more : (crew : Crew) (e : Event) → IsGood (over InSetup crew) → is_absorb e ≡ false → length crew.setup + steps_in crew.actors + 4 * crew.processors < 65536 →
+    IsGood (over InSetup (record crew { setup = crew.setup ++ e ∷ [] }))
 event-more crew e g is bound = record {
   board = g.board;
   few_actors = g.few_actors;
@@ -58,7 +59,8 @@ event-more crew e g is bound = record {
   no_bad_raise = g.no_bad_raise;
 }
 
-step-more : (crew : Crew) (steps : List Step) (s : Step) → IsGood (over (InActor steps) crew) → is_bad_step s ≡ false → length crew.setup + steps_in (crew.actors ++ steps ∷ []) + 4 * crew.processors < 65536 → IsGood (over (InActor (steps ++ s ∷ [])) crew)
+step-more : (crew : Crew) (steps : List Step) (s : Step) → IsGood (over (InActor steps) crew) → is_bad_step s ≡ false →
+    length crew.setup + steps_in (crew.actors ++ steps ∷ []) + 4 * crew.processors < 65536 → IsGood (over (InActor (steps ++ s ∷ [])) crew)
 step-more crew steps s g is bound = let h = none-last (list_any is_bad_step) crew.actors steps g.no_bad_step in record {
   board = g.board;
   few_actors = omega (arith, g.few_actors, one-more crew.actors steps, one-more crew.actors (steps ++ s ∷ []));
@@ -104,7 +106,8 @@ line-begun crew g bound = record {
 }
 
 -- The item of the fields is not bad.
-then-good : {A B : Type 0} (next : B → Fields → Option A) (P : A → Type 0) → ((b : B) (fields : Fields) → IfSome (next b fields) P) → (r : Option (B × Fields)) → IfSome (option_and_then (λ (p : B × Fields). next p.0 p.1) r) P
+then-good : {A B : Type 0} (next : B → Fields → Option A) (P : A → Type 0) → ((b : B) (fields : Fields) → IfSome (next b fields) P) → (r : Option (B × Fields)) →
+    IfSome (option_and_then (λ (p : B × Fields). next p.0 p.1) r) P
 then-good next P each None = tt
 then-good next P each (Some p) = each p.0 p.1
 
@@ -121,17 +124,20 @@ swept-good vp part [] = refl
 swept-good vp part (field ∷ fields) = tt
 
 sweep-good : (fields : Fields) → IfSome (parse_sweep fields) (λ s. is_bad_step s ≡ false)
-sweep-good fields = then-good (λ vp. take_then u8_at (λ part. none_left (Sweep vp part))) (λ s. is_bad_step s ≡ false) (λ vp more. then-good (λ part. none_left (Sweep vp part)) (λ s. is_bad_step s ≡ false) (swept-good vp) (first_read u8_at more)) (first_read u8_at fields)
+sweep-good fields = then-good (λ vp. take_then u8_at (λ part. none_left (Sweep vp part))) (λ s. is_bad_step s ≡ false)
+    (λ vp more. then-good (λ part. none_left (Sweep vp part)) (λ s. is_bad_step s ≡ false) (swept-good vp) (first_read u8_at more)) (first_read u8_at fields)
 
 step-good : (word : List ℕ) (fields : Fields) → IfSome (parse_step word fields) (λ s. is_bad_step s ≡ false)
-step-good word fields = cond_both (bytes_eq word (codes "absorb")) (parse_sweep fields) (option_and_then step_of (parse_act (word ∷ fields))) (λ x. IfSome x (λ s. is_bad_step s ≡ false)) (λ _. sweep-good fields) (λ _. act-step (parse_act (word ∷ fields)) (act-good (parse_event (word ∷ fields))))
+step-good word fields = cond_both (bytes_eq word (codes "absorb")) (parse_sweep fields) (option_and_then step_of (parse_act (word ∷ fields)))
+    (λ x. IfSome x (λ s. is_bad_step s ≡ false)) (λ _. sweep-good fields) (λ _. act-step (parse_act (word ∷ fields)) (act-good (parse_event (word ∷ fields))))
 
 raise-good : (processors : ℕ) (r : Option (ℕ × ℕ)) → IfSome (option_and_then (on_board processors) r) (λ r. is_bad_raise processors r ≡ false)
 raise-good processors None = tt
 raise-good processors (Some r) = cond_both (nat_lt r.0 processors) (Some r) None (λ x. IfSome x (λ r. is_bad_raise processors r ≡ false)) (λ is. grind (arith, nat_tests)) (λ _. tt)
 
 line-good : (processors : ℕ) (word : List ℕ) (fields : Fields) → IfSome (parse_line_step processors word fields) (λ r. is_bad_raise processors r ≡ false)
-line-good processors word fields = cond_both (bytes_eq word (codes "raise")) (parse_raise processors fields) None (λ x. IfSome x (λ r. is_bad_raise processors r ≡ false)) (λ _. raise-good processors (take_then u8_at (λ vp. take_then vector_at (λ vector. none_left (vp, vector))) fields)) (λ _. tt)
+line-good processors word fields = cond_both (bytes_eq word (codes "raise")) (parse_raise processors fields) None
+    (λ x. IfSome x (λ r. is_bad_raise processors r ≡ false)) (λ _. raise-good processors (take_then u8_at (λ vp. take_then vector_at (λ vector. none_left (vp, vector))) fields)) (λ _. tt)
 
 -- What a line adds is valid.
 entry-kept : (crew more : Crew) → (entries crew < 65536 → IsGood (finished more)) → Kept (with_entry crew more)
@@ -148,9 +154,11 @@ step-kept : (crew : Crew) (steps : List Step) (step : Option Step) → crew.sect
 step-kept crew steps None is g good = tt
 step-kept crew steps (Some s) is g good =
     entry-kept crew (record crew { section = InActor (steps ++ s ∷ []) }) (λ bound.
-    step-more crew steps s (subst (λ (s : Section). IsGood (over s crew)) is g) good (subst (λ (s : Section). length crew.setup + steps_in (over s crew).actors + 4 * crew.processors < 65536) is bound))
+    step-more crew steps s (subst (λ (s : Section). IsGood (over s crew)) is g) good
+    (subst (λ (s : Section). length crew.setup + steps_in (over s crew).actors + 4 * crew.processors < 65536) is bound))
 
-raise-kept : (crew : Crew) (raises : List (ℕ × ℕ)) (raise : Option (ℕ × ℕ)) → crew.section ≡ InLine raises → IsGood (finished crew) → IfSome raise (λ r. is_bad_raise crew.processors r ≡ false) → Kept (with_raise crew raises raise)
+raise-kept : (crew : Crew) (raises : List (ℕ × ℕ)) (raise : Option (ℕ × ℕ)) → crew.section ≡ InLine raises → IsGood (finished crew) →
+    IfSome raise (λ r. is_bad_raise crew.processors r ≡ false) → Kept (with_raise crew raises raise)
 raise-kept crew raises None is g good = tt
 raise-kept crew raises (Some r) is g good = raise-more crew raises r (subst (λ (s : Section). IsGood (over s crew)) is g) good
 
@@ -197,7 +205,8 @@ fields-kept (Some crew) (word ∷ fields) g =
 kept : (crew : Option Crew) (line : List ℕ) → AllGood crew → Kept (parse_line crew line)
 kept crew line g =
     let rest = parse_fields crew (fields_of line) in
-    cond_both (nat_lt 640 (length line)) (Err faults.Long) (cond (is_skipped line) (Ok crew) rest) Kept (λ _. tt) (λ _. cond_both (is_skipped line) (Ok crew) rest Kept (λ _. g) (λ _. fields-kept crew (fields_of line) g))
+    cond_both (nat_lt 640 (length line)) (Err faults.Long) (cond (is_skipped line) (Ok crew) rest) Kept (λ _. tt)
+    (λ _. cond_both (is_skipped line) (Ok crew) rest Kept (λ _. g) (λ _. fields-kept crew (fields_of line) g))
 
 -- What good lines add is valid.
 pub all-good : {J : Type 0} (seen : J → Option Crew) (old new : J) (lines : List (List ℕ)) (answers : List ℕ) → AllGood (seen old) → Follows (Good seen) old lines answers new → AllGood (seen new)

@@ -20,7 +20,8 @@ said-within Reading tells w0 w1 never says = absurd (never says.0 says.1)
 said-within Writing tells w0 w1 never says = refl
 
 -- If something is reported about the whole script, the limit is not exceeded.
-pub within : (result : CrewRun) (tells : CrewRun → List ℕ → Type 0) (r0 r1 w0 w1 : Option (List ℕ)) → ((text : List ℕ) → tells Reading text → ⊥) → Writes tells result w0 w1 → ReadsUpTo 1073741824 r0 r1 → ReadsUpTo (most_read result) r0 r1
+pub within : (result : CrewRun) (tells : CrewRun → List ℕ → Type 0) (r0 r1 w0 w1 : Option (List ℕ)) → ((text : List ℕ) → tells Reading text → ⊥) →
+    Writes tells result w0 w1 → ReadsUpTo 1073741824 r0 r1 → ReadsUpTo (most_read result) r0 r1
 within result tells r0 r1 w0 w1 never says = subst (λ n. ReadsUpTo n r0 r1) (sym (said-within result tells w0 w1 never says))
 
 -- No line is reported if a crew is run.

@@ -20,7 +20,8 @@ module _ {J : Type 0} (seen : J → Option Crew) where
   Wrong state line fault = parse_line (seen state) line ≡ Err fault
 
   -- good lines have no answers, and lead to the next state
-  followed : (old new : J) (lines left : List (List ℕ)) (answers rest : List ℕ) (k j : ℕ) → j ≡ k + length lines → Follows Good old lines answers new → (answers ≡ []) × (parse_lines k (seen old) (lines ++ left) rest ≡ parse_lines j (seen new) left rest)
+  followed : (old new : J) (lines left : List (List ℕ)) (answers rest : List ℕ) (k j : ℕ) → j ≡ k + length lines → Follows Good old lines answers new →
+      (answers ≡ []) × (parse_lines k (seen old) (lines ++ left) rest ≡ parse_lines j (seen new) left rest)
   followed old new [] left answers rest k j count h = (h.0, let same : k ≡ j = omega (arith, count) in λ i. parse_lines (same i) (seen (sym h.1 i)) left rest)
   followed old new (line ∷ lines) left answers rest k j count h =
       let on = followed h.2 new lines left h.1 rest (k + 1) j (omega (arith, count)) h.5 in
@@ -55,17 +56,20 @@ module _ {J : Type 0} (seen : J → Option Crew) where
     pub wrong : (line : ℕ) (fault : ScriptFault) (answers text : List ℕ) → Stopped (ends.Wrong line fault) answers text → parse_script text ≡ Err (line, fault)
     wrong line fault answers text h = (asks (ends.Wrong line fault) answers text h).1 ∙ by h.left h.ends
       where
-        by : (left : List (List ℕ)) → Ends Wrong (ends.Wrong line fault) (place (length h.lines + 1) h.state left (rest_of text)) new → parse_lines (length h.lines + 1) (seen h.state) left (rest_of text) ≡ Err (line, fault)
+        by : (left : List (List ℕ)) → Ends Wrong (ends.Wrong line fault) (place (length h.lines + 1) h.state left (rest_of text)) new →
+            parse_lines (length h.lines + 1) (seen h.state) left (rest_of text) ≡ Err (line, fault)
         by [] e = absurd e
         by (bad ∷ left) e =
-            ap (λ (r : Read). continue_with (length h.lines + 1) r (λ (next : Option Crew). parse_lines (length h.lines + 1 + 1) next left (rest_of text))) e.2 ∙ ap (λ (k : ℕ). Err (k, fault)) (sym e.0)
+            ap (λ (r : Read). continue_with (length h.lines + 1) r (λ (next : Option Crew). parse_lines (length h.lines + 1 + 1) next left (rest_of text))) e.2
+            ∙ ap (λ (k : ℕ). Err (k, fault)) (sym e.0)
 
     long-next : (crew : Option Crew) (k : ℕ) (left : List (List ℕ)) (rest : List ℕ) → 640 < length (next_of left rest) → parse_lines k crew left rest ≡ Err (k, faults.Long)
     long-next crew k [] rest long = rw ((Decides-ltb 640 (length rest)).1 long) refl
     long-next crew k (line ∷ left) rest long = rw ((Decides-ltb 640 (length line)).1 long) refl
 
     pub long : (line : ℕ) (answers text : List ℕ) → Stopped (ends.Long line) answers text → parse_script text ≡ Err (line, faults.Long)
-    long line answers text h = let e = h.ends in (asks (ends.Long line) answers text h).1 ∙ long-next (seen h.state) (length h.lines + 1) h.left (rest_of text) e.2 ∙ ap (λ (k : ℕ). Err (k, faults.Long)) (sym e.0)
+    long line answers text h = let e = h.ends in (asks (ends.Long line) answers text h).1 ∙ long-next (seen h.state) (length h.lines + 1) h.left (rest_of text) e.2
+        ∙ ap (λ (k : ℕ). Err (k, faults.Long)) (sym e.0)
 
     rest-cut : (opened : Bool) (rest : List ℕ) → length rest ≤ 640 → 0 < length rest → rest_fault opened rest ≡ Some faults.Cut
     rest-cut opened rest short some = rw (le-ltb 640 (length rest) short, (Decides-ltb 0 (length rest)).1 some) refl

@@ -15,7 +15,8 @@ known None P Q step h = tt
 known (Some input) P Q step h = step input h
 
 -- A report that nothing precedes is the whole output.
-module _ (tells : CrewRun → List ℕ → Type 0) (r0 w0 w w1 : Option (List ℕ)) (P : List ℕ → Type 0) (step : (input : List ℕ) → P input → (end : CrewRun) (text : List ℕ) → tells end text → IsOutput input end text) (read : IfSome r0 P) (first : Appends w0 w []) where
+module _ (tells : CrewRun → List ℕ → Type 0) (r0 w0 w w1 : Option (List ℕ)) (P : List ℕ → Type 0)
+    (step : (input : List ℕ) → P input → (end : CrewRun) (text : List ℕ) → tells end text → IsOutput input end text) (read : IfSome r0 P) (first : Appends w0 w []) where
   plain : (end : CrewRun) → (text : List ℕ) × tells end text × Appends w w1 text → (text : List ℕ) × IfSome r0 (λ input. IsOutput input end text) × Appends w0 w1 text
   plain end h = (h.0, known r0 P (λ input. IsOutput input end h.0) (λ input p. step input p end h.0 h.1) read, Appends-trans w0 w w1 [] h.0 first h.2)
 

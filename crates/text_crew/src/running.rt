@@ -143,14 +143,14 @@ fn prepare<T: Threads + Wait + Sync, G: Gate + Sync>(
         return Outcome::Memory;
     }
     match run_crew(rt, alloc, &script.setup, &script.scripts, gate) {
-        Ok(end) => tell(&script.setup, &end.ended, out),
+        Ok(end) => put_ended(&script.setup, &end.ended, out),
         Err(fault) => outcome_of(fault),
     }
 }
 
 /// Appends the trace of a crew that has ended to `out`. It is separate from `prepare`, so that one
 /// owner drops the crew.
-fn tell(setup: &Setup, ended: &Ended, out: &mut Vec<u8>) -> Outcome
+fn put_ended(setup: &Setup, ended: &Ended, out: &mut Vec<u8>) -> Outcome
     ensures { IsTraced result setup.now ended.now out.old.items out.new.items }
 {
     match put_trace(

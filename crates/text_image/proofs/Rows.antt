@@ -19,7 +19,8 @@ both a b start so_far next before here =
 
 -- twelve fields in six parts, with a text between two fields and one at the end
 parts : (start space feed head number q0 q1 q2 q3 s0 s1 s2 s3 priority status : List ℕ) →
-    (((((start ++ head) ++ (space ++ number)) ++ (space ++ (q0 ++ (space ++ (q1 ++ (space ++ (q2 ++ (space ++ q3)))))))) ++ (space ++ (s0 ++ (space ++ (s1 ++ (space ++ (s2 ++ (space ++ s3)))))))) ++ (space ++ priority)) ++ (space ++ (status ++ feed))
+    (((((start ++ head) ++ (space ++ number)) ++ (space ++ (q0 ++ (space ++ (q1 ++ (space ++ (q2 ++ (space ++ q3)))))))) ++
+    (space ++ (s0 ++ (space ++ (s1 ++ (space ++ (s2 ++ (space ++ s3)))))))) ++ (space ++ priority)) ++ (space ++ (status ++ feed))
     ≡ start ++ (((head ++ (space ++ (number ++ (space ++ (q0 ++ (space ++ (q1 ++ (space ++ (q2 ++ (space ++ (q3 ++ (space ++ (s0 ++ (space ++ (s1 ++ (space ++ (s2 ++ (space ++ (s3 ++ (space ++ (priority ++ (space ++ status)))))))))))))))))))))) ++ feed) ++ [])
 parts start space feed head number q0 q1 q2 q3 s0 s1 s2 s3 priority status = simp (append_assoc, append-nil)
 
@@ -40,5 +41,6 @@ pub sections : (head a b c d e f g h last : Lines) (start x0 x1 x2 x3 x4 x5 x6 x
     x6 ≡ x5 ++ text_of f → x7 ≡ x6 ++ text_of g → x8 ≡ x7 ++ text_of h → out ≡ x8 ++ text_of last →
     out ≡ start ++ text_of (head ++ ((a ++ (b ++ (c ++ (d ++ (e ++ (f ++ (g ++ h))))))) ++ last))
 sections head a b c d e f g h last start x0 x1 x2 x3 x4 x5 x6 x7 x8 out h0 h1 h2 h3 h4 h5 h6 h7 h8 h9 =
-    both _ _ start x8 out (both _ _ start x7 x8 (both _ _ start x6 x7 (both _ _ start x5 x6 (both _ _ start x4 x5 (both _ _ start x3 x4 (both _ _ start x2 x3 (both _ _ start x1 x2 (both _ _ start x0 x1 h0 h1) h2) h3) h4) h5) h6) h7) h8) h9
+    both _ _ start x8 out (both _ _ start x7 x8 (both _ _ start x6 x7
+    (both _ _ start x5 x6 (both _ _ start x4 x5 (both _ _ start x3 x4 (both _ _ start x2 x3 (both _ _ start x1 x2 (both _ _ start x0 x1 h0 h1) h2) h3) h4) h5) h6) h7) h8) h9
     ∙ ap (λ (lines : Lines). start ++ text_of lines) (in_order head a b c d e f g h last)

@@ -1,4 +1,4 @@
--- The image of a board: what its state holds beside that of a newly opened one, in lines. Numbers are as in all texts; registers, words and offsets are hexadecimal.
+-- The image of a board: how its state differs from that of a newly opened one, in lines. Numbers are as in all texts; registers, words and offsets are hexadecimal.
 use Rattle.std.specs.Prelude.{ℕ, zero, suc, ◌+◌, ◌*◌, ◌/◌, ◌%◌, ◌^◌, ◌==◌, ◌&&◌, Bool, List, [], ◌∷◌, ◌++◌, length, replicate, Option, None, Some, is_none, slice_index_or, slice_get, slice_range, codes, decimal, if◌then◌else◌}
 use Rattle.std.specs.Option.{option_map_or}
 use Rattle.std.specs.Str.{bytes_eq}
@@ -63,7 +63,8 @@ abbrev pub source_lines : State → Processor → Source → Lines
 source_lines s p i = changed_line p (codes "sint" ++ decimal i) (source_of (regs_of s p) i) masked
 
 abbrev pub register_lines : State → Processor → Lines
-register_lines s p = changed_line p (codes "scontrol") (regs_of s p).control 0 ++ (changed_line p (codes "siefp") (regs_of s p).sief 0 ++ (changed_line p (codes "simp") (regs_of s p).sim 0 ++ each_below 16 (source_lines s p)))
+register_lines s p = changed_line p (codes "scontrol") (regs_of s p).control 0 ++
+    (changed_line p (codes "siefp") (regs_of s p).sief 0 ++ (changed_line p (codes "simp") (regs_of s p).sim 0 ++ each_below 16 (source_lines s p)))
 
 abbrev pub kind_word : Kind → List ℕ
 kind_word kind.Sim = codes "sim"

@@ -18,7 +18,7 @@ use synic_board::{Board, Event};
 use text_base::put_decimal;
 use text_lines::put_event;
 
-/// Appends the image of a board to `out`: what its state holds beside that of a newly opened board,
+/// Appends the image of a board to `out`: how its state differs from that of a newly opened board,
 /// as lines. The cached summary, the order of the timers and the count of writes are not in it.
 pub fn put_image(out: &mut Vec<u8>, board: &Board) -> Result<(), AllocError>
     ensures { OnOk result (out.new.items ≡ out.old.items ++ image board.now.state) }

@@ -19,7 +19,8 @@ spelled_at-only [] (b ∷ bytes) e = cc
 spelled_at-only (high ∷ []) bytes e = cc
 spelled_at-only (high ∷ low ∷ text) bytes e = go (byte_at (high ∷ low ∷ [])) refl (spelled_at text) refl (λ bs was. spelled_at-only text bs was) e
   where
-    go : (r : Option ℕ) → byte_at (high ∷ low ∷ []) ≡ r → (more : Option (List ℕ)) → spelled_at text ≡ more → ((bs : List ℕ) → more ≡ Some bs → Spells text bs) → option_and_then (λ (b : ℕ). option_map (λ (bs : List ℕ). b ∷ bs) more) r ≡ Some bytes → Spells (high ∷ low ∷ text) bytes
+    go : (r : Option ℕ) → byte_at (high ∷ low ∷ []) ≡ r → (more : Option (List ℕ)) → spelled_at text ≡ more → ((bs : List ℕ) → more ≡ Some bs → Spells text bs) →
+        option_and_then (λ (b : ℕ). option_map (λ (bs : List ℕ). b ∷ bs) more) r ≡ Some bytes → Spells (high ∷ low ∷ text) bytes
     go None is more was tails e = cc
     go (Some b) is None was tails e = cc
     go (Some b) is (Some bs) was tails e =

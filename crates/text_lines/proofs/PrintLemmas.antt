@@ -19,6 +19,7 @@ numbered-step lines n xs d so_far next out h here all =
     ∙ ap (λ (ys : List _). so_far ++ text_of (numbered lines n ys)) (sym (drop_more xs n d h))
     ∙ all
 
-pub numbered-end : {A : Type 0} (lines : ℕ → A → List (List (List ℕ))) (n : ℕ) (xs : List A) (so_far out : List ℕ) → length xs ≤ n → so_far ++ text_of (numbered lines n (drop n xs)) ≡ out → so_far ≡ out
+pub numbered-end : {A : Type 0} (lines : ℕ → A → List (List (List ℕ))) (n : ℕ) (xs : List A) (so_far out : List ℕ) → length xs ≤ n →
+    so_far ++ text_of (numbered lines n (drop n xs)) ≡ out → so_far ≡ out
 numbered-end lines n xs so_far out all h =
     sym (append-nil so_far) ∙ ap (λ (ys : List _). so_far ++ text_of (numbered lines n ys)) (sym (drop_all n xs all)) ∙ h

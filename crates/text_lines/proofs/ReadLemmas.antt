@@ -110,16 +110,20 @@ processor-says fs vp =
     rw (at, none, h.1, ← is) (refl, h.0)))
 
 take-says : (fs : Fields) (event : Event) → parse_take fs ≡ Some event → Says (codes "take" ∷ fs) event
-take-says fs event = mapped Take (parse_processor fs) event (Says (codes "take" ∷ fs) event) (λ vp said same. let h = processor-says fs vp said in rw (h.0, ← same) (record { same = refl; fits = h.1 }))
+take-says fs event = mapped Take (parse_processor fs) event (Says (codes "take" ∷ fs) event)
+    (λ vp said same. let h = processor-says fs vp said in rw (h.0, ← same) (record { same = refl; fits = h.1 }))
 
 suspend-says : (fs : Fields) (event : Event) → parse_suspend fs ≡ Some event → Says (codes "suspend" ∷ fs) event
-suspend-says fs event = mapped Suspend (parse_processor fs) event (Says (codes "suspend" ∷ fs) event) (λ vp said same. let h = processor-says fs vp said in rw (h.0, ← same) (record { same = refl; fits = h.1 }))
+suspend-says fs event = mapped Suspend (parse_processor fs) event (Says (codes "suspend" ∷ fs) event)
+    (λ vp said same. let h = processor-says fs vp said in rw (h.0, ← same) (record { same = refl; fits = h.1 }))
 
 resume-says : (fs : Fields) (event : Event) → parse_resume fs ≡ Some event → Says (codes "resume" ∷ fs) event
-resume-says fs event = mapped Resume (parse_processor fs) event (Says (codes "resume" ∷ fs) event) (λ vp said same. let h = processor-says fs vp said in rw (h.0, ← same) (record { same = refl; fits = h.1 }))
+resume-says fs event = mapped Resume (parse_processor fs) event (Says (codes "resume" ∷ fs) event)
+    (λ vp said same. let h = processor-says fs vp said in rw (h.0, ← same) (record { same = refl; fits = h.1 }))
 
 reset-says : (fs : Fields) (event : Event) → parse_reset fs ≡ Some event → Says (codes "reset" ∷ fs) event
-reset-says fs event = mapped Reset (parse_processor fs) event (Says (codes "reset" ∷ fs) event) (λ vp said same. let h = processor-says fs vp said in rw (h.0, ← same) (record { same = refl; fits = h.1 }))
+reset-says fs event = mapped Reset (parse_processor fs) event (Says (codes "reset" ∷ fs) event)
+    (λ vp said same. let h = processor-says fs vp said in rw (h.0, ← same) (record { same = refl; fits = h.1 }))
 
 messages-says : (port : ℕ) → port < 256 → (fs : Fields) (event : Event) → parse_messages port fs ≡ Some event → Says (codes "open" ∷ decimal port ∷ codes "message" ∷ fs) event
 messages-says port in_range fs event =
@@ -194,8 +198,10 @@ worded P word key is h = rw ((bytes_eq-Decides word key).0 is) h
 shape-says : (port : ℕ) → port < 256 → (fs : Fields) (event : Event) → parse_shape port fs ≡ Some event → Says (codes "open" ∷ decimal port ∷ fs) event
 shape-says port in_range [] event e = cc
 shape-says port in_range (word ∷ fs) event e =
-    yes (bytes_eq word (codes "message")) (parse_messages port fs) _ event (Says (codes "open" ∷ decimal port ∷ word ∷ fs) event) (λ is e. worded (λ w. Says (codes "open" ∷ decimal port ∷ w ∷ fs) event) word (codes "message") is (messages-says port in_range fs event e))
-    (yes (bytes_eq word (codes "event")) (parse_flags port fs) None event (Says (codes "open" ∷ decimal port ∷ word ∷ fs) event) (λ is e. worded (λ w. Says (codes "open" ∷ decimal port ∷ w ∷ fs) event) word (codes "event") is (flags-says port in_range fs event e)) (λ e. cc)) e
+    yes (bytes_eq word (codes "message")) (parse_messages port fs) _ event (Says (codes "open" ∷ decimal port ∷ word ∷ fs) event)
+    (λ is e. worded (λ w. Says (codes "open" ∷ decimal port ∷ w ∷ fs) event) word (codes "message") is (messages-says port in_range fs event e))
+    (yes (bytes_eq word (codes "event")) (parse_flags port fs) None event (Says (codes "open" ∷ decimal port ∷ word ∷ fs) event)
+    (λ is e. worded (λ w. Says (codes "open" ∷ decimal port ∷ w ∷ fs) event) word (codes "event") is (flags-says port in_range fs event e)) (λ e. cc)) e
 
 open-says : (fs : Fields) (event : Event) → parse_open fs ≡ Some event → Says (codes "open" ∷ fs) event
 open-says fs event =
@@ -220,7 +226,8 @@ event-says (word ∷ fs) event e =
     (yes (bytes_eq word (codes "take")) (parse_take fs) _ event (Says (word ∷ fs) event) (λ is e. worded (λ w. Says (w ∷ fs) event) word (codes "take") is (take-says fs event e))
     (yes (bytes_eq word (codes "suspend")) (parse_suspend fs) _ event (Says (word ∷ fs) event) (λ is e. worded (λ w. Says (w ∷ fs) event) word (codes "suspend") is (suspend-says fs event e))
     (yes (bytes_eq word (codes "resume")) (parse_resume fs) _ event (Says (word ∷ fs) event) (λ is e. worded (λ w. Says (w ∷ fs) event) word (codes "resume") is (resume-says fs event e))
-    (yes (bytes_eq word (codes "reset")) (parse_reset fs) None event (Says (word ∷ fs) event) (λ is e. worded (λ w. Says (w ∷ fs) event) word (codes "reset") is (reset-says fs event e)) (λ e. cc))))))))))))))) e
+    (yes (bytes_eq word (codes "reset")) (parse_reset fs) None event (Says (word ∷ fs) event)
+    (λ is e. worded (λ w. Says (w ∷ fs) event) word (codes "reset") is (reset-says fs event e)) (λ e. cc))))))))))))))) e
 
 -- Parsing what is printed gives it back.
 pub u8-spelled : (n : ℕ) → n < 256 → u8_at (decimal n) ≡ Some n
@@ -241,25 +248,34 @@ hex_u64-spelled n h = hex_at-spelled (2 ^ 64 - 1) n (omega arith) (omega arith)
 vector-spelled : (v : ℕ) → IsVector v → vector_at (two_digits v) ≡ Some v
 vector-spelled v h = ap (option_and_then from_16) (byte_at-spelled v h.1) ∙ ap (λ (t : Bool). cond t (Some v) None) (le-leb 16 v h.0)
 
-pub then-read : {A B : Type 0} (read : List ℕ → Option B) (next : B → Fields → Option A) (field : List ℕ) (n : B) (rest : Fields) → read field ≡ Some n → take_then read next (field ∷ rest) ≡ next n rest
+pub then-read : {A B : Type 0} (read : List ℕ → Option B) (next : B → Fields → Option A) (field : List ℕ) (n : B) (rest : Fields) → read field ≡ Some n →
+    take_then read next (field ∷ rest) ≡ next n rest
 then-read {A} {B} read next field n rest e = ap (λ (r : Option B). option_and_then (λ (p : B × Fields). next p.0 p.1) (option_map (λ (m : B). (m, rest)) r)) e
 
 processor-spelled : (vp : ℕ) → vp < 256 → parse_processor (decimal vp ∷ []) ≡ Some vp
 processor-spelled vp h = then-read u8_at none_left (decimal vp) vp [] (u8-spelled vp h)
 
 pub says-event : (event : Event) → IsEvent event → parse_event (event_fields event) ≡ Some event
-says-event (OpenPort port vp sint (Messages buffers)) h = then-read u8_at parse_shape (decimal port) port _ (u8-spelled port h.0) ∙ then-read u8_at _ (decimal vp) vp _ (u8-spelled vp h.1) ∙ then-read u8_at _ (decimal sint) sint _ (u8-spelled sint h.2) ∙ then-read u8_at _ (decimal buffers) buffers [] (u8-spelled buffers h.3)
-says-event (OpenPort port vp sint (Flags base count)) h = then-read u8_at parse_shape (decimal port) port _ (u8-spelled port h.0) ∙ then-read u8_at _ (decimal vp) vp _ (u8-spelled vp h.1) ∙ then-read u8_at _ (decimal sint) sint _ (u8-spelled sint h.2) ∙ then-read u16_at _ (decimal base) base _ (u16-spelled base h.3.0) ∙ then-read u16_at _ (decimal count) count [] (u16-spelled count h.3.1)
+says-event (OpenPort port vp sint (Messages buffers)) h = then-read u8_at parse_shape (decimal port) port _ (u8-spelled port h.0)
+    ∙ then-read u8_at _ (decimal vp) vp _ (u8-spelled vp h.1) ∙ then-read u8_at _ (decimal sint) sint _ (u8-spelled sint h.2)
+    ∙ then-read u8_at _ (decimal buffers) buffers [] (u8-spelled buffers h.3)
+says-event (OpenPort port vp sint (Flags base count)) h = then-read u8_at parse_shape (decimal port) port _ (u8-spelled port h.0)
+    ∙ then-read u8_at _ (decimal vp) vp _ (u8-spelled vp h.1) ∙ then-read u8_at _ (decimal sint) sint _ (u8-spelled sint h.2)
+    ∙ then-read u16_at _ (decimal base) base _ (u16-spelled base h.3.0) ∙ then-read u16_at _ (decimal count) count [] (u16-spelled count h.3.1)
 says-event (ClosePort port) h = then-read u8_at _ (decimal port) port [] (u8-spelled port h)
-says-event (Post port kind payload) h = then-read u8_at _ (decimal port) port _ (u8-spelled port h.0) ∙ then-read hex_u32_at _ (hex kind) kind _ (hex_u32-spelled kind h.1) ∙ then-read (bytes_at 240) _ (bytes_text payload.items) payload.items [] (bytes_at-spelled 240 payload.items h.2)
+says-event (Post port kind payload) h = then-read u8_at _ (decimal port) port _ (u8-spelled port h.0)
+    ∙ then-read hex_u32_at _ (hex kind) kind _ (hex_u32-spelled kind h.1) ∙ then-read (bytes_at 240) _ (bytes_text payload.items) payload.items [] (bytes_at-spelled 240 payload.items h.2)
 says-event (Signal port flag) h = then-read u8_at _ (decimal port) port _ (u8-spelled port h.0) ∙ then-read u16_at _ (decimal flag) flag [] (u16-spelled flag h.1)
-says-event (Store address bytes) h = then-read hex_u64_at _ (hex address) address _ (hex_u64-spelled address h.0) ∙ then-read (bytes_at 8) _ (bytes_text bytes.items) bytes.items [] (bytes_at-spelled 8 bytes.items h.1)
+says-event (Store address bytes) h = then-read hex_u64_at _ (hex address) address _ (hex_u64-spelled address h.0)
+    ∙ then-read (bytes_at 8) _ (bytes_text bytes.items) bytes.items [] (bytes_at-spelled 8 bytes.items h.1)
 says-event (Load address count) h = then-read hex_u64_at _ (hex address) address _ (hex_u64-spelled address h.0) ∙ then-read u8_at _ (decimal count) count [] (u8-spelled count h.1)
 says-event (Tick moment) h = then-read u64_at _ (decimal moment) moment [] (u64-spelled moment h)
-says-event (Write vp register value) h = then-read u8_at _ (decimal vp) vp _ (u8-spelled vp h.0) ∙ then-read hex_u32_at _ (hex register) register _ (hex_u32-spelled register h.1) ∙ then-read hex_u64_at _ (hex value) value [] (hex_u64-spelled value h.2)
+says-event (Write vp register value) h = then-read u8_at _ (decimal vp) vp _ (u8-spelled vp h.0)
+    ∙ then-read hex_u32_at _ (hex register) register _ (hex_u32-spelled register h.1) ∙ then-read hex_u64_at _ (hex value) value [] (hex_u64-spelled value h.2)
 says-event (Read vp register) h = then-read u8_at _ (decimal vp) vp _ (u8-spelled vp h.0) ∙ then-read hex_u32_at _ (hex register) register [] (hex_u32-spelled register h.1)
 says-event (Assert vp vector) h = then-read u8_at _ (decimal vp) vp _ (u8-spelled vp h.0) ∙ then-read vector_at _ (two_digits vector) vector [] (vector-spelled vector h.1)
-says-event (Absorb vp part bits) h = then-read u8_at _ (decimal vp) vp _ (u8-spelled vp h.0) ∙ then-read u8_at _ (decimal part) part _ (u8-spelled part h.1) ∙ then-read hex_u64_at _ (hex bits) bits [] (hex_u64-spelled bits h.2)
+says-event (Absorb vp part bits) h = then-read u8_at _ (decimal vp) vp _ (u8-spelled vp h.0) ∙ then-read u8_at _ (decimal part) part _ (u8-spelled part h.1)
+    ∙ then-read hex_u64_at _ (hex bits) bits [] (hex_u64-spelled bits h.2)
 says-event (Take vp) h = ap (option_map Take) (processor-spelled vp h)
 says-event (Suspend vp) h = ap (option_map Suspend) (processor-spelled vp h)
 says-event (Resume vp) h = ap (option_map Resume) (processor-spelled vp h)
@@ -281,9 +297,12 @@ opening-says fs p =
 item-says : (fs : Fields) (item : Item) → parse_item fs ≡ Some item → SaysItem fs item
 item-says [] item e = cc
 item-says (word ∷ fs) item e =
-    yes (bytes_eq word (codes "board")) _ _ item (SaysItem (word ∷ fs) item) (λ is e. worded (λ w. SaysItem (w ∷ fs) item) word (codes "board") is (mapped (λ (p : ℕ × ℕ × ℕ). Opening p.0 p.1 p.2) (parse_opening fs) item (SaysItem (codes "board" ∷ fs) item) (λ p said same. rw (← same) (opening-says fs p said)) e))
-    (yes (bytes_eq word (codes "summary")) (none_left Summary fs) _ item (SaysItem (word ∷ fs) item) (λ is e. worded (λ w. SaysItem (w ∷ fs) item) word (codes "summary") is (ended-some Summary fs item (SaysItem (codes "summary" ∷ fs) item) (λ none same. rw (none, ← same) (record { same = refl; fits = tt })) e))
-    (λ e. mapped Performs (parse_event (word ∷ fs)) item (SaysItem (word ∷ fs) item) (λ event said same. let h = event-says (word ∷ fs) event said in rw (← same) (record { same = h.same; fits = h.fits })) e)) e
+    yes (bytes_eq word (codes "board")) _ _ item (SaysItem (word ∷ fs) item) (λ is e. worded (λ w. SaysItem (w ∷ fs) item) word (codes "board") is
+    (mapped (λ (p : ℕ × ℕ × ℕ). Opening p.0 p.1 p.2) (parse_opening fs) item (SaysItem (codes "board" ∷ fs) item) (λ p said same. rw (← same) (opening-says fs p said)) e))
+    (yes (bytes_eq word (codes "summary")) (none_left Summary fs) _ item (SaysItem (word ∷ fs) item) (λ is e. worded (λ w. SaysItem (w ∷ fs) item) word
+    (codes "summary") is (ended-some Summary fs item (SaysItem (codes "summary" ∷ fs) item) (λ none same. rw (none, ← same) (record { same = refl; fits = tt })) e))
+    (λ e. mapped Performs (parse_event (word ∷ fs)) item (SaysItem (word ∷ fs) item)
+    (λ event said same. let h = event-says (word ∷ fs) event said in rw (← same) (record { same = h.same; fits = h.fits })) e)) e
 
 pub says-opening : (n g f : ℕ) → IsItem (Opening n g f) → parse_opening (decimal n ∷ decimal g ∷ decimal f ∷ []) ≡ Some (n, g, f)
 says-opening n g f h = then-read u8_at _ (decimal n) n _ (u8-spelled n h.0) ∙ then-read u8_at _ (decimal g) g _ (u8-spelled g h.1) ∙ then-read u64_at _ (decimal f) f [] (u64-spelled f h.2)

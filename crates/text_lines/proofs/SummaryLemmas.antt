@@ -37,7 +37,8 @@ auto-step p n vectors any now start so_far new before begun after written = rw (
     go : (t : Bool) (found : List ℕ) → so_far ≡ start ++ auto_text p found → any ≡ is_some_vector found → now ≡ (any || t) → new ≡ so_far ++ cond t (auto_part p (16 + n) any) [] →
         (new ≡ start ++ auto_text p (found ++ cond t ((16 + n) ∷ []) [])) × (now ≡ is_some_vector (found ++ cond t ((16 + n) ∷ []) []))
     go true found before begun after written = (
-      written ∙ ap (λ (x : List ℕ). x ++ auto_part p (16 + n) any) before ∙ ap (λ (a : Bool). (start ++ auto_text p found) ++ auto_part p (16 + n) a) begun ∙ append_assoc start (auto_text p found) (auto_part p (16 + n) (is_some_vector found)) ∙ ap (λ (x : List ℕ). start ++ x) (sym (text-more p (16 + n) found)),
+      written ∙ ap (λ (x : List ℕ). x ++ auto_part p (16 + n) any) before ∙ ap (λ (a : Bool). (start ++ auto_text p found) ++ auto_part p (16 + n) a) begun
+          ∙ append_assoc start (auto_text p found) (auto_part p (16 + n) (is_some_vector found)) ∙ ap (λ (x : List ℕ). start ++ x) (sym (text-more p (16 + n) found)),
       after ∙ or-true any ∙ sym (some-more (16 + n) found),
     )
     go false found before begun after written = (
@@ -57,7 +58,8 @@ auto-absent p [] start so_far before begun = before
 auto-absent p (v ∷ found) start so_far before begun = cc
 
 together : (values : Values) → text_of (summary_lines values) ≡
-    text_of (numbered next_lines 0 values.nexts) ++ (text_of (numbered auto_lines 0 values.autos) ++ (line_of (timer_line values.earliest) ++ (text_of (numbered page_lines 0 values.owners) ++ text_of (numbered queue_lines 0 values.queued))))
+    text_of (numbered next_lines 0 values.nexts) ++
+    (text_of (numbered auto_lines 0 values.autos) ++ (line_of (timer_line values.earliest) ++ (text_of (numbered page_lines 0 values.owners) ++ text_of (numbered queue_lines 0 values.queued))))
 together values =
     let autos = numbered auto_lines 0 values.autos in
     let timer = timer_line values.earliest in
@@ -70,7 +72,8 @@ together values =
 in_a_row : (out n a t p q : List ℕ) → ((((out ++ n) ++ a) ++ t) ++ p) ++ q ≡ out ++ (n ++ (a ++ (t ++ (p ++ q))))
 in_a_row out n a t p q = simp append_assoc
 
-pub parts : (values : Values) (out a b c d e : List ℕ) → a ≡ out ++ text_of (numbered next_lines 0 values.nexts) → b ≡ a ++ text_of (numbered auto_lines 0 values.autos) → c ≡ b ++ line_of (timer_line values.earliest) →
+pub parts : (values : Values) (out a b c d e : List ℕ) → a ≡ out ++ text_of (numbered next_lines 0 values.nexts) →
+    b ≡ a ++ text_of (numbered auto_lines 0 values.autos) → c ≡ b ++ line_of (timer_line values.earliest) →
     d ≡ c ++ text_of (numbered page_lines 0 values.owners) → e ≡ d ++ text_of (numbered queue_lines 0 values.queued) → e ≡ out ++ text_of (summary_lines values)
 parts values out a b c d e h i j k l =
     let n = text_of (numbered next_lines 0 values.nexts) in

@@ -42,7 +42,8 @@ same-entry x y actor event reply =
 -- an entry's line determines its actor and its event
 same-actor : (f : Format) (x y : Entry) → IsEntry f x → IsEntry f y → spaced (entry_fields x.actor x.event) ≡ spaced (entry_fields y.actor y.event) → x.actor ≡ y.actor
 same-actor f x y fx fy line =
-    let fields : entry_fields x.actor x.event ≡ entry_fields y.actor y.event = sym (entry-written x.actor x.event fx.actor fx.event).read ∙ ap fields_of line ∙ (entry-written y.actor y.event fy.actor fy.event).read in
+    let fields : entry_fields x.actor x.event ≡ entry_fields y.actor y.event = sym (entry-written x.actor x.event fx.actor fx.event).read ∙ ap fields_of line
+    ∙ (entry-written y.actor y.event fy.actor fy.event).read in
     let first : decimal x.actor ≡ decimal y.actor = cc in
     let read : Some x.actor ≡ Some y.actor = sym (u8-spelled x.actor fx.actor) ∙ ap u8_at first ∙ u8-spelled y.actor fy.actor in
     cc
@@ -52,7 +53,8 @@ same-event f x y fx fy line =
     let read : Some x.event ≡ Some y.event = sym (entry-reads f x fx) ∙ ap (entry_at f) line ∙ entry-reads f y fy in
     cc
 
-same-history : (f : Format) (s : State) (a b : List Entry) (m n t u : ℕ) → All (IsEntry f) a → All (IsEntry f) b → IsLegal s a → IsLegal s b → text_of (closed f a m t) ≡ text_of (closed f b n u) → a ≡ b
+same-history : (f : Format) (s : State) (a b : List Entry) (m n t u : ℕ) → All (IsEntry f) a → All (IsEntry f) b → IsLegal s a → IsLegal s b →
+    text_of (closed f a m t) ≡ text_of (closed f b n u) → a ≡ b
 unfolding run_of
 same-history f s [] [] m n t u fa fb la lb text = refl
 same-history f s [] (y ∷ b) m n t u fa fb la lb text =
@@ -66,15 +68,18 @@ same-history f s (x ∷ a) [] m n t u fa fb la lb text =
 same-history f s (x ∷ a) (y ∷ b) m n t u fa fb la lb text =
     let fx : IsEntry f x = All-head (IsEntry f) x a fa in
     let fy : IsEntry f y = All-head (IsEntry f) y b fb in
-    let cut = same-first (entry_fields x.actor x.event) (entry_fields y.actor y.event) (reply_fields x.reply ∷ closed f a m t) (reply_fields y.reply ∷ closed f b n u) (entry-written x.actor x.event fx.actor fx.event) (entry-written y.actor y.event fy.actor fy.event) text in
+    let cut = same-first (entry_fields x.actor x.event) (entry_fields y.actor y.event) (reply_fields x.reply ∷ closed f a m t) (reply_fields y.reply ∷ closed f b n u)
+    (entry-written x.actor x.event fx.actor fx.event) (entry-written y.actor y.event fy.actor fy.event) text in
     let event = same-event f x y fx fy cut.0 in
     let first : x.reply ≡ (step s x.event).1 = cc in
     let second : y.reply ≡ (step s y.event).1 = cc in
     let reply : x.reply ≡ y.reply = first ∙ ap (λ (v : Event). (step s v).1) event ∙ sym second in
     let left : IsLegal (step s x.event).0 a = cc in
     let right : IsLegal (step s y.event).0 b = cc in
-    let behind = append_cancel_left (line_of (reply_fields x.reply)) (text_of (closed f a m t)) (text_of (closed f b n u)) (cut.1 ∙ ap (λ (r : Reply). text_of (reply_fields r ∷ closed f b n u)) (sym reply)) in
-    let rest : a ≡ b = same-history f (step s x.event).0 a b m n t u (All-tail (IsEntry f) x a fa) (All-tail (IsEntry f) y b fb) left (subst (λ (v : Event). IsLegal (step s v).0 b) (sym event) right) behind in
+    let behind = append_cancel_left (line_of (reply_fields x.reply)) (text_of (closed f a m t)) (text_of (closed f b n u))
+    (cut.1 ∙ ap (λ (r : Reply). text_of (reply_fields r ∷ closed f b n u)) (sym reply)) in
+    let rest : a ≡ b = same-history f (step s x.event).0 a b m n t u (All-tail (IsEntry f) x a fa) (All-tail (IsEntry f) y b fb) left
+    (subst (λ (v : Event). IsLegal (step s v).0 b) (sym event) right) behind in
     ap (λ (e : Entry). e ∷ a) (same-entry x y (same-actor f x y fx fy cut.0) event reply) ∙ ap (λ (l : List Entry). y ∷ l) rest
 
 -- titles determine formats
@@ -93,13 +98,15 @@ sizes_of a = (a.processors, a.pages, a.ticket)
 abbrev next_of : {text : List ℕ} {n : ℕ} → IsTrace text n → ℕ
 next_of a = (leads_to (opened a.processors a.pages a.ticket) a.history).next_ticket
 
-pub history-once : (text : List ℕ) (m n : ℕ) (a : IsTrace text m) (b : IsTrace text n) → (a.format ≡ b.format) × (a.processors ≡ b.processors) × (a.pages ≡ b.pages) × (a.ticket ≡ b.ticket) × (a.history ≡ b.history)
+pub history-once : (text : List ℕ) (m n : ℕ) (a : IsTrace text m) (b : IsTrace text n) →
+    (a.format ≡ b.format) × (a.processors ≡ b.processors) × (a.pages ≡ b.pages) × (a.ticket ≡ b.ticket) × (a.history ≡ b.history)
 history-once text m n a b = (
   format,
   ap (λ (z : Sizes). z.0) sizes,
   ap (λ (z : Sizes). z.1) sizes,
   ap (λ (z : Sizes). z.2) sizes,
-  same-history b.format (opened a.processors a.pages a.ticket) a.history b.history (length a.history) (length b.history) (next_of a) (next_of b) (subst (λ (f : Format). All (IsEntry f) a.history) format a.fits) b.fits a.legal (subst (λ (z : Sizes). IsLegal (opened z.0 z.1 z.2) b.history) (sym sizes) b.legal)
+  same-history b.format (opened a.processors a.pages a.ticket) a.history b.history (length a.history) (length b.history) (next_of a) (next_of b)
+      (subst (λ (f : Format). All (IsEntry f) a.history) format a.fits) b.fits a.legal (subst (λ (z : Sizes). IsLegal (opened z.0 z.1 z.2) b.history) (sym sizes) b.legal)
       (ap (λ (f : Format). text_of (closed f a.history (length a.history) (next_of a))) (sym format) ∙ cut.1),
 )
   where
@@ -126,5 +133,6 @@ history-once text m n a b = (
 
     sizes : sizes_of a ≡ sizes_of b
     sizes =
-        let read : Some (sizes_of a) ≡ Some (sizes_of b) = sym (board-reads a.processors a.pages a.ticket a.sizes a.given) ∙ ap board_at cut.0 ∙ board-reads b.processors b.pages b.ticket b.sizes b.given in
+        let read : Some (sizes_of a) ≡ Some (sizes_of b) = sym (board-reads a.processors a.pages a.ticket a.sizes a.given) ∙ ap board_at cut.0
+        ∙ board-reads b.processors b.pages b.ticket b.sizes b.given in
         cc

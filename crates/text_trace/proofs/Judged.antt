@@ -58,7 +58,8 @@ module _ {J : Type 0} (seen : J → Stage) where
       }
 
 -- The lines lead to a stage from which the rest continues no trace.
-first-wrong : (text : List ℕ) (lines left : List (List ℕ)) (stage : Stage) → lines_of text ≡ lines ++ left → Leads Title stage lines → ((line : List ℕ) (later : List (List ℕ)) (rest : List ℕ) (n : ℕ) → left ≡ line ∷ later → Continues stage (line ++ 10 ∷ rest) n → ⊥) →
+first-wrong : (text : List ℕ) (lines left : List (List ℕ)) (stage : Stage) → lines_of text ≡ lines ++ left → Leads Title stage lines →
+    ((line : List ℕ) (later : List (List ℕ)) (rest : List ℕ) (n : ℕ) → left ≡ line ∷ later → Continues stage (line ++ 10 ∷ rest) n → ⊥) →
     ((n : ℕ) → Continues stage (joined left ++ rest_of text) n → ⊥) → FirstWrong text (length lines + 1)
 first-wrong text lines left stage split leads wrong none = record {
   before = length lines;
@@ -99,7 +100,8 @@ no_long stage line rest n fits one long h = by (starts stage (line ++ 10 ∷ res
     by (inr s) = let same = ap length (first_line line rest s.line s.rest one s.one s.text).0 in omega (arith, s.short, same)
 
 -- The next line is not allowed there.
-wrong-line : (text : List ℕ) (lines left : List (List ℕ)) (stage : Stage) (k : ℕ) (fault : Unit {0}) → lines_of text ≡ lines ++ left → Leads Title stage lines → AreLines left → Ends IsWrong (ends.Wrong k fault) (place (length lines + 1) stage left (rest_of text)) stage → FirstWrong text (length lines + 1)
+wrong-line : (text : List ℕ) (lines left : List (List ℕ)) (stage : Stage) (k : ℕ) (fault : Unit {0}) → lines_of text ≡ lines ++ left → Leads Title stage lines →
+    AreLines left → Ends IsWrong (ends.Wrong k fault) (place (length lines + 1) stage left (rest_of text)) stage → FirstWrong text (length lines + 1)
 wrong-line text lines [] stage k fault split leads each h = absurd h
 wrong-line text lines (bad ∷ later) stage k fault split leads each h =
     first-wrong text lines (bad ∷ later) stage split leads
@@ -110,16 +112,19 @@ wrong-line text lines (bad ∷ later) stage k fault split leads each h =
     off rest n t = let f = back stage bad rest n leads.fits each.0 t in let none : None ≡ Some f.next = sym h.2 ∙ f.is in cc
 
 -- The next line is too long.
-long-line : (text : List ℕ) (lines left : List (List ℕ)) (stage : Stage) → lines_of text ≡ lines ++ left → Leads Title stage lines → AreLines left → IsOneLine (rest_of text) → 640 < length (next_of left (rest_of text)) → FirstWrong text (length lines + 1)
+long-line : (text : List ℕ) (lines left : List (List ℕ)) (stage : Stage) → lines_of text ≡ lines ++ left → Leads Title stage lines → AreLines left →
+    IsOneLine (rest_of text) → 640 < length (next_of left (rest_of text)) → FirstWrong text (length lines + 1)
 long-line text lines [] stage split leads each one long =
-    first-wrong text lines [] stage split leads (λ line ls rest n is t. cc) (λ n t. no_part stage (rest_of text) n leads.fits one (λ m over empty. let none = ap length empty in omega (arith, long, none)) t)
+    first-wrong text lines [] stage split leads (λ line ls rest n is t. cc)
+    (λ n t. no_part stage (rest_of text) n leads.fits one (λ m over empty. let none = ap length empty in omega (arith, long, none)) t)
 long-line text lines (bad ∷ later) stage split leads each one long =
     first-wrong text lines (bad ∷ later) stage split leads
     (λ line ls rest n is t. let same : line ≡ bad = cc in no_long stage bad rest n leads.fits each.0 long (subst (λ (x : List ℕ). Continues stage (x ++ 10 ∷ rest) n) same t))
     (λ n t. no_long stage bad (joined later ++ rest_of text) n leads.fits each.0 long (subst (λ (x : List ℕ). Continues stage x n) (append_assoc bad (10 ∷ joined later) (rest_of text)) t))
 
 -- No whole line is left, and the trace is not complete.
-part-left : (text : List ℕ) (lines left : List (List ℕ)) (stage : Stage) → lines_of text ≡ lines ++ left → Leads Title stage lines → left ≡ [] → IsOneLine (rest_of text) → ((n : ℕ) → stage ≡ Over n → rest_of text ≡ [] → ⊥) → FirstWrong text (length lines + 1)
+part-left : (text : List ℕ) (lines left : List (List ℕ)) (stage : Stage) → lines_of text ≡ lines ++ left → Leads Title stage lines → left ≡ [] →
+    IsOneLine (rest_of text) → ((n : ℕ) → stage ≡ Over n → rest_of text ≡ [] → ⊥) → FirstWrong text (length lines + 1)
 part-left text lines left stage split leads none one still =
     first-wrong text lines left stage split leads
     (λ line ls rest n is t. let off : [] ≡ line ∷ ls = sym none ∙ is in cc)
@@ -143,8 +148,10 @@ nothing-sent end answers sent none h = sym h ∙ none
 
 -- A verdict that was reached is written.
 checks-said : (end : CheckEnd) (verdict : Verdict) (r0 w0 w w1 : Option (List ℕ)) → IfSome r0 (Judges verdict) → Appends w0 w [] → WritesVerdict end verdict w w1 → Checks end r0 w0 w1
-checks-said (Legal n) verdict r0 w0 w w1 is silent says = (subst (λ (v : Verdict). IfSome r0 (Judges v)) says.0 is, subst (λ (v : Verdict). Appends w0 w1 (verdict_text v)) says.0 (Appends-trans w0 w w1 [] (verdict_text verdict) silent says.1))
-checks-said (Refused k) verdict r0 w0 w w1 is silent says = (subst (λ (v : Verdict). IfSome r0 (Judges v)) says.0 is, subst (λ (v : Verdict). Appends w0 w1 (verdict_text v)) says.0 (Appends-trans w0 w w1 [] (verdict_text verdict) silent says.1))
+checks-said (Legal n) verdict r0 w0 w w1 is silent says =
+    (subst (λ (v : Verdict). IfSome r0 (Judges v)) says.0 is, subst (λ (v : Verdict). Appends w0 w1 (verdict_text v)) says.0 (Appends-trans w0 w w1 [] (verdict_text verdict) silent says.1))
+checks-said (Refused k) verdict r0 w0 w w1 is silent says =
+    (subst (λ (v : Verdict). IfSome r0 (Judges v)) says.0 is, subst (λ (v : Verdict). Appends w0 w1 (verdict_text v)) says.0 (Appends-trans w0 w w1 [] (verdict_text verdict) silent says.1))
 checks-said Memory verdict r0 w0 w w1 is silent says = rw says silent
 checks-said Reading verdict r0 w0 w w1 is silent says = absurd says
 checks-said Writing verdict r0 w0 w w1 is silent says = record { sent = says.0; writes = Appends-trans w0 w w1 [] says.0 silent says.2; begins = inr (verdict, says.1, is, says.3) }
@@ -166,7 +173,8 @@ module _ {J : Type 0} (seen : J → Stage) (old new : J) (start : seen old ≡ T
       let each = lines-behind h.lines h.left (subst AreLines h.split (cut text).each) in
       at_line h.left h.ends (λ e. wrong-line text h.lines h.left (seen h.state) line fault h.split (led (ends.Wrong line fault) answers text h) each e)
     where
-      at_line : (left : List (List ℕ)) → Ends (Wrong seen) (ends.Wrong line fault) (place (length h.lines + 1) h.state left (rest_of text)) new → (Ends IsWrong (ends.Wrong line fault) (place (length h.lines + 1) (seen h.state) left (rest_of text)) (seen h.state) → FirstWrong text (length h.lines + 1)) → FirstWrong text k
+      at_line : (left : List (List ℕ)) → Ends (Wrong seen) (ends.Wrong line fault) (place (length h.lines + 1) h.state left (rest_of text)) new →
+          (Ends IsWrong (ends.Wrong line fault) (place (length h.lines + 1) (seen h.state) left (rest_of text)) (seen h.state) → FirstWrong text (length h.lines + 1)) → FirstWrong text k
       at_line [] e f = absurd e
       at_line (bad ∷ later) e f = subst (λ (n : ℕ). FirstWrong text n) (sym e.0 ∙ is) (f e)
   refused (ends.Long line) k answers text is h =
@@ -174,34 +182,44 @@ module _ {J : Type 0} (seen : J → Stage) (old new : J) (start : seen old ≡ T
       subst (λ (n : ℕ). FirstWrong text n) (sym h.ends.0 ∙ is) (long-line text h.lines h.left (seen h.state) h.split (led (ends.Long line) answers text h) each (cut text).one h.ends.2)
   refused (ends.Cut line) k answers text is h =
       let some = h.ends.3 in
-      subst (λ (n : ℕ). FirstWrong text n) (sym h.ends.0 ∙ is) (part-left text h.lines h.left (seen h.state) h.split (led (ends.Cut line) answers text h) h.ends.2 (cut text).one (λ n over empty. let none = ap length empty in omega (arith, some, none)))
+      subst (λ (n : ℕ). FirstWrong text n) (sym h.ends.0 ∙ is) (part-left text h.lines h.left (seen h.state) h.split (led (ends.Cut line) answers text h) h.ends.2
+      (cut text).one (λ n over empty. let none = ap length empty in omega (arith, some, none)))
   refused end k answers text is h = absurd is
 
   unfinished : (line : ℕ) (answers text : List ℕ) → ((n : ℕ) → seen new ≡ Over n → ⊥) → Ended (ends.Last line) answers text → FirstWrong text line
   unfinished line answers text still h =
-      subst (λ (n : ℕ). FirstWrong text n) (sym h.ends.0) (part-left text h.lines h.left (seen h.state) h.split (led (ends.Last line) answers text h) h.ends.2 (cut text).one (λ n over empty. still n (ap seen h.ends.1 ∙ over)))
+      subst (λ (n : ℕ). FirstWrong text n) (sym h.ends.0)
+      (part-left text h.lines h.left (seen h.state) h.split (led (ends.Last line) answers text h) h.ends.2 (cut text).one (λ n over empty. still n (ap seen h.ends.1 ∙ over)))
 
   finished : (line n : ℕ) (answers text : List ℕ) → seen new ≡ Over n → Ended (ends.Last line) answers text → IsTrace text n
   finished line n answers text over h =
       let stage : Over n ≡ seen h.state = sym over ∙ ap seen h.ends.1 in
-      let whole : joined h.lines ++ [] ≡ text = sym ((cut text).whole ∙ ap (λ (x : List ℕ). joined (lines_of text) ++ x) h.ends.3 ∙ ap (λ (x : List (List ℕ)). joined x ++ []) (h.split ∙ ap (λ (x : List (List ℕ)). h.lines ++ x) h.ends.2 ∙ append-nil h.lines)) in
+      let whole : joined h.lines ++ [] ≡ text = sym ((cut text).whole ∙ ap (λ (x : List ℕ). joined (lines_of text) ++ x) h.ends.3
+      ∙ ap (λ (x : List (List ℕ)). joined x ++ []) (h.split ∙ ap (λ (x : List (List ℕ)). h.lines ++ x) h.ends.2 ∙ append-nil h.lines)) in
       subst (λ (x : List ℕ). IsTrace x n) whole ((led (ends.Last line) answers text h).may [] n (subst (λ (s : Stage). Continues s [] n) stage (refl, refl)))
 
   -- A drive over the lines of a trace writes nothing.
   quiet : (end : End (Unit {0})) (r0 r1 w0 w1 : Option (List ℕ)) → Driven end r0 r1 w0 w1 → Appends w0 w1 []
   quiet end r0 r1 w0 w1 d = subst (λ (x : List ℕ). Appends w0 w1 x) (nothing-sent end d.answers d.sent (silent seen old d.read.state d.read.lines d.answers d.read.follows) d.sends) d.writes
 
-  refused-said : (end : End (Unit {0})) (result : CheckEnd) (k : ℕ) (r0 r1 w0 w w1 : Option (List ℕ)) → IsAt end k → Driven end r0 r1 w0 w → WritesVerdict result (verdicts.Refused k) w w1 → Checks result r0 w0 w1
-  refused-said end result k r0 r1 w0 w w1 is d says = checks-said result (verdicts.Refused k) r0 w0 w w1 (some-on r0 (Ended end d.answers) (λ text. FirstWrong text k) (λ text h. refused end k d.answers text is h) d.whole) (quiet end r0 r1 w0 w d) says
+  refused-said : (end : End (Unit {0})) (result : CheckEnd) (k : ℕ) (r0 r1 w0 w w1 : Option (List ℕ)) → IsAt end k → Driven end r0 r1 w0 w →
+      WritesVerdict result (verdicts.Refused k) w w1 → Checks result r0 w0 w1
+  refused-said end result k r0 r1 w0 w w1 is d says = checks-said result (verdicts.Refused k) r0 w0 w w1
+      (some-on r0 (Ended end d.answers) (λ text. FirstWrong text k) (λ text h. refused end k d.answers text is h) d.whole) (quiet end r0 r1 w0 w d) says
 
-  unfinished-said : (result : CheckEnd) (line : ℕ) (r0 r1 w0 w w1 : Option (List ℕ)) → ((n : ℕ) → seen new ≡ Over n → ⊥) → Driven (ends.Last line) r0 r1 w0 w → WritesVerdict result (verdicts.Refused line) w w1 → Checks result r0 w0 w1
-  unfinished-said result line r0 r1 w0 w w1 still d says = checks-said result (verdicts.Refused line) r0 w0 w w1 (some-on r0 (Ended (ends.Last line) d.answers) (λ text. FirstWrong text line) (λ text h. unfinished line d.answers text still h) d.whole) (quiet (ends.Last line) r0 r1 w0 w d) says
+  unfinished-said : (result : CheckEnd) (line : ℕ) (r0 r1 w0 w w1 : Option (List ℕ)) → ((n : ℕ) → seen new ≡ Over n → ⊥) → Driven (ends.Last line) r0 r1 w0 w →
+      WritesVerdict result (verdicts.Refused line) w w1 → Checks result r0 w0 w1
+  unfinished-said result line r0 r1 w0 w w1 still d says = checks-said result (verdicts.Refused line) r0 w0 w w1
+      (some-on r0 (Ended (ends.Last line) d.answers) (λ text. FirstWrong text line) (λ text h. unfinished line d.answers text still h) d.whole) (quiet (ends.Last line) r0 r1 w0 w d) says
 
-  finished-said : (result : CheckEnd) (line n : ℕ) (r0 r1 w0 w w1 : Option (List ℕ)) → seen new ≡ Over n → Driven (ends.Last line) r0 r1 w0 w → WritesVerdict result (verdicts.Legal n) w w1 → Checks result r0 w0 w1
-  finished-said result line n r0 r1 w0 w w1 over d says = checks-said result (verdicts.Legal n) r0 w0 w w1 (some-on r0 (Ended (ends.Last line) d.answers) (λ text. IsTrace text n) (λ text h. finished line n d.answers text over h) d.whole) (quiet (ends.Last line) r0 r1 w0 w d) says
+  finished-said : (result : CheckEnd) (line n : ℕ) (r0 r1 w0 w w1 : Option (List ℕ)) → seen new ≡ Over n → Driven (ends.Last line) r0 r1 w0 w →
+      WritesVerdict result (verdicts.Legal n) w w1 → Checks result r0 w0 w1
+  finished-said result line n r0 r1 w0 w w1 over d says = checks-said result (verdicts.Legal n) r0 w0 w w1
+      (some-on r0 (Ended (ends.Last line) d.answers) (λ text. IsTrace text n) (λ text h. finished line n d.answers text over h) d.whole) (quiet (ends.Last line) r0 r1 w0 w d) says
 
   -- A drive, and what is written after it.
-  pub checks-concluded : (end : End (Unit {0})) (entries : Option ℕ) (result : CheckEnd) (r0 r1 w0 w w1 : Option (List ℕ)) → IsOver entries (seen new) → Driven end r0 r1 w0 w → Concludes (conclusion end entries) result w w1 → Checks result r0 w0 w1
+  pub checks-concluded : (end : End (Unit {0})) (entries : Option ℕ) (result : CheckEnd) (r0 r1 w0 w w1 : Option (List ℕ)) → IsOver entries (seen new) →
+      Driven end r0 r1 w0 w → Concludes (conclusion end entries) result w w1 → Checks result r0 w0 w1
   checks-concluded (ends.Last line) (Some n) result r0 r1 w0 w w1 over d says = finished-said result line n r0 r1 w0 w w1 over d says
   checks-concluded (ends.Last line) None result r0 r1 w0 w w1 still d says = unfinished-said result line r0 r1 w0 w w1 still d says
   checks-concluded (ends.Wrong line fault) entries result r0 r1 w0 w w1 over d says = refused-said (ends.Wrong line fault) result line r0 r1 w0 w w1 refl d says

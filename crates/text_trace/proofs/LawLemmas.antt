@@ -33,8 +33,21 @@ wrong-once text k l a b = by (cases_order a.before b.before)
     by (inr (inl h)) = absurd (not-before text k l a b h)
     by (inr (inr h)) = absurd (not-before text l k b a h)
 
-pub trace-is : (f : Format) (processors pages ticket : ℕ) (history : List Entry) → AreSizes processors pages → ticket < 2 ^ 64 → All (IsEntry f) history → IsLegal (opened processors pages ticket) history → IsTrace (trace f processors pages ticket history) (length history)
-trace-is f processors pages ticket history sizes given fits legal = record { format = f; processors = processors; pages = pages; ticket = ticket; history = history; sizes = sizes; given = given; fits = fits; legal = legal; counted = refl; written = refl }
+pub trace-is : (f : Format) (processors pages ticket : ℕ) (history : List Entry) → AreSizes processors pages → ticket < 2 ^ 64 → All (IsEntry f) history →
+    IsLegal (opened processors pages ticket) history → IsTrace (trace f processors pages ticket history) (length history)
+trace-is f processors pages ticket history sizes given fits legal = record {
+  format = f;
+  processors = processors;
+  pages = pages;
+  ticket = ticket;
+  history = history;
+  sizes = sizes;
+  given = given;
+  fits = fits;
+  legal = legal;
+  counted = refl;
+  written = refl;
+}
 
 abbrev SameCount : ℕ → Type 0
 SameCount fuel = (stage : Stage) (ys : List ℕ) (m n : ℕ) → Fits stage → length ys ≤ fuel → Continues stage ys m → Continues stage ys n → m ≡ n

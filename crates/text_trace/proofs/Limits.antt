@@ -32,7 +32,8 @@ refused-near : (result : CheckEnd) (k : ℕ) (r0 r1 w0 w1 : Option (List ℕ)) �
 refused-near (Refused j) k r0 r1 w0 w1 says near = let is = says.0 in let same : k ≡ j = cc in subst (λ n. ReadsNear n r0 r1) same near
 refused-near result k r0 r1 w0 w1 says near = tt
 
-pub concluded-within : (end : End (Unit {0})) (entries : Option ℕ) (result : CheckEnd) (r0 r1 w0 w1 : Option (List ℕ)) → Concludes (conclusion end entries) result w0 w1 → ReadsUpTo (most_of end) r0 r1 → ReadsUpTo (most_read result) r0 r1
+pub concluded-within : (end : End (Unit {0})) (entries : Option ℕ) (result : CheckEnd) (r0 r1 w0 w1 : Option (List ℕ)) →
+    Concludes (conclusion end entries) result w0 w1 → ReadsUpTo (most_of end) r0 r1 → ReadsUpTo (most_read result) r0 r1
 concluded-within (ends.Last line) (Some n) result r0 r1 w0 w1 says read = said-limit result (verdicts.Legal n) r0 r1 w0 w1 says read
 concluded-within (ends.Last line) None result r0 r1 w0 w1 says read = said-limit result (verdicts.Refused line) r0 r1 w0 w1 says read
 concluded-within (ends.Wrong line fault) entries result r0 r1 w0 w1 says read = said-limit result (verdicts.Refused line) r0 r1 w0 w1 says read
@@ -42,7 +43,8 @@ concluded-within ends.Memory entries result r0 r1 w0 w1 is read = rw is.0 read
 concluded-within ends.Reading entries result r0 r1 w0 w1 is read = rw is.0 read
 concluded-within ends.Writing entries result r0 r1 w0 w1 is read = rw is.0 read
 
-pub concluded-near : (end : End (Unit {0})) (entries : Option ℕ) (result : CheckEnd) (r0 r1 w0 w1 : Option (List ℕ)) → Concludes (conclusion end entries) result w0 w1 → DriveStopsNear end r0 r1 → StopsNear result r0 r1
+pub concluded-near : (end : End (Unit {0})) (entries : Option ℕ) (result : CheckEnd) (r0 r1 w0 w1 : Option (List ℕ)) → Concludes (conclusion end entries) result w0 w1 →
+    DriveStopsNear end r0 r1 → StopsNear result r0 r1
 concluded-near (ends.Last line) (Some n) result r0 r1 w0 w1 says near = legal-near result n r0 r1 w0 w1 says
 concluded-near (ends.Last line) None result r0 r1 w0 w1 says near = refused-near result line r0 r1 w0 w1 says near
 concluded-near (ends.Wrong line fault) entries result r0 r1 w0 w1 says near = refused-near result line r0 r1 w0 w1 says near

@@ -25,7 +25,8 @@ in_a_row : (out title board lines end' feed : List ℕ) → ((((out ++ title) ++
 in_a_row out title board lines end' feed = simp append_assoc
 
 -- the parts of a trace
-pub trace-parts : (f : Format) (processors pages ticket : ℕ) (history : List Entry) (next : ℕ) (out a b c d e : List ℕ) → a ≡ out ++ line_of (title_fields f) → b ≡ a ++ line_of (item_fields (Opening processors pages ticket)) →
+pub trace-parts : (f : Format) (processors pages ticket : ℕ) (history : List Entry) (next : ℕ) (out a b c d e : List ℕ) → a ≡ out ++ line_of (title_fields f) →
+    b ≡ a ++ line_of (item_fields (Opening processors pages ticket)) →
     c ≡ b ++ text_of (history_lines history) → d ≡ c ++ spaced (end_fields f (length history) next) → e ≡ d ++ 10 ∷ [] → e ≡ out ++ text_of (trace_lines f processors pages ticket history next)
 trace-parts f processors pages ticket history next out a b c d e h i j k l =
     let title = line_of (title_fields f) in

@@ -157,7 +157,11 @@ back-opening f line ys n one h =
     let board = item_fields (Board h.processors h.pages h.ticket) in
     let cut = first_line line ys (spaced board) h.rest one (board-written h.processors h.pages h.ticket).one h.text in
     let read : board_at line ≡ Some (h.processors, h.pages, h.ticket) = ap board_at cut.0 ∙ board-reads h.processors h.pages h.ticket h.sizes h.given in
-    record { next = Running f (opened h.processors h.pages h.ticket) 0 None; is = ap (option_map (λ (p : ℕ × ℕ × ℕ). Running f (opened p.0 p.1 p.2) 0 None)) read; on = subst (λ (x : List ℕ). Goes f (opened h.processors h.pages h.ticket) 0 x n) (sym cut.1) h.goes }
+    record {
+      next = Running f (opened h.processors h.pages h.ticket) 0 None;
+      is = ap (option_map (λ (p : ℕ × ℕ × ℕ). Running f (opened p.0 p.1 p.2) 0 None)) read;
+      on = subst (λ (x : List ℕ). Goes f (opened h.processors h.pages h.ticket) 0 x n) (sym cut.1) h.goes;
+    }
 
 on-opening : (f : Format) (line ys : List ℕ) (n : ℕ) (q : ℕ × ℕ × ℕ) → BoardLine line q → Goes f (opened q.0 q.1 q.2) 0 ys n → Opens f (line ++ 10 ∷ ys) n
 on-opening f line ys n q o h = record { processors = q.0; pages = q.1; ticket = q.2; sizes = o.sizes; given = o.given; rest = ys; text = ap (λ (x : List ℕ). x ++ 10 ∷ ys) o.text; goes = h }
@@ -193,7 +197,13 @@ back-entry f s c line ys n (e ∷ history) one fits legal counted text =
 
 on-end : (f : Format) (s : State) (c : ℕ) (line ys : List ℕ) (n : ℕ) → line ≡ spaced (end_fields f c s.next_ticket) → (ys ≡ []) × (n ≡ c) → Goes f s c (line ++ 10 ∷ ys) n
 unfolding run_of
-on-end f s c line ys n is h = record { history = []; fits = All-nil (IsEntry f); legal = refl; counted = omega (arith, h.1); text = rw (is, h.0, h.1) (sym (text-line (end_fields f c s.next_ticket) [])) }
+on-end f s c line ys n is h = record {
+  history = [];
+  fits = All-nil (IsEntry f);
+  legal = refl;
+  counted = omega (arith, h.1);
+  text = rw (is, h.0, h.1) (sym (text-line (end_fields f c s.next_ticket) []));
+}
 
 on-entry : (f : Format) (s : State) (c : ℕ) (line ys : List ℕ) (n : ℕ) (event : Event) → EntryLine f line event → Due f (step s event).0 (c + 1) (step s event).1 ys n → Goes f s c (line ++ 10 ∷ ys) n
 unfolding run_of
@@ -262,14 +272,20 @@ reached-running f s c = record { bound = omega arith; fits = tt }
 
 pub reached : (stage next : Stage) (line : List ℕ) → follow stage line ≡ Some next → Reached stage next
 reached Title next line e =
-    yes (bytes_eq line (spaced (title_fields One))) (Some (Opening One)) _ next (Reached Title next) (λ is e. let same : Opening One ≡ next = cc in subst (Reached Title) same (record { bound = omega arith; fits = tt }))
-    (yes (bytes_eq line (spaced (title_fields Two))) (Some (Opening Two)) None next (Reached Title next) (λ is e. let same : Opening Two ≡ next = cc in subst (Reached Title) same (record { bound = omega arith; fits = tt })) (λ e. cc)) e
-reached (Opening f) next line e = mapped (λ (p : ℕ × ℕ × ℕ). Running f (opened p.0 p.1 p.2) 0 None) (board_at line) next (Reached (Opening f) next) (λ q is e. subst (Reached (Opening f)) e (record { bound = omega arith; fits = tt })) e
+    yes (bytes_eq line (spaced (title_fields One))) (Some (Opening One)) _ next (Reached Title next)
+    (λ is e. let same : Opening One ≡ next = cc in subst (Reached Title) same (record { bound = omega arith; fits = tt }))
+    (yes (bytes_eq line (spaced (title_fields Two))) (Some (Opening Two)) None next (Reached Title next)
+    (λ is e. let same : Opening Two ≡ next = cc in subst (Reached Title) same (record { bound = omega arith; fits = tt })) (λ e. cc)) e
+reached (Opening f) next line e = mapped (λ (p : ℕ × ℕ × ℕ). Running f (opened p.0 p.1 p.2) 0 None) (board_at line) next (Reached (Opening f) next)
+    (λ q is e. subst (Reached (Opening f)) e (record { bound = omega arith; fits = tt })) e
 reached (Running f s c None) next line e =
     yes (bytes_eq line (spaced (end_fields f c s.next_ticket))) (Some (Over c)) (option_map (performed f s c) (entry_at f line)) next (Reached (Running f s c None) next)
     (λ is e. let same : Over c ≡ next = cc in subst (Reached (Running f s c None)) same (reached-running f s c))
-    (λ e. mapped (performed f s c) (entry_at f line) next (Reached (Running f s c None) next) (λ event is e. subst (Reached (Running f s c None)) e (record { bound = omega arith; fits = step-fits s event })) e) e
-reached (Running f s c (Some r)) next line e = yes (bytes_eq line (spaced (reply_fields r))) (Some (Running f s c None)) None next (Reached (Running f s c (Some r)) next) (λ is e. let same : Running f s c None ≡ next = cc in subst (Reached (Running f s c (Some r))) same (record { bound = omega arith; fits = tt })) (λ e. cc) e
+    (λ e. mapped (performed f s c) (entry_at f line) next (Reached (Running f s c None) next)
+    (λ event is e. subst (Reached (Running f s c None)) e (record { bound = omega arith; fits = step-fits s event })) e) e
+reached (Running f s c (Some r)) next line e = yes (bytes_eq line (spaced (reply_fields r))) (Some (Running f s c None)) None next
+    (Reached (Running f s c (Some r)) next)
+    (λ is e. let same : Running f s c None ≡ next = cc in subst (Reached (Running f s c (Some r))) same (record { bound = omega arith; fits = tt })) (λ e. cc) e
 reached (Over c) next line e = cc
 
 -- a whole line that is not too long comes first
@@ -311,11 +327,24 @@ unfolding run_of
 goes-end f s c = record { history = []; fits = All-nil (IsEntry f); legal = refl; counted = omega arith; text = refl }
 
 opens-end : (f : Format) → Opens f (spaced (item_fields (Board 1 1 0)) ++ 10 ∷ text_of (left f [] 0 0)) 0
-opens-end f = record { processors = 1; pages = 1; ticket = 0; sizes = record { some_processor = omega arith; processor_bound = omega arith; some_page = omega arith; page_bound = omega arith }; given = omega arith; rest = text_of (left f [] 0 0); text = refl; goes = goes-end f (opened 1 1 0) 0 }
+opens-end f = record {
+  processors = 1;
+  pages = 1;
+  ticket = 0;
+  sizes = record { some_processor = omega arith; processor_bound = omega arith; some_page = omega arith; page_bound = omega arith };
+  given = omega arith;
+  rest = text_of (left f [] 0 0);
+  text = refl;
+  goes = goes-end f (opened 1 1 0) 0;
+}
 
 pub alive : (stage : Stage) → Alive stage
 alive Title = record { rest = _; entries = 0; on = on-title One (spaced (title_fields One)) _ 0 refl (opens-end One) }
 alive (Opening f) = record { rest = _; entries = 0; on = opens-end f }
 alive (Running f s c None) = record { rest = _; entries = c; on = goes-end f s c }
-alive (Running f s c (Some r)) = record { rest = spaced (reply_fields r) ++ 10 ∷ text_of (left f [] c s.next_ticket); entries = c; on = record { rest = text_of (left f [] c s.next_ticket); text = refl; goes = goes-end f s c } }
+alive (Running f s c (Some r)) = record {
+  rest = spaced (reply_fields r) ++ 10 ∷ text_of (left f [] c s.next_ticket);
+  entries = c;
+  on = record { rest = text_of (left f [] c s.next_ticket); text = refl; goes = goes-end f s c };
+}
 alive (Over c) = record { rest = []; entries = c; on = (refl, refl) }

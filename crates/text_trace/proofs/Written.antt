@@ -58,7 +58,8 @@ reply-written (replies.Accepted t) h = written _ _ (plain_by (codes "=") refl, (
 reply-written replies.FlagWasClear h = written _ _ (plain_by (codes "=") refl, (plain_by (codes "clear") refl, tt)) (omega arith)
 reply-written replies.FlagWasSet h = written _ _ (plain_by (codes "=") refl, (plain_by (codes "set") refl, tt)) (omega arith)
 reply-written replies.GeneralProtection h = written _ _ (plain_by (codes "=") refl, (plain_by (codes "general") refl, (plain_by (codes "protection") refl, tt))) (omega arith)
-reply-written (replies.Refused r) h = written _ _ (plain_by (codes "=") refl, (plain_by (codes "refused") refl, (digits-plain 10 (refusal_number r), tt))) (omega (arith, digits-short 10 (refusal_number r)))
+reply-written (replies.Refused r) h = written _ _ (plain_by (codes "=") refl, (plain_by (codes "refused") refl, (digits-plain 10 (refusal_number r), tt)))
+    (omega (arith, digits-short 10 (refusal_number r)))
 
 -- a line is the words of its fields
 whole : (line : List ℕ) (fields : Fields) → fields_of line ≡ fields → line ≡ spaced fields
@@ -137,7 +138,8 @@ within-only p q e = go (are_sizes p.0 p.1) refl e
 board-says : (line : List ℕ) (fields : Fields) (q : ℕ × ℕ × ℕ) → fields_of line ≡ fields → parse_board fields ≡ Some q → BoardLine line q
 board-says line [] q is e = cc
 board-says line (word ∷ fields) q is e =
-    yes (bytes_eq word (codes "board")) (option_and_then within_limits (parse_opening fields)) None q (BoardLine line q) (λ test e. by ((bytes_eq-Decides word (codes "board")).0 test) (parse_opening fields) refl e) (λ e. cc) e
+    yes (bytes_eq word (codes "board")) (option_and_then within_limits (parse_opening fields)) None q (BoardLine line q)
+    (λ test e. by ((bytes_eq-Decides word (codes "board")).0 test) (parse_opening fields) refl e) (λ e. cc) e
   where
     by : word ≡ codes "board" → (r : Option (ℕ × ℕ × ℕ)) → parse_opening fields ≡ r → option_and_then within_limits r ≡ Some q → BoardLine line q
     by named None said e = cc
@@ -159,7 +161,8 @@ within p h = go (are_sizes p.0 p.1) refl
     go true is = refl
     go false is = absurd (h (λ sizes. let yes = (sizes-are p.0 p.1).1 sizes in cc))
 
-pub board-opened : (line word : List ℕ) (fields : Fields) (n g f : ℕ) → fields_of line ≡ word ∷ fields → word ≡ codes "board" → Some (n, g, f) ≡ parse_opening fields → ((AreSizes n g → ⊥) → ⊥) → board_at line ≡ Some (n, g, f)
+pub board-opened : (line word : List ℕ) (fields : Fields) (n g f : ℕ) → fields_of line ≡ word ∷ fields → word ≡ codes "board" → Some (n, g, f) ≡ parse_opening fields →
+    ((AreSizes n g → ⊥) → ⊥) → board_at line ≡ Some (n, g, f)
 unfolding board_at
 board-opened line word fields n g f are named said h =
     ap parse_board (are ∙ ap (λ (w : List ℕ). w ∷ fields) named) ∙ ap (option_and_then within_limits) (sym said) ∙ within (n, g, f) h

@@ -25,7 +25,8 @@ dues-are t m l h = same_lists (dues t) m (length-dues t ∙ sym l) (λ k d low.
 
 -- the deadlines do not depend on the tree
 pub dues-alike : (old new : Table) → IsAlike old new → dues new ≡ dues old
-dues-alike old new a = dues-are new (dues old) (length-dues old) (λ k h. dues_at old k h ∙ sym (λ i. if get_or (a.marks i) k false then Some (get_or (a.highs i) k 0 * 2 ^ 64 + get_or (a.lows i) k 0) else None))
+dues-alike old new a = dues-are new (dues old) (length-dues old)
+    (λ k h. dues_at old k h ∙ sym (λ i. if get_or (a.marks i) k false then Some (get_or (a.highs i) k 0 * 2 ^ 64 + get_or (a.lows i) k 0) else None))
 
 module _ (t : Table) (n : ℕ) (mark : Bool) (word due count : ℕ) (tree : IsTree t) (low : n < 32) where
   abbrev now : Table
@@ -52,7 +53,8 @@ module _ (t : Table) (n : ℕ) (mark : Bool) (word due count : ℕ) (tree : IsTr
   pub dues_written : dues now ≡ set (dues t) n written
   dues_written = dues-are now (set (dues t) n written) (length-set (dues t) n written ∙ length-dues t) (λ k h.
       elim (cases_eq k n) as (λ _. get_or (set (dues t) n written) k None ≡ due_at now k) [
-        | inl e ↦ ap (λ i. get_or (set (dues t) n written) i None) e ∙ get_or-set_same (dues t) n written None (omega (arith, length-dues t)) ∙ sym (ap (due_at now) e ∙ (λ i. if mark_here i then Some (moment_here i) else None))
+        | inl e ↦ ap (λ i. get_or (set (dues t) n written) i None) e ∙ get_or-set_same (dues t) n written None (omega (arith, length-dues t))
+            ∙ sym (ap (due_at now) e ∙ (λ i. if mark_here i then Some (moment_here i) else None))
         | inr e ↦ get_or-set_other (dues t) n k written None e ∙ dues_at t k h ∙ sym (λ i. if mark_other k e i then Some (moment_other k e i) else None)
       ])
 

@@ -25,7 +25,8 @@ skip m n h None f = λ k l. elim (cases_eq k n) as (λ _. get_or m k None ≡ No
 skip m n h (Some r) f = record {
   low = omega (arith, f.low);
   due = f.due;
-  first = λ k e l g. elim (cases_eq k n) as (λ _. (r.0 ≤ e) × (e ≡ r.0 → r.1 ≤ k)) [ inl x ↦ absurd (none-some e (sym h ∙ ap (λ j. get_or m j None) (sym x) ∙ g)) | inr x ↦ f.first k e (omega arith) g ];
+  first = λ k e l g. elim (cases_eq k n) as
+      (λ _. (r.0 ≤ e) × (e ≡ r.0 → r.1 ≤ k)) [ inl x ↦ absurd (none-some e (sym h ∙ ap (λ j. get_or m j None) (sym x) ∙ g)) | inr x ↦ f.first k e (omega arith) g ];
 }
 
 -- the number n is due at d

@@ -114,7 +114,8 @@ module _ (t : Table) (x v : ℕ) (h : IsClimbing t x) (pos : 1 < x) (inside : x 
   }
 
 -- the lesser of a node and the other child of its parent
-pub lesser-is : (t : Table) (x first rest : ℕ) → first ≡ node t x → rest ≡ node t (bit_xor x 1) → (v : ℕ) → v ≡ (if nat_lt rest first then rest else first) → v ≡ min (node t (2 * (x / 2))) (node t (2 * (x / 2) + 1))
+pub lesser-is : (t : Table) (x first rest : ℕ) → first ≡ node t x → rest ≡ node t (bit_xor x 1) → (v : ℕ) → v ≡ (if nat_lt rest first then rest else first) →
+    v ≡ min (node t (2 * (x / 2))) (node t (2 * (x / 2) + 1))
 lesser-is t x first rest here there v is =
     let lesser : v ≡ min first rest = is ∙ smaller first rest in
     let beside : rest ≡ node t (2 * (x / 2) + (1 - x % 2)) = there ∙ ap (node t) (sibling x) in
@@ -143,7 +144,8 @@ alone-is t x n v pos inside below alone here fits =
       | inl e ↦
           let a : x ≡ 2 * (x / 2) = omega arith in
           let left : v ≡ node t (2 * (x / 2)) = here ∙ ap (node t) a in
-          let right : node t (2 * (x / 2) + 1) ≡ never = alone.others (2 * (x / 2) + 1) (omega arith) (omega arith) (λ g. let f = one-child x (2 * (x / 2) + 1) n pos inside (omega arith) below g in omega arith) in
+          let right : node t (2 * (x / 2) + 1) ≡ never = alone.others (2 * (x / 2) + 1) (omega arith) (omega arith)
+          (λ g. let f = one-child x (2 * (x / 2) + 1) n pos inside (omega arith) below g in omega arith) in
           omega (arith, left, right, fits)
       | inr e ↦
           let a : x ≡ 2 * (x / 2) + 1 = omega arith in
@@ -189,7 +191,8 @@ module _ (t : Table) (n word : ℕ) (tree : IsTree t) (low : n < 32) (is : word 
         omega (arith, empty j (omega arith) (λ e. absurd (omega arith)), left, right);
   }
     where
-      unset : (m : ℕ) (b : _) → b ≡ false → never ≡ (if b then (if nat_lt (get_or t.highs m 0 * 2 ^ 64 + get_or t.lows m 0) (2 ^ 59 - 1) then 32 * (get_or t.highs m 0 * 2 ^ 64 + get_or t.lows m 0) + m else never) else never)
+      unset : (m : ℕ) (b : _) → b ≡ false →
+          never ≡ (if b then (if nat_lt (get_or t.highs m 0 * 2 ^ 64 + get_or t.lows m 0) (2 ^ 59 - 1) then 32 * (get_or t.highs m 0 * 2 ^ 64 + get_or t.lows m 0) + m else never) else never)
       unset m true e = absurd (cc)
       unset m false e = refl
 
@@ -218,7 +221,8 @@ module _ (t : Table) (o : IsOrdered t) where
       let x : ℕ = 32 + n in
       let root : x / 2 / 2 / 2 / 2 / 2 ≡ 1 = omega arith in
       let top : node t (x / 2 / 2 / 2 / 2 / 2) ≡ node t 1 = ap (node t) root in
-      chain (node t 1) _ _ _ _ _ (node t x) top (edge (x / 2 / 2 / 2 / 2) (omega arith) (omega arith)) (edge (x / 2 / 2 / 2) (omega arith) (omega arith)) (edge (x / 2 / 2) (omega arith) (omega arith)) (edge (x / 2) (omega arith) (omega arith)) (edge x (omega arith) (omega arith))
+      chain (node t 1) _ _ _ _ _ (node t x) top (edge (x / 2 / 2 / 2 / 2) (omega arith) (omega arith)) (edge (x / 2 / 2 / 2) (omega arith) (omega arith))
+      (edge (x / 2 / 2) (omega arith) (omega arith)) (edge (x / 2) (omega arith) (omega arith)) (edge x (omega arith) (omega arith))
     where
       chain : (a b c d e f g : ℕ) → b ≡ a → b ≤ c → c ≤ d → d ≤ e → e ≤ f → f ≤ g → a ≤ g
       chain a b c d e f g p q r s u v = omega arith
@@ -236,7 +240,8 @@ module _ (t : Table) (o : IsOrdered t) where
       ]
 
   pub root-leaf : (n : ℕ) × ((n < 32) × (node t 1 ≡ node t (32 + n)))
-  root-leaf = level 1 (omega arith) (omega arith) (level 2 (omega arith) (omega arith) (level 4 (omega arith) (omega arith) (level 8 (omega arith) (omega arith) (level 16 (omega arith) (omega arith) leaf)))) 1 (omega arith) (omega arith)
+  root-leaf = level 1 (omega arith) (omega arith)
+      (level 2 (omega arith) (omega arith) (level 4 (omega arith) (omega arith) (level 8 (omega arith) (omega arith) (level 16 (omega arith) (omega arith) leaf)))) 1 (omega arith) (omega arith)
     where
       level : (low : ℕ) → 0 < low → low ≤ 16 → ((c : ℕ) → 2 * low ≤ c → c < 4 * low → Leaf c) → (j : ℕ) → low ≤ j → j < 2 * low → Leaf j
       level = above

@@ -94,7 +94,8 @@ module _ (t : Table) (n : ℕ) (low : n < 32) where
 
   -- if there are none, no other timer is set
   pub others-none : idle (set (dues t) n None) ≡ 32 → (m : ℕ) → m < 32 → m ≢ n → is_set t m ≡ false
-  others-none e m h apart = by (is_set t m) refl (sym (dues_at t m h) ∙ sym (get_or-set_other (dues t) n m None None apart) ∙ none-set (set (dues t) n None) (length-set (dues t) n None ∙ length-dues t) e m)
+  others-none e m h apart = by (is_set t m) refl
+      (sym (dues_at t m h) ∙ sym (get_or-set_other (dues t) n m None None apart) ∙ none-set (set (dues t) n None) (length-set (dues t) n None ∙ length-dues t) e m)
     where
       by : (b : Bool) → is_set t m ≡ b → (if b then Some (moment_of t m) else None) ≡ None → is_set t m ≡ false
       by true f g = absurd (cc)
@@ -118,7 +119,8 @@ module _ (t : Table) (sound : IsSound t) (word : ℕ) (is : word ≡ node t 1) (
     | false ↦ λ w g. absurd (omega (arith, g))
   ] refl h
 
-  whole : (b : Bool) → is_set t first ≡ b → word ≡ (if b then word_for (moment_of t first) first else never) → (is_set t first ≡ true) × ((word ≡ 32 * moment_of t first + first) × (moment_of t first < late))
+  whole : (b : Bool) → is_set t first ≡ b → word ≡ (if b then word_for (moment_of t first) first else never) →
+      (is_set t first ≡ true) × ((word ≡ 32 * moment_of t first + first) × (moment_of t first < late))
   whole true e h = let f = early (moment_of t first) first (omega (arith, h, less)) in (e, (h ∙ f.0, f.1))
   whole false e h = absurd (omega (arith, h, less))
 
@@ -132,10 +134,11 @@ module _ (t : Table) (sound : IsSound t) (word : ℕ) (is : word ≡ node t 1) (
   root-due = let low = leaf.1.0 in omega (arith, parts.1.0, low)
 
   later : (k e n : ℕ) → 32 * moment_of t first + first ≤ word_for e k → k < 32 → (moment_of t first ≤ e) × (e ≡ moment_of t first → first ≤ k)
-  later k e n h low = let fit = leaf.1.0 in elim (nat_lt e late) as (λ b. nat_lt e late ≡ b → 32 * moment_of t first + first ≤ (if b then 32 * e + k else never) → (moment_of t first ≤ e) × (e ≡ moment_of t first → first ≤ k)) [
-    | true ↦ λ w g. (omega (arith, g, low, fit), λ x. omega (arith, g, low, fit, x))
-    | false ↦ λ w g. let far : late ≤ e = grind (arith, nat_tests) in (omega (arith, far, parts.1.1), λ x. absurd (omega (arith, far, parts.1.1, x)))
-  ] refl h
+  later k e n h low = let fit = leaf.1.0 in elim (nat_lt e late) as
+      (λ b. nat_lt e late ≡ b → 32 * moment_of t first + first ≤ (if b then 32 * e + k else never) → (moment_of t first ≤ e) × (e ≡ moment_of t first → first ≤ k)) [
+        | true ↦ λ w g. (omega (arith, g, low, fit), λ x. omega (arith, g, low, fit, x))
+        | false ↦ λ w g. let far : late ≤ e = grind (arith, nat_tests) in (omega (arith, far, parts.1.1), λ x. absurd (omega (arith, far, parts.1.1, x)))
+      ] refl h
 
   before : (k e : ℕ) → k < 32 → (b : Bool) → is_set t k ≡ b → (if b then Some (moment_of t k) else None) ≡ Some e → (moment_of t first ≤ e) × (e ≡ moment_of t first → first ≤ k)
   before k e low true set h =
@@ -162,7 +165,8 @@ module _ (t : Table) (n : ℕ) where
   found-due true d e h = same_Some _ _ h
   found-due false d e h = absurd (none-some d h)
 
-  found-is : (o : Option (ℕ × ℕ)) → Found (dues t) 32 o → Some n ≡ option_map {U = ℕ} (λ (r : ℕ × ℕ). r.1) o → (n < 32) × (option_map {U = ℕ × (ℕ × ℕ)} (λ (r : ℕ × ℕ). (r.0, timer_of r.1)) o ≡ Some (moment_of t n, timer_of n))
+  found-is : (o : Option (ℕ × ℕ)) → Found (dues t) 32 o → Some n ≡ option_map {U = ℕ} (λ (r : ℕ × ℕ). r.1) o →
+      (n < 32) × (option_map {U = ℕ × (ℕ × ℕ)} (λ (r : ℕ × ℕ). (r.0, timer_of r.1)) o ≡ Some (moment_of t n, timer_of n))
   found-is None f h = absurd (none-some n (sym h))
   found-is (Some r) f h =
       let same : n ≡ r.1 = same_Some _ _ h in
@@ -224,7 +228,17 @@ fresh-dues = dues-are fresh no_dues refl (λ k h. all_none 32 k ∙ sym (ap (λ 
 
 pub fresh-sound : IsSound fresh
 fresh-sound = record {
-  tree = record { nodes = refl; marks = refl; highs = refl; lows = refl; leaves = λ n h. repeated 64 (32 + n) (omega arith) ∙ sym (ap (λ b. if b then word_for (moment_of fresh n) n else never) (unmarked 32 n)) };
-  ordered = record { mins = λ j a b. let here = repeated 64 j (omega arith) in let left = repeated 64 (2 * j) (omega arith) in let right = repeated 64 (2 * j + 1) (omega arith) in omega (arith, here, left, right) };
+  tree = record {
+    nodes = refl;
+    marks = refl;
+    highs = refl;
+    lows = refl;
+    leaves = λ n h. repeated 64 (32 + n) (omega arith)
+        ∙ sym (ap (λ b. if b then word_for (moment_of fresh n) n else never) (unmarked 32 n));
+  };
+  ordered = record {
+    mins = λ j a b. let here = repeated 64 j (omega arith) in let left = repeated 64 (2 * j) (omega arith) in let right = repeated 64 (2 * j + 1)
+        (omega arith) in omega (arith, here, left, right);
+  };
   full = ap (λ m. idle m + 0) fresh-dues;
 }

@@ -68,4 +68,5 @@ line_glue {M} 𝓤 𝓛 𝓜 𝓡 wired =
     let w : World = record { M = M; 𝓤 = 𝓤; 𝓛 = 𝓛; 𝓜 = 𝓜; 𝓡 = 𝓡 } in let key : Callee = method line_drops 0 no_args in
     glue_by D D-laws w line_drops 𝓡.env Left left Learnt Lives 0 tt (λ κs a h. ((h, tt), tt))
     (via_longer 𝓛 (Over 𝓛 𝓜 𝓡 𝓡.env) 1 (glue_ps D D-laws) r_unit Left left Learnt Lives key 0 tt (λ κs. tt) (λ κs a. line_reads.Asked tt a) (λ κs a p. (tt, tt)) (λ κs bd inside a vss qs.
-    method_Known 0 line_kinds.ps line_kinds.r line_reads.requires line_reads.ensures line_reads.Asked line_reads.Learnt line_reads.known w line_drop.name key (line_drop.as_method 𝓡.env wired key refl) (line_met.met 𝓤 𝓛 𝓜 𝓡 wired) ((tt, qs, tt, a, vss), tt)))
+    method_Known 0 line_kinds.ps line_kinds.r line_reads.requires line_reads.ensures line_reads.Asked line_reads.Learnt line_reads.known w line_drop.name key
+    (line_drop.as_method 𝓡.env wired key refl) (line_met.met 𝓤 𝓛 𝓜 𝓡 wired) ((tt, qs, tt, a, vss), tt)))

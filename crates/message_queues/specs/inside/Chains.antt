@@ -50,7 +50,8 @@ ReadsBothWays buffers chain = keys_from (λ b. b.before) buffers chain.len chain
 -- and stay below `top`, so no key occurs twice.
 abbrev pub Links : Buffers → (ℕ → ℕ) → (ℕ → ℕ) → ℕ → ℕ → Option ℕ → Option ℕ → List ℕ → Option ℕ → Option ℕ → ℕ → Type 0
 Links buffers owner rank queue low before from [] to last top = (from ≡ to) × (last ≡ before) × (low ≤ top)
-Links buffers owner rank queue low before from (key ∷ keys) to last top = (b : Buffer) × (from ≡ Some key) × (owner key ≡ queue) × (low ≤ rank key) × (buffers key ≡ Some b) × (b.before ≡ before) × Links buffers owner rank queue (suc (rank key)) (Some key) b.behind keys to last top
+Links buffers owner rank queue low before from (key ∷ keys) to last top = (b : Buffer) × (from ≡ Some key) × (owner key ≡ queue) × (low ≤ rank key)
+    × (buffers key ≡ Some b) × (b.before ≡ before) × Links buffers owner rank queue (suc (rank key)) (Some key) b.behind keys to last top
 
 -- A chain: its keys are linked from its first to its last, nothing precedes the first or follows the last, and its length is their number.
 pub record IsChain (buffers : Buffers) (owner rank : ℕ → ℕ) (queue : ℕ) (chain : Chain) : Type 0 where

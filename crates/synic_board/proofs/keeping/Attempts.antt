@@ -63,7 +63,8 @@ marked-ends false p i t = refl
 
 keeps-marked : (n : ℕ) (s : State) (p i : ℕ) → IsIntact n s → p < n → Keeps n s (marked s p i)
 keeps-marked n s p i h below =
-    keeps-still n s (marked s p i) (record { count = h.count; whole = marked-whole n s p i h.whole below; empty = λ q j within inside z. h.empty q j within inside (sym (marked-type n s p i q j h.whole below) ∙ z) })
+    keeps-still n s (marked s p i)
+    (record { count = h.count; whole = marked-whole n s p i h.whole below; empty = λ q j within inside z. h.empty q j within inside (sym (marked-type n s p i q j h.whole below) ∙ z) })
     (record { queues = refl; slots = refl; next = refl }) (leaves-marked n s p i h.whole.own below) (marked-ends (is_pending (space_of s) p i) p i)
 
 both : (a b : Bool) → (a && b) ≡ true → b ≡ true
@@ -108,7 +109,16 @@ keeps-accepted n s p i m h below under good next =
         empty = h.empty;
       };
       tickets_monotone = omega arith;
-      conserves = λ t. omega (arith, times-locations t s, times-locations t (accepted s p i m).0, sum_by-set (in_queue t) s.queues (source_number p i) q [] (omega (arith, h.whole.queues)), in_queue-push t (queue_of s.queues p i) m, ap (λ x. one x t) next, given-one t s (accepted s p i m).0 refl, accepted-ends t);
+      conserves = λ t. omega (
+        arith,
+        times-locations t s,
+        times-locations t (accepted s p i m).0,
+        sum_by-set (in_queue t) s.queues (source_number p i) q [] (omega (arith, h.whole.queues)),
+        in_queue-push t (queue_of s.queues p i) m,
+        ap (λ x. one x t) next,
+        given-one t s (accepted s p i m).0 refl,
+        accepted-ends t,
+      );
       leaves = leaves-same n s (accepted s p i m).0 refl refl;
     }
   where
@@ -150,11 +160,20 @@ keeps-withdrawn n s p i port h below under =
           slots = h.whole.slots;
           ports = h.whole.ports;
           idle = h.whole.idle;
-          messages = All-set (All IsMessage) s.queues (source_number p i) q (All-filter (λ m. not (is_from_port port m)) IsMessage (queue_of s.queues p i) (queue-good n s p i h.whole below under)) h.whole.messages;
+          messages = All-set (All IsMessage) s.queues (source_number p i) q
+              (All-filter (λ m. not (is_from_port port m)) IsMessage (queue_of s.queues p i) (queue-good n s p i h.whole below under)) h.whole.messages;
         };
         empty = h.empty;
       };
       tickets_monotone = omega arith;
-      conserves = λ t. omega (arith, times-locations t s, times-locations t (withdrawn s p i port).0, sum_by-set (in_queue t) s.queues (source_number p i) q [] (omega (arith, h.whole.queues)), parted t port (queue_of s.queues p i), ends-each t p i (withdrawn_of port (queue_of s.queues p i)), given-none t s (withdrawn s p i port).0 refl);
+      conserves = λ t. omega (
+        arith,
+        times-locations t s,
+        times-locations t (withdrawn s p i port).0,
+        sum_by-set (in_queue t) s.queues (source_number p i) q [] (omega (arith, h.whole.queues)),
+        parted t port (queue_of s.queues p i),
+        ends-each t p i (withdrawn_of port (queue_of s.queues p i)),
+        given-none t s (withdrawn s p i port).0 refl,
+      );
       leaves = leaves-same n s (withdrawn s p i port).0 refl refl;
     }

@@ -62,7 +62,8 @@ keeps-fired : (n : ℕ) (s : State) (t : ℕ × ℕ) (mode : Mode) → IsIntact 
 keeps-fired n s t mode h low names =
     let now : State = expired_state s t in
     let emitted = expiry_notices t (expiry_at s t).signal (expiry_at s t).skipped in
-    let first = keeps-still n s (now, emitted) (kept-timer n s t ((after_expiry (timer_in (bank_of s) t) s.moment).0) low h) (record { queues = refl; slots = refl; next = refl }) (leaves-same n s now refl refl) (expiry-ends t (expiry_at s t).signal (expiry_at s t).skipped) in
+    let first = keeps-still n s (now, emitted) (kept-timer n s t ((after_expiry (timer_in (bank_of s) t) s.moment).0) low h)
+    (record { queues = refl; slots = refl; next = refl }) (leaves-same n s now refl refl) (expiry-ends t (expiry_at s t).signal (expiry_at s t).skipped) in
     keeps-after n s (now, emitted) (signalled_by now t mode (expiry_at s t).signal) first (keeps-signal n now t mode (expiry_at s t).signal first.kept (omega (arith, low)) names)
 
 first-of : (a b : Bool) → (a && b) ≡ true → a ≡ true

@@ -33,7 +33,8 @@ in_slots t slots = sum_by (in_slot t) slots
 
 times-flat : (t : ℕ) (qs : Queues) → times t (flat_map (map ticket_of) qs) ≡ in_queues t qs
 times-flat t [] = refl
-times-flat t (q ∷ qs) = ap (times t) (flat_map-cons (map ticket_of) q qs) ∙ sum_by-append (λ x. one x t) (map ticket_of q) (flat_map (map ticket_of) qs) ∙ ap (λ n. in_queue t q + n) (times-flat t qs) ∙ sym (sum_by-cons (in_queue t) q qs)
+times-flat t (q ∷ qs) = ap (times t) (flat_map-cons (map ticket_of) q qs) ∙ sum_by-append (λ x. one x t) (map ticket_of q) (flat_map (map ticket_of) qs)
+    ∙ ap (λ n. in_queue t q + n) (times-flat t qs) ∙ sym (sum_by-cons (in_queue t) q qs)
 
 times-slots : (t : ℕ) (os : List (Option ℕ)) → times t (filter_map (λ x. x) os) ≡ in_slots t os
 times-slots t [] = refl

@@ -100,7 +100,13 @@ home-found p (FromTimer ticket t expiration) home = let same = home.0 in let bel
 all-found : (p : ℕ) (q : List Message) → All (IsHome p) q → length q ≤ count_by (is_of_ports 16) q + count_by (is_of_timers p 4) q
 all-found p [] h = omega arith
 all-found p (m ∷ q) h =
-    omega (arith, home-found p m (All-head (IsHome p) m q h), all-found p q (All-tail (IsHome p) m q h), sum_by-cons (λ x. cond (is_of_ports 16 x) 1 0) m q, sum_by-cons (λ x. cond (is_of_timers p 4 x) 1 0) m q)
+    omega (
+      arith,
+      home-found p m (All-head (IsHome p) m q h),
+      all-found p q (All-tail (IsHome p) m q h),
+      sum_by-cons (λ x. cond (is_of_ports 16 x) 1 0) m q,
+      sum_by-cons (λ x. cond (is_of_timers p 4 x) 1 0) m q,
+    )
 
 -- so each message withdrawn from a queue was one of them
 queue-emitted : (s : State) (p i : ℕ) → i < 16 → HasBuffers s → length (queue_emptied s p i).1 + homes p (queue_emptied s p i).0.queues ≤ homes p s.queues
@@ -111,7 +117,13 @@ queue-emitted s p i below h = by (cases_lt (source_number p i) (length s.queues)
 
     by : (source_number p i < length s.queues) ⊎ (length s.queues ≤ source_number p i) → length (queue_emptied s p i).1 + homes p (queue_emptied s p i).0.queues ≤ homes p s.queues
     by (inl inside) =
-        omega (arith, emitted, all-found p (queue_of s.queues p i) (h.home p i below), sum_by-set (count_by (is_of_ports 16)) s.queues (source_number p i) [] [] inside, sum_by-set (count_by (is_of_timers p 4)) s.queues (source_number p i) [] [] inside)
+        omega (
+          arith,
+          emitted,
+          all-found p (queue_of s.queues p i) (h.home p i below),
+          sum_by-set (count_by (is_of_ports 16)) s.queues (source_number p i) [] [] inside,
+          sum_by-set (count_by (is_of_timers p 4)) s.queues (source_number p i) [] [] inside,
+        )
     by (inr past) =
         let none : queue_of s.queues p i ≡ [] = get_or-eq_default s.queues [] past in
         let same : homes p (queue_emptied s p i).0.queues ≡ homes p s.queues = ap (homes p) (set_past s.queues (source_number p i) [] past) in
@@ -119,7 +131,8 @@ queue-emitted s p i below h = by (cases_lt (source_number p i) (length s.queues)
 
 slot-emitted : (s : State) (p i : ℕ) → length (slot_emptied s p i).1 + homes p (slot_emptied s p i).0.queues ≤ 1 + homes p s.queues
 slot-emitted s p i =
-    elim (slot_of s p i) as (λ o. length (option_map_or (withdrawn_ticket s p i) o (nothing s)).1 + homes p (option_map_or (withdrawn_ticket s p i) o (nothing s)).0.queues ≤ 1 + homes p s.queues) [ None ↦ omega arith | Some t ↦ omega arith ]
+    elim (slot_of s p i) as (λ o. length (option_map_or (withdrawn_ticket s p i) o (nothing s)).1 + homes p
+    (option_map_or (withdrawn_ticket s p i) o (nothing s)).0.queues ≤ 1 + homes p s.queues) [ None ↦ omega arith | Some t ↦ omega arith ]
 
 emptied-emitted : (s : State) (p n : ℕ) → n ≤ 16 → HasBuffers s → length (emptied_below s p n).1 + homes p (emptied_below s p n).0.queues ≤ n + homes p s.queues
 unfolding emptied_below
@@ -129,7 +142,14 @@ emptied-emitted s p (suc i) bound h =
     let slot : Effect = slot_emptied e.0 p i in
     let queue : Effect = queue_emptied slot.0 p i in
     let left = buffers-slot e.0 p i (buffers-emptied_below s p i h) in
-    omega (arith, emptied-emitted s p i (omega (arith, bound)) h, slot-emitted e.0 p i, queue-emitted slot.0 p i (omega (arith, bound)) left, length-append e.1 (slot.1 ++ queue.1), length-append slot.1 queue.1)
+    omega (
+      arith,
+      emptied-emitted s p i (omega (arith, bound)) h,
+      slot-emitted e.0 p i,
+      queue-emitted slot.0 p i (omega (arith, bound)) left,
+      length-append e.1 (slot.1 ++ queue.1),
+      length-append slot.1 queue.1,
+    )
 
 pub bound-reset : (s : State) (p : ℕ) → HasBuffers s → length (reset s p).2 ≤ 276
 bound-reset s p h = omega (arith, emptied-emitted s p 16 (omega arith) h, homes-bound s p h, length-append (emptied s p).1 [])

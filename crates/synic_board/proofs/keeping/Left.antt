@@ -22,7 +22,12 @@ Leaves n s now = (p i : ℕ) → p < n → i < 16 → is_slot_empty s p i ≡ fa
 
 -- it is occupied afterwards
 still-occupied : (s now : State) (p i : ℕ) → LeavesSlot s now p i → is_slot_empty now p i ≡ is_slot_empty s p i
-still-occupied s now p i h = rw (h.bytes 0 (omega arith) (λ e. omega (arith, e)), h.bytes 1 (omega arith) (λ e. omega (arith, e)), h.bytes 2 (omega arith) (λ e. omega (arith, e)), h.bytes 3 (omega arith) (λ e. omega (arith, e))) refl
+still-occupied s now p i h = rw (
+  h.bytes 0 (omega arith) (λ e. omega (arith, e)),
+  h.bytes 1 (omega arith) (λ e. omega (arith, e)),
+  h.bytes 2 (omega arith) (λ e. omega (arith, e)),
+  h.bytes 3 (omega arith) (λ e. omega (arith, e)),
+) refl
 
 pub leaves-after : (n : ℕ) (s now next : State) → Leaves n s now → Leaves n now next → Leaves n s next
 leaves-after n s now next h k p i below under full =
@@ -47,7 +52,8 @@ leaves-same n s now own slots p i _ _ _ = leaves-page s now p i (ap (λ (l : Lis
 
 -- event flags are in other pages
 pub leaves-flag : (n : ℕ) (s : State) (q j flag : ℕ) → Leaves n s (with_flag s q j flag)
-leaves-flag n s q j flag p i _ _ _ = leaves-page s (with_flag s q j flag) p i (get_or-set_other s.own (2 * q + 1) (2 * p) (with_bit (own_page (space_of s) q Sief) (flag_place j flag) (flag % 8)) [] (λ e. omega (arith, e))) refl
+leaves-flag n s q j flag p i _ _ _ = leaves-page s (with_flag s q j flag) p i
+    (get_or-set_other s.own (2 * q + 1) (2 * p) (with_bit (own_page (space_of s) q Sief) (flag_place j flag) (flag % 8)) [] (λ e. omega (arith, e))) refl
 
 -- MessagePending of a slot
 pub leaves-marked : (n : ℕ) (s : State) (q j : ℕ) → length s.own ≡ 2 * n → q < n → Leaves n s (marked s q j).0
@@ -74,7 +80,8 @@ leaves-marked n s q j long within p i below under _ = by (cases_eq p q)
     }
       where
         here : (k : ℕ) → slot_byte now p i k ≡ get_or new (256 * i + k) 0
-        here k = ap (λ m. get_or (get_or (set s.own (2 * q) new) (2 * m) []) (256 * i + k) 0) same ∙ ap (λ (l : List ℕ). get_or l (256 * i + k) 0) (get_or-set_same s.own (2 * q) new [] (omega (arith, long, within)))
+        here k = ap (λ m. get_or (get_or (set s.own (2 * q) new) (2 * m) []) (256 * i + k) 0) same
+            ∙ ap (λ (l : List ℕ). get_or l (256 * i + k) 0) (get_or-set_same s.own (2 * q) new [] (omega (arith, long, within)))
 
         was : (k : ℕ) → get_or page (256 * i + k) 0 ≡ slot_byte s p i k
         was k = ap (λ m. get_or (own_page (space_of s) m Sim) (256 * i + k) 0) (sym same)
@@ -91,7 +98,8 @@ leaves-marked n s q j long within p i below under _ = by (cases_eq p q)
             inside (inr past) = ap (λ (l : List ℕ). bit_at (get_or l (pending_place j) 0) bit) (set_past page (pending_place j) byte past)
 
 -- another slot of a page in which one is written
-pub slot-other : (page bytes : List ℕ) (j i k : ℕ) → length page ≡ 4096 → length bytes ≡ 256 → j < 16 → i < 16 → i ≢ j → k < 256 → get_or (with_slot page j bytes) (256 * i + k) 0 ≡ get_or page (256 * i + k) 0
+pub slot-other : (page bytes : List ℕ) (j i k : ℕ) → length page ≡ 4096 → length bytes ≡ 256 → j < 16 → i < 16 → i ≢ j → k < 256 →
+    get_or (with_slot page j bytes) (256 * i + k) 0 ≡ get_or page (256 * i + k) 0
 slot-other page bytes j i k long size inside under ne bound =
     ap (λ m. get_or (take (256 * j) page ++ bytes ++ drop (256 * j + m) page) (256 * i + k) 0) (sym size)
     ∙ overwritten-other page bytes (256 * j) (256 * i + k) (omega (arith, long, size)) (side (cases_lt i j))

@@ -49,7 +49,8 @@ placed-whole : (n : ℕ) (s : State) (p i : ℕ) (m : Message) (rest : List Mess
 placed-whole n s p i m rest h below under good more = record {
   registers = h.registers;
   own = length-set s.own (2 * p) (with_slot (page_of s p) i (image_of s m rest)) ∙ h.own;
-  pages = All-set (λ page. length page ≡ 4096) s.own (2 * p) (with_slot (page_of s p) i (image_of s m rest)) (length-with_slot (page_of s p) (image_of s m rest) i (page-long n s p h below) (length-image m (nat_lt 0 (length rest)) s.moment good.2) under) h.pages;
+  pages = All-set (λ page. length page ≡ 4096) s.own (2 * p) (with_slot (page_of s p) i (image_of s m rest))
+      (length-with_slot (page_of s p) (image_of s m rest) i (page-long n s p h below) (length-image m (nat_lt 0 (length rest)) s.moment good.2) under) h.pages;
   queues = length-set s.queues (source_number p i) rest ∙ h.queues;
   slots = length-set s.slots (source_number p i) (Some (ticket_of m)) ∙ h.slots;
   ports = h.ports;
@@ -58,7 +59,8 @@ placed-whole n s p i m rest h below under good more = record {
 }
 
 -- the slots of other sources are unchanged, and that of the source is occupied
-free-other : (n : ℕ) (s : State) (p i q j : ℕ) (m : Message) (rest : List Message) → IsIntact n s → p < n → i < 16 → q < n → j < 16 → IsMessage m → (p ≡ q → i ≢ j) → IsFree (placed_state s p i m rest) q j
+free-other : (n : ℕ) (s : State) (p i q j : ℕ) (m : Message) (rest : List Message) → IsIntact n s → p < n → i < 16 → q < n → j < 16 → IsMessage m → (p ≡ q → i ≢ j) →
+    IsFree (placed_state s p i m rest) q j
 free-other n s p i q j m rest h below under within inside good apart e =
     get_or-set_other s.slots (source_number p i) (source_number q j) (Some (ticket_of m)) None (λ same. other_place p i q j under inside apart (sym same))
     ∙ h.empty q j within inside (sym (same_type (cases_eq q p)) ∙ e)
@@ -86,7 +88,8 @@ placed-empty n s p i m rest h below under good q j within inside = split (cases_
     split (inl e) (inl f) = λ z. absurd (occupied n s p i m rest h below under good ((λ k. slot_type (page_of (placed_state s p i m rest) (e k)) (f k)) ∙ z))
 
 -- the message moves from its queue to its slot
-placed-moves : (n : ℕ) (s : State) (p i : ℕ) (m : Message) (rest : List Message) → IsWhole n s → p < n → i < 16 → queue_of s.queues p i ≡ m ∷ rest → slot_of s p i ≡ None → (t : ℕ) → times t (locations (placed_state s p i m rest)) ≡ times t (locations s)
+placed-moves : (n : ℕ) (s : State) (p i : ℕ) (m : Message) (rest : List Message) → IsWhole n s → p < n → i < 16 → queue_of s.queues p i ≡ m ∷ rest →
+    slot_of s p i ≡ None → (t : ℕ) → times t (locations (placed_state s p i m rest)) ≡ times t (locations s)
 placed-moves n s p i m rest h below under is free t =
     let a = times-locations t s in
     let b = times-locations t (placed_state s p i m rest) in
@@ -130,7 +133,8 @@ leaves-placed n s p i m rest h below under good empty q j within inside full = b
             ∙ slot-other (page_of s p) bytes i j k (page-long n s p h.whole below) (length-image m (nat_lt 0 (length rest)) s.moment good.2) under inside (λ e. apart (sym same) (sym e)) bound
             ∙ ap (λ l. slice_index_or (page_of s l) (256 * j + k) 0) (sym same)
 
-keeps-head : (n : ℕ) (s : State) (p i : ℕ) (m : Message) (rest : List Message) → IsIntact n s → p < n → i < 16 → queue_of s.queues p i ≡ m ∷ rest → slot_type (page_of s p) i ≡ 0 → slot_of s p i ≡ None → Keeps n s (placed_head s p i (m ∷ rest))
+keeps-head : (n : ℕ) (s : State) (p i : ℕ) (m : Message) (rest : List Message) → IsIntact n s → p < n → i < 16 → queue_of s.queues p i ≡ m ∷ rest →
+    slot_type (page_of s p) i ≡ 0 → slot_of s p i ≡ None → Keeps n s (placed_head s p i (m ∷ rest))
 keeps-head n s p i m rest h below under is empty free =
     let good = tail-good m rest (subst (All IsMessage) is (queue-good n s p i h.whole below under)) in
     record {

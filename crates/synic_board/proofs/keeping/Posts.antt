@@ -37,13 +37,17 @@ not-refused false false true f x y z e = refl
 pub keeps-opened_port : (n : ℕ) (s : State) (port p i : ℕ) (shape : PortShape) → IsIntact n s → KeepsOutcome n s (opened_port s port p i shape)
 keeps-opened_port n s port p i shape h = judged (open_refusal (ports_of s) port p i shape) refl
   where
-    judged : (o : Option Refusal) → open_refusal (ports_of s) port p i shape ≡ o → KeepsOutcome n s (option_map_or (refused s) o (unchanged (with_port s port (record { vp = p; sint = i; shape = shape })) Done))
+    judged : (o : Option Refusal) → open_refusal (ports_of s) port p i shape ≡ o →
+        KeepsOutcome n s (option_map_or (refused s) o (unchanged (with_port s port (record { vp = p; sint = i; shape = shape })) Done))
     judged (Some r) is = keeps-unchanged n s (Refused r) h
     judged None is =
-        let good : (nat_lt p (processors s) && nat_lt i 16) ≡ true = not-refused (nat_lt 15 port) (is_some (port_at (ports_of s) port)) (is_target (ports_of s) p i) (fits shape) UnknownPort PortOpen BadTarget is in
+        let good : (nat_lt p (processors s) && nat_lt i 16) ≡ true = not-refused (nat_lt 15 port) (is_some (port_at (ports_of s) port)) (is_target (ports_of s) p i)
+        (fits shape) UnknownPort PortOpen BadTarget is in
         let below : p < n = (let c = h.count in grind (arith, nat_tests)) in
         let under : i < 16 = grind (arith, nat_tests) in
-        keeps-still n s (with_port s port (record { vp = p; sint = i; shape = shape }), []) (kept-port n s port (record { vp = p; sint = i; shape = shape }) below under h) (record { queues = refl; slots = refl; next = refl }) (leaves-same n s (with_port s port (record { vp = p; sint = i; shape = shape })) refl refl) (λ t. refl)
+        keeps-still n s (with_port s port (record { vp = p; sint = i; shape = shape }), [])
+        (kept-port n s port (record { vp = p; sint = i; shape = shape }) below under h) (record { queues = refl; slots = refl; next = refl })
+        (leaves-same n s (with_port s port (record { vp = p; sint = i; shape = shape })) refl refl) (λ t. refl)
 
 pub keeps-closed : (n : ℕ) (s : State) (port : ℕ) → IsIntact n s → KeepsOutcome n s (closed s port)
 keeps-closed n s port h = found (port_at (ports_of s) port) refl
@@ -52,7 +56,8 @@ keeps-closed n s port h = found (port_at (ports_of s) port) refl
     found None is = keeps-unchanged n s (Refused UnknownPort) h
     found (Some p) is =
         let reached = h.whole.ports port p is in
-        let first = keeps-still n s (without_port s port, []) (kept-without_port n s port h) (record { queues = refl; slots = refl; next = refl }) (leaves-same n s (without_port s port) refl refl) (λ t. refl) in
+        let first = keeps-still n s (without_port s port, []) (kept-without_port n s port h) (record { queues = refl; slots = refl; next = refl })
+        (leaves-same n s (without_port s port) refl refl) (λ t. refl) in
         keeps-after n s (without_port s port, []) (withdrawn (without_port s port) p.vp p.sint port) first (keeps-withdrawn n (without_port s port) p.vp p.sint port first.kept reached.0 reached.1)
 
 -- a valid type of a post
@@ -66,13 +71,16 @@ pub keeps-posted : (n : ℕ) (s : State) (port kind : ℕ) (payload : ArrayVec �
 keeps-posted n s port kind payload size h = found (port_at (ports_of s) port) refl
   where
     judged : (p : Port) → port_at (ports_of s) port ≡ Some p → is_posted_type kind ≡ true → KeepsOutcome n s (posted_at s port kind payload (Ok p))
-    judged p is good = elim (post_refusal s port p.vp p.shape) as (λ o. KeepsOutcome n s (option_map_or (refused s) o (answered (Accepted s.next_ticket) (delivered s p.vp p.sint (FromPort s.next_ticket port kind payload))))) [
-      | None ↦ let reached = h.whole.ports port p is in keeps-delivered n s p.vp p.sint (FromPort s.next_ticket port kind payload) h reached.0 reached.1 (some-kind kind good, small-kind kind good, size) refl
-      | Some r ↦ keeps-unchanged n s (Refused r) h
-    ]
+    judged p is good = elim (post_refusal s port p.vp p.shape) as
+        (λ o. KeepsOutcome n s (option_map_or (refused s) o (answered (Accepted s.next_ticket) (delivered s p.vp p.sint (FromPort s.next_ticket port kind payload))))) [
+          | None ↦ let reached = h.whole.ports port p is in keeps-delivered n s p.vp p.sint (FromPort s.next_ticket port kind payload) h reached.0 reached.1
+              (some-kind kind good, small-kind kind good, size) refl
+          | Some r ↦ keeps-unchanged n s (Refused r) h
+        ]
 
     shaped : (p : Port) → port_at (ports_of s) port ≡ Some p → (shape : PortShape) → KeepsOutcome n s (posted_at s port kind payload (message_target_at kind p shape))
-    shaped p is (Messages buffers) = either (λ r. KeepsOutcome n s (posted_at s port kind payload r)) (is_posted_type kind) _ _ (λ good. judged p is good) (λ _. keeps-unchanged n s (Refused BadType) h)
+    shaped p is (Messages buffers) = either (λ r. KeepsOutcome n s (posted_at s port kind payload r)) (is_posted_type kind) _ _ (λ good. judged p is good)
+        (λ _. keeps-unchanged n s (Refused BadType) h)
     shaped p is (Flags base count) = keeps-unchanged n s (Refused WrongKind) h
 
     found : (o : Option Port) → port_at (ports_of s) port ≡ o → KeepsOutcome n s (posted_at s port kind payload (option_map_or (λ p. message_target_at kind p p.shape) o (Err UnknownPort)))
@@ -94,7 +102,8 @@ keeps-signalled n s port flag h = found (port_at (ports_of s) port) refl
   where
     shaped : (p : Port) → port_at (ports_of s) port ≡ Some p → (shape : PortShape) → KeepsOutcome n s (signalled_at s (flag_place_at flag p shape))
     shaped p is (Messages buffers) = keeps-unchanged n s (Refused WrongKind) h
-    shaped p is (Flags base count) = either (λ r. KeepsOutcome n s (signalled_at s r)) (nat_lt flag count) _ _ (λ _. keeps-signalled_place n s p.vp p.sint (base + flag) h (h.whole.ports port p is).0) (λ _. keeps-unchanged n s (Refused BadFlag) h)
+    shaped p is (Flags base count) = either (λ r. KeepsOutcome n s (signalled_at s r)) (nat_lt flag count) _ _
+        (λ _. keeps-signalled_place n s p.vp p.sint (base + flag) h (h.whole.ports port p is).0) (λ _. keeps-unchanged n s (Refused BadFlag) h)
 
     found : (o : Option Port) → port_at (ports_of s) port ≡ o → KeepsOutcome n s (signalled_at s (option_map_or (λ p. flag_place_at flag p p.shape) o (Err UnknownPort)))
     found None is = keeps-unchanged n s (Refused UnknownPort) h

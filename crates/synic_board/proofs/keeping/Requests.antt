@@ -28,7 +28,8 @@ pub keeps-requested : (n : ℕ) (s : State) (p v : ℕ) → IsIntact n s → Kee
 keeps-requested n s p v h =
     either (Keeps n s) (set.contains (apic_of s p).requested v) _ _
     (λ _. keeps-nothing n s h)
-    (λ _. keeps-still n s (with_apic s p (request (apic_of s p) v), Requested p v ∷ []) (kept-apic n s p (request (apic_of s p) v) h) (still-apic s p (request (apic_of s p) v)) (leaves-apic n s p (request (apic_of s p) v)) (λ t. refl))
+    (λ _. keeps-still n s (with_apic s p (request (apic_of s p) v), Requested p v ∷ []) (kept-apic n s p (request (apic_of s p) v) h)
+    (still-apic s p (request (apic_of s p) v)) (leaves-apic n s p (request (apic_of s p) v)) (λ t. refl))
 
 pub keeps-raised : (n : ℕ) (s : State) (p i : ℕ) → IsIntact n s → Keeps n s (raised s p i)
 keeps-raised n s p i h = elim (raised_by (regs_of s p) i) as (λ o. Keeps n s (option_map_or (requested s p) o (nothing s))) [ None ↦ keeps-nothing n s h | Some v ↦ keeps-requested n s p v h ]
@@ -42,4 +43,5 @@ unfolding absorbed_below
 keeps-absorbed_below n s p part bits zero h = keeps-nothing n s h
 keeps-absorbed_below n s p part bits (suc i) h =
     let first = keeps-absorbed_below n s p part bits i h in
-    keeps-after n s (absorbed_below s p part bits i) (absorbed_bit (absorbed_below s p part bits i).0 p part bits i) first (keeps-absorbed_bit n (absorbed_below s p part bits i).0 p part bits i first.kept)
+    keeps-after n s (absorbed_below s p part bits i) (absorbed_bit (absorbed_below s p part bits i).0 p part bits i) first
+    (keeps-absorbed_bit n (absorbed_below s p part bits i).0 p part bits i first.kept)

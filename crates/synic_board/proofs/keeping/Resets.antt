@@ -47,7 +47,15 @@ keeps-freed : (n : ℕ) (s : State) (p i x : ℕ) → IsIntact n s → p < n →
 keeps-freed n s p i x h below under is = record {
   kept = record { count = h.count; whole = without-whole n s p i h.whole; empty = λ q j within inside z. without-slot n s p i q j h.whole below under inside (λ _. h.empty q j within inside z) };
   tickets_monotone = omega arith;
-  conserves = λ t. omega (arith, times-locations t s, times-locations t (with_slot_ticket s p i None), sum_by-set (in_slot t) s.slots (source_number p i) None None (omega (arith, h.whole.slots)), ap (in_slot t) is, given-none t s (with_slot_ticket s p i None) refl, emitted t);
+  conserves = λ t. omega (
+    arith,
+    times-locations t s,
+    times-locations t (with_slot_ticket s p i None),
+    sum_by-set (in_slot t) s.slots (source_number p i) None None (omega (arith, h.whole.slots)),
+    ap (in_slot t) is,
+    given-none t s (with_slot_ticket s p i None) refl,
+    emitted t,
+  );
 }
   where
     emitted : (t : ℕ) → times_ended t (Withdrawn x p i ∷ []) ≡ one x t
@@ -78,7 +86,14 @@ keeps-queue n s p i h below under = record {
     empty = h.empty;
   };
   tickets_monotone = omega arith;
-  conserves = λ t. omega (arith, times-locations t s, times-locations t (queue_emptied s p i).0, sum_by-set (in_queue t) s.queues (source_number p i) [] [] (omega (arith, h.whole.queues)), ends-each t p i (map ticket_of (queue_of s.queues p i)), given-none t s (queue_emptied s p i).0 refl);
+  conserves = λ t. omega (
+    arith,
+    times-locations t s,
+    times-locations t (queue_emptied s p i).0,
+    sum_by-set (in_queue t) s.queues (source_number p i) [] [] (omega (arith, h.whole.queues)),
+    ends-each t p i (map ticket_of (queue_of s.queues p i)),
+    given-none t s (queue_emptied s p i).0 refl,
+  );
 }
 
 -- after the sources below i were emptied: their slots hold no ticket
@@ -110,7 +125,8 @@ empties-below n s p (suc i) h below bound =
 
 -- the message page of another processor
 page-other : (s : State) (p q : ℕ) → q ≢ p → own_page (space_of (cleared s p)) q Sim ≡ own_page (space_of s) q Sim
-page-other s p q ne = get_or-set_other (set s.own (2 * p) zero_page) (2 * p + 1) (2 * q) zero_page [] (λ e. omega (arith, e)) ∙ get_or-set_other s.own (2 * p) (2 * q) zero_page [] (λ e. ne (omega (arith, e)))
+page-other s p q ne = get_or-set_other (set s.own (2 * p) zero_page) (2 * p + 1) (2 * q) zero_page [] (λ e. omega (arith, e))
+    ∙ get_or-set_other s.own (2 * p) (2 * q) zero_page [] (λ e. ne (omega (arith, e)))
 
 -- the rest is as in a newly opened board
 kept-cleared : (n : ℕ) (s : State) (p : ℕ) → IsIntact n s → p < n → ((j : ℕ) → j < 16 → slot_of s p j ≡ None) → IsIntact n (cleared s p)
@@ -140,7 +156,11 @@ pub keeps-reset : (n : ℕ) (s : State) (p : ℕ) → IsIntact n s → p < n →
 keeps-reset n s p h below =
     let e : Effect = emptied s p in
     let all = empties-below n s p 16 h below (omega arith) in
-    messages-after n s e (cleared e.0 p, []) all.messages (record { kept = kept-cleared n e.0 p all.messages.kept below all.free; tickets_monotone = omega arith; conserves = still e.0 (cleared e.0 p) [] (record { queues = refl; slots = refl; next = refl }) (λ t. refl) })
+    messages-after n s e (cleared e.0 p, []) all.messages (record {
+      kept = kept-cleared n e.0 p all.messages.kept below all.free;
+      tickets_monotone = omega arith;
+      conserves = still e.0 (cleared e.0 p) [] (record { queues = refl; slots = refl; next = refl }) (λ t. refl);
+    })
 
 -- the slots of another processor are unchanged
 record IsLeft (s now : State) (q : ℕ) : Type 0 where

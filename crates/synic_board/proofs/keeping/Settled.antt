@@ -55,10 +55,12 @@ marked-same : (s : State) (p : ℕ) (a : Apic) → a.suspended ≡ (apic_of s p)
 marked-same s p a is q = by (cases_eq q p) (cases_lt p (processors s))
   where
     by : (q ≡ p) ⊎ (q ≢ p) → (p < processors s) ⊎ (processors s ≤ p) → (apic_of (with_apic s p a) q).suspended ≡ (apic_of s q).suspended
-    by (inl here) (inl on) = ap (λ i. (get_or (set s.apics p a) i empty_apic).suspended) here ∙ ap (λ (x : Apic). x.suspended) (get_or-set_same s.apics p a empty_apic on) ∙ is ∙ ap (λ i. (apic_of s i).suspended) (sym here)
+    by (inl here) (inl on) = ap (λ i. (get_or (set s.apics p a) i empty_apic).suspended) here
+        ∙ ap (λ (x : Apic). x.suspended) (get_or-set_same s.apics p a empty_apic on) ∙ is ∙ ap (λ i. (apic_of s i).suspended) (sym here)
     by (inl here) (inr past) =
         ap (λ i. (get_or (set s.apics p a) i empty_apic).suspended) here
-        ∙ ap (λ (x : Apic). x.suspended) (get_or_past (set s.apics p a) p empty_apic (let l = length-set s.apics p a in omega (arith, l, past)) ∙ sym (get_or_past s.apics p empty_apic past)) ∙ ap (λ i. (apic_of s i).suspended) (sym here)
+        ∙ ap (λ (x : Apic). x.suspended) (get_or_past (set s.apics p a) p empty_apic (let l = length-set s.apics p a in omega (arith, l, past)) ∙ sym (get_or_past s.apics p empty_apic past))
+        ∙ ap (λ i. (apic_of s i).suspended) (sym here)
     by (inr away) on = ap (λ (x : Apic). x.suspended) (get_or-set_other s.apics p q a empty_apic away)
 
 apic-same : (s : State) (p : ℕ) (a : Apic) → a.suspended ≡ (apic_of s p).suspended → Leaves s (with_apic s p a, [])
@@ -86,7 +88,8 @@ left = record {
   joins = λ s e f a b. record { many = b.many ∙ a.many; marks = b.marks ∙ a.marks; apics = λ p. b.apics p ∙ a.apics p; idle = λ n h. b.idle n (a.idle n h) };
   requests = λ s p v _. record { many = length-set s.apics p (request (apic_of s p) v); marks = refl; apics = marked-same s p (request (apic_of s p) v) refl; idle = λ n h. h };
   accepts = λ s p i m. mute s _ refl refl refl;
-  locations = λ s p i m rest _ _. either (λ ns. Leaves s (placed_state s p i m rest, Placed (ticket_of m) p i ∷ ns)) (nat_lt 0 (length rest)) _ _ (λ _. mute s _ refl refl refl) (λ _. mute s _ refl refl refl);
+  locations = λ s p i m rest _ _. either (λ ns. Leaves s (placed_state s p i m rest, Placed (ticket_of m) p i ∷ ns)) (nat_lt 0 (length rest)) _ _
+      (λ _. mute s _ refl refl refl) (λ _. mute s _ refl refl refl);
   marks = λ s p i. either (λ ns. Leaves s (with_space s (after_pending (space_of s) p i), ns)) (is_pending (space_of s) p i) _ _ (λ _. mute s _ refl refl refl) (λ _. mute s _ refl refl refl);
   consumes = λ s p i t _. mute s _ refl refl refl;
   withdraws = λ s p i port. mute s _ refl refl refl;
@@ -96,7 +99,8 @@ left = record {
 }
 
 -- an effect from a state with the same processors and flags
-from : (s t : State) (e : Effect) → t.apics ≡ s.apics → t.suspended ≡ s.suspended → ((n : ℕ) → 4 * processors s ≤ n → timer_at s n ≡ idle_timer → timer_at t n ≡ idle_timer) → Leaves t e → IsSettled s → IsSettled e.0
+from : (s t : State) (e : Effect) → t.apics ≡ s.apics → t.suspended ≡ s.suspended →
+    ((n : ℕ) → 4 * processors s ≤ n → timer_at s n ≡ idle_timer → timer_at t n ≡ idle_timer) → Leaves t e → IsSettled s → IsSettled e.0
 from s t e apics marks timers h a = record {
   bound = omega (arith, a.bound, many);
   marks = ap (λ (l : List Bool). length l) (h.marks ∙ marks) ∙ a.marks;
@@ -112,7 +116,8 @@ pub settled-same : (s now : State) → now.apics ≡ s.apics → now.suspended �
 settled-same s now apics marks timers a = from s s (now, []) refl refl (λ n _ h. h) (mute s (now, []) apics marks timers) a
 
 -- both flags of a processor are written
-written : (s t : State) (p : ℕ) (x : Apic) → t.apics ≡ set s.apics p x → t.suspended ≡ set s.suspended p x.suspended → ((n : ℕ) → timer_at s n ≡ idle_timer → timer_at t n ≡ idle_timer) → p < processors s → IsSettled s → IsSettled t
+written : (s t : State) (p : ℕ) (x : Apic) → t.apics ≡ set s.apics p x → t.suspended ≡ set s.suspended p x.suspended →
+    ((n : ℕ) → timer_at s n ≡ idle_timer → timer_at t n ≡ idle_timer) → p < processors s → IsSettled s → IsSettled t
 written s t p x apics marks timers on a = record {
   bound = omega (arith, a.bound, many);
   marks = ap (λ (l : List Bool). length l) marks ∙ length-set s.suspended p x.suspended ∙ a.marks;
@@ -133,7 +138,8 @@ pub settled-processor : (s : State) (p : ℕ) (x : Apic) → p < processors s �
 settled-processor s p x on a = written s (with_processor s p x) p x refl refl (λ n h. h) on a
 
 -- a timer of a processor on the board is written
-idle-written : (s : State) (t : ℕ × ℕ) (n : ℕ) (x : Timer) → t.0 < processors s → t.1 < 4 → 4 * processors s ≤ n → timer_at s n ≡ idle_timer → get_or (set s.timers (number_of t) x) n idle_timer ≡ idle_timer
+idle-written : (s : State) (t : ℕ × ℕ) (n : ℕ) (x : Timer) → t.0 < processors s → t.1 < 4 → 4 * processors s ≤ n → timer_at s n ≡ idle_timer →
+    get_or (set s.timers (number_of t) x) n idle_timer ≡ idle_timer
 idle-written s t n x on low high h = idle-set s.timers (number_of t) n x (λ same. absurd (omega (arith, same, on, low, high))) h
 
 pub settled-timer : (s : State) (t : ℕ × ℕ) (x : Timer) → t.0 < processors s → t.1 < 4 → IsSettled s → IsSettled (with_saved_timer s t x)
@@ -160,12 +166,16 @@ settled-step s event = throughout Leaves Keeps left (record {
   acts = λ s event reply moment ports regs e _ h a. from s _ e refl refl (λ n _ h. h) h a;
   eases = λ s event reply p x _ _ is a. from s s (with_apic s p x, []) refl refl (λ n _ h. h) (apic-same s p x is) a;
   stores = λ s address bytes e h a. from s _ e refl refl (λ n _ h. h) h a;
-  configures = λ s p i number value e on is h a. from s _ e refl refl (λ n high idle. idle-written s (p, i) n (after_config (timer_in (bank_of s) (p, i)) value s.moment) on (index-below number (TimerConfig i) is) high idle) h a;
-  counts = λ s p i number value e on is h a. from s _ e refl refl (λ n high idle. idle-written s (p, i) n (after_count (timer_in (bank_of s) (p, i)) value s.moment) on (index-below number (TimerCount i) is) high idle) h a;
+  configures = λ s p i number value e on is h a. from s _ e refl refl
+      (λ n high idle. idle-written s (p, i) n (after_config (timer_in (bank_of s) (p, i)) value s.moment) on (index-below number (TimerConfig i) is) high idle) h a;
+  counts = λ s p i number value e on is h a. from s _ e refl refl
+      (λ n high idle. idle-written s (p, i) n (after_count (timer_in (bank_of s) (p, i)) value s.moment) on (index-below number (TimerCount i) is) high idle) h a;
   repeats = λ s port flag p i f _ _ a. settled-same s (with_flag s p i f) refl refl refl a;
-  signals = λ s port flag p i f _ _ h a. let lit : State = with_flag s p i f in from s s (after (flagged s p i f) (raised lit p i)) refl refl (λ n _ h. h) (left.joins s (flagged s p i f) (raised lit p i) (mute s _ refl refl refl) h) a;
+  signals = λ s port flag p i f _ _ h a. let lit : State = with_flag s p i f in from s s (after (flagged s p i f) (raised lit p i)) refl refl (λ n _ h. h)
+      (left.joins s (flagged s p i f) (raised lit p i) (mute s _ refl refl refl) h) a;
   pauses = λ s event p mark _ on a. written s (with_suspension s p mark) p _ refl refl (λ n h. h) on a;
-  resets = λ s p on h a. let e : Effect = emptied s p in let n = h.many in written e.0 (cleared e.0 p) p empty_apic refl refl (idle-cleared e.0 p) (omega (arith, n, on)) (from s s e refl refl (λ n _ h. h) h a);
+  resets = λ s p on h a. let e : Effect = emptied s p in let n = h.many in written e.0 (cleared e.0 p) p empty_apic refl refl (idle-cleared e.0 p) (omega (arith, n, on))
+      (from s s e refl refl (λ n _ h. h) h a);
 }) s event
 
 pub settled-run : (s : State) (events : List Event) → IsSettled s → IsSettled (run_of s events).0

@@ -33,4 +33,5 @@ overwritten-other page bytes at k fits (inl below) =
 overwritten-other page bytes at k fits (inr above) =
     let n : length (take at page ++ bytes) ≡ at + length bytes = omega (arith, length-append (take at page) bytes, length-take at page) in
     let e : at + length bytes + (k - (at + length bytes)) ≡ k = omega arith in
-    get_or-append_right (take at page ++ bytes) (drop (at + length bytes) page) (at + length bytes) k 0 n above ∙ get_or-drop (at + length bytes) page (k - (at + length bytes)) 0 ∙ ap (λ j. get_or page j 0) e
+    get_or-append_right (take at page ++ bytes) (drop (at + length bytes) page) (at + length bytes) k 0 n above
+    ∙ get_or-drop (at + length bytes) page (k - (at + length bytes)) 0 ∙ ap (λ j. get_or page j 0) e

@@ -42,12 +42,16 @@ keeps-stored : (n : ℕ) (s : State) (p : ℕ) (r : Register) (value : ℕ) → 
 keeps-stored n s p r value h =
     either (KeepsOutcome n s) (is_refused r value) _ _
     (λ _. keeps-unchanged n s GeneralProtection h)
-    (λ _. keeps-still n s (with_regs s p (with_value (regs_of s p) r value), []) (kept-regs n s p (with_value (regs_of s p) r value) h) (record { queues = refl; slots = refl; next = refl }) (leaves-same n s (with_regs s p (with_value (regs_of s p) r value)) refl refl) (λ t. refl))
+    (λ _. keeps-still n s (with_regs s p (with_value (regs_of s p) r value), []) (kept-regs n s p (with_value (regs_of s p) r value) h)
+    (record { queues = refl; slots = refl; next = refl }) (leaves-same n s (with_regs s p (with_value (regs_of s p) r value)) refl refl) (λ t. refl))
 
 keeps-written_register : (n : ℕ) (s : State) (p : ℕ) (r : Register) (value : ℕ) → IsIntact n s → p < n → Exists r → KeepsOutcome n s (written_register s p r value)
 keeps-written_register n s p ReferenceCounter value h below exists = keeps-unchanged n s GeneralProtection h
-keeps-written_register n s p Eoi value h below exists = keeps-still n s (ended s p, []) (kept-apic n s p (after_end (apic_of s p)) h) (still-apic s p (after_end (apic_of s p))) (leaves-apic n s p (after_end (apic_of s p))) (λ t. refl)
-keeps-written_register n s p Tpr value h below exists = keeps-still n s (with_priority s p value, []) (kept-apic n s p (with_task_priority (apic_of s p) (value % 256)) h) (still-apic s p (with_task_priority (apic_of s p) (value % 256))) (leaves-apic n s p (with_task_priority (apic_of s p) (value % 256))) (λ t. refl)
+keeps-written_register n s p Eoi value h below exists = keeps-still n s (ended s p, []) (kept-apic n s p (after_end (apic_of s p)) h)
+    (still-apic s p (after_end (apic_of s p))) (leaves-apic n s p (after_end (apic_of s p))) (λ t. refl)
+keeps-written_register n s p Tpr value h below exists = keeps-still n s (with_priority s p value, [])
+    (kept-apic n s p (with_task_priority (apic_of s p) (value % 256)) h) (still-apic s p (with_task_priority (apic_of s p) (value % 256)))
+    (leaves-apic n s p (with_task_priority (apic_of s p) (value % 256))) (λ t. refl)
 keeps-written_register n s p Control value h below exists = keeps-stored n s p Control value h
 keeps-written_register n s p Version value h below exists = keeps-unchanged n s GeneralProtection h
 keeps-written_register n s p Sief value h below exists = keeps-stored n s p Sief value h
@@ -166,7 +170,8 @@ slot-left s e p i sound fits apart below under full = by e fits apart
     by (Take q) fits apart = left (Take q) tt fits
     by (Suspend q) fits apart = left (Suspend q) tt fits
     by (Resume q) fits apart = left (Resume q) tt fits
-    by (Reset q) fits apart = either (λ (o : Outcome). LeavesSlot s o.0 p i) (nat_lt q (processors s)) (reset s q) (unchanged s (Refused NoSuchProcessor)) (λ _. leaves-reset s q p i (λ e. apart (sym e)) under) (λ _. leaves-page s s p i refl refl)
+    by (Reset q) fits apart = either (λ (o : Outcome). LeavesSlot s o.0 p i) (nat_lt q (processors s)) (reset s q) (unchanged s (Refused NoSuchProcessor))
+        (λ _. leaves-reset s q p i (λ e. apart (sym e)) under) (λ _. leaves-page s s p i refl refl)
 
 pub ticket-left : (s : State) (e : Event) (p i ticket : ℕ) → IsSound s → PayloadFits e → IsApart p e → p < processors s → i < 16 → slot_of s p i ≡ Some ticket → LeavesSlot s (step s e).0 p i
 ticket-left s e p i ticket sound fits other below under held = slot-left s e p i sound fits other below under (by (is_slot_empty s p i) refl)

@@ -62,9 +62,21 @@ without-slot n s p i q j h below under inside free = split (cases_eq (source_num
 
 consumes-ticket : (n : ℕ) (s : State) (p i x : ℕ) → IsPartly n p i s → p < n → i < 16 → slot_of s p i ≡ Some x → Consumes n p (suc i) s (consumed_ticket s p i (Some x))
 consumes-ticket n s p i x h below under is = record {
-  partly = record { count = h.count; whole = without-whole n s p i h.whole; empty = λ q j within inside low z. without-slot n s p i q j h.whole below under inside (λ apart. h.empty q j within inside (λ e. omega (arith, low e, apart (sym e))) z) };
+  partly = record {
+    count = h.count;
+    whole = without-whole n s p i h.whole;
+    empty = λ q j within inside low z. without-slot n s p i q j h.whole below under inside (λ apart. h.empty q j within inside (λ e. omega (arith, low e, apart (sym e))) z);
+  };
   next = refl;
-  conserves = λ t. omega (arith, times-locations t s, times-locations t (with_slot_ticket s p i None), sum_by-set (in_slot t) s.slots (source_number p i) None None (omega (arith, h.whole.slots)), ap (in_slot t) is, given-none t s (with_slot_ticket s p i None) refl, emitted t);
+  conserves = λ t. omega (
+    arith,
+    times-locations t s,
+    times-locations t (with_slot_ticket s p i None),
+    sum_by-set (in_slot t) s.slots (source_number p i) None None (omega (arith, h.whole.slots)),
+    ap (in_slot t) is,
+    given-none t s (with_slot_ticket s p i None) refl,
+    emitted t,
+  );
 }
   where
     emitted : (t : ℕ) → times_ended t (Consumed x p i ∷ []) ≡ one x t
@@ -144,7 +156,11 @@ keeps-own : (n : ℕ) (s : State) (k : ℕ) (page : List ℕ) → IsIntact n s �
 keeps-own n s k page h low l =
     either (λ o. KeepsMessages n s (consumed_in (with_own s k page) o)) (k % 2 == 0) _ _
     (λ e. keeps-consumed n s (with_own s k page) (k / 2) (record { queues = refl; slots = refl; next = refl })
-    (record { count = h.count; whole = own-whole n s k page h.whole l; empty = λ q j within inside off. own-other n s k q j page h within inside (λ f. let same : q ≡ k / 2 = omega arith in absurd (omega (arith, off same))) })
+    (record {
+      count = h.count;
+      whole = own-whole n s k page h.whole l;
+      empty = λ q j within inside off. own-other n s k q j page h within inside (λ f. let same : q ≡ k / 2 = omega arith in absurd (omega (arith, off same)));
+    })
     (omega arith))
     (λ e. let odd : k % 2 ≢ 0 = λ f. absurd (grind (arith, nat_tests)) in record {
       kept = record { count = h.count; whole = own-whole n s k page h.whole l; empty = λ q j within inside. own-other n s k q j page h within inside (λ f. odd (omega arith)) };
@@ -199,4 +215,5 @@ keeps-stored_bytes n s address bytes h = judged (refusal_of (space_of s) address
   where
     judged : (o : Option Refusal) → refusal_of (space_of s) address (length bytes) ≡ o → KeepsMessagesOf n s (stored_bytes s address bytes)
     judged (Some r) is = rw is (messages-kept n s (nothing s) (keeps-unchanged n s (Refused r) h))
-    judged None is = rw is (keeps-store_at n s (address / 4096) (address % 4096) bytes h (fits-page (space_of s) address (length bytes) is) (in-space (space_of s) address (length bytes) is) (visible (space_of s) (address / 4096)) refl)
+    judged None is = rw is (keeps-store_at n s (address / 4096) (address % 4096) bytes h (fits-page (space_of s) address (length bytes) is)
+        (in-space (space_of s) address (length bytes) is) (visible (space_of s) (address / 4096)) refl)

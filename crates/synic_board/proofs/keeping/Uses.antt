@@ -141,7 +141,8 @@ pub buffers-accepted : (s : State) (p i : ℕ) (m : Message) → Fits s p i m �
 buffers-accepted s p i m fit h = record {
   room = λ k. more-found (is_from_port k) s p i m 16 (h.room k) (fit.ports k);
   one_each = λ t. more-found (is_from_timer t) s p i m 1 (h.one_each t) (fit.timers t);
-  home = home-set s.queues (source_number p i) (queue_of s.queues p i ++ m ∷ []) (λ q j below same. All-push (IsHome q) (queue_of s.queues p i) m (subst (λ k. All (IsHome q) (get_or s.queues k [])) same (h.home q j below)) (fit.home q j below same)) h.home;
+  home = home-set s.queues (source_number p i) (queue_of s.queues p i ++ m ∷ [])
+      (λ q j below same. All-push (IsHome q) (queue_of s.queues p i) m (subst (λ k. All (IsHome q) (get_or s.queues k [])) same (h.home q j below)) (fit.home q j below same)) h.home;
   ports = h.ports;
   shapes = h.shapes;
 }

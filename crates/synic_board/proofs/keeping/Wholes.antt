@@ -74,7 +74,11 @@ pub conserves-after : (s : State) (e f : Effect) → s.next_ticket ≤ e.0.next_
 conserves-after s e f h k first second t = omega (arith, first t, second t, ended-append t e.1 f.1, given-after t s e.0 f.0 h k)
 
 pub messages-after : (n : ℕ) (s : State) (e f : Effect) → KeepsMessages n s e → KeepsMessages n e.0 f → KeepsMessages n s (after e f)
-messages-after n s e f first second = record { kept = second.kept; tickets_monotone = omega (arith, first.tickets_monotone, second.tickets_monotone); conserves = conserves-after s e f first.tickets_monotone second.tickets_monotone first.conserves second.conserves }
+messages-after n s e f first second = record {
+  kept = second.kept;
+  tickets_monotone = omega (arith, first.tickets_monotone, second.tickets_monotone);
+  conserves = conserves-after s e f first.tickets_monotone second.tickets_monotone first.conserves second.conserves;
+}
 
 pub keeps-after : (n : ℕ) (s : State) (e f : Effect) → Keeps n s e → Keeps n e.0 f → Keeps n s (after e f)
 keeps-after n s e f first second = record {

@@ -11,6 +11,7 @@ use Rattle.text_crew.specs.declared.running.Outcome.TheVariants as outcomes
 
 -- it was written, or an allocation failed
 abbrev pub IsTraced : Outcome → Setup → Ended → List ℕ → List ℕ → Type 0
-IsTraced outcomes.Done setup ended old new = (setup.first_ticket < 2 ^ 64) × All (IsEntry Two) ended.history.items × (new ≡ old ++ text_of (trace_lines Two setup.processors setup.pages setup.first_ticket ended.history.items ended.board.state.next_ticket))
+IsTraced outcomes.Done setup ended old new = (setup.first_ticket < 2 ^ 64) × All (IsEntry Two) ended.history.items
+    × (new ≡ old ++ text_of (trace_lines Two setup.processors setup.pages setup.first_ticket ended.history.items ended.board.state.next_ticket))
 IsTraced outcomes.Memory setup ended old new = Unit {0}
 IsTraced outcome setup ended old new = ⊥

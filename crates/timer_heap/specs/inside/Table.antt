@@ -75,4 +75,10 @@ with_node t j word = record { nodes = slice_set t.nodes j word; marks = t.marks;
 
 -- the table with another deadline of timer n, its word at the leaf, and another count
 abbrev pub with_due : Table → ℕ → Bool → ℕ → ℕ → ℕ → Table
-with_due t n mark word due count = record { nodes = slice_set t.nodes (32 + n) word; marks = slice_set t.marks n mark; count = count; highs = slice_set t.highs n (due / 2 ^ 64); lows = slice_set t.lows n (due % 2 ^ 64) }
+with_due t n mark word due count = record {
+  nodes = slice_set t.nodes (32 + n) word;
+  marks = slice_set t.marks n mark;
+  count = count;
+  highs = slice_set t.highs n (due / 2 ^ 64);
+  lows = slice_set t.lows n (due % 2 ^ 64);
+}

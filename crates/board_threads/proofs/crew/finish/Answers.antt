@@ -25,7 +25,8 @@ settle-requires-clause-raises c = λ k d lt. all-only-raise _ _ _ _ _ _ c.requir
 
 pub returns-clause-settled : goal.returns-clause-settled
 returns-clause-settled c =
-    let begins : start c.args.board ≡ opened c.args.setup.now.processors c.args.setup.now.pages c.args.setup.now.first_ticket = λ i. opened (c.requires.processors i) (c.requires.pages i) (c.requires.ticket i) in
+    let begins : start c.args.board ≡ opened c.args.setup.now.processors c.args.setup.now.pages c.args.setup.now.first_ticket = λ i. opened (c.requires.processors i)
+    (c.requires.pages i) (c.requires.ticket i) in
     subst (λ s. IsSettled s c.in_ok-ended.ended) begins c.in_ok-ended.ensures.settled
 
 pub returns-clause-numbers : goal.returns-clause-numbers
@@ -47,8 +48,10 @@ returns-clause-crewed c =
     let main = ap (λ n. calls_by n h) (sym w.served.number) ∙ All-head (StandsIn h) w.main w.others own in
     let others : EachFollows 1 (lists scripts) h = each-stands name 1 scripts w.others h w.numbers w.acted (All-tail (StandsIn h) w.main w.others own) in
     let place : InPlace (length setup) (4 * c.args.setup.now.processors) h = search rules in
-    let together = calls-add-up c.in_ok-ended.ended.actors.items c.args.worked.actors.items c.in_ok-ended.ensures.actors ∙ ap (sum_by (λ (a : Acting). length a.calls)) w.actors_are ∙ sum_by-cons (λ (a : Acting). length a.calls) w.main w.others in
-    let many : length h ≡ length w.main.calls + sum_by (λ (s : List Step). length s) (lists scripts) = omega (arith, c.in_ok-ended.ensures.settled.actors.all, together, steps-add-up name scripts w.others w.acted) in
+    let together = calls-add-up c.in_ok-ended.ended.actors.items c.args.worked.actors.items c.in_ok-ended.ensures.actors
+    ∙ ap (sum_by (λ (a : Acting). length a.calls)) w.actors_are ∙ sum_by-cons (λ (a : Acting). length a.calls) w.main w.others in
+    let many : length h ≡ length w.main.calls + sum_by (λ (s : List Step). length s) (lists scripts) = omega
+    (arith, c.in_ok-ended.ensures.settled.actors.all, together, steps-add-up name scripts w.others w.acted) in
     crewed name c.args.setup.now.processors setup (lists scripts) h w.main place w.served main others many
 
 pub returns-clause-each : goal.returns-clause-each

@@ -54,7 +54,8 @@ returns g c =
           begins = search rules;
           ends = subst (λ k. AreSteps (last_steps k) more.0) c.requires.board more.2;
         };
-        numbers = ran.numbers ∙ ap (map (λ (a : Acting). a.number)) (c.in-Ok.ensures.tail ∙ parts.1) ∙ new-numbers name (range_with_len 1 n) ∙ ap (λ k. range_with_len 1 k) (omega (arith, scripts.ok.0));
+        numbers = ran.numbers ∙ ap (map (λ (a : Acting). a.number)) (c.in-Ok.ensures.tail ∙ parts.1) ∙ new-numbers name (range_with_len 1 n)
+            ∙ ap (λ k. range_with_len 1 k) (omega (arith, scripts.ok.0));
         acted = ran.acted;
         did_raise = ran.raised;
       };

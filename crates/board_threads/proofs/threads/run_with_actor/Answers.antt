@@ -8,18 +8,22 @@ use Rattle.board_threads.proofs.threads.run_with_actor.Goals as goal
 pub act_beside-requires-clause-new_first : goal.act_beside-requires-clause-new_first
 act_beside-requires-clause-new_first g c κs within =
     let name = c.args.board.now.words.name in
-    let parts = split-first c.args.actors.items c.pop.new.self.items c.in-Some.first (length c.args.acts.now) (omega (arith, c.requires.each_actor, c.args.actors.ok.0)) (sym c.in-Ok.ensures.items ∙ c.in-Some.ensures.items) in
+    let parts = split-first c.args.actors.items c.pop.new.self.items c.in-Some.first (length c.args.acts.now) (omega (arith, c.requires.each_actor, c.args.actors.ok.0))
+    (sym c.in-Ok.ensures.items ∙ c.in-Some.ensures.items) in
     All-head (IsNewActor name) c.in-Some.first (drop 1 c.args.actors.items) (subst (All (IsNewActor name)) parts.1 c.requires.new_actors)
 
 pub act_beside-requires-clause-new_others : goal.act_beside-requires-clause-new_others
 act_beside-requires-clause-new_others g c κs within =
     let name = c.args.board.now.words.name in
-    let parts = split-first c.args.actors.items c.pop.new.self.items c.in-Some.first (length c.args.acts.now) (omega (arith, c.requires.each_actor, c.args.actors.ok.0)) (sym c.in-Ok.ensures.items ∙ c.in-Some.ensures.items) in
-    λ k d lt. subst (All (IsNewActor name)) (sym c.in-Ok.ensures.tail) (All-tail (IsNewActor name) c.in-Some.first (drop 1 c.args.actors.items) (subst (All (IsNewActor name)) parts.1 c.requires.new_actors)) k d lt
+    let parts = split-first c.args.actors.items c.pop.new.self.items c.in-Some.first (length c.args.acts.now) (omega (arith, c.requires.each_actor, c.args.actors.ok.0))
+    (sym c.in-Ok.ensures.items ∙ c.in-Some.ensures.items) in
+    λ k d lt. subst (All (IsNewActor name)) (sym c.in-Ok.ensures.tail)
+    (All-tail (IsNewActor name) c.in-Some.first (drop 1 c.args.actors.items) (subst (All (IsNewActor name)) parts.1 c.requires.new_actors)) k d lt
 
 pub returns : goal.returns
 returns g c =
-    let parts = split-first c.args.actors.items c.pop.new.self.items c.in-Some.first (length c.args.acts.now) (omega (arith, c.requires.each_actor, c.args.actors.ok.0)) (sym c.in-Ok.ensures.items ∙ c.in-Some.ensures.items) in
+    let parts = split-first c.args.actors.items c.pop.new.self.items c.in-Some.first (length c.args.acts.now) (omega (arith, c.requires.each_actor, c.args.actors.ok.0))
+    (sym c.in-Ok.ensures.items ∙ c.in-Some.ensures.items) in
     let first = c.in_ok-first.first in
     let others = c.in_ok-first.others.items in
     let actions = c.in_ok-first.ensures.0 in

@@ -23,12 +23,14 @@ index-buffer-requires c =
 pub unlink-requires-clause-some : goal.unlink-requires-clause-some
 unlink-requires-clause-some c =
     let l = c.requires.linked in
-    (walk-leaves _ _ l.0 l.1 l.2 _ _ c.args.port c.loop.next c.loop.counter c.loop.tickets.items c.unwrap-key.result c.index-buffer.result.now (c.loop.invariant.2 l.0 l.1 l.2 l.3) c.unwrap-key.ensures c.index-buffer.ensures (sym c.is_from_port.ensures ∙ c.if-is_from_port.true)).some
+    (walk-leaves _ _ l.0 l.1 l.2 _ _ c.args.port c.loop.next c.loop.counter c.loop.tickets.items c.unwrap-key.result c.index-buffer.result.now
+    (c.loop.invariant.2 l.0 l.1 l.2 l.3) c.unwrap-key.ensures c.index-buffer.ensures (sym c.is_from_port.ensures ∙ c.if-is_from_port.true)).some
 
 pub push-requires : goal.push-requires
 push-requires c =
     let l = c.requires.linked in
-    let leaves = walk-leaves _ _ l.0 l.1 l.2 _ _ c.args.port c.loop.next c.loop.counter c.loop.tickets.items c.unwrap-key.result c.index-buffer.result.now (c.loop.invariant.2 l.0 l.1 l.2 l.3) c.unwrap-key.ensures c.index-buffer.ensures (sym c.is_from_port.ensures ∙ c.if-is_from_port.true) in
+    let leaves = walk-leaves _ _ l.0 l.1 l.2 _ _ c.args.port c.loop.next c.loop.counter c.loop.tickets.items c.unwrap-key.result c.index-buffer.result.now
+    (c.loop.invariant.2 l.0 l.1 l.2 l.3) c.unwrap-key.ensures c.index-buffer.ensures (sym c.is_from_port.ensures ∙ c.if-is_from_port.true) in
     omega (arith, leaves.room, c.requires.bound)
 
 pub loop-preserved : goal.loop-preserved
@@ -39,13 +41,17 @@ loop-preserved c =
           rw (w.buffers-is, w.chain-is, w.tickets-is, ticket) (
             w.unlink.ensures.capacity ∙ c.loop.invariant.0,
             omega (arith, w.unlink.ensures.len, c.loop.invariant.1, length-append c.loop.tickets.items (ticket_of w.unlink.result ∷ [])),
-            λ o r q h. walk-take _ (get c.loop.buffers) (get w.unlink.new.buffers) o r q c.args.chain.now c.loop.chain w.unlink.new.chain c.args.port c.loop.next c.loop.counter c.loop.tickets.items c.unwrap-key.result c.index-buffer.result.now w.unlink.ensures.unlinked.0 w.unlink.result (c.loop.invariant.2 o r q h) c.unwrap-key.ensures c.index-buffer.ensures (sym c.is_from_port.ensures ∙ w.if-is_from_port.true) w.unlink.ensures.unlinked.1,
+            λ o r q h. walk-take _ (get c.loop.buffers) (get w.unlink.new.buffers) o r q c.args.chain.now c.loop.chain w.unlink.new.chain c.args.port c.loop.next
+                c.loop.counter c.loop.tickets.items c.unwrap-key.result c.index-buffer.result.now w.unlink.ensures.unlinked.0 w.unlink.result (c.loop.invariant.2 o r q h)
+                c.unwrap-key.ensures c.index-buffer.ensures (sym c.is_from_port.ensures ∙ w.if-is_from_port.true) w.unlink.ensures.unlinked.1,
           )
       | else-is_from_port w ↦
           rw (w.buffers-is, w.chain-is, w.tickets-is) (
             c.loop.invariant.0,
             c.loop.invariant.1,
-            λ o r q h. walk-keep _ (get c.loop.buffers) o r q c.args.chain.now c.loop.chain c.args.port c.loop.next c.loop.counter c.loop.tickets.items c.unwrap-key.result c.index-buffer.result.now (c.loop.invariant.2 o r q h) c.unwrap-key.ensures c.index-buffer.ensures (sym c.is_from_port.ensures ∙ w.if-is_from_port.false),
+            λ o r q h. walk-keep _
+                (get c.loop.buffers) o r q c.args.chain.now c.loop.chain c.args.port c.loop.next c.loop.counter c.loop.tickets.items c.unwrap-key.result c.index-buffer.result.now
+                (c.loop.invariant.2 o r q h) c.unwrap-key.ensures c.index-buffer.ensures (sym c.is_from_port.ensures ∙ w.if-is_from_port.false),
           )
     ]
 

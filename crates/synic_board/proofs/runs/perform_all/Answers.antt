@@ -12,7 +12,8 @@ pub loop-done-preserved : goal.loop-done-preserved
 loop-done-preserved c =
     let emitted = c.keep.ensures ∙ (ap (λ ns. ns ++ c.as_slice.result.now) c.reserve-else-is_err.ensures.items ∙ ap (λ ns. c.loop-done.notices.items ++ ns) c.as_slice.ensures.value) in
     record {
-      behind = behind_more _ _ _ _ _ _ _ _ _ _ _ _ _ (omega arith) c.index-events-done.is c.loop-done.invariant.behind c.perform-reply.ensures.performs.step c.perform-reply.ensures.performs.conserves c.perform-reply.ensures.performs.tickets_monotone
+      behind = behind_more _ _ _ _ _ _ _ _ _ _ _ _ _ (omega arith) c.index-events-done.is c.loop-done.invariant.behind c.perform-reply.ensures.performs.step
+          c.perform-reply.ensures.performs.conserves c.perform-reply.ensures.performs.tickets_monotone
           (c.push_reserved.ensures.items ∙ ap (λ rs. rs ++ c.perform-reply.result ∷ []) c.reserve.ensures.items)
           emitted;
       writes_monotone = omega (arith, c.perform-reply.ensures.performs.writes_monotone);

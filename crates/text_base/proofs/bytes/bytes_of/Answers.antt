@@ -23,7 +23,8 @@ returns-then-is_full g c bytes all short e =
 
 pub loop-rest-preserved : goal.loop-rest-preserved
 loop-rest-preserved g c =
-    grow c.args.text.now c.loop-rest.out.items c.loop-rest.rest.now c.push.new.self.items c.in-Some.high c.in-Some-digit_of.low c.loop-rest.invariant.0 c.loop-rest.invariant.1 c.in-len2-up.len_at_least c.in-Some.ensures.0 c.in-Some-digit_of.ensures.0 c.in-Some.ensures.1 c.in-Some-digit_of.ensures.1 c.push.ensures.items
+    grow c.args.text.now c.loop-rest.out.items c.loop-rest.rest.now c.push.new.self.items c.in-Some.high c.in-Some-digit_of.low c.loop-rest.invariant.0
+    c.loop-rest.invariant.1 c.in-len2-up.len_at_least c.in-Some.ensures.0 c.in-Some-digit_of.ensures.0 c.in-Some.ensures.1 c.in-Some-digit_of.ensures.1 c.push.ensures.items
 
 pub returns : goal.returns
 returns g c = at_end c.args.text.now c.loop-rest.out.items c.loop-rest.rest.now c.is_empty.result g.row.N c.loop-rest.invariant.0 c.loop-rest.invariant.1 c.in_default.len_below c.is_empty.ensures

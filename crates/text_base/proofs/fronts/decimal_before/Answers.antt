@@ -13,7 +13,8 @@ loop-rest-preserved c =
     let two = decimal-more left l.rest c.loop-rest-test.true l.invariant.3 in
     let next : left - 1 ≡ fewer = omega (arith, two) in
     let less = decimal-less left l.rest (omega (arith, two)) l.invariant.3 in
-    let written = drop-set-cons l.room l.start (48 + l.rest % 10) (48 + l.rest % 10) (omega (arith, l.invariant.1, c.requires.fits)) (omega (arith, l.invariant.2, l.invariant.0, c.requires.place)) refl in
+    let written = drop-set-cons l.room l.start (48 + l.rest % 10) (48 + l.rest % 10) (omega (arith, l.invariant.1, c.requires.fits))
+    (omega (arith, l.invariant.2, l.invariant.0, c.requires.place)) refl in
     let step = decimal-step (44 + left) l.rest (drop l.start l.room) (omega arith) c.loop-rest-test.true in
     let turns : 44 + fewer ≡ 44 + left - 1 = omega (arith, two) in (
       omega (arith, l.invariant.0),

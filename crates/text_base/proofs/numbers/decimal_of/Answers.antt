@@ -18,4 +18,5 @@ pub returns-in_err-n-clause-none : goal.returns-in_err-n-clause-none
 returns-in_err-n-clause-none c = rw c.from_residual.ensures (λ n bound e. c.in_err-n.ensures.none n (omega (arith, c.ranges.most.fits)) e)
 
 pub returns-in_err-n-clause-read : goal.returns-in_err-n-clause-read
-returns-in_err-n-clause-read c = c.from_residual.ensures ∙ decimal_at-answer c.args.most c.args.text.now None (omega (arith, c.ranges.most.fits)) tt (λ n bound e. c.in_err-n.ensures.none n (omega (arith, c.ranges.most.fits)) e)
+returns-in_err-n-clause-read c = c.from_residual.ensures
+    ∙ decimal_at-answer c.args.most c.args.text.now None (omega (arith, c.ranges.most.fits)) tt (λ n bound e. c.in_err-n.ensures.none n (omega (arith, c.ranges.most.fits)) e)

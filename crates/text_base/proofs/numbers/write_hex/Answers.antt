@@ -7,7 +7,13 @@ use Rattle.text_base.proofs.NumberLemmas.{drop-set-cons}
 use Rattle.text_base.proofs.numbers.write_hex.Goals as goal
 
 pub loop-i-init : goal.loop-i-init
-loop-i-init c = (omega arith, c.told-out, omega (arith, c.ranges.n.fits), (λ h. absurd (omega arith)), ap (digits_onto 64 16 false c.args.n) (drop_of_length-le c.args.out.now {i = 16} (omega (arith, c.told-out))) ∙ onto-all 16 c.args.n)
+loop-i-init c = (
+  omega arith,
+  c.told-out,
+  omega (arith, c.ranges.n.fits),
+  (λ h. absurd (omega arith)),
+  ap (digits_onto 64 16 false c.args.n) (drop_of_length-le c.args.out.now {i = 16} (omega (arith, c.told-out))) ∙ onto-all 16 c.args.n,
+)
 
 pub loop-i-preserved : goal.loop-i-preserved
 loop-i-preserved c =
@@ -18,7 +24,8 @@ loop-i-preserved c =
     (omega arith, omega (arith, length-set {A = ℕ}), hex-less l.i l.rest c.loop-i-test.true l.invariant.2, (λ h. omega (arith, c.if-rest-eq0.false)), written ∙ sym (rw room at step) ∙ l.invariant.4)
 
 pub returns-after-loop-i-clause-value : goal.returns-after-loop-i-clause-value
-returns-after-loop-i-clause-value c = absurd (let some = c.loop-i.invariant.3 (omega arith) in let bound : c.loop-i.rest < 16 ^ 0 = rw (let none : c.loop-i.i ≡ 0 = omega arith in none) at c.loop-i.invariant.2 in omega (arith, pow-zero 16))
+returns-after-loop-i-clause-value c = absurd
+    (let some = c.loop-i.invariant.3 (omega arith) in let bound : c.loop-i.rest < 16 ^ 0 = rw (let none : c.loop-i.i ≡ 0 = omega arith in none) at c.loop-i.invariant.2 in omega (arith, pow-zero 16))
 
 pub returns-then-rest-eq0-clause-value : goal.returns-then-rest-eq0-clause-value
 returns-then-rest-eq0-clause-value c =

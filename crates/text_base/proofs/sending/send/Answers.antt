@@ -25,7 +25,13 @@ returns-in-Err g c = (
 )
 
 pub returns : goal.returns
-returns g c = (take c.loop-at.at c.args.bytes.now, drop c.loop-at.at c.args.bytes.now, c.loop-at.invariant.1, sym (take-append-drop c.loop-at.at c.args.bytes.now), λ _. drop_all c.loop-at.at c.args.bytes.now (omega arith))
+returns g c = (
+  take c.loop-at.at c.args.bytes.now,
+  drop c.loop-at.at c.args.bytes.now,
+  c.loop-at.invariant.1,
+  sym (take-append-drop c.loop-at.at c.args.bytes.now),
+  λ _. drop_all c.loop-at.at c.args.bytes.now (omega arith),
+)
 
 pub loop-at-preserved : goal.loop-at-preserved
 loop-at-preserved g c =

@@ -37,7 +37,8 @@ returns-in-Last-clause-text g c =
     let d = c.in-Last.ensures.lines in
     let here : seen c.drive.new.judge ≡ None = ap optional_crew c.in-None.is in
     let first = subst (Appends _ _) (sym d.sends ∙ nothing-sent seen _ _ refl (ends.Last c.in-Last.line) _ _ d.read) d.writes in
-    spoken (Refusal c.in-Last.line faults.First) _ _ _ _ _ (λ input p. tells-refusal c.in-Last.line faults.First input (no-board seen _ _ refl c.in-Last.line d.answers input here p)) d.whole first _ c.refuse.ensures
+    spoken (Refusal c.in-Last.line faults.First) _ _ _ _ _
+    (λ input p. tells-refusal c.in-Last.line faults.First input (no-board seen _ _ refl c.in-Last.line d.answers input here p)) d.whole first _ c.refuse.ensures
 
 pub returns-in-Wrong-clause-text : goal.returns-in-Wrong-clause-text
 returns-in-Wrong-clause-text g c =

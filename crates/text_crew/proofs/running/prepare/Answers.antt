@@ -36,14 +36,17 @@ outcome_of-requires-clause-step g c =
     λ bad. both_ways (has_bad_step s.setup s.scripts) (none-bad s (subst IsGood (sym over) c.requires.good)) (c.run_crew.ensures.step.0 (c.in-Err.is ∙ ap Err bad)).1
 
 -- what was written, or nothing
-told : (outcome : Outcome) (setup : Setup) (ended : Ended) (crew : Crew) (text : List ℕ) → IsTraced outcome setup ended [] text → (setup.first_ticket < 2 ^ 64 → All (IsEntry Two) ended.history.items → text ≡ text_of (trace_lines Two setup.processors setup.pages setup.first_ticket ended.history.items ended.board.state.next_ticket) → Report crew Done text) → Prepares outcome crew text
+told : (outcome : Outcome) (setup : Setup) (ended : Ended) (crew : Crew) (text : List ℕ) → IsTraced outcome setup ended [] text → (setup.first_ticket < 2 ^ 64 →
+    All (IsEntry Two) ended.history.items →
+    text ≡ text_of (trace_lines Two setup.processors setup.pages setup.first_ticket ended.history.items ended.board.state.next_ticket) → Report crew Done text) → Prepares outcome crew text
 told outcomes.Done setup ended crew text is report = report is.0 is.1 is.2
 told outcomes.Memory setup ended crew text is report = tt
 told outcomes.Unsettled setup ended crew text is report = tt
 told outcomes.NoThread setup ended crew text is report = tt
 
 -- the printed history is a legal trace
-traced : (crew : Crew) (history : List Entry) (text : List ℕ) → IsHistory crew history → AreSizes crew.processors crew.pages → crew.first_ticket < 2 ^ 64 → All (IsEntry Two) history → text ≡ trace Two crew.processors crew.pages crew.first_ticket history → IsCrewTrace crew text
+traced : (crew : Crew) (history : List Entry) (text : List ℕ) → IsHistory crew history → AreSizes crew.processors crew.pages → crew.first_ticket < 2 ^ 64 →
+    All (IsEntry Two) history → text ≡ trace Two crew.processors crew.pages crew.first_ticket history → IsCrewTrace crew text
 traced crew history text is sizes given fits written = record {
   history = history;
   is = is;
@@ -69,7 +72,7 @@ returns-in-Ok g c =
     let e = c.in-Ok.ensures in
     let ended = c.in-Ok.end.ended in
     let h = ended.history.items in
-    let out = c.tell.new.out.items in
+    let out = c.put_ended.new.out.items in
     let over : crew_of s ≡ finished (crew_of c.args.script.now) = search rules in
     let is : IsHistory (crew_of s) h = record {
       legal = e.settled.legal;
@@ -81,6 +84,7 @@ returns-in-Ok g c =
     } in
     let lines : ℕ → List ℕ = λ next. text_of (trace_lines Two s.setup.processors s.setup.pages s.setup.first_ticket h next) in
     let next : ended.board.state.next_ticket ≡ (leads_to (opened s.setup.processors s.setup.pages s.setup.first_ticket) h).next_ticket = ap (λ (x : State). x.next_ticket) e.settled.leads in
-    let was : IsTraced c.tell.result s.setup ended [] out = subst (λ (old : List ℕ). IsTraced c.tell.result s.setup ended old out) c.requires.empty c.tell.ensures in
+    let was : IsTraced c.put_ended.result s.setup ended [] out = subst (λ (old : List ℕ). IsTraced c.put_ended.result s.setup ended old out) c.requires.empty c.put_ended.ensures in
     let good : IsGood (crew_of s) = subst IsGood (sym over) c.requires.good in
-    told c.tell.result s.setup ended (finished (crew_of c.args.script.now)) out was (λ given fits text. subst (λ (crew : Crew). Report crew Done out) over (traced (crew_of s) h out is good.board given fits (text ∙ ap lines next)))
+    told c.put_ended.result s.setup ended (finished (crew_of c.args.script.now)) out was
+    (λ given fits text. subst (λ (crew : Crew). Report crew Done out) over (traced (crew_of s) h out is good.board given fits (text ∙ ap lines next)))

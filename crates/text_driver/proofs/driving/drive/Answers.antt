@@ -51,7 +51,8 @@ returns-then-not-send g c =
     let kept = Appends-kept _ _ _ h.answers h.writes c.in-Whole.ensures.written in
     let on = progress-line _ c.next_line-found.new.self c.take.new.self t.0 c.take.new.out.items h.progress t.1 t.2.0 t.2.1 t.2.2 t.2.3 a in
     record {
-      lines = drives-on [] (h.answers ++ s.0) on (Consumes-nil _) (Appends-trans _ _ _ h.answers s.0 kept s.2) (s.1, ap (λ (x : List ℕ). h.answers ++ x) (sym c.as_slice.ensures.value ∙ s.3) ∙ sym (append_assoc h.answers s.0 s.1)) (λ ys. tt);
+      lines = drives-on [] (h.answers ++ s.0) on (Consumes-nil _) (Appends-trans _ _ _ h.answers s.0 kept s.2)
+          (s.1, ap (λ (x : List ℕ). h.answers ++ x) (sym c.as_slice.ensures.value ∙ s.3) ∙ sym (append_assoc h.answers s.0 s.1)) (λ ys. tt);
       limit = within _ t.0 1073741824 h.progress t.1 (omega (arith, t.2.3));
       near = tt;
     }
@@ -63,7 +64,8 @@ returns-in-Wrong g c =
     let line = c.next_line-found.new.self.line in
     let a = rw c.line.ensures at c.in-Wrong.ensures.taken in
     record {
-      lines = drives-on t.0 h.answers h.progress t.1 (Appends-kept _ _ _ h.answers h.writes c.in-Whole.ensures.written) refl (λ ys. ends-wrong g.J.Judge.wrong (c.loop-out.line + 1) c.in-Wrong.fault c.loop-out.judge c.take.new.self (c.loop-out.source.waiting ++ t.0) line c.next_line-found.new.self.waiting ys t.2.0 t.2.1 t.2.2 a);
+      lines = drives-on t.0 h.answers h.progress t.1 (Appends-kept _ _ _ h.answers h.writes c.in-Whole.ensures.written) refl (λ ys. ends-wrong g.J.Judge.wrong
+          (c.loop-out.line + 1) c.in-Wrong.fault c.loop-out.judge c.take.new.self (c.loop-out.source.waiting ++ t.0) line c.next_line-found.new.self.waiting ys t.2.0 t.2.1 t.2.2 a);
       limit = within _ t.0 1073741824 h.progress t.1 (omega (arith, t.2.3));
       near = stops-behind _ c.next_line-found.new.self t.0 h.progress t.1 t.2.0 t.2.1 t.2.2 t.2.4;
     }
@@ -85,7 +87,8 @@ returns-in-Long g c =
     let w = c.next_line-found.new.self.waiting in
     let long : 640 < length (take 641 w) = omega (arith, length-take-le 641 w t.2.2) in
     record {
-      lines = drives-on t.0 h.answers h.progress t.1 (Appends-kept _ _ _ h.answers h.writes c.in-Long.ensures.written) refl (λ ys. ends-long g.J.Judge.wrong (c.loop-out.line + 1) c.loop-out.judge (c.loop-out.source.waiting ++ t.0) (take 641 w) (drop 641 w) ys (sym t.2.0.0 ∙ sym (take-append-drop 641 w)) t.2.1 long);
+      lines = drives-on t.0 h.answers h.progress t.1 (Appends-kept _ _ _ h.answers h.writes c.in-Long.ensures.written) refl (λ ys. ends-long g.J.Judge.wrong
+          (c.loop-out.line + 1) c.loop-out.judge (c.loop-out.source.waiting ++ t.0) (take 641 w) (drop 641 w) ys (sym t.2.0.0 ∙ sym (take-append-drop 641 w)) t.2.1 long);
       limit = within _ t.0 1073741824 h.progress t.1 (omega (arith, t.2.0.1));
       near = stops-in _ t.0 h.progress t.1 (omega (arith, ap length t.2.0.0, t.2.3));
     }
@@ -98,7 +101,8 @@ returns-then-is_empty g c =
     let test = rw c.line-in-Last.ensures at c.if-is_empty.ensures in
     let empty = empty_by line ((Decides-eqb (length line) 0).0 (sym test)) in
     record {
-      lines = drives-end t.0 h.answers h.progress t.1 t.2.2 (Appends-kept _ _ _ h.answers h.writes c.in-Last.ensures.written) refl (ends-last g.J.Judge.wrong (c.loop-out.line + 1) c.loop-out.judge (c.loop-out.source.waiting ++ t.0) line t.2.0 empty);
+      lines = drives-end t.0 h.answers h.progress t.1 t.2.2 (Appends-kept _ _ _ h.answers h.writes c.in-Last.ensures.written) refl
+          (ends-last g.J.Judge.wrong (c.loop-out.line + 1) c.loop-out.judge (c.loop-out.source.waiting ++ t.0) line t.2.0 empty);
       limit = within _ t.0 1073741824 h.progress t.1 (omega (arith, t.2.5));
       near = stops-in _ t.0 h.progress t.1 (omega (arith, ap length t.2.0, t.2.4));
     }
@@ -111,7 +115,8 @@ returns-in-Last g c =
     let test = rw c.line-in-Last.ensures at c.if-is_empty.ensures in
     let not_empty : length line ≢ 0 = not_from_Decides _ (Decides-eqb (length line) 0) (sym test) in
     record {
-      lines = drives-end t.0 h.answers h.progress t.1 t.2.2 (Appends-kept _ _ _ h.answers h.writes c.in-Last.ensures.written) refl (ends-cut g.J.Judge.wrong (c.loop-out.line + 1) c.loop-out.judge (c.loop-out.source.waiting ++ t.0) line t.2.0 t.2.3 (omega (arith, not_empty)) t.2.4);
+      lines = drives-end t.0 h.answers h.progress t.1 t.2.2 (Appends-kept _ _ _ h.answers h.writes c.in-Last.ensures.written) refl
+          (ends-cut g.J.Judge.wrong (c.loop-out.line + 1) c.loop-out.judge (c.loop-out.source.waiting ++ t.0) line t.2.0 t.2.3 (omega (arith, not_empty)) t.2.4);
       limit = within _ t.0 1073741824 h.progress t.1 (omega (arith, t.2.5));
       near = stops-in _ t.0 h.progress t.1 (omega (arith, ap length t.2.0, t.2.4));
     }

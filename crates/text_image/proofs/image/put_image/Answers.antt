@@ -13,7 +13,8 @@ returns c =
     let n = processors s in
     let last : OnOk c.extend_from_slice.result (c.extend_from_slice.new.self.items ≡ c.put_slots.new.out.items ++ text_of ((codes "end" ∷ []) ∷ [])) = search rules in
     on_ok_weaker c.extend_from_slice.result
-    (λ h. sections (head_lines s) (each_below n (lapic_lines s)) (each_below n (register_lines s)) (each_below (length s.pages) (guest_lines s)) (each_below n (own_lines s)) (each_below 16 (port_lines s))
+    (λ h. sections (head_lines s) (each_below n (lapic_lines s)) (each_below n (register_lines s)) (each_below (length s.pages) (guest_lines s))
+    (each_below n (own_lines s)) (each_below 16 (port_lines s))
     (each_below n (timers_lines s)) (each_below n (queues_lines s)) (each_below n (slots_lines s)) ((codes "end" ∷ []) ∷ [])
     c.args.out.now.items c.put_head.new.out.items c.put_lapics.new.out.items c.put_registers.new.out.items c.put_guest_pages.new.out.items c.put_own_pages.new.out.items c.put_ports.new.out.items
     c.put_timers.new.out.items c.put_queues.new.out.items c.put_slots.new.out.items c.extend_from_slice.new.self.items

@@ -7,4 +7,5 @@ pub loop-number-init : goal.loop-number-init
 loop-number-init c = each-none (port_lines c.args.board.now.state) c.args.out.now.items
 
 pub loop-number-preserved : goal.loop-number-preserved
-loop-number-preserved c = each-step (port_lines c.args.board.now.state) c.loop-number.number c.loop-number.number c.args.out.now.items c.loop-number.out.items c.put_port.new.out.items c.loop-number.invariant refl c.in_ok-put_port.ensures
+loop-number-preserved c = each-step (port_lines c.args.board.now.state) c.loop-number.number c.loop-number.number c.args.out.now.items c.loop-number.out.items
+    c.put_port.new.out.items c.loop-number.invariant refl c.in_ok-put_port.ensures

@@ -7,4 +7,5 @@ pub loop-index-init : goal.loop-index-init
 loop-index-init c = each-none (queued_lines c.args.board.now.state c.args.vp c.args.sint) c.args.out.now.items
 
 pub loop-index-preserved : goal.loop-index-preserved
-loop-index-preserved c = each-step (queued_lines c.args.board.now.state c.args.vp c.args.sint) c.loop-index.index c.loop-index.index c.args.out.now.items c.loop-index.out.items c.put_queued.new.out.items c.loop-index.invariant refl c.in_ok-put_queued.ensures
+loop-index-preserved c = each-step (queued_lines c.args.board.now.state c.args.vp c.args.sint) c.loop-index.index c.loop-index.index c.args.out.now.items
+    c.loop-index.out.items c.put_queued.new.out.items c.loop-index.invariant refl c.in_ok-put_queued.ensures

@@ -6,4 +6,5 @@ pub loop-number-init : goal.loop-number-init
 loop-number-init c = each-none (slots_lines c.args.board.now.state) c.args.out.now.items
 
 pub loop-number-preserved : goal.loop-number-preserved
-loop-number-preserved c = each-step (slots_lines c.args.board.now.state) c.loop-number.number c.vp_of-vp.result c.args.out.now.items c.loop-number.out.items c.put_slots_of.new.out.items c.loop-number.invariant c.vp_of-vp.ensures c.in_ok-put_slots_of.ensures
+loop-number-preserved c = each-step (slots_lines c.args.board.now.state) c.loop-number.number c.vp_of-vp.result c.args.out.now.items c.loop-number.out.items
+    c.put_slots_of.new.out.items c.loop-number.invariant c.vp_of-vp.ensures c.in_ok-put_slots_of.ensures

@@ -7,4 +7,5 @@ pub loop-number-init : goal.loop-number-init
 loop-number-init c = each-none (guest_lines c.args.board.now.state) c.args.out.now.items
 
 pub loop-number-preserved : goal.loop-number-preserved
-loop-number-preserved c = each-step (guest_lines c.args.board.now.state) c.loop-number.number c.loop-number.number c.args.out.now.items c.loop-number.out.items c.put_guest_page.new.out.items c.loop-number.invariant refl c.in_ok-put_guest_page.ensures
+loop-number-preserved c = each-step (guest_lines c.args.board.now.state) c.loop-number.number c.loop-number.number c.args.out.now.items c.loop-number.out.items
+    c.put_guest_page.new.out.items c.loop-number.invariant refl c.in_ok-put_guest_page.ensures

@@ -7,4 +7,5 @@ pub loop-block-init : goal.loop-block-init
 loop-block-init c = each-none (block_lines c.args.name.now c.args.page.now) c.args.out.now.items
 
 pub loop-block-preserved : goal.loop-block-preserved
-loop-block-preserved c = each-step (block_lines c.args.name.now c.args.page.now) c.loop-block.block c.loop-block.block c.args.out.now.items c.loop-block.out.items c.put_block.new.out.items c.loop-block.invariant refl c.in_ok-put_block.ensures
+loop-block-preserved c = each-step (block_lines c.args.name.now c.args.page.now) c.loop-block.block c.loop-block.block c.args.out.now.items c.loop-block.out.items
+    c.put_block.new.out.items c.loop-block.invariant refl c.in_ok-put_block.ensures

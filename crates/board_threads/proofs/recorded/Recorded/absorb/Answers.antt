@@ -6,7 +6,8 @@ use Rattle.board_threads.proofs.recorded.Recorded.absorb.Goals as goal
 pub returns-clause-swept : goal.returns-clause-swept
 returns-clause-swept c =
     c.sweep_if_there-bits.ensures.swept
-    ∙ ap (token c.args.sweeper.now.of) (sym (absorb-sweeps _ _ c.args.vp c.args.part c.sweep_if_there-bits.result c.perform-reply.result c.args.sweeper.now.actions c.perform-reply.ensures.reply (search rules)))
+    ∙ ap (token c.args.sweeper.now.of)
+    (sym (absorb-sweeps _ _ c.args.vp c.args.part c.sweep_if_there-bits.result c.perform-reply.result c.args.sweeper.now.actions c.perform-reply.ensures.reply (search rules)))
 
 pub returns-clause-refused : goal.returns-clause-refused
 returns-clause-refused c h =

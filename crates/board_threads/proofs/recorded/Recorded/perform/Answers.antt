@@ -12,5 +12,6 @@ invariant_of-self c =
     let now = c.push.ensures in
     record {
       legal = legal-push start s.board.state s.history.entries c.push.new.self.entries c.args.actor c.args.event.now c.perform-reply.result s.legal s.leads now (ap (λ (o : Outcome). o.1) is);
-      leads = leads-push start s.board.state c.perform-reply.new.self.state s.history.entries c.push.new.self.entries c.args.actor c.args.event.now c.perform-reply.result s.leads now (ap (λ (o : Outcome). o.0) is);
+      leads = leads-push start s.board.state c.perform-reply.new.self.state s.history.entries c.push.new.self.entries c.args.actor c.args.event.now c.perform-reply.result s.leads now
+          (ap (λ (o : Outcome). o.0) is);
     }

@@ -30,7 +30,8 @@ pub returns-clause-settled : goal.returns-clause-settled
 returns-clause-settled c =
     let r = c.into_inner.result in
     let v = c.self.view_is in
-    let ended : (e : Ended) → r.opening ≡ c.self.inside.opening → IsEnd r.board r.history.entries c.in_ok-sweepers.actors.items c.in_ok-standing.standing e → IsSettled (start c.args.self) e = λ e same h.
+    let ended : (e : Ended) → r.opening ≡ c.self.inside.opening → IsEnd r.board r.history.entries c.in_ok-sweepers.actors.items c.in_ok-standing.standing e →
+    IsSettled (start c.args.self) e = λ e same h.
     let number = ap (λ (o : Opening). o.processors) same ∙ sym c.self.invariant ∙ ap (λ (s : Sharing). s.words.processors) v in
     let pages = ap (λ (o : Opening). o.pages) same ∙ ap (λ (s : Sharing). s.pages) v in
     let ticket = ap (λ (o : Opening). o.first_ticket) same ∙ ap (λ (s : Sharing). s.first_ticket) v in
@@ -40,16 +41,20 @@ returns-clause-settled c =
       leads = ap (λ (b : BoardModel). b.state) h.same_board ∙ r.leads ∙ ap (λ (s : State). leads_to s r.history.entries) begins ∙ ap (leads_to (start c.args.self)) (sym h.entries);
       actors = h.all;
     } in
-    at_end c.end.result (r.opening ≡ c.self.inside.opening) (IsEnd r.board r.history.entries c.in_ok-sweepers.actors.items c.in_ok-standing.standing) (IsSettled (start c.args.self)) ended c.end.ensures.opening c.end.ensures.ended
+    at_end c.end.result (r.opening ≡ c.self.inside.opening) (IsEnd r.board r.history.entries c.in_ok-sweepers.actors.items c.in_ok-standing.standing)
+    (IsSettled (start c.args.self)) ended c.end.ensures.opening c.end.ensures.ended
 
 pub returns-clause-raises : goal.returns-clause-raises
 returns-clause-raises c =
     let r = c.into_inner.result in
     let n = 4 * c.args.self.words.processors in
     let logs = map actions_of c.args.lines.items in
-    let absorbed : (e : Ended) → r.opening ≡ c.self.inside.opening → IsEnd r.board r.history.entries c.in_ok-sweepers.actors.items c.in_ok-standing.standing e → AreAbsorbed n logs e.history.items e.standing = λ e same h.
+    let absorbed : (e : Ended) → r.opening ≡ c.self.inside.opening → IsEnd r.board r.history.entries c.in_ok-sweepers.actors.items c.in_ok-standing.standing e →
+    AreAbsorbed n logs e.history.items e.standing = λ e same h.
     let all : AreAllOf e.history.items c.in_ok-sweepers.actors.items = subst (AreAllOf e.history.items) h.actors h.all in
     subst (AreAbsorbed n logs e.history.items) (sym h.standing)
     (subst (λ m. AreAbsorbed (4 * m) logs e.history.items c.in_ok-standing.standing) (ap (λ (s : Sharing). s.words.processors) c.self.view_is)
-    (are-absorbed _ c.in_ok-sweepers.sweepers.items c.args.actors.items c.in_ok-sweepers.actors.items c.args.lines.items e.history.items c.in_ok-standing.standing c.in_ok-sweepers.ensures.sweepers c.in_ok-sweepers.ensures.actors c.in_ok-sweepers.ensures.sweeps c.requires.raises all c.in_ok-standing.ensures.width c.in_ok-standing.ensures.settled)) in
-    at_end c.end.result (r.opening ≡ c.self.inside.opening) (IsEnd r.board r.history.entries c.in_ok-sweepers.actors.items c.in_ok-standing.standing) (λ (e : Ended). AreAbsorbed n logs e.history.items e.standing) absorbed c.end.ensures.opening c.end.ensures.ended
+    (are-absorbed _ c.in_ok-sweepers.sweepers.items c.args.actors.items c.in_ok-sweepers.actors.items c.args.lines.items e.history.items c.in_ok-standing.standing
+    c.in_ok-sweepers.ensures.sweepers c.in_ok-sweepers.ensures.actors c.in_ok-sweepers.ensures.sweeps c.requires.raises all c.in_ok-standing.ensures.width c.in_ok-standing.ensures.settled)) in
+    at_end c.end.result (r.opening ≡ c.self.inside.opening) (IsEnd r.board r.history.entries c.in_ok-sweepers.actors.items c.in_ok-standing.standing)
+    (λ (e : Ended). AreAbsorbed n logs e.history.items e.standing) absorbed c.end.ensures.opening c.end.ensures.ended

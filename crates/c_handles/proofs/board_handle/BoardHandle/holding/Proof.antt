@@ -48,10 +48,12 @@ holding_spec {M} 𝓤 𝓛 𝓜 𝓡 wired =
     use0 𝓛 (raw (fact 𝓤 (κ₁ ⊑ D.lives))) (fact_i 𝓤 (κ₁ ⊑ D.lives) (emp 𝓤) (board_laws.the_within κ₁)) $ join ! $
     move ! (1 ∷ 0 ∷ []) $ join ! $ use1 𝓛 (raw (k.pre y)) (id⊢ 𝓤 _) $
     calls_at ! (framed 𝓤 𝓛.H 𝓜 𝓣) k (met 𝓤 𝓛 𝓜 𝓡 (code.calls-std_alloc::boxed::Box::into_raw 𝓡.env wired) D Z D-laws Z-laws ghosts dict heap_drops board_drops
-    (heap_met.passed 𝓡.env (code.calls-std_heap::GlobalAllocator::allocate 𝓡.env wired) (code.calls-std_heap::GlobalAllocator::deallocate 𝓡.env wired) (code.calls-std_heap::GlobalAllocator::grow 𝓡.env wired) (code.calls-std_heap::GlobalAllocator::shrink 𝓡.env wired) M 𝓤 𝓛 𝓜 𝓡)
+    (heap_met.passed 𝓡.env (code.calls-std_heap::GlobalAllocator::allocate 𝓡.env wired) (code.calls-std_heap::GlobalAllocator::deallocate 𝓡.env wired)
+    (code.calls-std_heap::GlobalAllocator::grow 𝓡.env wired) (code.calls-std_heap::GlobalAllocator::shrink 𝓡.env wired) M 𝓤 𝓛 𝓜 𝓡)
     (heap_glue 𝓤 𝓛 𝓜 𝓡 (code.calls-c_handles::Destruct++none::drop 𝓡.env wired)) (board_glue 𝓤 𝓛 𝓜 𝓡 (code.calls-c_handles::c_handles++board++BoardWithNotices+Destruct::drop 𝓡.env wired))) y
     (and_then ! (get ! refl) (no_more !)) (λ u.
-    use1 𝓛 (later (some (λ (r : Ptr). (toks ⊛ ‵ (RawPtr.own_val r (u ∷ []))) ⊛ some (λ (ls : Lasts (g.ended D Z ghosts dict heap_drops board_drops) y.0.0 y.0.3). ‵ (lasts (g.ended D Z ghosts dict heap_drops board_drops) y.0.0 y.0.3 ls) ⊛
+    use1 𝓛 (later (some (λ (r : Ptr). (toks ⊛ ‵ (RawPtr.own_val r (u ∷ []))) ⊛ some
+    (λ (ls : Lasts (g.ended D Z ghosts dict heap_drops board_drops) y.0.0 y.0.3). ‵ (lasts (g.ended D Z ghosts dict heap_drops board_drops) y.0.0 y.0.3 ls) ⊛
     ‵ (owned board.the_row true r (Some v.value)))))) (id⊢ 𝓤 (k.post y u)) $
     await ! tt $ pick ! (λ r. split ! $ move ! (1 ∷ []) $ pick ! (λ _. split ! $ drop ! $ move ! (1 ∷ []) $ split ! $ move ! (1 ∷ []) $ feq_l ! (λ is_ptr.
     let made : BoardHandle = record { at = r; is_open = true; board = Some v.value } in let at_good = ((rawptr_Lawful 𝓛).typed r _ refl).0 in

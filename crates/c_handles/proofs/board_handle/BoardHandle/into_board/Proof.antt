@@ -58,7 +58,8 @@ into_board_spec {M} 𝓤 𝓛 𝓜 𝓡 wired =
     (λ shut. held_cases board.the_row ! h.is_open h.at h.board (λ _ is_none.
     sets ! (agg ! (and_then ! (lit ! tt) (no_more !))) refl (tt, (record { fits = lit< tt }, tt)) $
     returns_within ! (W.post z) refl (look_at ! 0 refl) $ free_all ! refl $
-    use0 𝓛 (‵ (O.own_val option.None (live 0 vnil ∷ []))) (none_of 𝓛 B) $ told ! option.None h.board tt is_none $ nothing ! $ nothing ! $ nothing ! $ fjoin ! $ move ! (1 ∷ 0 ∷ []) $ fjoin ! $ nothing ! $ keep ! (0 ∷ 1 ∷ 3 ∷ 2 ∷ []) $
+    use0 𝓛 (‵ (O.own_val option.None (live 0 vnil ∷ []))) (none_of 𝓛 B) $ told ! option.None h.board tt is_none $ nothing ! $ nothing ! $ nothing ! $ fjoin ! $ move !
+    (1 ∷ 0 ∷ []) $ fjoin ! $ nothing ! $ keep ! (0 ∷ 1 ∷ 3 ∷ 2 ∷ []) $
     by ! (leaves 𝓛 f.ended stayed c z (live 0 vnil) option.None (tt, (tt, tt)) (tt, (tt, tt))))
     (λ d is_open _. absurd (subst (λ (y : Bool). T (not y)) is_open shut)))
     (λ not_shut. skips ! $ exec ! 𝓣.C 𝓣.Λ (env code.Mir.locals l) code.Mir.t-5 (at_ret (env code.Mir.locals l) (W.post z)) $
@@ -79,10 +80,12 @@ into_board_spec {M} 𝓤 𝓛 𝓜 𝓡 wired =
     use0 𝓛 (raw (fact 𝓤 (κ₁ ⊑ D.lives))) (fact_i 𝓤 (κ₁ ⊑ D.lives) (emp 𝓤) (board_laws.the_within κ₁)) $ join ! $
     move ! (1 ∷ 0 ∷ []) $ join ! $ use1 𝓛 (raw (k.pre y)) (id⊢ 𝓤 _) $
     calls_at_last ! (framed 𝓤 𝓛.H 𝓜 𝓣) k (met 𝓤 𝓛 𝓜 𝓡 (code.calls-std_alloc::boxed::Box::from_raw 𝓡.env wired) D Z D-laws Z-laws ghosts dict heap_drops
-    (heap_met.passed 𝓡.env (code.calls-std_heap::GlobalAllocator::allocate 𝓡.env wired) (code.calls-std_heap::GlobalAllocator::deallocate 𝓡.env wired) (code.calls-std_heap::GlobalAllocator::grow 𝓡.env wired) (code.calls-std_heap::GlobalAllocator::shrink 𝓡.env wired) M 𝓤 𝓛 𝓜 𝓡)
+    (heap_met.passed 𝓡.env (code.calls-std_heap::GlobalAllocator::allocate 𝓡.env wired) (code.calls-std_heap::GlobalAllocator::deallocate 𝓡.env wired)
+    (code.calls-std_heap::GlobalAllocator::grow 𝓡.env wired) (code.calls-std_heap::GlobalAllocator::shrink 𝓡.env wired) M 𝓤 𝓛 𝓜 𝓡)
     (heap_glue 𝓤 𝓛 𝓜 𝓡 (code.calls-c_handles::Destruct++none::drop 𝓡.env wired))) y
     (and_then ! (get ! refl) (and_then ! (get ! refl) (no_more !))) (λ u.
-    use1 𝓛 (later (some (λ (r : B.Denot). (toks ⊛ ‵ (B.own_val r (u ∷ []))) ⊛ some (λ (ls : Lasts (g.ended D Z ghosts dict heap_drops) y.0.0 y.0.3). ‵ (lasts (g.ended D Z ghosts dict heap_drops) y.0.0 y.0.3 ls) ⊛
+    use1 𝓛 (later (some
+    (λ (r : B.Denot). (toks ⊛ ‵ (B.own_val r (u ∷ []))) ⊛ some (λ (ls : Lasts (g.ended D Z ghosts dict heap_drops) y.0.0 y.0.3). ‵ (lasts (g.ended D Z ghosts dict heap_drops) y.0.0 y.0.3 ls) ⊛
     (raw (fact 𝓤 (r.value ≡ d)) ⊛ raw (fact 𝓤 (r.alloc ≡ e))))))) (id⊢ 𝓤 (k.post y u)) $
     await ! tt $ pick ! (λ r. split ! $ move ! (1 ∷ []) $ pick ! (λ _. split3 ! $ drop ! $ heard ! (r.value ≡ d) (λ same. drop ! $ split ! $ move ! (1 ∷ []) $
     -- [the box]

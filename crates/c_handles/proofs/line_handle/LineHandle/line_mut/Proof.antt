@@ -76,7 +76,8 @@ line_mut_spec {M} 𝓤 𝓛 𝓜 𝓡 wired =
     first ! $ branches ! (get ! refl)
     (λ is_shut. held_cases line.the_row ! h.is_open h.at h.line (λ e none.
     sets ! (agg ! (and_then ! (lit ! tt) (no_more !))) refl (tt, (record { fits = lit< tt }, tt)) $
-    nothing ! $ rewrite ! 0 (λ (x : Option LineModel). ‵ (owned line.the_row false h.at x)) (sym none) refl $ rewrite ! 0 (λ (y : Bool). ‵ (owned line.the_row y h.at h.line)) (sym e) refl $ handle_in ! h $
+    nothing ! $ rewrite ! 0 (λ (x : Option LineModel). ‵ (owned line.the_row false h.at x)) (sym none) refl $ rewrite ! 0
+    (λ (y : Bool). ‵ (owned line.the_row y h.at h.line)) (sym e) refl $ handle_in ! h $
     move ! (1 ∷ []) $ closes ! tt H h (w ∷ []) b o $
     returns_within ! (W.post z) refl (look_at ! 0 refl) $ free_all ! refl $ keep ! (0 ∷ 2 ∷ []) $
     -- [the observation of the borrow; the token]

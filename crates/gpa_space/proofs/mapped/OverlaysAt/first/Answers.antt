@@ -13,4 +13,5 @@ returns-then-word-eq0 c i =
 pub returns : goal.returns
 returns c =
     let word = c.index-word.ensures ∙ get_or_default c.args.self.now.words.items c.args.page c.index-word.result.now 0 c.requires in
-    subst (λ w. IsLowest w (Some (trailing_zeros w16 c.index-word.result.now))) word (bit_at-trailing_zeros w16 c.index-word.result.now (omega (arith, c.if-word-eq0.false)) (omega (arith, c.index-word.type_inv)))
+    subst (λ w. IsLowest w (Some (trailing_zeros w16 c.index-word.result.now))) word
+    (bit_at-trailing_zeros w16 c.index-word.result.now (omega (arith, c.if-word-eq0.false)) (omega (arith, c.index-word.type_inv)))

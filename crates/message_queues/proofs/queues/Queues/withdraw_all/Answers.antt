@@ -8,7 +8,8 @@ use Rattle.message_queues.specs.Queues.{Queues, queue_of, with_queue, after_plac
 use Rattle.message_queues.proofs.queues.Queues.withdraw_all.Goals as goal
 
 -- one more message is removed
-taken : (qs now : Queues) (p i k : ℕ) (m : Message) → source_number p i < length qs → k < length (queue_of qs p i) → now ≡ with_queue qs p i (drop k (queue_of qs p i)) → Some m ≡ slice_get (queue_of now p i) 0 →
+taken : (qs now : Queues) (p i k : ℕ) (m : Message) → source_number p i < length qs → k < length (queue_of qs p i) → now ≡ with_queue qs p i (drop k (queue_of qs p i)) →
+    Some m ≡ slice_get (queue_of now p i) 0 →
     (after_place now p i ≡ with_queue qs p i (drop (k + 1) (queue_of qs p i))) × (take (k + 1) (queue_of qs p i) ≡ take k (queue_of qs p i) ++ m ∷ [])
 taken qs now p i k m within less is head =
     let q : List Message = queue_of qs p i in
@@ -22,8 +23,10 @@ taken qs now p i k m within less is head =
 
 pub loop-preserved : goal.loop-preserved
 loop-preserved c =
-    let step = taken c.args.self.now c.loop.self c.args.vp c.args.sint c.loop.counter c.unwrap-message.result c.requires (omega (arith, c.loop-test.true, c.count-count.ensures.value)) c.loop.invariant.rest (sym c.unwrap-message.ensures ∙ c.place.ensures.head) in
+    let step = taken c.args.self.now c.loop.self c.args.vp c.args.sint c.loop.counter c.unwrap-message.result c.requires
+    (omega (arith, c.loop-test.true, c.count-count.ensures.value)) c.loop.invariant.rest (sym c.unwrap-message.ensures ∙ c.place.ensures.head) in
     record {
-      tickets = c.push.ensures.items ∙ (λ i. c.loop.invariant.tickets i ++ c.ticket.ensures i ∷ []) ∙ sym (ap (map ticket_of) step.1 ∙ map_push ticket_of (take c.loop.counter (queue_of c.args.self.now c.args.vp c.args.sint)) c.unwrap-message.result);
+      tickets = c.push.ensures.items ∙ (λ i. c.loop.invariant.tickets i ++ c.ticket.ensures i ∷ [])
+          ∙ sym (ap (map ticket_of) step.1 ∙ map_push ticket_of (take c.loop.counter (queue_of c.args.self.now c.args.vp c.args.sint)) c.unwrap-message.result);
       rest = c.place.ensures.rest ∙ step.0;
     }

@@ -55,7 +55,9 @@ invariant_of-self c =
     let h = here c.self.inside c.args.self.now c.source_number.result c.index_mut-chain.result.now c.self.invariant c.self.view_is within c.index_mut-chain.ensures.value in
     let k = c.self.invariant.linked in
     let w = c.withdraw-tickets.ensures.withdrawn k.owner k.rank c.source_number.result (k.each c.source_number.result c.index_mut-chain.result.now h.at) in
-    let s = withdrawn-step c.self.inside c.args.self.now c.source_number.result c.index_mut-chain.result.now c.withdraw-tickets.new.chain c.args.port c.len.result c.withdraw-tickets.result.items c.withdraw-tickets.new.buffers c.self.invariant c.self.view_is within c.index_mut-chain.ensures.value below w c.withdraw-tickets.ensures.len c.withdraw-tickets.ensures.capacity c.len.ensures.value in
+    let s = withdrawn-step c.self.inside c.args.self.now c.source_number.result c.index_mut-chain.result.now c.withdraw-tickets.new.chain c.args.port c.len.result
+    c.withdraw-tickets.result.items c.withdraw-tickets.new.buffers c.self.invariant c.self.view_is within c.index_mut-chain.ensures.value below w
+    c.withdraw-tickets.ensures.len c.withdraw-tickets.ensures.capacity c.len.ensures.value in
     record { linked = s.linked; held = s.held; both_ways = s.both_ways; room = s.room; owned = s.owned; counts = s.counts }
 
 pub returns-clause-tickets : goal.returns-clause-tickets
@@ -73,5 +75,7 @@ returns-clause-rest c =
     let h = here c.self.inside c.args.self.now c.source_number.result c.index_mut-chain.result.now c.self.invariant c.self.view_is within c.index_mut-chain.ensures.value in
     let k = c.self.invariant.linked in
     let w = c.withdraw-tickets.ensures.withdrawn k.owner k.rank c.source_number.result (k.each c.source_number.result c.index_mut-chain.result.now h.at) in
-    let s = withdrawn-step c.self.inside c.args.self.now c.source_number.result c.index_mut-chain.result.now c.withdraw-tickets.new.chain c.args.port c.len.result c.withdraw-tickets.result.items c.withdraw-tickets.new.buffers c.self.invariant c.self.view_is within c.index_mut-chain.ensures.value below w c.withdraw-tickets.ensures.len c.withdraw-tickets.ensures.capacity c.len.ensures.value in
+    let s = withdrawn-step c.self.inside c.args.self.now c.source_number.result c.index_mut-chain.result.now c.withdraw-tickets.new.chain c.args.port c.len.result
+    c.withdraw-tickets.result.items c.withdraw-tickets.new.buffers c.self.invariant c.self.view_is within c.index_mut-chain.ensures.value below w
+    c.withdraw-tickets.ensures.len c.withdraw-tickets.ensures.capacity c.len.ensures.value in
     s.view_is ∙ ap (λ (k : ℕ). slice_set c.args.self.now k (left_of c.args.port (slice_index_or c.args.self.now k []))) c.source_number.ensures.value

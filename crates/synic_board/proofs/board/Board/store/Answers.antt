@@ -9,7 +9,11 @@ use Rattle.synic_board.proofs.keeping.Settled.{settled}
 use Rattle.synic_board.proofs.board.Board.store.Goals as goal
 
 pub invariant_of-self : goal.invariant_of-self
-invariant_of-self c = (sound _ _ _ _ _ tt c.perform_store.ensures.step c.self.invariant.0, buffered _ _ _ _ _ c.perform_store.ensures.step c.self.invariant.1, settled _ _ _ _ _ c.perform_store.ensures.step c.self.invariant.2)
+invariant_of-self c = (
+  sound _ _ _ _ _ tt c.perform_store.ensures.step c.self.invariant.0,
+  buffered _ _ _ _ _ c.perform_store.ensures.step c.self.invariant.1,
+  settled _ _ _ _ _ c.perform_store.ensures.step c.self.invariant.2,
+)
 
 pub returns-clause-performs : goal.returns-clause-performs
 returns-clause-performs c =

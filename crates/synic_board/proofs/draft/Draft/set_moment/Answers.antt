@@ -5,4 +5,5 @@ use Rattle.synic_board.proofs.Drafts.{draft-moment}
 use Rattle.synic_board.proofs.draft.Draft.set_moment.Goals as goal
 
 pub invariant_of-self : goal.invariant_of-self
-invariant_of-self c = subst (λ (s : State). IsDraft s c.self.inside.tickets.items) (sym c.restore_moment.ensures) (draft-moment c.self.inside.machine.state c.args.moment c.self.inside.tickets.items c.self.invariant)
+invariant_of-self c = subst (λ (s : State). IsDraft s c.self.inside.tickets.items) (sym c.restore_moment.ensures)
+    (draft-moment c.self.inside.machine.state c.args.moment c.self.inside.tickets.items c.self.invariant)

@@ -10,4 +10,5 @@ pub invariant_of-self : goal.invariant_of-self
 invariant_of-self c =
     let s = c.self.inside.machine.state in
     let tickets = c.self.inside.tickets.items in
-    subst (λ (s : State). IsDraft s tickets) (sym c.restore_own.ensures) (draft-own s c.args.vp c.args.kind c.args.at c.args.bytes.now tickets (omega (arith, ap processors c.self.view_is, c.requires.on)) c.requires.inside (subst (λ (s : State). HasNoTickets s c.args.vp) (sym c.self.view_is) c.requires.before) c.self.invariant)
+    subst (λ (s : State). IsDraft s tickets) (sym c.restore_own.ensures) (draft-own s c.args.vp c.args.kind c.args.at c.args.bytes.now tickets
+    (omega (arith, ap processors c.self.view_is, c.requires.on)) c.requires.inside (subst (λ (s : State). HasNoTickets s c.args.vp) (sym c.self.view_is) c.requires.before) c.self.invariant)

@@ -10,4 +10,5 @@ invariant_of-self c =
     let s = c.self.inside.machine.state in
     let tickets = c.self.inside.tickets.items in
     subst (λ (s : State). IsDraft s tickets) (sym c.restore_timer.ensures.restored)
-    (either (λ (s : State). IsDraft s tickets) c.restore_timer.result _ _ (λ _. draft-timer s c.args.timer _ tickets (omega (arith, ap processors c.self.view_is, c.requires)) (omega arith) c.self.invariant) (λ _. c.self.invariant))
+    (either (λ (s : State). IsDraft s tickets) c.restore_timer.result _ _
+    (λ _. draft-timer s c.args.timer _ tickets (omega (arith, ap processors c.self.view_is, c.requires)) (omega arith) c.self.invariant) (λ _. c.self.invariant))

@@ -11,4 +11,5 @@ invariant_of-self c =
     let b = c.self.inside in
     let on = ap (λ (h : BoardModel). processors h.state) c.self.view_is in
     let idle = idle-reset b.timers c.args.vp (length b.lapics.items) (omega (arith, on, c.requires)) c.self.invariant.idle in
-    kept-timers b c.reset.new.self c.earliest.result c.write.new.self c.self.invariant (λ k high. ap (λ (x : Bank). get_or (dues x) k None) c.reset.ensures ∙ idle k high) c.earliest.ensures c.write.ensures
+    kept-timers b c.reset.new.self c.earliest.result c.write.new.self c.self.invariant
+    (λ k high. ap (λ (x : Bank). get_or (dues x) k None) c.reset.ensures ∙ idle k high) c.earliest.ensures c.write.ensures

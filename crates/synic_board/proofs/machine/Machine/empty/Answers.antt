@@ -21,7 +21,13 @@ empty_slot-requires-clause-on c =
 pub empty_slot-requires-clause-room : goal.empty_slot-requires-clause-room
 empty_slot-requires-clause-room c =
     let e : Effect = emptied_below c.args.self.now.state c.args.vp c.loop-number.number in
-    omega (arith, ap (λ (x : Effect). length x.1) c.loop-number.invariant.so_far.effect, length-append c.args.notices.now e.1, ap length c.requires.none, slot-fits c.args.self.now.state c.args.vp c.loop-number.number c.loop-number-test.true c.loop-number.invariant.in_all)
+    omega (
+      arith,
+      ap (λ (x : Effect). length x.1) c.loop-number.invariant.so_far.effect,
+      length-append c.args.notices.now e.1,
+      ap length c.requires.none,
+      slot-fits c.args.self.now.state c.args.vp c.loop-number.number c.loop-number-test.true c.loop-number.invariant.in_all,
+    )
 
 pub empty_queue-requires-clause-on : goal.empty_queue-requires-clause-on
 empty_queue-requires-clause-on c =
@@ -66,7 +72,8 @@ loop-number-preserved c =
     record {
       bound = omega (arith, c.loop-number-test.true);
       so_far = record {
-        effect = emptied_more s c.loop-number.self.state c.empty_slot.new.self.state c.empty_queue.new.self.state c.args.vp n v c.args.notices.now c.loop-number.notices c.empty_slot.new.notices c.empty_queue.new.notices
+        effect = emptied_more s c.loop-number.self.state c.empty_slot.new.self.state c.empty_queue.new.self.state c.args.vp n v c.args.notices.now c.loop-number.notices
+            c.empty_slot.new.notices c.empty_queue.new.notices
             c.loop-number.invariant.so_far.effect (numbered _ v n c.unwrap-sint.ensures c.new.ensures.value) c.empty_slot.ensures.effect c.empty_queue.ensures.effect.effect;
         writes_monotone = omega (arith, c.loop-number.invariant.so_far.writes_monotone, c.empty_slot.ensures.writes, c.empty_queue.ensures.effect.writes_monotone);
         bound = omega (arith, c.loop-number.invariant.so_far.bound, c.empty_slot.ensures.writes, c.empty_queue.ensures.effect.bound, more, longer);

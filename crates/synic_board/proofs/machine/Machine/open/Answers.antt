@@ -31,7 +31,8 @@ invariant_of-result c =
     let summary = c.in_ok-summary.ensures {u = tt} in
     let queues = c.in_ok-queues.ensures {u = tt} in
     let slots = c.in_ok-slots.ensures {u = tt} in
-    let state = state-opened n pages c.args.first_ticket c.in_ok-lapics.lapics.items c.in_ok-regs.regs.items c.in_ok-space.space c.new-ports.result c.in_ok-queues.queues c.in_ok-slots.slots.items c.new-timers.result lapics regs space c.new-ports.ensures queues slots c.new-timers.ensures in
+    let state = state-opened n pages c.args.first_ticket c.in_ok-lapics.lapics.items c.in_ok-regs.regs.items c.in_ok-space.space c.new-ports.result c.in_ok-queues.queues
+    c.in_ok-slots.slots.items c.new-timers.result lapics regs space c.new-ports.ensures queues slots c.new-timers.ensures in
     record {
       processor_bound = omega (arith, c.requires.processor_bound, ap length lapics, length-replicate n empty_apic);
       registers = ap length regs ∙ length-replicate n reset_regs ∙ sym (ap length lapics ∙ length-replicate n empty_apic);
@@ -48,5 +49,6 @@ invariant_of-result c =
 
 pub returns-clause-opened : goal.returns-clause-opened
 returns-clause-opened c =
-    state-opened c.args.processors c.args.pages c.args.first_ticket c.in_ok-lapics.lapics.items c.in_ok-regs.regs.items c.in_ok-space.space c.new-ports.result c.in_ok-queues.queues c.in_ok-slots.slots.items c.new-timers.result
+    state-opened c.args.processors c.args.pages c.args.first_ticket c.in_ok-lapics.lapics.items c.in_ok-regs.regs.items c.in_ok-space.space c.new-ports.result
+    c.in_ok-queues.queues c.in_ok-slots.slots.items c.new-timers.result
     (lapics-opened c) (regs-opened c) (c.in_ok-space.ensures {u = tt}) c.new-ports.ensures (c.in_ok-queues.ensures {u = tt}) (c.in_ok-slots.ensures {u = tt}) c.new-timers.ensures

@@ -13,4 +13,5 @@ invariant_of-self c =
     let first = kept-lapic b c.number.result c.args.vp c.mark_lapic.new.lapic c.next-next.result c.write.new.self c.self.invariant c.number.ensures.value c.next-next.ensures c.write.ensures in
     let idle = idle-marked b.timers c.args.vp (length b.lapics.items) c.args.suspended (omega (arith, on, c.requires)) c.self.invariant.idle in
     kept-timers _ c.mark_timers.new.timers c.earliest.result c.write-2.new.self first
-    (λ k high. ap (λ (x : Bank). get_or (dues x) k None) c.mark_timers.ensures ∙ idle k (omega (arith, length-set b.lapics.items c.number.result c.mark_lapic.new.lapic, high))) c.earliest.ensures c.write-2.ensures
+    (λ k high. ap (λ (x : Bank). get_or (dues x) k None) c.mark_timers.ensures
+    ∙ idle k (omega (arith, length-set b.lapics.items c.number.result c.mark_lapic.new.lapic, high))) c.earliest.ensures c.write-2.ensures

@@ -30,7 +30,8 @@ invariant_of-self c =
     let was = c.index_mut-regs.ensures.value ∙ get_or_default rs c.number.result c.index_mut-regs.result.now reset_regs within in
     let moved = c.set_overlay.ensures ∙ ap (λ p. record c.self.inside.space { registers = slice_set c.self.inside.space.registers (overlay_of p c.args.kind) c.args.value }) (sym same) in
     let now = c.write.ensures.after ∙ ap (λ r. after_write c.index_mut-regs.result.now r c.args.value) c.overlay_register-2.ensures in
-    let tied = overlay-tied c.self.inside.space c.set_overlay.new.self rs c.number.result c.args.value c.args.kind c.index_mut-regs.result.now c.write.new.self within c.self.invariant.overlays was now moved in
+    let tied = overlay-tied c.self.inside.space c.set_overlay.new.self rs c.number.result c.args.value c.args.kind c.index_mut-regs.result.now c.write.new.self within
+    c.self.invariant.overlays was now moved in
     record {
       processor_bound = c.self.invariant.processor_bound;
       registers = length-set rs c.number.result c.write.new.self ∙ c.self.invariant.registers;
@@ -42,10 +43,14 @@ invariant_of-self c =
       queues = c.self.invariant.queues;
       slots = c.self.invariant.slots;
       idle = c.self.invariant.idle;
-      summary = summary_of-moved c.self.inside.space c.set_overlay.new.self rs c.number.result (overlay_of c.number.result c.args.kind) c.read-before.result c.args.value c.write.new.self (map next c.self.inside.lapics.items) (map length c.self.inside.queues) (least (dues c.self.inside.timers))
+      summary = summary_of-moved c.self.inside.space c.set_overlay.new.self rs c.number.result
+          (overlay_of c.number.result c.args.kind) c.read-before.result c.args.value c.write.new.self (map next c.self.inside.lapics.items) (map length c.self.inside.queues)
+          (least (dues c.self.inside.timers))
           c.self.inside.summary.values c.look_up.new.summary.values c.look_up-2.new.summary.values c.self.invariant.overlays moved
-          (ap (λ rs. slice_index_or rs (overlay_of c.number.result c.args.kind) 0) c.self.invariant.overlays ∙ overlay-read rs c.number.result c.args.kind within ∙ sym (c.read-before.ensures ∙ (λ i. value_of (was i) (c.overlay_register.ensures i))))
-          tied (ap auto_vectors (now ∙ ap (λ (r : Regs). after_write r (overlay_register c.args.kind) c.args.value) was) ∙ overlay-auto (get_or rs c.number.result reset_regs) c.args.kind c.args.value) c.self.invariant.summary c.look_up.ensures.values c.look_up-2.ensures.values;
+          (ap (λ rs. slice_index_or rs (overlay_of c.number.result c.args.kind) 0) c.self.invariant.overlays ∙ overlay-read rs c.number.result c.args.kind within
+          ∙ sym (c.read-before.ensures ∙ (λ i. value_of (was i) (c.overlay_register.ensures i))))
+          tied (ap auto_vectors (now ∙ ap (λ (r : Regs). after_write r (overlay_register c.args.kind) c.args.value) was)
+          ∙ overlay-auto (get_or rs c.number.result reset_regs) c.args.kind c.args.value) c.self.invariant.summary c.look_up.ensures.values c.look_up-2.ensures.values;
     }
 
 pub read-before-requires : goal.read-before-requires

@@ -28,6 +28,8 @@ invariant_of-self-2 c =
       queues = c.self.invariant.queues;
       slots = c.self.invariant.slots;
       idle = c.self.invariant.idle;
-      summary = summary_of-source c.self.inside.space.pages c.self.inside.space.own rs c.number.result c.args.vp c.write.new.self c.copy-auto.result (map next c.self.inside.lapics.items) (map length c.self.inside.queues) (least (dues c.self.inside.timers))
-          c.self.inside.summary.values c.write-2.new.self.values within sim sief c.number.ensures.value (c.copy-auto.ensures ∙ c.auto_set.ensures) c.self.invariant.summary (ap (λ (k : StoredSummary). k.values) c.write-2.ensures);
+      summary = summary_of-source c.self.inside.space.pages c.self.inside.space.own rs c.number.result c.args.vp c.write.new.self c.copy-auto.result
+          (map next c.self.inside.lapics.items) (map length c.self.inside.queues) (least (dues c.self.inside.timers))
+          c.self.inside.summary.values c.write-2.new.self.values within sim sief c.number.ensures.value
+          (c.copy-auto.ensures ∙ c.auto_set.ensures) c.self.invariant.summary (ap (λ (k : StoredSummary). k.values) c.write-2.ensures);
     }

@@ -18,5 +18,6 @@ returns c =
     let word = c.from.ensures ∙ ap (λ p. get_or c.self.inside.waiting p 0) c.number.ensures.value in
     let left = ap (λ w. w / 2 ^ c.args.from) word in
     let small : get_or c.self.inside.waiting c.args.vp 0 < 2 ^ 32 = omega (arith, word, c.from.type_inv) in
-    let next = next-bit w32 32 (get_or c.self.inside.waiting c.args.vp 0) (c.from.result / 2 ^ c.args.from) c.args.from small left (omega (arith, c.if-left-eq0.false)) (omega (arith, c.from.type_inv, div-le_self c.from.result (2 ^ c.args.from))) in
+    let next = next-bit w32 32 (get_or c.self.inside.waiting c.args.vp 0) (c.from.result / 2 ^ c.args.from) c.args.from small left (omega (arith, c.if-left-eq0.false))
+    (omega (arith, c.from.type_inv, div-le_self c.from.result (2 ^ c.args.from))) in
     first-waits c.args.self.now.values.queued c.self.inside.waiting c.args.vp c.args.from _ c.new.result are (omega (arith, c.number.ensures)) next c.new.ensures.valid c.new.ensures.value

@@ -6,7 +6,8 @@ use Rattle.synic_board.proofs.timer_set.TimerSet.remove.Goals as goal
 
 pub returns-clause-removed : goal.returns-clause-removed
 returns-clause-removed c =
-    ap (λ k. bit_at (bit_and c.args.self.now.word (4294967295 - 1 * 2 ^ c.number.result % 4294967296)) k) (sym c.number.ensures.value) ∙ bit_at_clear_same w32 c.args.self.now.word c.number.result c.number.ensures.range
+    ap (λ k. bit_at (bit_and c.args.self.now.word (4294967295 - 1 * 2 ^ c.number.result % 4294967296)) k) (sym c.number.ensures.value)
+    ∙ bit_at_clear_same w32 c.args.self.now.word c.number.result c.number.ensures.range
 
 pub returns-clause-others : goal.returns-clause-others
 returns-clause-others c n low other = bit_at_clear_other w32 c.args.self.now.word c.number.result c.number.ensures.range n low (λ same. other (same ∙ c.number.ensures.value))

@@ -18,7 +18,8 @@ returns-then-near-gt-LONGEST c =
     let i = c.self.inside in
     let value = c.deref.ensures.value in
     let waiting = ap (λ h. h.waiting) c.self.view_is in
-    let found = rw waiting at (near-long i.bytes.items i.at i.end c.min.result c.self.invariant.2 (rw value at c.min.ensures) (rw value at c.in_default.ensures) (rw value at c.if-near-gt-LONGEST.true)) in
+    let found = rw waiting at
+    (near-long i.bytes.items i.at i.end c.min.result c.self.invariant.2 (rw value at c.min.ensures) (rw value at c.in_default.ensures) (rw value at c.if-near-gt-LONGEST.true)) in
     let bound = take_short (i.end - i.at) (drop i.at i.bytes.items) in
     (found.0, found.1, omega (arith, bound, ap length waiting, c.self.invariant.3), refl)
 
@@ -27,5 +28,6 @@ returns c =
     let i = c.self.inside in
     let value = c.deref.ensures.value in
     let waiting = ap (λ h. h.waiting) c.self.view_is in
-    let found = rw waiting at (near-all i.bytes.items i.at i.end c.min.result c.self.invariant.2 (rw value at c.min.ensures) (rw value at c.in_default.ensures) (rw value at c.if-near-gt-LONGEST.false)) in
+    let found = rw waiting at
+    (near-all i.bytes.items i.at i.end c.min.result c.self.invariant.2 (rw value at c.min.ensures) (rw value at c.in_default.ensures) (rw value at c.if-near-gt-LONGEST.false)) in
     (found.0, found.1, refl)

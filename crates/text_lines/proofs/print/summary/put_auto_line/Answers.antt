@@ -8,7 +8,8 @@ use Rattle.text_lines.proofs.print.summary.put_auto_line.Goals as goal
 pub loop-above-preserved : goal.loop-above-preserved
 loop-above-preserved c =
     let auto = slice_index_or c.args.summary.now.values.autos c.args.vp set.empty in
-    auto-step c.args.vp c.loop-above.above auto c.loop-above.any _ c.args.out.now.items c.loop-above.out.items c.put_if_auto.new.out.items c.loop-above.invariant.0 c.loop-above.invariant.1 c.in_ok-any.ensures.begun c.in_ok-any.ensures.written
+    auto-step c.args.vp c.loop-above.above auto c.loop-above.any _ c.args.out.now.items c.loop-above.out.items c.put_if_auto.new.out.items c.loop-above.invariant.0
+    c.loop-above.invariant.1 c.in_ok-any.ensures.begun c.in_ok-any.ensures.written
 
 pub returns-in_ok-put : goal.returns-in_ok-put
 returns-in_ok-put c =

@@ -9,7 +9,8 @@ pub returns-clause-climbing : goal.returns-clause-climbing
 returns-clause-climbing c =
     let t = c.args.self.now in
     let rest : ℕ = node t (bit_xor c.args.child 1) in
-    let choice : c.if-is_before.least ≡ (if c.is_before.result then rest else c.args.first) = elim c.if-is_before.branch as (λ _. c.if-is_before.least ≡ (if c.is_before.result then node c.args.self.now (bit_xor c.args.child 1) else c.args.first)) [
+    let choice : c.if-is_before.least ≡ (if c.is_before.result then rest else c.args.first) = elim c.if-is_before.branch as
+    (λ _. c.if-is_before.least ≡ (if c.is_before.result then node c.args.self.now (bit_xor c.args.child 1) else c.args.first)) [
       | then-is_before w ↦ w.least-is ∙ sym (ap (λ b. if b then rest else c.args.first) w.if-is_before.true)
       | else-is_before w ↦ w.least-is ∙ sym (ap (λ b. if b then rest else c.args.first) w.if-is_before.false)
     ] in

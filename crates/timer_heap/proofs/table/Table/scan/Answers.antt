@@ -22,7 +22,8 @@ loop-number-preserved c =
     let here : get_or m n None ≡ c.due.result = dues_at c.args.self.now n c.loop-number-test.true ∙ sym c.due.ensures in
     let next = λ (o : Option ℕ). option_map_or (λ d. Some (earlier (least_below m n) (d, n))) o (least_below m n) in
     elim c.match-due.branch as (λ _. c.match-due.first ≡ least_below (dues c.args.self.now) (c.loop-number.number + 1)) [
-      | in-Some w ↦ w.first-is ∙ ap Some w.earlier.ensures ∙ ap (λ (o : Option (ℕ × ℕ)). Some (earlier o (w.in-Some.due, n))) c.loop-number.invariant ∙ sym (least-more m n ∙ ap next (here ∙ w.in-Some.is))
+      | in-Some w ↦ w.first-is ∙ ap Some w.earlier.ensures ∙ ap (λ (o : Option (ℕ × ℕ)). Some (earlier o (w.in-Some.due, n))) c.loop-number.invariant
+          ∙ sym (least-more m n ∙ ap next (here ∙ w.in-Some.is))
       | in_default w ↦ w.first-is ∙ c.loop-number.invariant ∙ sym (least-more m n ∙ ap next (here ∙ w.in_default.is))
     ]
 
@@ -30,7 +31,8 @@ all-scanned : (m : Dues) (k : ℕ) (o : Option (ℕ × ℕ)) → 32 ≤ k → k 
 all-scanned m k o a b e = let all : k ≡ 32 = omega arith in ap (option_map {U = ℕ} (λ (r : ℕ × ℕ). r.1)) (e ∙ ap (least_below m) all)
 
 pub returns-in-Some-first : goal.returns-in-Some-first
-returns-in-Some-first c = all-scanned (dues c.args.self.now) c.loop-number.number (Some (c.in-Some-first.field-0-0, c.in-Some-first.number)) (omega arith) (omega arith) (sym c.in-Some-first.is ∙ c.loop-number.invariant)
+returns-in-Some-first c = all-scanned (dues c.args.self.now) c.loop-number.number (Some (c.in-Some-first.field-0-0, c.in-Some-first.number)) (omega arith) (omega arith)
+    (sym c.in-Some-first.is ∙ c.loop-number.invariant)
 
 pub returns-in-None : goal.returns-in-None
 returns-in-None c = all-scanned (dues c.args.self.now) c.loop-number.number None (omega arith) (omega arith) (sym c.in-None.is ∙ c.loop-number.invariant)
