@@ -7,7 +7,7 @@ use Rattle.std.proofs.lemmas.List.Elements.{All-head, All-tail}
 use Rattle.std.proofs.lemmas.List.Sorted.{sum_by-IsPermutation, IsPermutation-reverse}
 use Rattle.std.proofs.lemmas.List.Sums.{sum_by-append, sum_by-cons}
 use Rattle.synic_board.specs.declared.event.Event.{Event}
-use Rattle.synic_board.specs.declared.event.Event.TheVariants.{OpenPort, ClosePort, Write, Read, Post, Signal, Assert, Absorb, Store, Load, Tick, Take, Suspend, Resume, Reset}
+use Rattle.synic_board.specs.declared.event.Event.TheVariants.{Absorb}
 use Rattle.synic_board.specs.declared.event.Reply.{Reply}
 use Rattle.synic_board.specs.declared.history.Entry.{Entry}
 use Rattle.posted_words.specs.declared.rule.Action.{Action}
@@ -25,24 +25,11 @@ use Rattle.board_threads.proofs.Counting.{counted, sum-map}
 
 -- a call sweeps nothing, or a word
 one-sweep : (P : List Action → Type 0) (e : Event) (r : Reply) → P [] → ((w n : ℕ) → P (Sweep w n ∷ [])) → P (sweep_in e r)
-one-sweep P (OpenPort port p i shape) r none some = none
-one-sweep P (ClosePort port) r none some = none
-one-sweep P (Write p number value) r none some = none
-one-sweep P (Read p number) r none some = none
-one-sweep P (Post port kind payload) r none some = none
-one-sweep P (Signal port flag) r none some = none
-one-sweep P (Assert p v) r none some = none
 one-sweep P (Absorb p part bits) r none some = elim (is_refusal r) as (λ b. P (if b then [] else sweep_of p part bits ∷ [])) [
   | true ↦ none
   | false ↦ some _ bits
 ]
-one-sweep P (Store address bytes) r none some = none
-one-sweep P (Load address count) r none some = none
-one-sweep P (Tick moment) r none some = none
-one-sweep P (Take p) r none some = none
-one-sweep P (Suspend p) r none some = none
-one-sweep P (Resume p) r none some = none
-one-sweep P (Reset p) r none some = none
+one-sweep P e r none some = none
 
 abbrev swept : Call → List Action
 swept c = sweep_in c.0 c.1

@@ -9,7 +9,7 @@ use Rattle.synic_board.specs.Effects.{Effect, answered, refused}
 use Rattle.synic_board.specs.Absorbing.{absorbed_below}
 use Rattle.synic_board.specs.Step.{step}
 use Rattle.synic_board.specs.declared.event.Event.{Event}
-use Rattle.synic_board.specs.declared.event.Event.TheVariants.{OpenPort, ClosePort, Write, Read, Post, Signal, Assert, Absorb, Store, Load, Tick, Take, Suspend, Resume, Reset}
+use Rattle.synic_board.specs.declared.event.Event.TheVariants.{Absorb}
 use Rattle.synic_board.specs.declared.event.Reply.{Reply}
 use Rattle.synic_board.specs.declared.event.Reply.TheVariants.{Done}
 use Rattle.posted_words.specs.declared.rule.Action.{Action}
@@ -22,21 +22,8 @@ sweeps-push calls e r = ap (flat_map (λ (c : Call). sweep_in c.0 c.1)) (reverse
 
 -- an event other than an absorb sweeps nothing
 none-swept : (e : Event) (r : Reply) → is_absorb e ≡ false → sweep_in e r ≡ []
-none-swept (OpenPort port p i shape) r h = refl
-none-swept (ClosePort port) r h = refl
-none-swept (Write p number value) r h = refl
-none-swept (Read p number) r h = refl
-none-swept (Post port kind payload) r h = refl
-none-swept (Signal port flag) r h = refl
-none-swept (Assert p v) r h = refl
 none-swept (Absorb p part bits) r h = absurd (cc)
-none-swept (Store address bytes) r h = refl
-none-swept (Load address count) r h = refl
-none-swept (Tick moment) r h = refl
-none-swept (Take p) r h = refl
-none-swept (Suspend p) r h = refl
-none-swept (Resume p) r h = refl
-none-swept (Reset p) r h = refl
+none-swept e r h = refl
 
 pub perform-pushes : (old new : List Call) (e : Event) (r : Reply) (actions : List Action) → actions ≡ sweeps_of old → is_absorb e ≡ false → new ≡ old ++ (e, r) ∷ [] → actions ≡ sweeps_of new
 perform-pushes old new e r actions was other is = was ∙ sym (ap (λ ds. ds ++ sweeps_of old) (none-swept e r other)) ∙ sym (sweeps-push old e r) ∙ ap sweeps_of (sym is)

@@ -19,7 +19,7 @@ use Rattle.message_queues.specs.Queues.{queue_of, withdrawn_of}
 use Rattle.gpa_space.specs.Page.{is_set, with_bit, flag_place}
 use Rattle.gpa_space.specs.Space.{is_pending, is_flag_set, own_page}
 use Rattle.synic_board.specs.declared.event.Event.{Event}
-use Rattle.synic_board.specs.declared.event.Event.TheVariants.{OpenPort, ClosePort, Write, Read, Post, Signal, Assert, Absorb, Store, Load, Tick, Take, Suspend, Resume, Reset}
+use Rattle.synic_board.specs.declared.event.Event.TheVariants.{Write, Read, Signal, Store, Load, Reset}
 use Rattle.synic_board.specs.declared.event.Reply.{Reply}
 use Rattle.synic_board.specs.declared.event.Reply.TheVariants as replies
 use Rattle.synic_board.specs.State.{State, processors, apic_of, with_apic, regs_of, space_of, ports_of}
@@ -105,21 +105,8 @@ faults : (s : State) (event : Event) → IsFlagged s event (unchanged s replies.
 faults s event = silent s event (unchanged s replies.GeneralProtection) (λ _ _ _. refl) (λ p i flag. refusing (signals_flag s p i flag event) (not (is_flag_set (space_of s) p i flag)))
 
 no-signal : (s : State) (p i flag : ℕ) (event : Event) → IsNoSignal event → signals_flag s p i flag event ≡ false
-no-signal s p i flag (OpenPort port q j shape) is = refl
-no-signal s p i flag (ClosePort port) is = refl
-no-signal s p i flag (Write q number value) is = refl
-no-signal s p i flag (Read q number) is = refl
-no-signal s p i flag (Post port kind payload) is = refl
 no-signal s p i flag (Signal port number) is = absurd is
-no-signal s p i flag (Assert q v) is = refl
-no-signal s p i flag (Absorb q part bits) is = refl
-no-signal s p i flag (Store address bytes) is = refl
-no-signal s p i flag (Load address count) is = refl
-no-signal s p i flag (Tick moment) is = refl
-no-signal s p i flag (Take q) is = refl
-no-signal s p i flag (Suspend q) is = refl
-no-signal s p i flag (Resume q) is = refl
-no-signal s p i flag (Reset q) is = refl
+no-signal s p i flag event is = refl
 
 -- the effect of an event that is no signal
 other : (s : State) (event : Event) (reply : Reply) (e : Effect) → IsNoSignal event → TellNone e.1 → IsFlagged s event (answered reply e)

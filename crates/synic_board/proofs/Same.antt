@@ -6,7 +6,7 @@ use Rattle.std.specs.contracts.prelude.U8PartialEq.TheImpl.{ghosts as byte}
 use Rattle.arrayvec.specs.ArrayVec.{ArrayVec}
 use Rattle.synic_board.specs.contracts.event.EventPartialEq.TheImpl.{ghosts}
 use Rattle.synic_board.specs.declared.event.Event.{Event}
-use Rattle.synic_board.specs.declared.event.Event.TheVariants.{OpenPort, ClosePort, Write, Read, Post, Signal, Assert, Absorb, Store, Load, Tick, Take, Suspend, Resume, Reset}
+use Rattle.synic_board.specs.declared.event.Event.TheVariants.{Post, Store}
 
 same-bytes : (xs ys : ArrayVec ℕ) → pointwise byte.eq xs.items ys.items ≡ true → xs ≡ ys
 same-bytes xs ys e = ap (λ (l : List ℕ). record { items = l }) (same_text xs.items ys.items (sym e))
@@ -34,18 +34,6 @@ same-store address bytes event e =
     ap (Store address) (same-bytes bytes (bytes_in event) (last-holds _ _ holds)) ∙ sym is
 
 pub same-event : (event other : Event) → ghosts.eq event other ≡ true → event ≡ other
-same-event (OpenPort port p i shape) other e = grind (arith, nat_tests)
-same-event (ClosePort port) other e = grind (arith, nat_tests)
-same-event (Write p number value) other e = grind (arith, nat_tests)
-same-event (Read p number) other e = grind (arith, nat_tests)
 same-event (Post port kind payload) other e = same-post port kind payload other e
-same-event (Signal port flag) other e = grind (arith, nat_tests)
-same-event (Assert p v) other e = grind (arith, nat_tests)
-same-event (Absorb p part bits) other e = grind (arith, nat_tests)
 same-event (Store address bytes) other e = same-store address bytes other e
-same-event (Load address count) other e = grind (arith, nat_tests)
-same-event (Tick moment) other e = grind (arith, nat_tests)
-same-event (Take p) other e = grind (arith, nat_tests)
-same-event (Suspend p) other e = grind (arith, nat_tests)
-same-event (Resume p) other e = grind (arith, nat_tests)
-same-event (Reset p) other e = grind (arith, nat_tests)
+same-event event other e = grind (arith, nat_tests)

@@ -116,22 +116,10 @@ other-kept n s e other fits h = messages-kept n s ((step s e).0, (step s e).2) (
 pub keeps-step : (n : ℕ) (s : State) (e : Event) → PayloadFits e → IsIntact n s → KeepsMessagesOf n s (step s e)
 unfolding step
 keeps-step n s (Store address bytes) fits h = keeps-stored_bytes n s address bytes.items h
-keeps-step n s (OpenPort port p i shape) fits h = other-kept n s (OpenPort port p i shape) tt fits h
-keeps-step n s (ClosePort port) fits h = other-kept n s (ClosePort port) tt fits h
-keeps-step n s (Write p number value) fits h = other-kept n s (Write p number value) tt fits h
-keeps-step n s (Read p number) fits h = other-kept n s (Read p number) tt fits h
-keeps-step n s (Post port kind payload) fits h = other-kept n s (Post port kind payload) tt fits h
-keeps-step n s (Signal port flag) fits h = other-kept n s (Signal port flag) tt fits h
-keeps-step n s (Assert p v) fits h = other-kept n s (Assert p v) tt fits h
-keeps-step n s (Absorb p part bits) fits h = other-kept n s (Absorb p part bits) tt fits h
-keeps-step n s (Load address count) fits h = other-kept n s (Load address count) tt fits h
-keeps-step n s (Tick moment) fits h = other-kept n s (Tick moment) tt fits h
-keeps-step n s (Take p) fits h = other-kept n s (Take p) tt fits h
-keeps-step n s (Suspend p) fits h = other-kept n s (Suspend p) tt fits h
-keeps-step n s (Resume p) fits h = other-kept n s (Resume p) tt fits h
 keeps-step n s (Reset p) fits h =
     either (KeepsMessagesOf n s) (nat_lt p (processors s)) (reset s p) (unchanged s (Refused NoSuchProcessor)) (λ on. keeps-reset n s p h (let c = h.count in grind (arith, nat_tests)))
     (λ _. messages-kept n s (s, []) (keeps-unchanged n s (Refused NoSuchProcessor) h))
+keeps-step n s e fits h = other-kept n s e tt fits h
 
 -- each accepted message stays in one place, or ends once
 pub conserves : (s now : State) (e : Event) (reply : Reply) (notices : List Notice) → PayloadFits e → (now, reply, notices) ≡ step s e → IsSound s → Conserves s now notices
@@ -156,22 +144,10 @@ slot-left s e p i sound fits apart below under full = by e fits apart
     left e other fits = (keeps-other (processors s) s e other fits (kept_from_sound s sound)).leaves p i below under full
 
     by : (e : Event) → PayloadFits e → IsApart p e → LeavesSlot s (step s e).0 p i
-    by (OpenPort port q j shape) fits apart = left (OpenPort port q j shape) tt fits
-    by (ClosePort port) fits apart = left (ClosePort port) tt fits
-    by (Write q number value) fits apart = left (Write q number value) tt fits
-    by (Read q number) fits apart = left (Read q number) tt fits
-    by (Post port kind payload) fits apart = left (Post port kind payload) tt fits
-    by (Signal port flag) fits apart = left (Signal port flag) tt fits
-    by (Assert q v) fits apart = left (Assert q v) tt fits
-    by (Absorb q part bits) fits apart = left (Absorb q part bits) tt fits
     by (Store address bytes) fits apart = absurd apart
-    by (Load address count) fits apart = left (Load address count) tt fits
-    by (Tick moment) fits apart = left (Tick moment) tt fits
-    by (Take q) fits apart = left (Take q) tt fits
-    by (Suspend q) fits apart = left (Suspend q) tt fits
-    by (Resume q) fits apart = left (Resume q) tt fits
     by (Reset q) fits apart = either (λ (o : Outcome). LeavesSlot s o.0 p i) (nat_lt q (processors s)) (reset s q) (unchanged s (Refused NoSuchProcessor))
         (λ _. leaves-reset s q p i (λ e. apart (sym e)) under) (λ _. leaves-page s s p i refl refl)
+    by e fits apart = left e tt fits
 
 pub ticket-left : (s : State) (e : Event) (p i ticket : ℕ) → IsSound s → PayloadFits e → IsApart p e → p < processors s → i < 16 → slot_of s p i ≡ Some ticket → LeavesSlot s (step s e).0 p i
 ticket-left s e p i ticket sound fits other below under held = slot-left s e p i sound fits other below under (by (is_slot_empty s p i) refl)
