@@ -68,7 +68,7 @@ def closed_streams(binary):
     """Standard input or standard output is not an open file."""
     complaints = []
     for closed, stderr in (("<&-", b"synicboard: read failed\n"), (">&-", b"synicboard: write failed\n")):
-        for subcommand in ("replay", "check", "crew"):
+        for subcommand in ("replay", "save", "check", "crew"):
             ended = subprocess.run(["sh", "-c", 'exec "$0" "$1" ' + closed, binary, subcommand], input=b"",
                                    stderr=subprocess.PIPE, timeout=SECONDS)
             if (ended.returncode, ended.stderr) != (5, stderr):

@@ -20,7 +20,7 @@ use Rattle.board_script.specs.declared.stream.ReplayEnd.TheVariants.{Done, Scrip
 use Rattle.board_script.proofs.ScriptLemmas.{output_from-line, first_fault-line, output_from-bad, first_fault-bad}
 
 -- The fault that a drive found, given whether the board is open.
-abbrev FaultAt : End ScriptFault → Bool → Option (ℕ × ScriptFault) → Type 0
+abbrev pub FaultAt : End ScriptFault → Bool → Option (ℕ × ScriptFault) → Type 0
 FaultAt (ends.Last line) opened fault = cond opened None (Some (line, faults.First)) ≡ fault
 FaultAt (ends.Wrong line f) opened fault = Some (line, f) ≡ fault
 FaultAt (ends.Long line) opened fault = Some (line, faults.Long) ≡ fault
@@ -47,10 +47,10 @@ record Answered (old new : Machine) (k j : ℕ) (lines left : List (List ℕ)) (
   pub fault : first_fault k (is_some old) (lines ++ left) rest ≡ first_fault j (is_some new) left rest
 
 module _ {J : Type 0} (seen : J → Machine) where
-  abbrev Good : J → List ℕ → List ℕ → J → Type 0
+  abbrev pub Good : J → List ℕ → List ℕ → J → Type 0
   Good old line answer new = IsAnswered (seen old) line answer (seen new)
 
-  abbrev Wrong : J → List ℕ → ScriptFault → Type 0
+  abbrev pub Wrong : J → List ℕ → ScriptFault → Type 0
   Wrong state line fault = IsFaulty (seen state) line fault
 
   answered : (old new : J) (lines left : List (List ℕ)) (answers rest : List ℕ) (k j : ℕ) → j ≡ k + length lines → Follows Good old lines answers new →
@@ -80,10 +80,10 @@ some-written None w0 w1 answers fault P known h writes = tt
 some-written (Some input) w0 w1 answers fault P known h writes = let k = known input h in (k.1, rw (k.0, k.1) writes)
 
 module _ {J : Type 0} (seen : J → Machine) (old new : J) (start : seen old ≡ None) where
-  abbrev Ended : End ScriptFault → List ℕ → List ℕ → Type 0
+  abbrev pub Ended : End ScriptFault → List ℕ → List ℕ → Type 0
   Ended end answers text = Stops (Good seen) (Wrong seen) end old new answers text
 
-  abbrev Driven : End ScriptFault → Option (List ℕ) → Option (List ℕ) → Option (List ℕ) → Option (List ℕ) → Type 0
+  abbrev pub Driven : End ScriptFault → Option (List ℕ) → Option (List ℕ) → Option (List ℕ) → Option (List ℕ) → Type 0
   Driven end r0 r1 w0 w1 = Drives (Good seen) (Wrong seen) end old new r0 r1 w0 w1
 
   on-text : (end : End ScriptFault) (answers text : List ℕ) (h : Ended end answers text) →
@@ -99,7 +99,7 @@ module _ {J : Type 0} (seen : J → Machine) (old new : J) (start : seen old ≡
   known-by end answers text fault h left = let on = on-text end answers text h in (on.0 ∙ ap (λ (x : List ℕ). answers ++ x) left.0 ∙ append-nil answers, on.1 ∙ left.1)
 
   -- The answers that were sent are all there are, and the fault is the first.
-  known : (end : End ScriptFault) (fault : Option (ℕ × ScriptFault)) (answers text : List ℕ) → FaultAt end (is_some (seen new)) fault → Ended end answers text →
+  pub known : (end : End ScriptFault) (fault : Option (ℕ × ScriptFault)) (answers text : List ℕ) → FaultAt end (is_some (seen new)) fault → Ended end answers text →
       (output_of text ≡ answers) × (fault_of text ≡ fault)
   known (ends.Last line) fault answers text is h =
       let e = h.ends in

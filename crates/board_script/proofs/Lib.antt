@@ -1,3 +1,4 @@
 pub mod ScriptLemmas
 pub mod Judged
 pub mod Limits
+pub mod SaveLemmas

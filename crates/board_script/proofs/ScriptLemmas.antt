@@ -10,7 +10,7 @@ use Rattle.text_lines.specs.Reading.{Fields, none_left, parse_opening, opening_i
 use Rattle.text_lines.specs.Sizes.{are_sizes}
 use Rattle.text_lines.proofs.SizeLemmas.{sizes-are}
 use Rattle.board_script.specs.Script.{item_in, is_skipped, item_fault, line_fault, opens, good_items, first_fault}
-use Rattle.board_script.specs.Output.{Machine, answers, output_from}
+use Rattle.board_script.specs.Output.{Machine, answers, output_from, machine_from, machine_after_lines}
 use Rattle.text_base.specs.Fields.{fields_of}
 use Rattle.text_driver.specs.Judging.{Judges}
 use Rattle.text_driver.specs.declared.judge.Taken.{Taken}
@@ -44,6 +44,17 @@ output_from-line machine line lines e = rw (opens-after machine line e, e) (by_i
     rest = good_items (opens (is_some machine) line) lines
 
     by_item : (item : Option Item) → answers machine (cons_option item rest) ≡ answer_maybe machine item ++ answers (after_maybe machine item) rest
+    by_item None = refl
+    by_item (Some item) = refl
+
+pub machine-line : (machine : Machine) (line : List ℕ) (lines : List (List ℕ)) → line_fault (is_some machine) line ≡ None →
+    machine_after_lines machine (line ∷ lines) ≡ machine_after_lines (after_maybe machine (item_in line)) lines
+machine-line machine line lines e = rw (opens-after machine line e, e) (by_item (item_in line))
+  where
+    rest : List Item
+    rest = good_items (opens (is_some machine) line) lines
+
+    by_item : (item : Option Item) → machine_from machine (cons_option item rest) ≡ machine_from (after_maybe machine item) rest
     by_item None = refl
     by_item (Some item) = refl
 

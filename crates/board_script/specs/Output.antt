@@ -1,5 +1,6 @@
--- The output of a script: the machine's answers to its good lines, and then its first fault.
+-- The output of a script: the machine's answers to its good lines, and then its first fault. What is saved of it: the machine's image at the end.
 use Rattle.std.specs.Prelude.{ℕ, List, [], ◌∷◌, ◌++◌, map, Option, None, Some, is_some, false}
+use Rattle.std.specs.Option.{option_map_or}
 use Rattle.text_base.specs.Lines.{lines_of, rest_of}
 use Rattle.synic_board.specs.State.{State, opened}
 use Rattle.synic_board.specs.Summaries.{summary_of}
@@ -8,6 +9,7 @@ use Rattle.synic_board.specs.Step.{step}
 pub use Rattle.text_lines.specs.Faults.{fault_word, fault_line, fault_text}
 use Rattle.text_lines.specs.Items.{Item, Opening, Performs, Summary}
 use Rattle.text_lines.specs.Printing.{text_of, reply_fields, notice_fields, summary_lines}
+use Rattle.text_image.specs.Image.{image}
 use Rattle.board_script.specs.Script.{first_fault, good_items}
 use Rattle.text_lines.specs.declared.fault.ScriptFault.{ScriptFault}
 
@@ -52,3 +54,24 @@ fault_of input = first_fault 1 false (lines_of input) (rest_of input)
 -- the whole output
 abbrev pub text : List ℕ → List ℕ
 text input = output_of input ++ fault_text (fault_of input)
+
+-- the machine after a list of items
+abbrev pub machine_from : Machine → List Item → Machine
+machine_from machine [] = machine
+machine_from machine (item ∷ items) = machine_from (machine_after machine item) items
+
+-- and after whole lines, starting in a state
+abbrev pub machine_after_lines : Machine → List (List ℕ) → Machine
+machine_after_lines machine lines = machine_from machine (good_items (is_some machine) lines)
+
+-- the machine after the lines before the fault
+unfoldable pub machine_at_end : List ℕ → Machine
+machine_at_end input = machine_after_lines None (lines_of input)
+
+abbrev pub saved_of : Option (ℕ × ScriptFault) → Machine → List ℕ
+saved_of None machine = option_map_or image machine []
+saved_of (Some fault) machine = fault_text (Some fault)
+
+-- what is saved of a script: the image of its board at the end, or the fault's line
+abbrev pub saved_text : List ℕ → List ℕ
+saved_text input = saved_of (fault_of input) (machine_at_end input)

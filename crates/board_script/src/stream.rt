@@ -1,17 +1,18 @@
 // Replaying a script from a reader to a writer.
 ghost use Rattle.text_base.specs.Streams.{ReadsUpTo};
-ghost use Rattle.board_script.specs.Streams.{Replays, most_read, StopsNear};
-ghost use Rattle.board_script.specs.inside.Judging.{conclusion, Concludes, Finishes};
+ghost use Rattle.board_script.specs.Streams.{Replays, Saves, most_read, StopsNear};
+ghost use Rattle.board_script.specs.inside.Judging.{machine_of, conclusion, Concludes, Finishes, SavesEnd, SavesImage};
 
 use crate::judge::ScriptJudge;
 use board_terms::Notices;
 use std::alloc::Global;
-use std::io::{Read, Write};
-use synic_board::Event;
+use std::io::{self, Read, Write};
+use synic_board::{Board, Event};
 use text_driver::{End, close, drive};
+use text_image::{SaveEnd, save};
 use text_lines::{ScriptFault, put_fault};
 
-/// How a replay ends.
+/// How a replay or a save ends.
 #[derive(Clone, Copy, PartialEq, Eq, Debug)]
 pub enum ReplayEnd {
     /// The whole script was performed.
@@ -93,5 +94,58 @@ fn finish<W: Write>(
     match fault {
         Some((line, fault)) => ReplayEnd::Script { line, fault },
         None => ReplayEnd::Done,
+    }
+}
+
+/// Performs the script of the reader on a board of its own, and writes the image of the board at its
+/// end. If a line is wrong, writes only its fault. Nothing is written before the whole script is
+/// read, and the writer is flushed at the end.
+pub fn save_script<R: Read, W: Write>(alloc: Global, reader: &mut R, writer: &mut W) -> ReplayEnd
+    ensures text { Saves result (R.remaining reader.old) (R.remaining reader.new) (W.contents writer.old) (W.contents writer.new) }
+    ensures limit { ReadsUpTo (most_read result) (R.remaining reader.old) (R.remaining reader.new) }
+    ensures near { StopsNear result (R.remaining reader.old) (R.remaining reader.new) }
+{
+    let Ok(notices) = Notices::open(alloc) else {
+        return ReplayEnd::Memory;
+    };
+    let mut judge = ScriptJudge {
+        alloc,
+        board: None,
+        event: Event::Take { vp: 0 },
+        notices,
+    };
+    let mut out = Vec::new(alloc);
+    let end = drive(alloc, reader, &mut io::sink(), &mut judge, &mut out);
+    conclude_save(alloc, writer, &mut out, end, &judge.board)
+}
+
+/// Writes the image of the board, or the fault's line. It is separate from `save_script`, so that one
+/// owner drops everything.
+fn conclude_save<W: Write>(
+    alloc: Global,
+    writer: &mut W,
+    out: &mut Vec<u8>,
+    end: End<ScriptFault>,
+    board: &Option<Board>,
+) -> ReplayEnd
+    ensures { SavesEnd end (machine_of board.now) result (W.contents writer.old) (W.contents writer.new) }
+{
+    match end {
+        End::Last { .. } => match board {
+            Some(board) => save_board(alloc, writer, board),
+            None => conclude(writer, out, end, false),
+        },
+        _ => conclude(writer, out, end, false),
+    }
+}
+
+/// Writes the image of a board, and flushes.
+fn save_board<W: Write>(alloc: Global, writer: &mut W, board: &Board) -> ReplayEnd
+    ensures { SavesImage result board.now.state (W.contents writer.old) (W.contents writer.new) }
+{
+    match save(alloc, board, writer) {
+        SaveEnd::Done => ReplayEnd::Done,
+        SaveEnd::Memory => ReplayEnd::Memory,
+        SaveEnd::Writing => ReplayEnd::Writing,
     }
 }

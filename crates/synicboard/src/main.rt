@@ -1,8 +1,11 @@
-//! `synicboard`: reads a script of events and writes the board's replies; or reads a script of
-//! actors and lines and writes the trace of a run; or reads a trace and writes whether it is legal.
+//! `synicboard`: reads a script of events and writes the board's replies, or the image of the board
+//! at its end; or reads a script of actors and lines and writes the trace of a run; or reads a trace
+//! and writes whether it is legal.
 #![tactic(auto)]
 
-use board_script::{CheckEnd, CrewRun, OpenGate, ReplayEnd, check_trace, crew, replay};
+use board_script::{
+    CheckEnd, CrewRun, OpenGate, ReplayEnd, check_trace, crew, replay, save_script,
+};
 use clap::error::ErrorKind;
 use clap::{Command, Error};
 use std::alloc::{AllocError, Global};
@@ -25,6 +28,7 @@ const STREAM_FAULT: u8 = 5;
 /// The result of reading the command line.
 enum Asked {
     Replay,
+    Save,
     Crew,
     Check,
     /// Nothing to do: help or an error message was printed.
@@ -36,6 +40,7 @@ enum Asked {
 fn main(rt: HostRuntime) -> ExitCode {
     match judge_command_line(&rt) {
         Asked::Replay => replay_input(&rt),
+        Asked::Save => save_input(&rt),
         Asked::Crew => crew_input(&rt, &rt),
         Asked::Check => check_input(&rt),
         Asked::Nothing(code) => code,
@@ -48,6 +53,9 @@ fn command<'a>(alloc: Global) -> Result<Command<'a>, AllocError> {
     let replay = Command::new(alloc, "replay").about(
         "Performs the script on standard input, and writes each reply, notice and summary",
     );
+    let save = Command::new(alloc, "save").about(
+        "Performs the script on standard input, and writes the image of the board at its end",
+    );
     let crew = Command::new(alloc, "crew").about(
         "Runs the actors and lines of the script on standard input, each in a thread, and writes the trace",
     );
@@ -59,6 +67,7 @@ fn command<'a>(alloc: Global) -> Result<Command<'a>, AllocError> {
         .after_help(EXAMPLE)
         .subcommand_required(true)
         .subcommand(replay)?
+        .subcommand(save)?
         .subcommand(crew)?
         .subcommand(check)
 }
@@ -80,6 +89,7 @@ fn judge_command_line(rt: &HostRuntime) -> Asked {
     };
     match command.try_get_matches_from(words.as_slice()) {
         Ok(matches) => match matches.subcommand_name() {
+            Some("save") => Asked::Save,
             Some("crew") => Asked::Crew,
             Some("check") => Asked::Check,
             _ => Asked::Replay,
@@ -119,7 +129,23 @@ fn replay_input(rt: &HostRuntime) -> ExitCode {
     let Ok(mut writer) = BufWriter::new(rt.alloc(), io::writer(rt)) else {
         return fail(rt, "out of memory", NO_MEMORY);
     };
-    match replay(rt.alloc(), &mut reader, &mut writer) {
+    let end = replay(rt.alloc(), &mut reader, &mut writer);
+    status_of(rt, end)
+}
+
+/// Writes the image of the board after the script of standard input to standard output.
+fn save_input(rt: &HostRuntime) -> ExitCode {
+    let mut reader = rt.reader();
+    let Ok(mut writer) = BufWriter::new(rt.alloc(), io::writer(rt)) else {
+        return fail(rt, "out of memory", NO_MEMORY);
+    };
+    let end = save_script(rt.alloc(), &mut reader, &mut writer);
+    status_of(rt, end)
+}
+
+/// The status of a replay or a save, with its message.
+fn status_of(rt: &HostRuntime, end: ReplayEnd) -> ExitCode {
+    match end {
         ReplayEnd::Done => ExitCode::SUCCESS,
         ReplayEnd::Script { .. } => ExitCode::from(SCRIPT_FAULT),
         ReplayEnd::Memory => fail(rt, "out of memory", NO_MEMORY),

@@ -1,8 +1,9 @@
 -- The steps of a replay from line to line, and its output at the end.
-use Rattle.std.specs.Prelude.{◌≡◌, ℕ, List, [], ◌++◌, Bool, if◌then◌else◌, Option, None, Some, is_some, Result, Ok, Err}
+use Rattle.std.specs.Prelude.{◌≡◌, ℕ, List, [], ◌++◌, Bool, false, if◌then◌else◌, Option, None, Some, is_some, Result, Ok, Err}
 use Rattle.std.specs.Option.{option_map}
 use Rattle.std.specs.Io.KnownBytes.{Appends}
-use Rattle.synic_board.specs.State.{BoardModel}
+use Rattle.synic_board.specs.State.{State, BoardModel}
+use Rattle.text_image.specs.Image.{image}
 use Rattle.text_lines.specs.Items.{Item}
 use Rattle.text_driver.specs.declared.driving.End.{End}
 use Rattle.text_driver.specs.declared.driving.End.TheVariants as ends
@@ -37,6 +38,19 @@ Finishes Writing fault w0 w1 = (sent rest : List ℕ) × Appends w0 w1 sent × (
 abbrev pub Concludes : Result (Option (ℕ × ScriptFault)) ReplayEnd → ReplayEnd → Option (List ℕ) → Option (List ℕ) → Type 0
 Concludes (Ok fault) result w0 w1 = Finishes result fault w0 w1
 Concludes (Err end) result w0 w1 = (result ≡ end) × (w1 ≡ w0)
+
+-- the image of a state was written, or a part of it, or nothing for lack of memory
+abbrev pub SavesImage : ReplayEnd → State → Option (List ℕ) → Option (List ℕ) → Type 0
+SavesImage Done s w0 w1 = Appends w0 w1 (image s)
+SavesImage (Script l f) s w0 w1 = ⊥
+SavesImage Memory s w0 w1 = Appends w0 w1 []
+SavesImage Reading s w0 w1 = ⊥
+SavesImage Writing s w0 w1 = (sent rest : List ℕ) × Appends w0 w1 sent × (image s ≡ sent ++ rest)
+
+-- a save after a drive: the image if each line was good, otherwise the fault
+abbrev pub SavesEnd : End ScriptFault → Machine → ReplayEnd → Option (List ℕ) → Option (List ℕ) → Type 0
+SavesEnd (ends.Last line) (Some s) result w0 w1 = SavesImage result s w0 w1
+SavesEnd end machine result w0 w1 = Concludes (conclusion end false) result w0 w1
 
 -- the state of an open board
 abbrev pub machine_of : Option BoardModel → Machine
