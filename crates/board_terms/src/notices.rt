@@ -8,7 +8,8 @@ use crate::{Moment, Ticket};
 use std::alloc::{AllocError, Global};
 use std::marker::Model;
 
-/// The capacity of a list of notices, more than any event emits.
+/// The capacity of a list of notices. A reset emits at most 276: 16 for slots, 256 for buffers of
+/// ports and 4 for those of timers. Any other event emits at most 192. The rest is for events to come.
 pub const ROOM: usize = 320;
 
 /// Something that an event did, in addition to its reply.
