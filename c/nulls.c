@@ -161,8 +161,11 @@ CALL_FOR_STRUCT(synicboard_reply, synicboard_absorb_line, board == NULL || line 
                 BOARD(board) LINE(line), (board, line, vp, part),
                 synicboard *board, synicboard_line *line, uint8_t vp, uint8_t part)
 
-/* ---- Trace entries ---- */
+/* ---- Texts ---- */
 
+CALL_FOR_STRUCT(synicboard_end, synicboard_save, board == NULL || room == NULL,
+                CONST_BOARD(board) ROOM(room, length, uint8_t), (board, room, length),
+                const synicboard *board, uint8_t *room, size_t length)
 CALL_FOR_STRUCT(synicboard_end, synicboard_format_entry, event == NULL || reply == NULL || room == NULL,
                 EVENT(event) REPLY(reply) ROOM(room, length, uint8_t), (actor, event, reply, room, length),
                 uint8_t actor, const synicboard_event *event, const synicboard_reply *reply,

@@ -461,7 +461,7 @@ bool synicboard_guest_page(const synicboard *board, uint64_t number, const uint8
 
 /* ---- Texts ----
  *
- * Scripts and traces, in the formats of docs/FORMATS.md. */
+ * Scripts, traces and images, in the formats of docs/FORMATS.md. */
 
 /* The result of a call that writes a text. */
 typedef struct synicboard_end {
@@ -474,6 +474,10 @@ typedef struct synicboard_end {
  * SYNICBOARD_WRONG_LINE the output ends with the fault line. With SYNICBOARD_NO_MEMORY or
  * SYNICBOARD_TOO_LONG nothing is written. */
 synicboard_end synicboard_replay(const uint8_t *script, size_t script_length, uint8_t *room, size_t length);
+
+/* Writes the image of a board to `room`, as much as fits. With SYNICBOARD_IS_CLOSED or SYNICBOARD_NO_MEMORY
+ * nothing is written. No call reads an image yet. */
+synicboard_end synicboard_save(const synicboard *board, uint8_t *room, size_t length);
 
 /* The result of a check. */
 typedef struct synicboard_verdict {

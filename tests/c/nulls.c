@@ -348,6 +348,22 @@ static void test_null_texts(void)
               strlen(told));
 }
 
+static void test_null_saves(void)
+{
+    const char *told = "image 1\nboard 1 1 5\nlapic 0 0 0 0 0 0 0 0 0 0 running\nend\n";
+    synicboard board = SYNICBOARD_CLOSED;
+    uint8_t room[80];
+    memset(room, FILLER, sizeof room);
+    CHECK_END(synicboard_save(NULL, room, sizeof room), SYNICBOARD_IS_CLOSED, 0, 0);
+    CHECK_END(synicboard_save(NULL, NULL, sizeof room), SYNICBOARD_IS_CLOSED, 0, 0);
+    synicboard_open(&board, 1, 1, 5);
+    CHECK_END(synicboard_save(&board, NULL, sizeof room), SYNICBOARD_OK, 0, strlen(told));
+    CHECK(is_filled(room, sizeof room));
+    CHECK_END(synicboard_save(&board, room, sizeof room), SYNICBOARD_OK, 0, strlen(told));
+    CHECK(memcmp(room, told, strlen(told)) == 0 && room[strlen(told)] == FILLER);
+    synicboard_close(&board);
+}
+
 static void test_null_entries(void)
 {
     const synicboard_event event = { .kind = SYNICBOARD_TAKE };
@@ -379,6 +395,7 @@ static const struct test tests[] = {
     { "splitting", test_splitting },
     { "null texts", test_null_texts },
     { "null entries", test_null_entries },
+    { "null pointers of a save", test_null_saves },
 };
 
 int main(void)

@@ -184,6 +184,46 @@ static void test_longest_entry(void)
     CHECK(memcmp(room, text, strlen(text)) == 0);
 }
 
+/* ---- Images ---- */
+
+static const char *const image = "image 1\nboard 1 1 5\nmoment 10\nlapic 0 0 2 0 0 0 0 0 0 20 suspended\nend\n";
+
+/* A board with that image: a vector is requested, the task priority is 20, and the processor is suspended. */
+static void open_saved(synicboard *board)
+{
+    synicboard_open(board, 1, 1, 5);
+    synicboard_tick(board, 10);
+    synicboard_assert(board, 0, 0x41);
+    synicboard_write(board, 0, SYNICBOARD_MSR_TPR, 0x20);
+    synicboard_suspend(board, 0);
+}
+
+static void test_images(void)
+{
+    synicboard board = SYNICBOARD_CLOSED;
+    uint8_t room[100];
+    synicboard_end end = synicboard_save(&board, room, sizeof room);
+    CHECK_NUMBER(end.kind, SYNICBOARD_IS_CLOSED);
+    CHECK_NUMBER(end.length, 0);
+    open_saved(&board);
+    for (size_t size = 0; size < sizeof room; size++) {
+        size_t filled = size < strlen(image) ? size : strlen(image);
+        memset(room, FILLER, sizeof room);
+        end = synicboard_save(&board, room, size);
+        CHECK_NUMBER(end.kind, SYNICBOARD_OK);
+        CHECK_NUMBER(end.line, 0);
+        CHECK_NUMBER(end.length, strlen(image));
+        CHECK(memcmp(room, image, filled) == 0);
+        CHECK(room[filled] == FILLER);
+    }
+    /* an event that is refused leaves the image as it was */
+    CHECK_NUMBER(synicboard_tick(&board, 9).refusal, SYNICBOARD_CLOCK_BACK);
+    end = synicboard_save(&board, room, sizeof room);
+    CHECK(end.length == strlen(image) && memcmp(room, image, strlen(image)) == 0);
+    synicboard_close(&board);
+    CHECK_NUMBER(blocks_out, 0);
+}
+
 /* ---- Refused memory ---- */
 
 /* The text grows many times, so allocations happen at many points of it. */
@@ -250,14 +290,39 @@ static void test_refused_entry(void)
     CHECK_NUMBER(room[0], '0');
 }
 
+static void test_refused_save(void)
+{
+    synicboard board = SYNICBOARD_CLOSED;
+    uint8_t room[100] = { FILLER };
+    synicboard_end end;
+    size_t number = 1;
+    open_saved(&board);
+    refuse(number);
+    while ((end = synicboard_save(&board, room, sizeof room)).kind == SYNICBOARD_NO_MEMORY) {
+        CHECK_NUMBER(end.line, 0);
+        CHECK_NUMBER(end.length, 0);
+        CHECK_NUMBER(room[0], FILLER);
+        refuse(++number);
+    }
+    CHECK_NUMBER(end.kind, SYNICBOARD_OK);
+    CHECK_NUMBER(requests, number - 1);
+    CHECK(number > 1);
+    refuse(0);
+    CHECK_NUMBER(end.length, strlen(image));
+    synicboard_close(&board);
+    CHECK_NUMBER(blocks_out, 0);
+}
+
 static const struct test tests[] = {
     { "traces", test_check },
     { "texts that are too long", test_long_texts },
     { "entries", test_entries },
     { "the longest entry", test_longest_entry },
+    { "images", test_images },
     { "refused memory of a replay", test_refused_replay },
     { "refused memory of a check", test_refused_check },
     { "refused memory of an entry", test_refused_entry },
+    { "refused memory of a save", test_refused_save },
 };
 
 int main(int count, char **words)

@@ -50,7 +50,7 @@ impl Error for OpenFault {}
 /// Each method with `&mut self` performs an event and returns a [`Reply`]; then
 /// [`notices`](Board::notices) returns the notices of the event. An event that is refused or raises
 /// #GP changes nothing. The methods with `&self` are queries: they change nothing, and return cached
-/// values. After [`open`](Board::open) no method allocates. The value itself takes some 9 KB, with a
+/// values. After [`open`](Board::open) no method allocates, except [`save`](Board::save). The value itself takes some 9 KB, with a
 /// buffer for the notices of an event.
 ///
 /// ```
@@ -375,6 +375,25 @@ impl Board {
     /// `sint` is above 15.
     pub fn queued(&self, vp: u8, sint: u8) -> u16 {
         ask!(self, synicboard_queued, vp, sint)
+    }
+
+    /// Writes the image of the board to a buffer, as much as fits, and returns the length of the whole.
+    /// An image states how the board differs from a newly opened one, in lines (docs/FORMATS.md of the
+    /// library). Nothing reads one yet. `None` if an allocation failed; then the buffer is unchanged.
+    ///
+    /// ```
+    /// let board = synicboard::Board::open(1, 1, 5).unwrap();
+    /// let mut room = [0; 80];
+    /// let length = board.save(&mut room).unwrap();
+    /// assert_eq!(room[..length], *b"image 1\nboard 1 1 5\nlapic 0 0 0 0 0 0 0 0 0 0 running\nend\n");
+    /// ```
+    pub fn save(&self, room: &mut [u8]) -> Option<usize> {
+        let end = ask!(self, synicboard_save, room.as_mut_ptr(), room.len());
+        match end.kind {
+            sys::SYNICBOARD_OK => Some(end.length),
+            sys::SYNICBOARD_NO_MEMORY => None,
+            _ => beyond_the_header(&end.kind),
+        }
     }
 
     /// Which page a guest sees at a page number.

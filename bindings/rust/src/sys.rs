@@ -543,6 +543,8 @@ extern "C" {
         room: *mut u8,
         length: usize,
     ) -> synicboard_end;
+    /// Writes the image of a board to a buffer, as much as fits.
+    pub fn synicboard_save(board: *const synicboard, room: *mut u8, length: usize) -> synicboard_end;
     /// Checks whether a text is the trace of a legal history.
     pub fn synicboard_check(trace: *const u8, length: usize) -> synicboard_verdict;
     /// Writes the two lines of a trace entry for an event and its reply to a buffer, as much as

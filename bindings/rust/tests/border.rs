@@ -460,6 +460,20 @@ fn an_entry_that_does_not_fit_is_cut_and_counted() {
 }
 
 #[test]
+fn an_image_that_does_not_fit_is_cut_and_counted() {
+    let mut board = Board::open(1, 1, 5).unwrap();
+    board.tick(10);
+    let text = b"image 1\nboard 1 1 5\nmoment 10\nlapic 0 0 0 0 0 0 0 0 0 0 running\nend\n";
+    for size in 0..=text.len() + 1 {
+        let mut room = vec![b'.'; size];
+        assert_eq!(board.save(&mut room), Some(text.len()));
+        let filled = size.min(text.len());
+        assert_eq!(room[..filled], text[..filled]);
+        assert!(room[filled..].iter().all(|&byte| byte == b'.'));
+    }
+}
+
+#[test]
 fn what_was_not_performed_has_no_entry() {
     let mut room = [b'.'; 8];
     assert_eq!(format_entry(0, &Event::Take { vp: 0 }, &Reply::NoEvent, &mut room), Err(FormatFault::NoEvent));

@@ -1,7 +1,10 @@
--- The results of the calls on scripts, traces, and trace entries.
+-- The results of the calls on scripts, traces, trace entries and images.
 use Rattle.std.specs.Prelude.{◌≡◌, ℕ, List, length, Option, Some, None, ◌⊎◌}
 use Rattle.text_lines.specs.declared.fault.ScriptFault.{ScriptFault}
 use Rattle.board_script.specs.Output.{fault_of, text}
+use Rattle.synic_board.specs.State.{State}
+use Rattle.text_image.specs.Image.{image}
+use Rattle.c_handles.specs.declared.board.BoardWithNotices.{BoardWithNotices}
 use Rattle.c_terms.specs.Rooms.{Fronts}
 use Rattle.c_calls.specs.declared.texts.CEnd.{CEnd}
 
@@ -35,3 +38,22 @@ AreLines None room_before room_after count = ⊥
 
 abbrev pub IsReplay : List ℕ → List ℕ → List ℕ → CEnd → Type 0
 IsReplay script room_before room_after end = IsText script room_before room_after end ⊎ IsNotWritten room_before room_after end
+
+-- the image of a state: its length, and as much of it as fits
+pub record IsImage (s : State) (room_before room_after : List ℕ) (end : CEnd) : Type 0 where
+  pub kind : end.kind ≡ 0
+  pub line : end.line ≡ 0
+  pub length : end.length ≡ length (image s)
+  pub room : Fronts (image s) room_before room_after
+
+-- nothing was written, for this reason
+pub record IsUnsaved (reason : ℕ) (room_before room_after : List ℕ) (end : CEnd) : Type 0 where
+  pub kind : end.kind ≡ reason
+  pub line : end.line ≡ 0
+  pub length : end.length ≡ 0
+  pub room : room_after ≡ room_before
+
+-- an open board is saved, unless an allocation failed
+abbrev pub IsSaved : Option BoardWithNotices → List ℕ → List ℕ → CEnd → Type 0
+IsSaved None room_before room_after end = IsUnsaved 4 room_before room_after end
+IsSaved (Some board) room_before room_after end = IsImage board.board.state room_before room_after end ⊎ IsUnsaved 2 room_before room_after end

@@ -1,4 +1,4 @@
-// Scripts and traces in buffers.
+// Scripts, traces and images in buffers.
 ghost use Rattle.std.specs.Prelude.{◌≡◌, ◌≢◌, ◌<◌, ◌↔◌, true, [], ◌∷◌, None};
 ghost use Rattle.text_trace.specs.Trace.{IsTrace};
 ghost use Rattle.text_trace.specs.Verdicts.{FirstWrong};
@@ -6,15 +6,18 @@ ghost use Rattle.c_terms.specs.Events.{event_from_c};
 ghost use Rattle.c_terms.specs.Replies.{reply_from_c};
 ghost use Rattle.c_terms.specs.Entries.{entry_text};
 ghost use Rattle.c_calls.specs.Outcomes.{is_among};
-ghost use Rattle.c_calls.specs.Texts.{IsReplay, AreLines};
+ghost use Rattle.c_calls.specs.Texts.{IsReplay, IsSaved, AreLines};
 
 use board_script::{ReplayEnd, replay};
+use c_handles::BoardHandle;
 use c_terms::{CEvent, CReply, EntryFault, lines_of, put_bytes};
 use std::alloc::Global;
+use text_image::put_image;
 use text_trace::{CheckEnd, check_trace};
 
 /// The result of a call that writes a text. `kind` is 0 if no line is wrong, 10 if `line` is the
-/// first wrong line, 2 if an allocation failed, and 11 for a text of more than 1,073,741,824 bytes.
+/// first wrong line, 2 if an allocation failed, 4 if the handle of the board is closed, and 11 for a
+/// text of more than 1,073,741,824 bytes.
 /// `length` is the length of the whole output, or 0.
 #[repr(C)]
 #[derive(Clone, Copy)]
@@ -63,6 +66,27 @@ pub extern "C" fn synicboard_replay(alloc: Global, script: &[u8], room: &mut [u8
     put_bytes(text.as_slice(), room);
     let length = text.len();
     CEnd { kind, line, length }
+}
+
+/// Writes the image of a board to a buffer, as much as fits. Allocates the image.
+#[unsafe(no_mangle)]
+pub extern "C" fn synicboard_save(alloc: Global, handle: &mut BoardHandle, room: &mut [u8]) -> CEnd
+    ensures board { handle.new.board ≡ handle.old.board }
+    ensures saved { IsSaved handle.old.board room.old room.new result }
+{
+    let Some(board) = handle.board_mut() else {
+        return not_written(4, 0);
+    };
+    let mut image = Vec::new(alloc);
+    if put_image(&mut image, &board.board).is_err() {
+        return not_written(2, 0);
+    }
+    put_bytes(image.as_slice(), room);
+    CEnd {
+        kind: 0,
+        line: 0,
+        length: image.len(),
+    }
 }
 
 /// Checks whether a text is the trace of a legal history. Allocates a board.
