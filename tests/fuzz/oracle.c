@@ -124,9 +124,24 @@ static void check_shared(struct fuzz *fuzz)
     free(trace);
 }
 
+/* Both boards performed the same events, so their images are the same, also in buffers of exactly their
+ * size. */
+static void check_images(struct fuzz *fuzz)
+{
+    synicboard_end end = synicboard_save(&fuzz->by_struct, NULL, 0);
+    DEMAND(end.kind == SYNICBOARD_OK && end.line == 0 && end.length > 5);
+    uint8_t *one = allocate(end.length), *other = allocate(end.length);
+    DEMAND(synicboard_save(&fuzz->by_struct, one, end.length).length == end.length);
+    DEMAND(synicboard_save(&fuzz->by_call, other, end.length).length == end.length);
+    DEMAND(memcmp(one, other, end.length) == 0 && memcmp(one + end.length - 5, "\nend\n", 5) == 0);
+    free(one);
+    free(other);
+}
+
 void fuzz_close(struct fuzz *fuzz)
 {
     fuzz_compare_queries(fuzz);
+    check_images(fuzz);
     check_trace(fuzz);
     check_shared(fuzz);
     synicboard_close_shared(&fuzz->shared);
