@@ -141,6 +141,8 @@ LOOK(uint16_t, synicboard_queued, (board, vp, sint), const synicboard *board, ui
 LOOK(uint64_t, synicboard_moment, (board), const synicboard *board)
 LOOK(uint64_t, synicboard_next_ticket, (board), const synicboard *board)
 LOOK(synicboard_page_owner, synicboard_owner, (board, page), const synicboard *board, uint64_t page)
+CALL_FOR_STRUCT(synicboard_local_apic, synicboard_lapic, board == NULL, CONST_BOARD(board), (board, vp),
+                const synicboard *board, uint8_t vp)
 CALL_FOR_STRUCT(synicboard_due, synicboard_earliest, board == NULL, CONST_BOARD(board), (board), const synicboard *board)
 CALL(uint64_t, synicboard_update, board == NULL || view == NULL, CONST_BOARD(board) VIEW(view),
      (board, view), const synicboard *board, synicboard_view *view)

@@ -381,7 +381,7 @@ synicboard_reply synicboard_absorb_line(synicboard *board, synicboard_line *line
 
 /* ---- Queries ----
  *
- * What a host reads after each event. No query changes the board. Each returns a cached value. */
+ * What a host reads after each event. No query changes the board. Each returns a stored or a cached value. */
 
 /* The next vector of a processor; 0 if it has none, or there is no such processor or board. */
 uint8_t synicboard_next(const synicboard *board, uint8_t vp);
@@ -393,6 +393,18 @@ uint16_t synicboard_queued(const synicboard *board, uint8_t vp, uint8_t sint);
 uint64_t synicboard_moment(const synicboard *board);
 /* The ticket that the next accepted message gets; 0 if the handle is closed. */
 uint64_t synicboard_next_ticket(const synicboard *board);
+
+/* A local APIC (SDM volume 3, "Local APIC State"). Bit i of word k is vector 64 * k + i. */
+typedef struct synicboard_local_apic {
+    uint64_t requested[4];              /* IRR */
+    uint64_t in_service[4];             /* ISR */
+    uint8_t task_priority;              /* TPR */
+    uint8_t processor_priority;         /* PPR: the greater of TPR and the class of the greatest vector in service */
+    bool is_suspended;
+} synicboard_local_apic;
+
+/* The local APIC of a processor, for reads of its registers; all 0 if there is no such processor or board. */
+synicboard_local_apic synicboard_lapic(const synicboard *board, uint8_t vp);
 
 /* Which page is visible at a page number. */
 enum {

@@ -8,8 +8,8 @@
 
 /* SDM, "Local APIC Register Address Map": 16 bytes each. */
 enum {
-    ID = 0x20, VERSION = 0x30, TPR = 0x80, EOI = 0xb0, LDR = 0xd0, DFR = 0xe0, SVR = 0xf0,
-    ICR_LOW = 0x300, ICR_HIGH = 0x310, LVT_FIRST = 0x320, LVT_LAST = 0x370, REGISTERS = 64,
+    ID = 0x20, VERSION = 0x30, TPR = 0x80, PPR = 0xa0, EOI = 0xb0, LDR = 0xd0, DFR = 0xe0, SVR = 0xf0,
+    ISR = 0x100, IRR = 0x200, ICR_LOW = 0x300, ICR_HIGH = 0x310, LVT_FIRST = 0x320, LVT_LAST = 0x370, REGISTERS = 64,
 };
 enum { FIXED = 0, LOWEST_PRIORITY = 1, INIT = 5, STARTUP = 6 };
 enum { MASKED = 1 << 16, LEVEL_ASSERT = 1 << 14, IS_LOGICAL = 1 << 11, IS_SENDING = 1 << 12 };
@@ -33,11 +33,25 @@ void apic_reset(struct vp *vp)
         *stored(vp, offset) = MASKED;
 }
 
-/* The board has no query for its request and in-service bits, so those read 0. Linux reads them
- * once, to drain what firmware has left. */
+/* 32 bits of a set of vectors, of which a register has a sixteenth of its place. */
+static uint32_t part_of(const uint64_t words[4], uint32_t offset)
+{
+    uint32_t part = offset / 16 % 8;
+    return (uint32_t)(words[part / 2] >> (part % 2 * 32));
+}
+
 uint32_t apic_read(struct vp *vp, uint32_t offset)
 {
-    return offset == TPR ? vp->tpr : *stored(vp, offset);
+    synicboard_local_apic lapic = synicboard_lapic(&board, vp->number);
+    if (offset >= ISR && offset < ISR + 128)
+        return part_of(lapic.in_service, offset);
+    if (offset >= IRR && offset < IRR + 128)
+        return part_of(lapic.requested, offset);
+    switch (offset) {
+    case TPR: return vp->tpr;
+    case PPR: return lapic.processor_priority;
+    default: return *stored(vp, offset);
+    }
 }
 
 void apic_write(struct vp *vp, uint32_t offset, uint32_t value)

@@ -165,6 +165,43 @@ static void check_closed_faults(synicboard *board)
     CHECK_FAULT(synicboard_store(board, 0, bytes, 9), SYNICBOARD_IS_CLOSED);
 }
 
+static void check_lapic(const synicboard *board, uint8_t vp, synicboard_local_apic expected)
+{
+    synicboard_local_apic lapic = synicboard_lapic(board, vp);
+    for (int word = 0; word < 4; word++) {
+        CHECK_NUMBER(lapic.requested[word], expected.requested[word]);
+        CHECK_NUMBER(lapic.in_service[word], expected.in_service[word]);
+    }
+    CHECK_NUMBER(lapic.task_priority, expected.task_priority);
+    CHECK_NUMBER(lapic.processor_priority, expected.processor_priority);
+    CHECK_NUMBER(lapic.is_suspended, expected.is_suspended);
+}
+
+/* A vector is requested, taken and ended below another one; TPR is below, in and above its class. */
+static void test_local_apic(void)
+{
+    static const uint8_t priorities[][2] = { { 0x3f, 0x40 }, { 0x41, 0x41 }, { 0x4f, 0x4f }, { 0x50, 0x50 } };
+    synicboard board = SYNICBOARD_CLOSED;
+    synicboard_open(&board, 2, 1, 0);
+    check_lapic(&board, 1, (synicboard_local_apic){ 0 });
+    synicboard_assert(&board, 1, 0x41);
+    synicboard_assert(&board, 1, 0xff);
+    check_lapic(&board, 1, (synicboard_local_apic){ .requested = { 0, 2, 0, 1ull << 63 } });
+    synicboard_take(&board, 1);
+    check_lapic(&board, 1, (synicboard_local_apic){ .requested = { 0, 2 }, .in_service = { 0, 0, 0, 1ull << 63 }, .processor_priority = 0xf0 });
+    synicboard_write(&board, 1, SYNICBOARD_MSR_EOI, 0);
+    synicboard_take(&board, 1);
+    for (int at = 0; at < 4; at++) {
+        synicboard_write(&board, 1, SYNICBOARD_MSR_TPR, priorities[at][0]);
+        check_lapic(&board, 1, (synicboard_local_apic){ .in_service = { 0, 2 }, .task_priority = priorities[at][0], .processor_priority = priorities[at][1] });
+    }
+    synicboard_suspend(&board, 1);
+    CHECK(synicboard_lapic(&board, 1).is_suspended);
+    check_lapic(&board, 0, (synicboard_local_apic){ 0 });
+    check_lapic(&board, 2, (synicboard_local_apic){ 0 });
+    synicboard_close(&board);
+}
+
 static void check_closed_looks(synicboard *board)
 {
     synicboard_notice notice = { .kind = 77 };
@@ -175,6 +212,7 @@ static void check_closed_looks(synicboard *board)
         CHECK_NUMBER(synicboard_queued(board, 0, (uint8_t)number), 0);
         CHECK_NUMBER(synicboard_owner(board, number).kind, SYNICBOARD_OWNER_NOTHING);
         CHECK_NUMBER(synicboard_owner(board, number).vp, 0);
+        check_lapic(board, (uint8_t)number, (synicboard_local_apic){ 0 });
     }
     CHECK_NUMBER(synicboard_moment(board), 0);
     CHECK_NUMBER(synicboard_next_ticket(board), 0);
@@ -772,6 +810,7 @@ static void test_events_take_no_memory(void)
 }
 
 static const struct test tests[] = {
+    { "a local APIC", test_local_apic },
     { "a closed handle", test_closed_handle },
     { "opening twice", test_opening_twice },
     { "sizes", test_sizes },

@@ -341,6 +341,11 @@ void fuzz_split(struct fuzz *fuzz, uint8_t line)
 
 static void compare_processor(struct fuzz *fuzz, uint8_t vp)
 {
+    synicboard_local_apic one = synicboard_lapic(&fuzz->by_struct, vp), other = synicboard_lapic(&fuzz->by_call, vp);
+    DEMAND(memcmp(one.requested, other.requested, sizeof one.requested) == 0);
+    DEMAND(memcmp(one.in_service, other.in_service, sizeof one.in_service) == 0);
+    DEMAND(one.task_priority == other.task_priority && one.processor_priority == other.processor_priority);
+    DEMAND(one.is_suspended == other.is_suspended && one.processor_priority >= one.task_priority);
     DEMAND(synicboard_next(&fuzz->by_struct, vp) == synicboard_next(&fuzz->by_call, vp));
     for (unsigned vector = 0; vector < 256; vector++)
         DEMAND(synicboard_is_auto(&fuzz->by_struct, vp, (uint8_t)vector)

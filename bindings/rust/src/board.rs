@@ -45,6 +45,22 @@ impl fmt::Display for OpenFault {
 
 impl Error for OpenFault {}
 
+/// A local APIC. Bit i of word k is vector 64 * k + i.
+#[derive(Clone, Copy, PartialEq, Eq, Debug)]
+pub struct LocalApic {
+    /// The requests (IRR).
+    pub requested: [u64; 4],
+    /// The vectors in service (ISR).
+    pub in_service: [u64; 4],
+    /// The task priority (TPR).
+    pub task_priority: u8,
+    /// The processor priority (PPR): TPR, or the class of the greatest vector in service if that is
+    /// higher.
+    pub processor_priority: u8,
+    /// Whether the processor is suspended.
+    pub is_suspended: bool,
+}
+
 /// The interrupt side of a partition with 1 to 8 processors and 1 to 64 guest pages.
 ///
 /// Each method with `&mut self` performs an event and returns a [`Reply`]; then
@@ -375,6 +391,32 @@ impl Board {
     /// `sint` is above 15.
     pub fn queued(&self, vp: u8, sint: u8) -> u16 {
         ask!(self, synicboard_queued, vp, sint)
+    }
+
+    /// The local APIC of a processor. `None` if `vp` is not on the board.
+    ///
+    /// ```
+    /// use synicboard::{Board, Vector};
+    ///
+    /// let mut board = Board::open(1, 1, 0).unwrap();
+    /// board.assert(0, Vector::new(0x41).unwrap());
+    /// board.take(0);
+    /// let lapic = board.lapic(0).unwrap();
+    /// assert_eq!((lapic.requested, lapic.in_service), ([0; 4], [0, 2, 0, 0]));
+    /// assert_eq!((lapic.task_priority, lapic.processor_priority), (0, 0x40));
+    /// ```
+    pub fn lapic(&self, vp: u8) -> Option<LocalApic> {
+        if vp >= self.processors {
+            return None;
+        }
+        let lapic = ask!(self, synicboard_lapic, vp);
+        Some(LocalApic {
+            requested: lapic.requested,
+            in_service: lapic.in_service,
+            task_priority: lapic.task_priority,
+            processor_priority: lapic.processor_priority,
+            is_suspended: lapic.is_suspended,
+        })
     }
 
     /// Writes the image of the board to a buffer, as much as fits, and returns the length of the whole.

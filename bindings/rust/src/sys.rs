@@ -324,6 +324,22 @@ pub struct synicboard_page_owner {
     pub vp: u8,
 }
 
+/// A local APIC. Bit i of word k is vector 64 * k + i.
+#[repr(C)]
+#[derive(Clone, Copy, PartialEq, Eq, Debug)]
+pub struct synicboard_local_apic {
+    /// The requests (IRR).
+    pub requested: [u64; 4],
+    /// The vectors in service (ISR).
+    pub in_service: [u64; 4],
+    /// The task priority (TPR).
+    pub task_priority: u8,
+    /// The processor priority (PPR).
+    pub processor_priority: u8,
+    /// Whether the processor is suspended.
+    pub is_suspended: bool,
+}
+
 /// The earliest deadline of a timer, if `is_due`: high * 2^64 + low.
 #[repr(C)]
 #[derive(Clone, Copy, PartialEq, Eq, Debug)]
@@ -522,6 +538,8 @@ extern "C" {
     pub fn synicboard_next_ticket(board: *const synicboard) -> u64;
     /// Which page a guest sees at a page number.
     pub fn synicboard_owner(board: *const synicboard, page: u64) -> synicboard_page_owner;
+    /// The local APIC of a processor; all 0 if there is no such processor.
+    pub fn synicboard_lapic(board: *const synicboard, vp: u8) -> synicboard_local_apic;
     /// The timer with the earliest deadline.
     pub fn synicboard_earliest(board: *const synicboard) -> synicboard_due;
     /// Updates a view, and returns a bit for each value that differs.

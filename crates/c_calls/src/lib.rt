@@ -4,6 +4,7 @@
 
 mod batches;
 mod events;
+mod inspect;
 mod lines;
 mod looks;
 mod notices;
