@@ -13,6 +13,7 @@
  *   an output buffer       one of length 0
  *   `page` of a page call  a variable that is not read
  *   a view, or owners      zeros, which are not read
+ *   `due` of a tick        a variable that is not read
  *
  * A handle to open and a text with a length have no such value. The header defines what their calls
  * return, and they come last here. No call in this file allocates or keeps state. `./library`
@@ -43,6 +44,7 @@ static const uint8_t too_many[sizeof no_event.bytes + 1] = { 0 };
 #define PLACE(page) OR(page, &(const uint8_t *){ NULL })
 #define VIEW(view) OR(view, &(synicboard_view){ 0 })
 #define OWNERS(owners) OR(owners, &(synicboard_owners){ 0 })
+#define DUE(due) OR(due, &(synicboard_due){ 0 })
 
 /* ---- How a call is built ---- */
 
@@ -141,6 +143,8 @@ LOOK(uint16_t, synicboard_queued, (board, vp, sint), const synicboard *board, ui
 LOOK(uint64_t, synicboard_moment, (board), const synicboard *board)
 LOOK(uint64_t, synicboard_next_ticket, (board), const synicboard *board)
 LOOK(synicboard_page_owner, synicboard_owner, (board, page), const synicboard *board, uint64_t page)
+CALL_FOR_STRUCT(synicboard_reply, synicboard_tick_due, board == NULL || due == NULL, BOARD(board) DUE(due),
+                (board, moment, due), synicboard *board, uint64_t moment, synicboard_due *due)
 CALL_FOR_STRUCT(synicboard_local_apic, synicboard_lapic, board == NULL, CONST_BOARD(board), (board, vp),
                 const synicboard *board, uint8_t vp)
 CALL_FOR_STRUCT(synicboard_due, synicboard_earliest, board == NULL, CONST_BOARD(board), (board), const synicboard *board)

@@ -435,6 +435,9 @@ typedef struct synicboard_due {
 /* The timer with the earliest deadline, for a host to arm its own timer with. */
 synicboard_due synicboard_earliest(const synicboard *board);
 
+/* synicboard_tick, and the earliest timer afterwards in `*due`: arm the host's timer for it. */
+synicboard_reply synicboard_tick_due(synicboard *board, uint64_t moment, synicboard_due *due);
+
 /* What a run loop acts on: the next vector of each processor, 0 if it has none, and the earliest
  * deadline. For a closed handle all is 0, and so is `next` for a processor that is not on the board. */
 typedef struct synicboard_view {

@@ -58,13 +58,15 @@ static synicboard_reply answer(synicboard_reply reply)
 
 /* ---- Time ---- */
 
-/* Moves the board's clock to the present. The TSC of another host processor may be a little
- * lower. */
-static void tick(uint64_t at_least)
+/* Moves the board's clock to the present, and returns the earliest deadline then. The TSC of another host
+ * processor may be a little lower. */
+static synicboard_due tick(uint64_t at_least)
 {
+    synicboard_due due;
     uint64_t now = clock_now();
     ticks++;
-    answer(synicboard_tick(&board, now > at_least ? now : at_least));
+    answer(synicboard_tick_due(&board, now > at_least ? now : at_least, &due));
+    return due;
 }
 
 /* A timer that is due and not ready stays the earliest, with a deadline that has passed, and
@@ -74,10 +76,8 @@ static void tick(uint64_t at_least)
 void board_advance(void)
 {
     synicboard_due due = synicboard_earliest(&board);
-    if (due.is_due && due.high == 0 && due.low <= clock_now()) {
-        tick(synicboard_moment(&board) + 1);
-        due = synicboard_earliest(&board);
-    }
+    if (due.is_due && due.high == 0 && due.low <= clock_now())
+        due = tick(synicboard_moment(&board) + 1);
     if (!due.is_due || due.high != 0)
         clock_arm(UINT64_MAX);
     else if (due.low > synicboard_moment(&board))

@@ -202,6 +202,29 @@ static void test_local_apic(void)
     synicboard_close(&board);
 }
 
+/* A one-shot that was due at 5 expires at 7, and the other one is then the earliest. */
+static void test_tick_due(void)
+{
+    synicboard board = SYNICBOARD_CLOSED;
+    synicboard_due due = { .is_due = true, .vp = 9 };
+    CHECK_FAULT(synicboard_tick_due(&board, 7, &due), SYNICBOARD_IS_CLOSED);
+    CHECK(!due.is_due && due.vp == 0);
+    synicboard_open(&board, 1, 1, 0);
+    for (uint32_t timer = 0; timer < 2; timer++) {
+        synicboard_write(&board, 0, SYNICBOARD_MSR_STIMER0_COUNT + 2 * timer, 5 + 4 * timer);
+        synicboard_write(&board, 0, SYNICBOARD_MSR_STIMER0_CONFIG + 2 * timer, 0x1501);
+    }
+    CHECK_NUMBER(synicboard_tick_due(&board, 7, &due).kind, SYNICBOARD_DONE);
+    CHECK(due.is_due && due.vp == 0 && due.timer == 1 && due.low == 9 && due.high == 0);
+    CHECK_NUMBER(synicboard_next(&board, 0), 0x50);
+    due = (synicboard_due){ 0 };
+    CHECK_NUMBER(synicboard_tick_due(&board, 6, &due).refusal, SYNICBOARD_CLOCK_BACK);
+    CHECK(due.is_due && due.timer == 1 && due.low == 9);
+    CHECK_NUMBER(synicboard_tick_due(&board, 9, &due).kind, SYNICBOARD_DONE);
+    CHECK(!due.is_due && due.timer == 0 && due.low == 0);
+    synicboard_close(&board);
+}
+
 static void check_closed_looks(synicboard *board)
 {
     synicboard_notice notice = { .kind = 77 };
@@ -811,6 +834,7 @@ static void test_events_take_no_memory(void)
 
 static const struct test tests[] = {
     { "a local APIC", test_local_apic },
+    { "a tick with the earliest deadline", test_tick_due },
     { "a closed handle", test_closed_handle },
     { "opening twice", test_opening_twice },
     { "sizes", test_sizes },

@@ -114,6 +114,7 @@ static void test_null_board_looks(void)
     CHECK_NUMBER(synicboard_next_ticket(NULL), 0);
     CHECK_NUMBER(synicboard_owner(NULL, 0).kind, SYNICBOARD_OWNER_NOTHING);
     CHECK_NUMBER(synicboard_owner(NULL, 0).vp, 0);
+    CHECK_NUMBER(synicboard_tick_due(NULL, 5, NULL).fault, SYNICBOARD_IS_CLOSED);
     synicboard_local_apic lapic = synicboard_lapic(NULL, 0);
     CHECK(lapic.requested[0] == 0 && lapic.in_service[3] == 0 && lapic.processor_priority == 0 && !lapic.is_suspended);
     synicboard_due due = synicboard_earliest(NULL);

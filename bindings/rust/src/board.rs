@@ -323,6 +323,21 @@ impl Board {
         Reply::of(ask!(self, synicboard_tick, moment))
     }
 
+    /// [`tick`](Board::tick), and the earliest deadline afterwards, as [`earliest`](Board::earliest)
+    /// returns it: arm the host's timer for it.
+    ///
+    /// ```
+    /// use synicboard::{Board, Reply};
+    ///
+    /// let mut board = Board::open(1, 1, 0).unwrap();
+    /// assert_eq!(board.tick_due(5), (Reply::Done, None));
+    /// ```
+    pub fn tick_due(&mut self, moment: Moment) -> (Reply, Option<(u128, TimerId)>) {
+        let mut due = sys::synicboard_due { is_due: false, vp: 0, timer: 0, low: 0, high: 0 };
+        let reply = Reply::of(ask!(self, synicboard_tick_due, moment, &mut due));
+        (reply, first_due(&due))
+    }
+
     /// Processor `vp` takes its next vector. Call this when it accepts interrupts.
     ///
     /// `Taken`.

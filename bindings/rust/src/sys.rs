@@ -540,6 +540,12 @@ extern "C" {
     pub fn synicboard_owner(board: *const synicboard, page: u64) -> synicboard_page_owner;
     /// The local APIC of a processor; all 0 if there is no such processor.
     pub fn synicboard_lapic(board: *const synicboard, vp: u8) -> synicboard_local_apic;
+    /// Moves the clock, and stores the earliest deadline afterwards.
+    pub fn synicboard_tick_due(
+        board: *mut synicboard,
+        moment: u64,
+        due: *mut synicboard_due,
+    ) -> synicboard_reply;
     /// The timer with the earliest deadline.
     pub fn synicboard_earliest(board: *const synicboard) -> synicboard_due;
     /// Updates a view, and returns a bit for each value that differs.

@@ -1,10 +1,12 @@
 // One call for each kind of event.
-ghost use Rattle.std.specs.Prelude.{Some};
+ghost use Rattle.std.specs.Prelude.{◌≡◌, Some};
 ghost use Rattle.c_terms.specs.Events.{event_from_c};
+ghost use Rattle.c_calls.specs.Looks.{earliest_of};
 ghost use Rattle.c_calls.specs.Performing.{IsPerformed, post_from_c, store_from_c, assert_from_c};
 ghost use Rattle.synic_board.specs.declared.event.Event.TheVariants as event;
 ghost use Rattle.board_terms.specs.declared.messages.PortShape.TheVariants as shape;
 
+use crate::looks::{CDeadline, earliest_on};
 use crate::perform_on::{no_event, perform_on};
 use board_terms::{PortShape, Vector};
 use c_handles::BoardHandle;
@@ -178,6 +180,21 @@ pub extern "C" fn synicboard_tick(handle: &mut BoardHandle, moment: u64) -> CRep
     ensures { IsPerformed (Some (event.Tick moment)) handle.old.board handle.new.board result }
 {
     perform_on(handle, &Event::Tick { moment })
+}
+
+/// Moves the clock, and stores the earliest deadline afterwards in `due`.
+#[unsafe(no_mangle)]
+pub extern "C" fn synicboard_tick_due(
+    handle: &mut BoardHandle,
+    moment: u64,
+    due: &mut CDeadline,
+) -> CReply
+    ensures performed { IsPerformed (Some (event.Tick moment)) handle.old.board handle.new.board result }
+    ensures due { due.new ≡ earliest_of handle.new.board }
+{
+    let reply = perform_on(handle, &Event::Tick { moment });
+    *due = earliest_on(handle);
+    reply
 }
 
 /// Processor `vp` takes its next vector.

@@ -103,6 +103,14 @@ pub extern "C" fn synicboard_earliest(handle: &mut BoardHandle) -> CDeadline
     ensures board { handle.new.board ≡ handle.old.board }
     ensures due { result ≡ earliest_of handle.old.board }
 {
+    earliest_on(handle)
+}
+
+/// The same, for calls of this crate.
+pub(crate) fn earliest_on(handle: &mut BoardHandle) -> CDeadline
+    ensures board { handle.new.board ≡ handle.old.board }
+    ensures due { result ≡ earliest_of handle.old.board }
+{
     let earliest = match handle.board_mut() {
         Some(board) => board.board.summary().earliest(),
         None => None,
