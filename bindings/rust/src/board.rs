@@ -411,11 +411,12 @@ impl Board {
     /// The local APIC of a processor. `None` if `vp` is not on the board.
     ///
     /// ```
-    /// use synicboard::{Board, Vector};
+    /// use synicboard::{Board, Reply, Vector};
     ///
     /// let mut board = Board::open(1, 1, 0).unwrap();
-    /// board.assert(0, Vector::new(0x41).unwrap());
-    /// board.take(0);
+    /// let vector = Vector::new(0x41).unwrap();
+    /// assert_eq!(board.assert(0, vector), Reply::Done);
+    /// assert_eq!(board.take(0), Reply::Taken(Some(vector)));
     /// let lapic = board.lapic(0).unwrap();
     /// assert_eq!((lapic.requested, lapic.in_service), ([0; 4], [0, 2, 0, 0]));
     /// assert_eq!((lapic.task_priority, lapic.processor_priority), (0, 0x40));

@@ -314,16 +314,6 @@ pub const SYNICBOARD_OWNER_MESSAGES: u8 = 2;
 /// Owner: the event flags page of `vp`.
 pub const SYNICBOARD_OWNER_FLAGS: u8 = 3;
 
-/// Which page a guest sees.
-#[repr(C)]
-#[derive(Clone, Copy, PartialEq, Eq, Debug)]
-pub struct synicboard_page_owner {
-    /// The kind of owner.
-    pub kind: u8,
-    /// The processor of a message or event flags page.
-    pub vp: u8,
-}
-
 /// A local APIC. Bit i of word k is vector 64 * k + i.
 #[repr(C)]
 #[derive(Clone, Copy, PartialEq, Eq, Debug)]
@@ -338,6 +328,16 @@ pub struct synicboard_local_apic {
     pub processor_priority: u8,
     /// Whether the processor is suspended.
     pub is_suspended: bool,
+}
+
+/// Which page a guest sees.
+#[repr(C)]
+#[derive(Clone, Copy, PartialEq, Eq, Debug)]
+pub struct synicboard_page_owner {
+    /// The kind of owner.
+    pub kind: u8,
+    /// The processor of a message or event flags page.
+    pub vp: u8,
 }
 
 /// The earliest deadline of a timer, if `is_due`: high * 2^64 + low.
@@ -536,18 +536,18 @@ extern "C" {
     pub fn synicboard_moment(board: *const synicboard) -> u64;
     /// The ticket that the next accepted message gets.
     pub fn synicboard_next_ticket(board: *const synicboard) -> u64;
-    /// Which page a guest sees at a page number.
-    pub fn synicboard_owner(board: *const synicboard, page: u64) -> synicboard_page_owner;
     /// The local APIC of a processor; all 0 if there is no such processor.
     pub fn synicboard_lapic(board: *const synicboard, vp: u8) -> synicboard_local_apic;
+    /// Which page a guest sees at a page number.
+    pub fn synicboard_owner(board: *const synicboard, page: u64) -> synicboard_page_owner;
+    /// The timer with the earliest deadline.
+    pub fn synicboard_earliest(board: *const synicboard) -> synicboard_due;
     /// Moves the clock, and stores the earliest deadline afterwards.
     pub fn synicboard_tick_due(
         board: *mut synicboard,
         moment: u64,
         due: *mut synicboard_due,
     ) -> synicboard_reply;
-    /// The timer with the earliest deadline.
-    pub fn synicboard_earliest(board: *const synicboard) -> synicboard_due;
     /// Updates a view, and returns a bit for each value that differs.
     pub fn synicboard_update(board: *const synicboard, view: *mut synicboard_view) -> u64;
     /// Updates the owners, and returns a bit for each page whose owner differs.

@@ -462,7 +462,7 @@ fn an_entry_that_does_not_fit_is_cut_and_counted() {
 #[test]
 fn an_image_that_does_not_fit_is_cut_and_counted() {
     let mut board = Board::open(1, 1, 5).unwrap();
-    board.tick(10);
+    assert_eq!(board.tick(10), Reply::Done);
     let text = b"image 1\nboard 1 1 5\nmoment 10\nlapic 0 0 0 0 0 0 0 0 0 0 running\nend\n";
     for size in 0..=text.len() + 1 {
         let mut room = vec![b'.'; size];
