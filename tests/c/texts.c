@@ -216,7 +216,7 @@ static void test_images(void)
         CHECK(memcmp(room, image, filled) == 0);
         CHECK(room[filled] == FILLER);
     }
-    /* an event that is refused leaves the image as it was */
+    /* an event that is refused leaves the image unchanged */
     CHECK_NUMBER(synicboard_tick(&board, 9).refusal, SYNICBOARD_CLOCK_BACK);
     end = synicboard_save(&board, room, sizeof room);
     CHECK(end.length == strlen(image) && memcmp(room, image, strlen(image)) == 0);

@@ -53,7 +53,7 @@ pub record IsUnsaved (reason : ℕ) (room_before room_after : List ℕ) (end : C
   pub length : end.length ≡ 0
   pub room : room_after ≡ room_before
 
--- an open board is saved, unless an allocation failed
+-- the image of an open board was written, or nothing, for lack of memory; nothing of a closed one
 abbrev pub IsSaved : Option BoardWithNotices → List ℕ → List ℕ → CEnd → Type 0
 IsSaved None room_before room_after end = IsUnsaved 4 room_before room_after end
 IsSaved (Some board) room_before room_after end = IsImage board.board.state room_before room_after end ⊎ IsUnsaved 2 room_before room_after end
