@@ -1,5 +1,5 @@
 -- The lines of the numbers below a bound, written one after another.
-use Rattle.std.proofs.Common.{◌≡◌, ℕ, suc, ◌+◌, List, [], ◌∷◌, ◌++◌, append_assoc, append-nil, refl, sym, ap, ◌∙◌, arith}
+use Rattle.std.proofs.Common.{◌≡◌, ℕ, suc, ◌+◌, List, ◌++◌, append_assoc, append-nil, sym, ap, ◌∙◌, arith}
 use Rattle.text_lines.specs.Printing.{text_of}
 use Rattle.text_lines.proofs.PrintLemmas.{text_of-append}
 use Rattle.text_image.specs.Image.{Lines, each_below}
@@ -21,7 +21,3 @@ each-step lines n k start so_far next before same here =
     ∙ ap (λ (x : List ℕ). x ++ text_of (lines k)) before
     ∙ append_assoc start (text_of (each_below n lines)) (text_of (lines k))
     ∙ ap (λ (x : List ℕ). start ++ x) (sym (text_of-append (each_below n lines) (lines k)) ∙ ap (λ (m : ℕ). text_of (each_below n lines ++ lines m)) same ∙ sym (ap text_of (more lines n)))
-
--- all of them
-pub each-all : (lines : ℕ → Lines) (n count : ℕ) (start out : List ℕ) → n ≡ count → out ≡ start ++ text_of (each_below n lines) → out ≡ start ++ text_of (each_below count lines)
-each-all lines n count start out same h = h ∙ ap (λ (m : ℕ). start ++ text_of (each_below m lines)) same
