@@ -1,7 +1,7 @@
 // A set of vectors, as four words of 64 bits.
 ghost use Rattle.std.specs.Prelude.{◌≡◌, ◌<◌, None, true};
 ghost use Rattle.std.specs.FinSet as set;
-ghost use Rattle.lapic_core.specs.Vectors.{greatest, word_of};
+ghost use Rattle.lapic_core.specs.Vectors.{greatest, word_of, from_words};
 
 use board_terms::Vector;
 use std::marker::Model;
@@ -17,8 +17,8 @@ pub struct VectorSet {
 impl Model for VectorSet {
     ghost use Rattle.std.specs.Coded.{coded_ℕ};
     ghost use Rattle.std.specs.FinSet as set;
-    ghost use Rattle.lapic_core.specs.Vectors.{Vectors};
-    ghost use Rattle.lapic_core.specs.inside.Words.{word_members, NoneBelow16};
+    ghost use Rattle.lapic_core.specs.Vectors.{Vectors, word_members};
+    ghost use Rattle.lapic_core.specs.inside.Words.{NoneBelow16};
 
     ghost Value = { Vectors };
 
@@ -35,6 +35,17 @@ impl VectorSet {
         ensures { result ≡ set.empty }
     {
         VectorSet { words: [0; 4] }
+    }
+
+    /// The set with these words, as `word` returns them; `None` if one of the lowest 16 bits of the
+    /// first is set, since no vector has those numbers.
+    pub fn from_words(words: [u64; 4]) -> Option<VectorSet>
+        ensures { result ≡ from_words words }
+    {
+        if words[0] % 0x1_0000 != 0 {
+            return None;
+        }
+        Some(VectorSet { words })
     }
 
     /// An equal set.
