@@ -12,8 +12,8 @@ use Rattle.std.proofs.lemmas.Bool.Decides.{nat_tests}
 use Rattle.std.proofs.lemmas.List.{get_or-set_same, get_or-set_other}
 use Rattle.std.proofs.lemmas.Nat.{leading_top, le_or_l, le_or_r}
 use Rattle.std.proofs.lemmas.Nat.Bits.{bit_at_set_same, bit_at_set_other, bit_at_clear_same, bit_at_clear_other, shr_and_one, bit_at-zero, bit_at_above}
-use Rattle.lapic_core.specs.Vectors.{Vectors, greatest, word_members, holds}
-use Rattle.lapic_core.specs.inside.Words.{NoneBelow16}
+use Rattle.lapic_core.specs.Vectors.{Vectors, greatest}
+use Rattle.lapic_core.specs.inside.Words.{word_members, holds, NoneBelow16}
 use Rattle.lapic_core.proofs.Members.{greatest_is, greatest_none, contains-numbers_where}
 
 -- a word with the bit of a place set, and with it cleared

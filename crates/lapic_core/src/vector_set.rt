@@ -1,7 +1,8 @@
 // A set of vectors, as four words of 64 bits.
 ghost use Rattle.std.specs.Prelude.{◌≡◌, ◌<◌, None, true};
 ghost use Rattle.std.specs.FinSet as set;
-ghost use Rattle.lapic_core.specs.Vectors.{greatest, word_of, from_words};
+ghost use Rattle.lapic_core.specs.Vectors.{greatest, word_of};
+ghost use Rattle.lapic_core.specs.Words.{from_words};
 
 use board_terms::Vector;
 use std::marker::Model;
@@ -17,8 +18,8 @@ pub struct VectorSet {
 impl Model for VectorSet {
     ghost use Rattle.std.specs.Coded.{coded_ℕ};
     ghost use Rattle.std.specs.FinSet as set;
-    ghost use Rattle.lapic_core.specs.Vectors.{Vectors, word_members};
-    ghost use Rattle.lapic_core.specs.inside.Words.{NoneBelow16};
+    ghost use Rattle.lapic_core.specs.Vectors.{Vectors};
+    ghost use Rattle.lapic_core.specs.inside.Words.{word_members, NoneBelow16};
 
     ghost Value = { Vectors };
 

@@ -34,8 +34,11 @@ unfoldable pub each_below : ℕ → (ℕ → Lines) → Lines
 each_below zero lines = []
 each_below (suc n) lines = each_below n lines ++ lines n
 
+abbrev pub moment_fields : Moment → List (List ℕ)
+moment_fields moment = codes "moment" ∷ decimal moment ∷ []
+
 abbrev pub moment_lines : Moment → Lines
-moment_lines moment = if moment == 0 then [] else (codes "moment" ∷ decimal moment ∷ []) ∷ []
+moment_lines moment = if moment == 0 then [] else moment_fields moment ∷ []
 
 -- the title, the board line with the next ticket, and the present time
 abbrev pub head_lines : State → Lines
@@ -55,12 +58,18 @@ lapic_line p a = codes "lapic" ∷ decimal p ∷ words a.requested ++ (words a.i
 abbrev pub lapic_lines : State → Processor → Lines
 lapic_lines s p = lapic_line p (apic_of s p) ∷ []
 
+abbrev pub register_fields : Processor → List ℕ → ℕ → List (List ℕ)
+register_fields p name value = codes "register" ∷ decimal p ∷ name ∷ hex value ∷ []
+
 -- a register, unless it has its first value
 abbrev pub changed_line : Processor → List ℕ → ℕ → ℕ → Lines
-changed_line p name value first = if value == first then [] else (codes "register" ∷ decimal p ∷ name ∷ hex value ∷ []) ∷ []
+changed_line p name value first = if value == first then [] else register_fields p name value ∷ []
+
+abbrev pub source_name : Source → List ℕ
+source_name i = codes "sint" ++ decimal i
 
 abbrev pub source_lines : State → Processor → Source → Lines
-source_lines s p i = changed_line p (codes "sint" ++ decimal i) (source_of (regs_of s p) i) masked
+source_lines s p i = changed_line p (source_name i) (source_of (regs_of s p) i) masked
 
 abbrev pub register_lines : State → Processor → Lines
 register_lines s p = changed_line p (codes "scontrol") (regs_of s p).control 0 ++
@@ -75,9 +84,13 @@ abbrev pub name_fields : PageName → List (List ℕ)
 name_fields (Guest number) = codes "page" ∷ decimal number ∷ []
 name_fields (Own p k) = codes "own" ∷ decimal p ∷ kind_word k ∷ []
 
--- the bytes of a page from an offset on, unless they are zeros
+-- the bytes of a page from an offset on
+abbrev pub block_fields : PageName → ℕ → List ℕ → List (List ℕ)
+block_fields name at bytes = name_fields name ++ (hex at ∷ spelled bytes ∷ [])
+
+-- unless they are zeros
 abbrev pub block_line : PageName → ℕ → List ℕ → Lines
-block_line name at bytes = if bytes_eq bytes (replicate 256 0) then [] else (name_fields name ++ (hex at ∷ spelled bytes ∷ [])) ∷ []
+block_line name at bytes = if bytes_eq bytes (replicate 256 0) then [] else block_fields name at bytes ∷ []
 
 -- a page in blocks of 256 bytes
 abbrev pub block_lines : PageName → List ℕ → ℕ → Lines
@@ -144,9 +157,12 @@ queue_lines s p i = each_below (length (queue_of s.queues p i)) (queued_lines s 
 abbrev pub queues_lines : State → Processor → Lines
 queues_lines s p = each_below 16 (queue_lines s p)
 
+abbrev pub slot_fields : Processor → Source → Ticket → List (List ℕ)
+slot_fields p i ticket = codes "slot" ∷ decimal p ∷ decimal i ∷ decimal ticket ∷ []
+
 abbrev pub slot_line : Processor → Source → Option Ticket → Lines
 slot_line p i None = []
-slot_line p i (Some ticket) = (codes "slot" ∷ decimal p ∷ decimal i ∷ decimal ticket ∷ []) ∷ []
+slot_line p i (Some ticket) = slot_fields p i ticket ∷ []
 
 abbrev pub slot_lines : State → Processor → Source → Lines
 slot_lines s p i = slot_line p i (slot_of s p i)
@@ -166,8 +182,11 @@ body_lines s =
     ++ (each_below (processors s) (queues_lines s)
     ++ each_below (processors s) (slots_lines s)))))))
 
+abbrev pub end_fields : List (List ℕ)
+end_fields = codes "end" ∷ []
+
 abbrev pub image_lines : State → Lines
-image_lines s = head_lines s ++ (body_lines s ++ (codes "end" ∷ []) ∷ [])
+image_lines s = head_lines s ++ (body_lines s ++ end_fields ∷ [])
 
 unfoldable pub image : State → List ℕ
 image s = text_of (image_lines s)

@@ -2,12 +2,17 @@
 #![tactic(auto)]
 
 mod image;
+pub mod laws;
 mod messages;
 mod numbers;
 mod pages;
+mod piece;
 mod processors;
+mod reading;
 mod stream;
 mod timers;
 
 pub use image::put_image;
+pub use piece::{Block, Piece};
+pub use reading::piece_of;
 pub use stream::{SaveEnd, save};

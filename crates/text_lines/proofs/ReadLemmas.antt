@@ -44,10 +44,10 @@ u8-only text n e = let h = decimal_at-only 255 text n e in let bound = h.0 in (o
 u16-only : (text : List ℕ) (n : ℕ) → u16_at text ≡ Some n → (n < 65536) × (text ≡ decimal n)
 u16-only text n e = let h = decimal_at-only 65535 text n e in let bound = h.0 in (omega arith, h.1)
 
-u64-only : (text : List ℕ) (n : ℕ) → u64_at text ≡ Some n → (n < 2 ^ 64) × (text ≡ decimal n)
+pub u64-only : (text : List ℕ) (n : ℕ) → u64_at text ≡ Some n → (n < 2 ^ 64) × (text ≡ decimal n)
 u64-only text n e = let h = decimal_at-only (2 ^ 64 - 1) text n e in let bound = h.0 in (omega arith, h.1)
 
-hex_u32-only : (text : List ℕ) (n : ℕ) → hex_u32_at text ≡ Some n → (n < 2 ^ 32) × (text ≡ hex n)
+pub hex_u32-only : (text : List ℕ) (n : ℕ) → hex_u32_at text ≡ Some n → (n < 2 ^ 32) × (text ≡ hex n)
 hex_u32-only text n e = let h = hex_at-only (2 ^ 32 - 1) text n e in let bound = h.0 in (omega arith, h.1)
 
 pub hex_u64-only : (text : List ℕ) (n : ℕ) → hex_u64_at text ≡ Some n → (n < 2 ^ 64) × (text ≡ hex n)
@@ -236,10 +236,10 @@ u8-spelled n h = decimal_at-spelled 255 n (omega arith) (omega arith)
 u16-spelled : (n : ℕ) → n < 65536 → u16_at (decimal n) ≡ Some n
 u16-spelled n h = decimal_at-spelled 65535 n (omega arith) (omega arith)
 
-u64-spelled : (n : ℕ) → n < 2 ^ 64 → u64_at (decimal n) ≡ Some n
+pub u64-spelled : (n : ℕ) → n < 2 ^ 64 → u64_at (decimal n) ≡ Some n
 u64-spelled n h = decimal_at-spelled (2 ^ 64 - 1) n (omega arith) (omega arith)
 
-hex_u32-spelled : (n : ℕ) → n < 2 ^ 32 → hex_u32_at (hex n) ≡ Some n
+pub hex_u32-spelled : (n : ℕ) → n < 2 ^ 32 → hex_u32_at (hex n) ≡ Some n
 hex_u32-spelled n h = hex_at-spelled (2 ^ 32 - 1) n (omega arith) (omega arith)
 
 pub hex_u64-spelled : (n : ℕ) → n < 2 ^ 64 → hex_u64_at (hex n) ≡ Some n

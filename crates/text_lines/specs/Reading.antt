@@ -4,6 +4,7 @@ use Rattle.std.specs.Option.{option_map, option_and_then}
 use Rattle.std.specs.Str.{bytes_eq}
 use Rattle.text_base.specs.Numbers.{decimal_at, hex_at, byte_at}
 use Rattle.text_base.specs.Fields.{fields_of}
+use Rattle.arrayvec.specs.ArrayVec.{ArrayVec}
 use Rattle.synic_board.specs.declared.event.Event.{Event}
 use Rattle.synic_board.specs.declared.event.Event.TheVariants.{OpenPort, ClosePort, Write, Read, Post, Signal, Assert, Absorb, Store, Load, Tick, Take, Suspend, Resume, Reset}
 use Rattle.board_terms.specs.declared.messages.PortShape.TheVariants.{Messages, Flags}
@@ -41,6 +42,11 @@ bytes_at most text = if bytes_eq text (codes "-") then Some [] else option_and_t
 abbrev pub TakesNumber : (List ℕ → Option ℕ) → Option ℕ → Fields → Fields → Type 0
 TakesNumber read None old new = first_read read old ≡ None
 TakesNumber read (Some n) old new = first_read read old ≡ Some (n, new)
+
+-- the same for bytes
+abbrev pub TakesBytes : ℕ → Option (ArrayVec ℕ) → Fields → Fields → Type 0
+TakesBytes most None old new = first_read (bytes_at most) old ≡ None
+TakesBytes most (Some bytes) old new = first_read (bytes_at most) old ≡ Some (bytes.items, new)
 
 -- no field is left
 abbrev pub none_left : {A : Type 0} → A → Fields → Option A

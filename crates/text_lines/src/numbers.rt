@@ -1,7 +1,6 @@
 // The numbers of a line, parsed field by field.
 ghost use Rattle.std.specs.Prelude.{◌≡◌, [], if◌then◌else◌, Some, None};
-ghost use Rattle.text_lines.specs.Reading.{TakesNumber, u8_at, u16_at, u64_at, hex_u32_at, hex_u64_at, vector_at};
-ghost use Rattle.text_lines.specs.inside.Taking.{TakesBytes};
+ghost use Rattle.text_lines.specs.Reading.{TakesNumber, TakesBytes, u8_at, u16_at, u64_at, hex_u32_at, hex_u64_at, vector_at};
 
 use arrayvec::ArrayVec;
 use board_terms::{Ticket, Vector};
@@ -31,7 +30,7 @@ pub(crate) fn u16_of(fields: &mut Fields<'_>) -> Option<u16>
 
 /// A decimal number of 64 bits.
 #[inline(always)]
-pub(crate) fn u64_of(fields: &mut Fields<'_>) -> Option<Ticket>
+pub fn u64_of(fields: &mut Fields<'_>) -> Option<Ticket>
     ensures { TakesNumber u64_at result fields.old fields.new }
 {
     fields.decimal(u64::MAX)
@@ -39,7 +38,7 @@ pub(crate) fn u64_of(fields: &mut Fields<'_>) -> Option<Ticket>
 
 /// A hexadecimal number of 32 bits.
 #[inline(always)]
-pub(crate) fn hex_u32_of(fields: &mut Fields<'_>) -> Option<u32>
+pub fn hex_u32_of(fields: &mut Fields<'_>) -> Option<u32>
     ensures { TakesNumber hex_u32_at result fields.old fields.new }
 {
     let Some(number) = fields.hexadecimal(u64::from(u32::MAX)) else {
@@ -72,7 +71,7 @@ pub fn vector_of(fields: &mut Fields<'_>) -> Option<Vector>
 
 /// At most `N` bytes as two hexadecimal digits each, or `-` for none.
 #[inline(always)]
-pub(crate) fn bytes_in<const N: usize>(fields: &mut Fields<'_>) -> Option<ArrayVec<u8, N>>
+pub fn bytes_in<const N: usize>(fields: &mut Fields<'_>) -> Option<ArrayVec<u8, N>>
     ensures { TakesBytes N result fields.old fields.new }
 {
     let mut bytes = ArrayVec::new();

@@ -1,0 +1,2 @@
+-- Definitions for private functions and their proofs. Callers do not need them.
+pub mod Taking
