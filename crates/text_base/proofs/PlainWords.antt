@@ -92,7 +92,7 @@ split-more [] ys h = refl
 split-more (x ∷ xs) ys h = rw (ne_eqb x 32 (λ e. let low = h.0 in omega arith), split-more xs ys h.1) refl
 
 -- a line that was written from fields is parsed as these fields
-fields-words : (f : List ℕ) (fields : List (List ℕ)) → ArePlain (f ∷ fields) → fields_of (spaced (f ∷ fields)) ≡ f ∷ fields
+pub fields-words : (f : List ℕ) (fields : List (List ℕ)) → ArePlain (f ∷ fields) → fields_of (spaced (f ∷ fields)) ≡ f ∷ fields
 fields-words f [] h = split-one f h.0
 fields-words f (g ∷ fields) h = split-more f (spaced (g ∷ fields)) h.0 ∙ ap (λ (x : List (List ℕ)). f ∷ x) (fields-words g fields h.1)
 

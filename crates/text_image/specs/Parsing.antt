@@ -1,5 +1,5 @@
 -- Parsing a line of an image, field by field.
-use Rattle.std.specs.Prelude.{ℕ, ◌+◌, ◌*◌, ◌^◌, ◌==◌, ◌&&◌, Bool, true, false, List, [], ◌∷◌, length, take, drop, if◌then◌else◌, Option, None, Some, codes}
+use Rattle.std.specs.Prelude.{ℕ, ◌+◌, ◌*◌, ◌^◌, ◌==◌, Bool, true, false, List, [], ◌∷◌, length, take, drop, if◌then◌else◌, Option, None, Some, codes}
 use Rattle.std.specs.Option.{option_map, option_and_then}
 use Rattle.std.specs.Str.{bytes_eq}
 use Rattle.text_base.specs.Numbers.{decimal_at, hex_at}
@@ -9,7 +9,8 @@ use Rattle.board_terms.specs.declared.messages.Message.{Message}
 use Rattle.board_terms.specs.declared.messages.Message.TheVariants.{FromPort, FromTimer}
 use Rattle.board_terms.specs.declared.pages.Kind.{Kind}
 use Rattle.board_terms.specs.declared.pages.Kind.TheVariants as kinds
-use Rattle.lapic_core.specs.Vectors.{Vectors, from_words}
+use Rattle.lapic_core.specs.Vectors.{Vectors}
+use Rattle.lapic_core.specs.Words.{from_words}
 use Rattle.synic_board.specs.declared.event.Event.{Event}
 use Rattle.synic_board.specs.declared.event.Event.TheVariants.{OpenPort}
 use Rattle.text_lines.specs.Reading.{Fields, take_then, none_left, spelled_at, bytes_at, u8_at, u64_at, hex_u32_at, hex_u64_at, parse_open}

@@ -1,5 +1,5 @@
 -- What the lines of an image denote: a line denotes a piece iff its fields, separated by single spaces, are the piece's, as an image has them.
-use Rattle.std.specs.Prelude.{◌≡◌, ℕ, ◌<◌, ◌≤◌, ◌^◌, List, [], ◌∷◌, true, length, Option, None, Some, IfSome, codes}
+use Rattle.std.specs.Prelude.{◌≡◌, ℕ, ◌<◌, ◌^◌, List, true, length, IfSome, codes}
 use Rattle.std.specs.FinSet as set
 use Rattle.text_base.specs.Numbers.{AreBytes}
 use Rattle.text_base.specs.Fields.{fields_of}

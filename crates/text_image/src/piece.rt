@@ -12,15 +12,33 @@ pub enum Piece {
     /// The present time.
     Moment(Moment),
     /// The local APIC of a processor.
-    Lapic { vp: u8, lapic: Lapic },
+    Lapic {
+        vp: u8,
+        lapic: Lapic,
+    },
     /// SCONTROL of a processor.
-    Control { vp: u8, value: u64 },
+    Control {
+        vp: u8,
+        value: u64,
+    },
     /// SIMP or SIEFP of a processor.
-    Overlay { vp: u8, kind: Kind, value: u64 },
+    Overlay {
+        vp: u8,
+        kind: Kind,
+        value: u64,
+    },
     /// A SINT register of a processor.
-    Source { vp: u8, sint: Sint, value: u64 },
+    Source {
+        vp: u8,
+        sint: Sint,
+        value: u64,
+    },
     /// 256 bytes of a guest page, from an offset on.
-    Guest { page: u8, at: u16, bytes: Block },
+    Guest {
+        page: u8,
+        at: u16,
+        bytes: Block,
+    },
     /// 256 bytes of a page of a processor, from an offset on.
     Own {
         vp: u8,
@@ -44,9 +62,17 @@ pub enum Piece {
         due: Option<u128>,
     },
     /// A queued message.
-    Queued { vp: u8, sint: u8, message: Message },
+    Queued {
+        vp: u8,
+        sint: u8,
+        message: Message,
+    },
     /// The ticket of the message in a slot.
-    Slot { vp: u8, sint: u8, ticket: Ticket },
+    Slot {
+        vp: u8,
+        sint: u8,
+        ticket: Ticket,
+    },
     /// The end of the image.
     End,
 }

@@ -17,6 +17,7 @@ use text_lines::{event_of, u64_of};
 use timers::timer_of;
 
 /// Parses a line of an image that is below its board line; `None` if the line denotes no piece.
+#[tactic(auto, unfolding(crate::specs::Parsing::piece_at))]
 pub fn piece_of(line: &[u8]) -> Option<Piece>
     ensures { result ≡ piece_at line.now }
 {

@@ -68,9 +68,11 @@ fn block_of(fields: &mut Fields<'_>) -> Option<Block>
 {
     let field = fields.next()?;
     let mut bytes = ArrayVec::new();
-    if bytes_of(field, &mut bytes) && bytes.is_full() {
-        Some(bytes)
-    } else {
-        None
+    if !bytes_of(field, &mut bytes) {
+        return None;
     }
+    if !bytes.is_full() {
+        return None;
+    }
+    Some(bytes)
 }
