@@ -84,11 +84,11 @@ abbrev pub name_fields : PageName → List (List ℕ)
 name_fields (Guest number) = codes "page" ∷ decimal number ∷ []
 name_fields (Own p k) = codes "own" ∷ decimal p ∷ kind_word k ∷ []
 
--- the bytes of a page from an offset on
+-- bytes of a page from an offset on
 abbrev pub block_fields : PageName → ℕ → List ℕ → List (List ℕ)
 block_fields name at bytes = name_fields name ++ (hex at ∷ spelled bytes ∷ [])
 
--- unless they are zeros
+-- the same, unless the bytes are zeros
 abbrev pub block_line : PageName → ℕ → List ℕ → Lines
 block_line name at bytes = if bytes_eq bytes (replicate 256 0) then [] else block_fields name at bytes ∷ []
 

@@ -1,5 +1,5 @@
 -- A partly written line of auto-EOI vectors.
-use Rattle.std.specs.Prelude.{ℕ, ◌+◌, List, [], ◌∷◌, ◌++◌, Bool, true, false, if◌then◌else◌, codes, decimal}
+use Rattle.std.specs.Prelude.{ℕ, List, [], ◌∷◌, ◌++◌, Bool, true, false, if◌then◌else◌, codes, decimal}
 use Rattle.text_base.specs.Numbers.{two_digits}
 use Rattle.text_base.specs.Fields.{spaced}
 use Rattle.text_lines.specs.Printing.{auto_fields}
