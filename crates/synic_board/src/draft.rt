@@ -79,6 +79,13 @@ impl Draft {
         self.machine.processors()
     }
 
+    /// The number of guest pages.
+    pub fn pages(&self) -> u8
+        ensures { result ≡ length self.now.pages }
+    {
+        self.machine.pages()
+    }
+
     /// Sets the present time, in units of 100 ns.
     pub fn set_moment(&mut self, moment: Moment)
         ensures { self.new ≡ at_moment self.old moment }
@@ -125,15 +132,19 @@ impl Draft {
         self.machine.open_port(port, vp, sint, shape)
     }
 
-    /// Sets bytes of a processor's message or event flags page, from offset `at` on. Requires that no slot
-    /// of the processor holds a ticket yet.
-    pub fn set_own(&mut self, vp: Vp, kind: Kind, at: usize, bytes: &[u8])
+    /// Sets bytes of a processor's message or event flags page, from offset `at` on, if no slot of the
+    /// processor holds a ticket yet, and returns whether none does.
+    pub fn set_own(&mut self, vp: Vp, kind: Kind, at: usize, bytes: &[u8]) -> bool
         requires on { vp < processors self.old }
         requires inside { at + length bytes.now ≤ 4096 }
-        requires before { HasNoTickets self.old vp }
-        ensures { self.new ≡ with_own_bytes self.old vp kind at bytes.now }
+        ensures valid { IsTrue result ↔ HasNoTickets self.old vp }
+        ensures restored { self.new ≡ (if result then with_own_bytes self.old vp kind at bytes.now else self.old) }
     {
+        if !self.machine.has_no_tickets(vp) {
+            return false;
+        }
         self.machine.restore_own(vp, kind, at, bytes);
+        true
     }
 
     /// Sets bytes of a guest page, from offset `at` on.

@@ -11,7 +11,7 @@ ghost use Rattle.message_queues.specs.Queues.{queue_of};
 ghost use Rattle.stimer_bank.specs.Bank.{idle_timer, timer_in};
 ghost use Rattle.synic_board.specs.State.{processors, apic_of, regs_of, ports_of, bank_of, slot_of, with_slot_ticket};
 ghost use Rattle.synic_board.specs.Timers.{at_moment};
-ghost use Rattle.synic_board.specs.Restoring.{with_processor, with_saved_timer, with_own_bytes, with_guest_bytes, with_message};
+ghost use Rattle.synic_board.specs.Restoring.{with_processor, with_saved_timer, with_own_bytes, with_guest_bytes, with_message, HasNoTickets};
 
 use crate::machine::Machine;
 use crate::machine::suspending::mark_timers;
@@ -110,6 +110,20 @@ impl Machine {
         ensures { IsTrue result ↔ (slot_of self.now.state vp sint ≢ None) }
     {
         self.slots[source_number(vp, sint)].is_some()
+    }
+
+    /// Whether no slot of a processor holds a ticket.
+    pub(crate) fn has_no_tickets(&self, vp: Vp) -> bool
+        requires { vp < processors self.now.state }
+        ensures { IsTrue result ↔ HasNoTickets self.now.state vp }
+    {
+        for number in 0..16 {
+            let sint = Sint::new(number).unwrap();
+            if self.has_ticket(vp, sint) {
+                return false;
+            }
+        }
+        true
     }
 
     /// What holds for the timers and pages of every machine.

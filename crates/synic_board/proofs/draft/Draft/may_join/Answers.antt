@@ -1,7 +1,7 @@
-use Rattle.std.proofs.Common.{refl, sym, subst, ap, ◌∙◌}
+use Rattle.std.proofs.Common.{refl, sym, subst}
 use Rattle.synic_board.specs.State.{State}
 use Rattle.message_queues.specs.Queues.{HasBuffer}
-use Rattle.synic_board.specs.Restoring.{IsUnplaced, MayJoin}
+use Rattle.synic_board.specs.Restoring.{IsUnplaced}
 use Rattle.synic_board.proofs.draft.Draft.may_join.Goals as goal
 
 pub returns : goal.returns

@@ -1,4 +1,4 @@
-use Rattle.std.proofs.Common.{[], arith, sym, subst, List, ℕ}
+use Rattle.std.proofs.Common.{arith, sym, subst, List, ℕ}
 use Rattle.synic_board.specs.State.{State, opened}
 use Rattle.synic_board.specs.inside.Drafts.{IsDraft}
 use Rattle.synic_board.proofs.Drafts.{draft-opened}

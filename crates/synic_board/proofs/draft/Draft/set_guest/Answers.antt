@@ -1,7 +1,5 @@
-use Rattle.std.proofs.Common.{sym, subst, ap, arith}
-use Rattle.synic_board.specs.State.{State, processors, slot_of}
-use Rattle.synic_board.specs.Effects.{Outcome}
-use Rattle.synic_board.specs.Restoring.{HasNoTickets}
+use Rattle.std.proofs.Common.{sym, subst}
+use Rattle.synic_board.specs.State.{State}
 use Rattle.synic_board.specs.inside.Drafts.{IsDraft}
 use Rattle.synic_board.proofs.Drafts.{draft-guest}
 use Rattle.synic_board.proofs.draft.Draft.set_guest.Goals as goal

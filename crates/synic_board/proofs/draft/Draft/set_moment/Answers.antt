@@ -1,4 +1,4 @@
-use Rattle.std.proofs.Common.{sym, subst, List, ℕ}
+use Rattle.std.proofs.Common.{sym, subst}
 use Rattle.synic_board.specs.State.{State}
 use Rattle.synic_board.specs.inside.Drafts.{IsDraft}
 use Rattle.synic_board.proofs.Drafts.{draft-moment}

@@ -1,8 +1,6 @@
-use Rattle.std.proofs.Common.{sym, subst, ap, arith}
-use Rattle.synic_board.specs.State.{State, processors, slot_of}
+use Rattle.std.proofs.Common.{sym, subst}
 use Rattle.synic_regs.specs.declared.register.Register.TheVariants.{Source}
 use Rattle.synic_board.specs.Effects.{Outcome}
-use Rattle.synic_board.specs.Restoring.{HasNoTickets}
 use Rattle.synic_board.specs.inside.Drafts.{IsDraft}
 use Rattle.synic_board.proofs.Drafts.{draft-stored}
 use Rattle.synic_board.proofs.draft.Draft.set_source.Goals as goal
