@@ -1,0 +1,3 @@
+pub mod Restoring
+pub mod Images
+pub mod inside

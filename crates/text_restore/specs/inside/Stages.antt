@@ -1,0 +1,32 @@
+-- The stage of a judge, and what it decides about a line.
+use Rattle.std.specs.Prelude.{◌≡◌, ℕ, List, [], Bool, true, false, Result, Ok, Err}
+use Rattle.synic_board.specs.State.{State}
+use Rattle.text_image.specs.declared.piece.Piece.{Piece}
+use Rattle.text_restore.specs.Restoring.{Stage, Untitled, Titled, Body, Opens, Restores, Continues, Follows}
+use Rattle.text_restore.specs.declared.stage.Stage.{Stage as Held}
+use Rattle.text_restore.specs.declared.stage.Stage.TheVariants as held
+
+abbrev pub stage_of : Held → Stage
+stage_of held.Untitled = Untitled
+stage_of held.Titled = Titled
+stage_of (held.Body draft last lapics) = Body draft last lapics
+
+abbrev pub IsGood : Stage → List ℕ → List ℕ → Stage → Type 0
+IsGood old line answer new = Follows old line new × (answer ≡ [])
+
+abbrev pub IsWrong : Stage → List ℕ → Unit {0} → Type 0
+IsWrong stage line fault = (new : Stage) → Follows stage line new → ⊥
+
+-- the line opens no board
+abbrev pub OpensNone : List ℕ → Type 0
+OpensNone line = (new : Stage) → Opens line new → ⊥
+
+-- a piece was taken, or leads nowhere
+abbrev pub Tries : Bool → State → Piece → State → Type 0
+Tries true s x new = Restores s x new
+Tries false s x new = (t : State) → Restores s x t → ⊥
+
+-- a piece came next, or may not
+abbrev pub Takes : Bool → State → ℕ → ℕ → Piece → State → ℕ → ℕ → Type 0
+Takes true s last lapics x s' last' lapics' = Continues s last lapics x (Body s' last' lapics')
+Takes false s last lapics x s' last' lapics' = (new : Stage) → Continues s last lapics x new → ⊥

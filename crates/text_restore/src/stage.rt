@@ -1,0 +1,131 @@
+// The stages of a restore: which line of the image comes next.
+ghost use Rattle.std.specs.Prelude.{◌≡◌, [], IfOk, IfSome, Some, None};
+ghost use Rattle.text_lines.specs.Items.{Opening};
+ghost use Rattle.text_lines.specs.Reading.{item_at};
+ghost use Rattle.text_driver.specs.Judging.{Judges};
+ghost use Rattle.text_restore.specs.Restoring.{Untitled, Titled, Body};
+ghost use Rattle.text_restore.specs.inside.Stages.{stage_of, IsGood, IsWrong, OpensNone, Takes};
+
+use crate::order::{is_in_turn, is_later, lapics_after, place_of};
+use crate::parts::restore_piece;
+use board_terms::Ticket;
+use std::alloc::{AllocError, Global};
+use synic_board::{Draft, OpenFault};
+use text_base::{Fields, is_word};
+use text_driver::Taken;
+use text_image::{Piece, piece_of};
+use text_lines::opening_of;
+
+/// What was read of an image.
+#[derive(Drop)]
+pub(crate) enum Stage {
+    /// Nothing.
+    Untitled,
+    /// The title.
+    Titled,
+    /// The board line and some pieces: the board, the place of the last piece, and how many local
+    /// APICs the pieces have.
+    Body {
+        draft: Draft,
+        last: u64,
+        lapics: u8,
+    },
+}
+
+/// Takes a line, if it may come next.
+pub(crate) fn take_line(alloc: Global, stage: &mut Stage, line: &[u8]) -> Taken<()>
+    ensures { Judges IsGood IsWrong result (stage_of stage.old) (stage_of stage.new) line.now [] }
+{
+    match stage {
+        Stage::Untitled => take_title(stage, line),
+        Stage::Titled => take_opening(alloc, stage, line),
+        Stage::Body {
+            draft,
+            last,
+            lapics,
+        } => take_body(draft, last, lapics, line),
+    }
+}
+
+fn take_title(stage: &mut Stage, line: &[u8]) -> Taken<()>
+    requires { stage_of stage.old ≡ Untitled }
+    ensures { Judges IsGood IsWrong result (stage_of stage.old) (stage_of stage.new) line.now [] }
+{
+    if line != b"image 1".as_slice() {
+        return Taken::Wrong(());
+    }
+    *stage = Stage::Titled;
+    Taken::Good
+}
+
+fn take_opening(alloc: Global, stage: &mut Stage, line: &[u8]) -> Taken<()>
+    requires { stage_of stage.old ≡ Titled }
+    ensures { Judges IsGood IsWrong result (stage_of stage.old) (stage_of stage.new) line.now [] }
+{
+    let Some((processors, pages, ticket)) = sizes_of(line) else {
+        return Taken::Wrong(());
+    };
+    match Draft::open(alloc, processors, pages, ticket) {
+        Ok(draft) => {
+            *stage = Stage::Body {
+                draft,
+                last: 0,
+                lapics: 0,
+            };
+            Taken::Good
+        }
+        Err(OpenFault::BadSize) => Taken::Wrong(()),
+        Err(OpenFault::Memory) => Taken::Memory,
+    }
+}
+
+/// The processors, the pages and the next ticket of a board line.
+fn sizes_of(line: &[u8]) -> Option<(u8, u8, Ticket)>
+    ensures some { IfSome result (λ sizes. item_at line.now ≡ Some (Opening sizes.0 sizes.1 sizes.2)) }
+    ensures none { result ≡ None → OpensNone line.now }
+{
+    let mut fields = Fields::new(line);
+    let Some(word) = fields.next() else {
+        return None;
+    };
+    if !is_word(word, b"board") {
+        return None;
+    }
+    opening_of(&mut fields)
+}
+
+/// Takes a line after the board line.
+fn take_body(draft: &mut Draft, last: &mut u64, lapics: &mut u8, line: &[u8]) -> Taken<()>
+    ensures { Judges IsGood IsWrong result (Body draft.old last.old lapics.old) (Body draft.new last.new lapics.new) line.now [] }
+{
+    let Some(piece) = piece_of(line) else {
+        return Taken::Wrong(());
+    };
+    match take_piece(draft, last, lapics, piece) {
+        Ok(true) => Taken::Good,
+        Ok(false) => Taken::Wrong(()),
+        Err(_) => Taken::Memory,
+    }
+}
+
+/// Takes a piece, if it may come next, and returns whether it may.
+fn take_piece(
+    draft: &mut Draft,
+    last: &mut u64,
+    lapics: &mut u8,
+    piece: Piece,
+) -> Result<bool, AllocError>
+    ensures { IfOk result (λ taken. Takes taken draft.old last.old lapics.old piece draft.new last.new lapics.new) }
+{
+    if !is_later(*last, &piece) || !is_in_turn(draft.processors(), *lapics, &piece) {
+        return Ok(false);
+    }
+    let place = place_of(&piece);
+    let after = lapics_after(*lapics, &piece);
+    if !restore_piece(draft, piece)? {
+        return Ok(false);
+    }
+    *last = place;
+    *lapics = after;
+    Ok(true)
+}
