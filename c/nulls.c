@@ -14,6 +14,7 @@
  *   `page` of a page call  a variable that is not read
  *   a view, or owners      zeros, which are not read
  *   `due` of a tick        a variable that is not read
+ *   `ticket` of a slot     a variable that is not read
  *
  * A handle to open and a text with a length have no such value. The header defines what their calls
  * return, and they come last here. No call in this file allocates or keeps state. `./library`
@@ -45,6 +46,7 @@ static const uint8_t too_many[sizeof no_event.bytes + 1] = { 0 };
 #define VIEW(view) OR(view, &(synicboard_view){ 0 })
 #define OWNERS(owners) OR(owners, &(synicboard_owners){ 0 })
 #define DUE(due) OR(due, &(synicboard_due){ 0 })
+#define TICKET(ticket) OR(ticket, &(uint64_t){ 0 })
 
 /* ---- How a call is built ---- */
 
@@ -145,6 +147,10 @@ LOOK(uint64_t, synicboard_next_ticket, (board), const synicboard *board)
 LOOK(synicboard_page_owner, synicboard_owner, (board, page), const synicboard *board, uint64_t page)
 CALL_FOR_STRUCT(synicboard_reply, synicboard_tick_due, board == NULL || due == NULL, BOARD(board) DUE(due),
                 (board, moment, due), synicboard *board, uint64_t moment, synicboard_due *due)
+CALL_FOR_STRUCT(synicboard_timer_state, synicboard_timer, board == NULL, CONST_BOARD(board), (board, vp, timer),
+                const synicboard *board, uint8_t vp, uint8_t timer)
+CALL(bool, synicboard_slot, board == NULL || ticket == NULL, CONST_BOARD(board) TICKET(ticket),
+     (board, vp, sint, ticket), const synicboard *board, uint8_t vp, uint8_t sint, uint64_t *ticket)
 CALL_FOR_STRUCT(synicboard_local_apic, synicboard_lapic, board == NULL, CONST_BOARD(board), (board, vp),
                 const synicboard *board, uint8_t vp)
 CALL_FOR_STRUCT(synicboard_due, synicboard_earliest, board == NULL, CONST_BOARD(board), (board), const synicboard *board)
@@ -182,6 +188,7 @@ CALL_FOR_STRUCT(synicboard_end, synicboard_format_entry, event == NULL || reply 
 #define PROVED(name) __typeof__(name) proved_##name
 
 PROVED(synicboard_open);
+PROVED(synicboard_restore);
 PROVED(synicboard_close);
 PROVED(synicboard_open_line);
 PROVED(synicboard_split_line);
@@ -230,6 +237,16 @@ synicboard_end synicboard_replay(const uint8_t *script, size_t script_length, ui
     BYTES(script, script_length)
     ROOM(room, length, uint8_t)
     return proved_synicboard_replay(script, script_length, room, length);
+}
+
+synicboard_end synicboard_restore(synicboard *board, const uint8_t *image, size_t length)
+{
+    if (board == NULL)
+        return (synicboard_end){ .kind = SYNICBOARD_NO_HANDLE };
+    if (image == NULL && length > 0)
+        return (synicboard_end){ .kind = SYNICBOARD_NO_TEXT };
+    BYTES(image, length)
+    return proved_synicboard_restore(board, image, length);
 }
 
 synicboard_verdict synicboard_check(const uint8_t *trace, size_t length)

@@ -406,6 +406,24 @@ typedef struct synicboard_local_apic {
 /* The local APIC of a processor, for reads of its registers; all 0 if there is no such processor or board. */
 synicboard_local_apic synicboard_lapic(const synicboard *board, uint8_t vp);
 
+/* A timer, for inspection: its registers, and its deadline, even while its processor is suspended. If `is_due`,
+ * it is due at high * 2^64 + low, in units of 100 ns. */
+typedef struct synicboard_timer_state {
+    bool is_due;
+    uint64_t config;                    /* STIMERn_CONFIG */
+    uint64_t count;                     /* STIMERn_COUNT */
+    uint64_t low;
+    uint64_t high;
+} synicboard_timer_state;
+
+/* The timer of a processor, 0 to 3; all 0 if there is no such timer or board. */
+synicboard_timer_state synicboard_timer(const synicboard *board, uint8_t vp, uint8_t timer);
+
+/* Stores the ticket of the message in the slot of a source in `*ticket`, and returns whether the slot holds
+ * one; if not, or if there is no such source or board, `*ticket` is unchanged. A slot that a guest filled
+ * itself holds none. */
+bool synicboard_slot(const synicboard *board, uint8_t vp, uint8_t sint, uint64_t *ticket);
+
 /* Which page is visible at a page number. */
 enum {
     SYNICBOARD_OWNER_NOTHING = 0,       /* no such page, or the handle is closed */
@@ -478,7 +496,7 @@ bool synicboard_guest_page(const synicboard *board, uint64_t number, const uint8
  *
  * Scripts, traces and images, in the formats of docs/FORMATS.md. */
 
-/* The result of a call that writes a text. */
+/* The result of a call that writes a text, or reads an image. */
 typedef struct synicboard_end {
     uint8_t kind;
     uint64_t line;
@@ -491,8 +509,15 @@ typedef struct synicboard_end {
 synicboard_end synicboard_replay(const uint8_t *script, size_t script_length, uint8_t *room, size_t length);
 
 /* Writes the image of a board to `room`, as much as fits. With SYNICBOARD_IS_CLOSED or SYNICBOARD_NO_MEMORY
- * nothing is written. No call reads an image yet. */
+ * nothing is written. */
 synicboard_end synicboard_save(const synicboard *board, uint8_t *room, size_t length);
+
+/* Restores a board from an image, in a closed handle. Each line is checked against those before it, so an
+ * image that was cut, changed or forged gives SYNICBOARD_WRONG_LINE, or a board on which everything holds
+ * that holds on an opened one. With SYNICBOARD_NO_HANDLE, SYNICBOARD_NO_TEXT, SYNICBOARD_IS_OPEN,
+ * SYNICBOARD_WRONG_LINE, SYNICBOARD_NO_MEMORY or SYNICBOARD_TOO_LONG the handle is unchanged. `length` is
+ * always 0. Allocates all memory that the events of this board need. */
+synicboard_end synicboard_restore(synicboard *board, const uint8_t *image, size_t length);
 
 /* The result of a check. */
 typedef struct synicboard_verdict {

@@ -202,6 +202,46 @@ static void test_local_apic(void)
     synicboard_close(&board);
 }
 
+/* A timer that is armed, stopped by its processor's suspension, and expired; a slot that is empty, holds a
+ * message, and is filled by the guest. */
+static void test_timers_and_slots(void)
+{
+    static const uint8_t bytes[4] = { 1 }, empty[4] = { 0 };
+    synicboard board = SYNICBOARD_CLOSED;
+    uint64_t ticket = 99;
+    CHECK(!synicboard_timer(&board, 0, 0).is_due && !synicboard_slot(&board, 0, 2, &ticket));
+    synicboard_open(&board, 2, 4, 7);
+    synicboard_write(&board, 1, SYNICBOARD_MSR_STIMER0_COUNT + 4, 100);
+    CHECK(!synicboard_timer(&board, 1, 2).is_due);
+    CHECK_NUMBER(synicboard_timer(&board, 1, 2).count, 100);
+    synicboard_write(&board, 1, SYNICBOARD_MSR_STIMER0_CONFIG + 4, 0x1503);
+    synicboard_suspend(&board, 1);
+    synicboard_timer_state timer = synicboard_timer(&board, 1, 2);
+    CHECK(timer.is_due && !synicboard_earliest(&board).is_due);
+    CHECK_NUMBER(timer.config, 0x1503);
+    CHECK_NUMBER(timer.low, 100);
+    CHECK_NUMBER(timer.high, 0);
+    synicboard_resume(&board, 1);
+    synicboard_tick(&board, 150);
+    CHECK_NUMBER(synicboard_timer(&board, 1, 2).low, 200);
+    CHECK_NUMBER(synicboard_timer(&board, 1, 4).config, 0);
+    CHECK_NUMBER(synicboard_timer(&board, 2, 2).config, 0);
+    synicboard_write(&board, 0, SCONTROL, 1);
+    synicboard_write(&board, 0, SIMP, 0x2001);
+    synicboard_write(&board, 0, SINT0 + 2, 0x50);
+    synicboard_open_message_port(&board, 3, 0, 2, 1);
+    CHECK(!synicboard_slot(&board, 0, 2, &ticket));
+    CHECK_NUMBER(ticket, 99);
+    synicboard_post(&board, 3, 1, bytes, 1);
+    CHECK(synicboard_slot(&board, 0, 2, &ticket));
+    CHECK_NUMBER(ticket, 7);
+    synicboard_store(&board, 0x2200, empty, 4);
+    synicboard_store(&board, 0x2200, bytes, 4);
+    CHECK(!synicboard_slot(&board, 0, 2, &ticket));
+    CHECK(!synicboard_slot(&board, 0, 16, &ticket) && !synicboard_slot(&board, 2, 2, &ticket));
+    synicboard_close(&board);
+}
+
 /* A one-shot that was due at 5 expires at 7, and the other one is then the earliest. */
 static void test_tick_due(void)
 {
@@ -834,6 +874,7 @@ static void test_events_take_no_memory(void)
 
 static const struct test tests[] = {
     { "a local APIC", test_local_apic },
+    { "timers and slots", test_timers_and_slots },
     { "a tick with the earliest deadline", test_tick_due },
     { "a closed handle", test_closed_handle },
     { "opening twice", test_opening_twice },

@@ -117,6 +117,9 @@ static void test_null_board_looks(void)
     CHECK_NUMBER(synicboard_tick_due(NULL, 5, NULL).fault, SYNICBOARD_IS_CLOSED);
     synicboard_local_apic lapic = synicboard_lapic(NULL, 0);
     CHECK(lapic.requested[0] == 0 && lapic.in_service[3] == 0 && lapic.processor_priority == 0 && !lapic.is_suspended);
+    uint64_t ticket = 9;
+    CHECK_NUMBER(synicboard_timer(NULL, 0, 0).config, 0);
+    CHECK(!synicboard_slot(NULL, 0, SOURCE, &ticket) && ticket == 9);
     synicboard_due due = synicboard_earliest(NULL);
     CHECK(!due.is_due && due.vp == 0 && due.timer == 0 && due.low == 0 && due.high == 0);
     CHECK_NUMBER(synicboard_update(NULL, &view), 1);
@@ -367,6 +370,32 @@ static void test_null_saves(void)
     synicboard_close(&board);
 }
 
+static void test_null_restores(void)
+{
+    const char *image = "image 1\nboard 1 1 5\nlapic 0 0 0 0 0 0 0 0 0 0 running\nend\n";
+    synicboard board = SYNICBOARD_CLOSED;
+    CHECK_END(synicboard_restore(NULL, (const uint8_t *)image, strlen(image)), SYNICBOARD_NO_HANDLE, 0, 0);
+    CHECK_END(synicboard_restore(NULL, NULL, 1), SYNICBOARD_NO_HANDLE, 0, 0);
+    CHECK_END(synicboard_restore(&board, NULL, 1), SYNICBOARD_NO_TEXT, 0, 0);
+    CHECK_END(synicboard_restore(&board, NULL, 0), SYNICBOARD_WRONG_LINE, 1, 0);
+    CHECK(!board.is_open);
+}
+
+static void test_null_ticket(void)
+{
+    const uint8_t byte = 1;
+    synicboard board = SYNICBOARD_CLOSED;
+    synicboard_open(&board, 1, 1, 5);
+    synicboard_write(&board, 0, SCONTROL, 1);
+    synicboard_write(&board, 0, SIMP, 1);
+    synicboard_write(&board, 0, SINT0 + 2, 0x50);
+    synicboard_open_message_port(&board, 3, 0, 2, 1);
+    synicboard_post(&board, 3, 1, &byte, 1);
+    CHECK(synicboard_slot(&board, 0, 2, NULL));
+    CHECK(!synicboard_slot(&board, 0, 3, NULL));
+    synicboard_close(&board);
+}
+
 static void test_null_entries(void)
 {
     const synicboard_event event = { .kind = SYNICBOARD_TAKE };
@@ -398,7 +427,9 @@ static const struct test tests[] = {
     { "splitting", test_splitting },
     { "null texts", test_null_texts },
     { "null entries", test_null_entries },
+    { "a null place of a ticket", test_null_ticket },
     { "null pointers of a save", test_null_saves },
+    { "null pointers of a restore", test_null_restores },
 };
 
 int main(void)

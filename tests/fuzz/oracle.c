@@ -28,7 +28,8 @@ static void *allocate(size_t size)
 
 enum { KINDS = 17, OUTCOMES = 32, NOTICES = 10, SIZES = 10 };
 enum { FIRST_NOTICE = KINDS * OUTCOMES, FIRST_SIZE = FIRST_NOTICE + KINDS * NOTICES * NOTICES };
-enum { FEATURES = FIRST_SIZE + KINDS * SIZES };
+/* The first wrong line of an image, up to a bound. */
+enum { WRONG_LINES = 100, FIRST_LINE = FIRST_SIZE + KINDS * SIZES, FEATURES = FIRST_LINE + WRONG_LINES };
 
 __attribute__((section("__libfuzzer_extra_counters"), used)) static uint8_t features[FEATURES];
 
@@ -124,6 +125,26 @@ static void check_shared(struct fuzz *fuzz)
     free(trace);
 }
 
+/* A board that is restored from the image saves the same image, and answers one more event like the saved one.
+ * With a byte changed, the image is refused, or is that of the board that it restores. */
+static void check_restored(struct fuzz *fuzz, uint8_t *image, uint8_t *room, size_t length)
+{
+    synicboard restored = SYNICBOARD_CLOSED;
+    synicboard_end end = synicboard_restore(&restored, image, length);
+    DEMAND(end.kind == SYNICBOARD_OK && end.line == 0 && end.length == 0);
+    DEMAND(synicboard_save(&restored, room, length).length == length && memcmp(image, room, length) == 0);
+    synicboard_reply one = synicboard_tick(&fuzz->by_call, UINT64_MAX), other = synicboard_tick(&restored, UINT64_MAX);
+    DEMAND(memcmp(&one, &other, sizeof one) == 0);
+    synicboard_close(&restored);
+    size_t at = (length * 31 + fuzz->entries * 977) % length;
+    image[at] ^= 1 + fuzz->entries % 15;
+    end = synicboard_restore(&restored, image, length);
+    DEMAND(end.kind == SYNICBOARD_OK || (end.kind == SYNICBOARD_WRONG_LINE && end.line > 0 && !restored.is_open));
+    if (end.kind == SYNICBOARD_OK)
+        DEMAND(synicboard_save(&restored, room, length).length == length && memcmp(image, room, length) == 0);
+    synicboard_close(&restored);
+}
+
 /* Both boards performed the same events, so their images are the same, also in buffers of exactly their
  * size. */
 static void check_images(struct fuzz *fuzz)
@@ -134,6 +155,7 @@ static void check_images(struct fuzz *fuzz)
     DEMAND(synicboard_save(&fuzz->by_struct, one, end.length).length == end.length);
     DEMAND(synicboard_save(&fuzz->by_call, other, end.length).length == end.length);
     DEMAND(memcmp(one, other, end.length) == 0 && memcmp(one + end.length - 5, "\nend\n", 5) == 0);
+    check_restored(fuzz, one, other, end.length);
     free(one);
     free(other);
 }
@@ -417,6 +439,24 @@ static synicboard_end replay(const uint8_t *text, size_t length, uint8_t *room, 
     return end;
 }
 
+/* A text is refused at a line, or is the image of the board that it restores. */
+static void restore_text(const uint8_t *text, size_t length)
+{
+    synicboard board = SYNICBOARD_CLOSED;
+    synicboard_end end = synicboard_restore(&board, text, length);
+    features[FIRST_LINE + (end.line < WRONG_LINES ? end.line : WRONG_LINES - 1)]++;
+    DEMAND(end.length == 0 && board.is_open == (end.kind == SYNICBOARD_OK));
+    if (board.is_open) {
+        uint8_t *room = allocate(length);
+        DEMAND(end.line == 0 && synicboard_save(&board, room, length).length == length && memcmp(room, text, length) == 0);
+        DEMAND(synicboard_tick(&board, UINT64_MAX).kind == SYNICBOARD_DONE);
+        free(room);
+    } else {
+        DEMAND(end.kind == SYNICBOARD_WRONG_LINE && end.line != 0);
+    }
+    synicboard_close(&board);
+}
+
 void fuzz_text(const uint8_t *text, size_t length)
 {
     uint8_t *exact = allocate(length + (length == 0)), few[7 + GUARD];
@@ -429,6 +469,7 @@ void fuzz_text(const uint8_t *text, size_t length)
     synicboard_verdict verdict = synicboard_check(exact, length);
     DEMAND(verdict.kind == SYNICBOARD_OK || verdict.kind == SYNICBOARD_WRONG_LINE);
     DEMAND((verdict.kind == SYNICBOARD_WRONG_LINE) == (verdict.line != 0));
+    restore_text(exact, length);
     free(whole);
     free(exact);
 }

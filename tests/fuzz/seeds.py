@@ -73,7 +73,8 @@ def paths():
 
 
 def traces():
-    for pattern in ("cases/check/*.trace", "examples/*.trace"):
+    """Traces and images."""
+    for pattern in ("cases/check/*.trace", "examples/*.trace", "cases/save/*.stdout"):
         yield from sorted(glob.glob(os.path.join(ROOT, pattern)))
 
 

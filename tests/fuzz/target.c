@@ -7,12 +7,14 @@
  *   - synicboard_format_entry writes the trace of the events. synicboard_check must find it legal, and must
  *     refuse it with another next ticket.
  *   - A raise is fresh iff its bit is clear, and an absorb takes all bits that are set.
+ *   - The image of the boards restores a board that saves the same image, and a text that is restored is the
+ *     image of its board.
  *   - Texts: the result is one of those that the header lists, the same for each buffer, and nothing
  *     is written past the buffer.
  *
  * Bytes of an input, of which seeds.py makes some from scripts:
  *
- *   255, then a text           for synicboard_replay and synicboard_check
+ *   255, then a text           for synicboard_replay, synicboard_check and synicboard_restore
  *   P, G, ticket, actions      a board of 1 + P % 8 processors and 1 + G % 64 pages, and a shared
  *                              one if P / 8 is odd
  *

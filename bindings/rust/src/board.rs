@@ -45,6 +45,29 @@ impl fmt::Display for OpenFault {
 
 impl Error for OpenFault {}
 
+/// Why no board was restored from an image.
+#[derive(Clone, Copy, PartialEq, Eq, Hash, Debug)]
+pub enum RestoreFault {
+    /// The text is no image; this line is the first wrong one, counted from 1.
+    WrongLine(u64),
+    /// An allocation failed.
+    Memory,
+    /// The text has more than 1,073,741,824 bytes, and no line of these is wrong.
+    TooLong,
+}
+
+impl fmt::Display for RestoreFault {
+    fn fmt(&self, formatter: &mut fmt::Formatter<'_>) -> fmt::Result {
+        match self {
+            RestoreFault::WrongLine(line) => write!(formatter, "line {line} of the image is wrong"),
+            RestoreFault::Memory => formatter.write_str("out of memory"),
+            RestoreFault::TooLong => formatter.write_str("the image is too long"),
+        }
+    }
+}
+
+impl Error for RestoreFault {}
+
 /// A local APIC. Bit i of word k is vector 64 * k + i.
 #[derive(Clone, Copy, PartialEq, Eq, Debug)]
 pub struct LocalApic {
@@ -61,13 +84,24 @@ pub struct LocalApic {
     pub is_suspended: bool,
 }
 
+/// A timer.
+#[derive(Clone, Copy, PartialEq, Eq, Debug)]
+pub struct Timer {
+    /// STIMERn_CONFIG.
+    pub config: u64,
+    /// STIMERn_COUNT.
+    pub count: u64,
+    /// The deadline, in units of 100 ns.
+    pub due: Option<u128>,
+}
+
 /// The interrupt side of a partition with 1 to 8 processors and 1 to 64 guest pages.
 ///
 /// Each method with `&mut self` performs an event and returns a [`Reply`]; then
 /// [`notices`](Board::notices) returns the notices of the event. An event that is refused or raises
 /// #GP changes nothing. The methods with `&self` are queries: they change nothing, and return cached
-/// values. After [`open`](Board::open) no method allocates, except [`save`](Board::save). The value itself takes some 9 KB, with a
-/// buffer for the notices of an event.
+/// values. After [`open`](Board::open) or [`restore`](Board::restore) no method allocates, except [`save`](Board::save).
+/// The value itself takes some 9 KB, with a buffer for the notices of an event.
 ///
 /// ```
 /// use synicboard::{Board, Notice, Reply, Vector};
@@ -180,6 +214,38 @@ impl Board {
         let handle = UnsafeCell::new(sys::SYNICBOARD_CLOSED);
         let board = Board { handle, room: Room::new(), processors, pages };
         OpenFault::judged(ask!(board, synicboard_open, processors, pages, first_ticket))?;
+        Ok(board)
+    }
+
+    /// Restores a board from an image, as [`save`](Board::save) writes it. Each line is checked against
+    /// those before it. Allocates all memory that the board needs.
+    ///
+    /// ```
+    /// let mut board = synicboard::Board::open(1, 1, 5).unwrap();
+    /// let _ = board.assert(0, 0x60);
+    /// let mut room = [0; 80];
+    /// let length = board.save(&mut room).unwrap();
+    /// let restored = synicboard::Board::restore(&room[..length]).unwrap();
+    /// assert_eq!(restored.next(0), board.next(0));
+    /// ```
+    ///
+    /// # Errors
+    ///
+    /// [`RestoreFault::WrongLine`] if the text is no image, [`RestoreFault::Memory`] if an allocation
+    /// fails, [`RestoreFault::TooLong`] for a text of more than 1 GiB.
+    pub fn restore(image: &[u8]) -> Result<Board, RestoreFault> {
+        let handle = UnsafeCell::new(sys::SYNICBOARD_CLOSED);
+        let mut board = Board { handle, room: Room::new(), processors: 0, pages: 0 };
+        let end = ask!(board, synicboard_restore, image.as_ptr(), image.len());
+        match end.kind {
+            sys::SYNICBOARD_OK => {}
+            sys::SYNICBOARD_WRONG_LINE => return Err(RestoreFault::WrongLine(end.line)),
+            sys::SYNICBOARD_NO_MEMORY => return Err(RestoreFault::Memory),
+            sys::SYNICBOARD_TOO_LONG => return Err(RestoreFault::TooLong),
+            _ => beyond_the_header(&end.kind),
+        }
+        board.processors = (0..8).take_while(|&vp| board.message_page(vp).is_some()).count() as u8;
+        board.pages = (0..64).take_while(|&page| board.guest_page(page).is_some()).count() as u8;
         Ok(board)
     }
 
@@ -435,9 +501,38 @@ impl Board {
         })
     }
 
+    /// The registers and the deadline of a timer, even while its processor is suspended; `None` if the
+    /// processor is not on the board or the index is above 3.
+    ///
+    /// ```
+    /// use synicboard::{msr, Board, Reply};
+    ///
+    /// let mut board = Board::open(1, 1, 0).unwrap();
+    /// assert_eq!(board.write(0, msr::STIMER0_COUNT, 100), Reply::Done);
+    /// assert_eq!(board.write(0, msr::STIMER0_CONFIG, 0x1401), Reply::Done);
+    /// let timer = board.timer(0, 0).unwrap();
+    /// assert_eq!((timer.config, timer.count, timer.due), (0x1401, 100, Some(100)));
+    /// ```
+    pub fn timer(&self, vp: u8, index: u8) -> Option<Timer> {
+        if vp >= self.processors || index > 3 {
+            return None;
+        }
+        let timer = ask!(self, synicboard_timer, vp, index);
+        let deadline = u128::from(timer.high) << 64 | u128::from(timer.low);
+        Some(Timer { config: timer.config, count: timer.count, due: timer.is_due.then_some(deadline) })
+    }
+
+    /// The ticket of the message in the slot of a source; `None` if the slot holds none, as one that the
+    /// guest filled itself, or if there is no such source.
+    pub fn slot_ticket(&self, vp: u8, sint: u8) -> Option<Ticket> {
+        let mut ticket = 0;
+        ask!(self, synicboard_slot, vp, sint, &mut ticket).then_some(ticket)
+    }
+
     /// Writes the image of the board to a buffer, as much as fits, and returns the length of the whole.
     /// An image states how the board differs from a newly opened one, in lines (docs/FORMATS.md of the
-    /// library). Nothing reads one yet. `None` if an allocation failed; then the buffer is unchanged.
+    /// library), and [`restore`](Board::restore) reads it. `None` if an allocation failed; then the buffer
+    /// is unchanged.
     ///
     /// ```
     /// let board = synicboard::Board::open(1, 1, 5).unwrap();

@@ -33,7 +33,7 @@ mod terms;
 mod text;
 mod view;
 
-pub use board::{Board, LocalApic, OpenFault, PAGE_BYTES};
+pub use board::{Board, LocalApic, OpenFault, RestoreFault, Timer, PAGE_BYTES};
 pub use event::{Bytes, Bytes8, Event, PayloadBytes, PortShape};
 pub use line::{Line, Raised, SplitFault};
 pub use notice::{Notice, Notices, MOST_NOTICES};

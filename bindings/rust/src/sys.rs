@@ -314,6 +314,22 @@ pub const SYNICBOARD_OWNER_MESSAGES: u8 = 2;
 /// Owner: the event flags page of `vp`.
 pub const SYNICBOARD_OWNER_FLAGS: u8 = 3;
 
+/// A timer: its registers and its deadline.
+#[repr(C)]
+#[derive(Clone, Copy, PartialEq, Eq, Debug)]
+pub struct synicboard_timer_state {
+    /// Whether the timer has a deadline.
+    pub is_due: bool,
+    /// STIMERn_CONFIG.
+    pub config: u64,
+    /// STIMERn_COUNT.
+    pub count: u64,
+    /// The deadline, modulo 2^64.
+    pub low: u64,
+    /// The deadline, divided by 2^64.
+    pub high: u64,
+}
+
 /// A local APIC. Bit i of word k is vector 64 * k + i.
 #[repr(C)]
 #[derive(Clone, Copy, PartialEq, Eq, Debug)]
@@ -538,6 +554,10 @@ extern "C" {
     pub fn synicboard_next_ticket(board: *const synicboard) -> u64;
     /// The local APIC of a processor; all 0 if there is no such processor.
     pub fn synicboard_lapic(board: *const synicboard, vp: u8) -> synicboard_local_apic;
+    /// The timer of a processor; all 0 if there is no such timer.
+    pub fn synicboard_timer(board: *const synicboard, vp: u8, timer: u8) -> synicboard_timer_state;
+    /// Stores the ticket in the slot of a source, if the slot holds one.
+    pub fn synicboard_slot(board: *const synicboard, vp: u8, sint: u8, ticket: *mut u64) -> bool;
     /// Which page a guest sees at a page number.
     pub fn synicboard_owner(board: *const synicboard, page: u64) -> synicboard_page_owner;
     /// The timer with the earliest deadline.
@@ -569,6 +589,12 @@ extern "C" {
     ) -> synicboard_end;
     /// Writes the image of a board to a buffer, as much as fits.
     pub fn synicboard_save(board: *const synicboard, room: *mut u8, length: usize) -> synicboard_end;
+    /// Restores a board from an image, in a closed handle.
+    pub fn synicboard_restore(
+        board: *mut synicboard,
+        image: *const u8,
+        length: usize,
+    ) -> synicboard_end;
     /// Checks whether a text is the trace of a legal history.
     pub fn synicboard_check(trace: *const u8, length: usize) -> synicboard_verdict;
     /// Writes the two lines of a trace entry for an event and its reply to a buffer, as much as

@@ -8,7 +8,7 @@ use std::thread;
 use synicboard::msr::{EOI, SCONTROL, SIEFP, SIMP, SINT0, STIMER0_CONFIG, STIMER0_COUNT, SVERSION};
 use synicboard::{
     check, format_entry, replay, Board, Bytes8, End, Event, Line, Notice, OpenFault, Owner, PayloadBytes, PortShape,
-    Refusal, Reply, Sint, FormatFault, TimerId, Vector, Verdict, Vp, MOST_NOTICES,
+    Refusal, Reply, RestoreFault, Sint, FormatFault, TimerId, Vector, Verdict, Vp, MOST_NOTICES,
 };
 
 const VP: Vp = Vp::new(0).unwrap();
@@ -471,6 +471,33 @@ fn an_image_that_does_not_fit_is_cut_and_counted() {
         assert_eq!(room[..filled], text[..filled]);
         assert!(room[filled..].iter().all(|&byte| byte == b'.'));
     }
+}
+
+#[test]
+fn an_image_is_restored() {
+    let mut board = Board::open(2, 3, 5).unwrap();
+    for (register, value) in [(0x4000_0080, 1), (0x4000_0083, 0x2001), (0x4000_0092, 0x50)] {
+        assert_eq!(board.write(1, register, value), Reply::Done);
+    }
+    assert_eq!(board.open_message_port(3, 1, 2, 2), Reply::Done);
+    assert_eq!(board.post(3, 1, b"one"), Reply::Accepted(5));
+    assert_eq!(board.post(3, 1, b"two"), Reply::Accepted(6));
+    let mut room = vec![0; 4096];
+    let length = board.save(&mut room).unwrap();
+    let mut restored = Board::restore(&room[..length]).unwrap();
+    assert_eq!((restored.processors(), restored.pages()), (2, 3));
+    assert_eq!(restored.post(3, 1, b"three"), board.post(3, 1, b"three"));
+    let mut again = vec![0; 4096];
+    assert_eq!(restored.save(&mut again), board.save(&mut room));
+    assert_eq!(again, room);
+}
+
+#[test]
+fn a_wrong_image_is_refused_at_its_first_wrong_line() {
+    let refused = |image: &[u8]| Board::restore(image).err();
+    assert_eq!(refused(b""), Some(RestoreFault::WrongLine(1)));
+    assert_eq!(refused(b"image 1\nboard 1 1 5\nend\n"), Some(RestoreFault::WrongLine(3)));
+    assert_eq!(RestoreFault::WrongLine(3).to_string(), "line 3 of the image is wrong");
 }
 
 #[test]

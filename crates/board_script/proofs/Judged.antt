@@ -10,8 +10,8 @@ use Rattle.text_driver.specs.Driving.{next_of, place, Ends, Stops, Sends, Drives
 use Rattle.text_driver.specs.declared.driving.End.{End}
 use Rattle.text_driver.specs.declared.driving.End.TheVariants as ends
 use Rattle.board_script.specs.Script.{line_fault, rest_fault, first_fault}
-use Rattle.board_script.specs.Output.{Machine, output_from, output_of, fault_of, fault_text, text}
-use Rattle.board_script.specs.Streams.{BegunText, Replays}
+use Rattle.board_script.specs.Output.{Machine, output_from, output_on, fault_on, fault_text, text_on}
+use Rattle.board_script.specs.Streams.{BegunText, ReplaysOn}
 use Rattle.board_script.specs.inside.Judging.{conclusion, Concludes, Finishes, IsAnswered, IsFaulty}
 use Rattle.text_lines.specs.declared.fault.ScriptFault.{ScriptFault}
 use Rattle.text_lines.specs.declared.fault.ScriptFault.TheVariants as faults
@@ -73,13 +73,13 @@ all-sent (ends.Long line) opened fault answers sent is h = h
 all-sent (ends.Cut line) opened fault answers sent is h = h
 all-sent end opened fault answers sent is h = absurd is
 
-some-written : (r0 w0 w1 : Option (List ℕ)) (answers : List ℕ) (fault : Option (ℕ × ScriptFault)) (P : List ℕ → Type 0) →
-    ((input : List ℕ) → P input → (output_of input ≡ answers) × (fault_of input ≡ fault)) → IfSome r0 P → Appends w0 w1 (answers ++ fault_text fault) →
-    IfSome r0 (λ input. (fault_of input ≡ fault) × Appends w0 w1 (text input))
-some-written None w0 w1 answers fault P known h writes = tt
-some-written (Some input) w0 w1 answers fault P known h writes = let k = known input h in (k.1, rw (k.0, k.1) writes)
+some-written : (machine : Machine) (r0 w0 w1 : Option (List ℕ)) (answers : List ℕ) (fault : Option (ℕ × ScriptFault)) (P : List ℕ → Type 0) →
+    ((input : List ℕ) → P input → (output_on machine input ≡ answers) × (fault_on (is_some machine) input ≡ fault)) → IfSome r0 P → Appends w0 w1 (answers ++ fault_text fault) →
+    IfSome r0 (λ input. (fault_on (is_some machine) input ≡ fault) × Appends w0 w1 (text_on machine input))
+some-written machine None w0 w1 answers fault P known h writes = tt
+some-written machine (Some input) w0 w1 answers fault P known h writes = let k = known input h in (k.1, rw (k.0, k.1) writes)
 
-module _ {J : Type 0} (seen : J → Machine) (old new : J) (start : seen old ≡ None) where
+module _ {J : Type 0} (seen : J → Machine) (old new : J) (machine : Machine) (start : seen old ≡ machine) where
   abbrev pub Ended : End ScriptFault → List ℕ → List ℕ → Type 0
   Ended end answers text = Stops (Good seen) (Wrong seen) end old new answers text
 
@@ -87,20 +87,20 @@ module _ {J : Type 0} (seen : J → Machine) (old new : J) (start : seen old ≡
   Driven end r0 r1 w0 w1 = Drives (Good seen) (Wrong seen) end old new r0 r1 w0 w1
 
   on-text : (end : End ScriptFault) (answers text : List ℕ) (h : Ended end answers text) →
-      (output_of text ≡ answers ++ output_from (seen h.state) h.left) × (fault_of text ≡ first_fault (length h.lines + 1) (is_some (seen h.state)) h.left (rest_of text))
-  unfolding output_of fault_of
+      (output_on machine text ≡ answers ++ output_from (seen h.state) h.left) × (fault_on (is_some machine) text ≡ first_fault (length h.lines + 1) (is_some (seen h.state)) h.left (rest_of text))
+  unfolding output_on fault_on
   on-text end answers input h =
       let a = subst (λ (m : Machine). Answered m (seen h.state) 1 (length h.lines + 1) h.lines h.left (rest_of input) answers) start
       (answered seen old h.state h.lines h.left answers (rest_of input) 1 (length h.lines + 1) (omega arith) h.follows) in
       rw h.split (a.output, a.fault)
 
   known-by : (end : End ScriptFault) (answers text : List ℕ) (fault : Option (ℕ × ScriptFault)) (h : Ended end answers text) →
-      (output_from (seen h.state) h.left ≡ []) × (first_fault (length h.lines + 1) (is_some (seen h.state)) h.left (rest_of text) ≡ fault) → (output_of text ≡ answers) × (fault_of text ≡ fault)
+      (output_from (seen h.state) h.left ≡ []) × (first_fault (length h.lines + 1) (is_some (seen h.state)) h.left (rest_of text) ≡ fault) → (output_on machine text ≡ answers) × (fault_on (is_some machine) text ≡ fault)
   known-by end answers text fault h left = let on = on-text end answers text h in (on.0 ∙ ap (λ (x : List ℕ). answers ++ x) left.0 ∙ append-nil answers, on.1 ∙ left.1)
 
   -- The answers that were sent are all there are, and the fault is the first.
   pub known : (end : End ScriptFault) (fault : Option (ℕ × ScriptFault)) (answers text : List ℕ) → FaultAt end (is_some (seen new)) fault → Ended end answers text →
-      (output_of text ≡ answers) × (fault_of text ≡ fault)
+      (output_on machine text ≡ answers) × (fault_on (is_some machine) text ≡ fault)
   known (ends.Last line) fault answers text is h =
       let e = h.ends in
       known-by (ends.Last line) answers text fault h (rw (e.2, e.3) (refl, rest-end (is_some (seen h.state)) (length h.lines + 1) ∙ rw (sym e.1, sym e.0) is))
@@ -121,20 +121,20 @@ module _ {J : Type 0} (seen : J → Machine) (old new : J) (start : seen old ≡
 
   -- The fault's line is written, if there is a fault.
   replays-finished : (end : End ScriptFault) (fault : Option (ℕ × ScriptFault)) (result : ReplayEnd) (r0 r1 w0 w w1 : Option (List ℕ)) →
-      FaultAt end (is_some (seen new)) fault → Driven end r0 r1 w0 w → Finishes result fault w w1 → Replays result r0 r1 w0 w1
+      FaultAt end (is_some (seen new)) fault → Driven end r0 r1 w0 w → Finishes result fault w w1 → ReplaysOn machine result r0 r1 w0 w1
   replays-finished end fault result r0 r1 w0 w w1 is d = by result
     where
       writes : Appends w0 w d.answers
       writes = rw (all-sent end (is_some (seen new)) fault d.answers d.sent is d.sends) d.writes
 
-      here : (output_of d.taken ≡ d.answers) × (fault_of d.taken ≡ fault)
+      here : (output_on machine d.taken ≡ d.answers) × (fault_on (is_some machine) d.taken ≡ fault)
       here = known end fault d.answers d.taken is d.read
 
-      all : (said : List ℕ) → said ≡ fault_text fault → Appends w w1 said → IfSome r0 (λ input. (fault_of input ≡ fault) × Appends w0 w1 (text input))
-      all said same h = some-written r0 w0 w1 d.answers fault (Ended end d.answers) (λ input k. known end fault d.answers input is k) d.whole
+      all : (said : List ℕ) → said ≡ fault_text fault → Appends w w1 said → IfSome r0 (λ input. (fault_on (is_some machine) input ≡ fault) × Appends w0 w1 (text_on machine input))
+      all said same h = some-written machine r0 w0 w1 d.answers fault (Ended end d.answers) (λ input k. known end fault d.answers input is k) d.whole
           (rw (sym same) (Appends-trans w0 w w1 d.answers said writes h))
 
-      by : (result : ReplayEnd) → Finishes result fault w w1 → Replays result r0 r1 w0 w1
+      by : (result : ReplayEnd) → Finishes result fault w w1 → ReplaysOn machine result r0 r1 w0 w1
       by Done f = rw f.0 at (all [] (sym (ap fault_text f.0)) f.1)
       by (Script l g) f = rw f.0 at (all (fault_text fault) refl f.1)
       by Memory f = record { taken = d.taken; sent = d.answers; unsent = []; reads = d.reads; writes = rw f writes; begins = here.0 ∙ sym (append-nil d.answers) }
@@ -149,7 +149,7 @@ module _ {J : Type 0} (seen : J → Machine) (old new : J) (start : seen old ≡
       }
 
   -- What was sent is a prefix of the answers to the bytes that were read.
-  replays-begun : (end : End ScriptFault) (r0 r1 w0 w1 : Option (List ℕ)) (d : Driven end r0 r1 w0 w1) → d.answers ≡ d.sent → BegunText output_of r0 r1 w0 w1
+  replays-begun : (end : End ScriptFault) (r0 r1 w0 w1 : Option (List ℕ)) (d : Driven end r0 r1 w0 w1) → d.answers ≡ d.sent → BegunText (output_on machine) r0 r1 w0 w1
   replays-begun end r0 r1 w0 w1 d sent = record {
     taken = d.taken;
     sent = d.sent;
@@ -160,10 +160,10 @@ module _ {J : Type 0} (seen : J → Machine) (old new : J) (start : seen old ≡
   }
 
   -- A write failed.
-  replays-writing : (r0 r1 w0 w1 : Option (List ℕ)) → Driven ends.Writing r0 r1 w0 w1 → BegunText text r0 r1 w0 w1
+  replays-writing : (r0 r1 w0 w1 : Option (List ℕ)) → Driven ends.Writing r0 r1 w0 w1 → BegunText (text_on machine) r0 r1 w0 w1
   replays-writing r0 r1 w0 w1 d =
       let more = output_from (seen d.read.state) d.read.left in
-      let tail = fault_text (fault_of d.taken) in
+      let tail = fault_text (fault_on (is_some machine) d.taken) in
       record {
         taken = d.taken;
         sent = d.sent;
@@ -175,7 +175,7 @@ module _ {J : Type 0} (seen : J → Machine) (old new : J) (start : seen old ≡
 
   -- A drive, and what is written after it.
   pub replays-concluded : (end : End ScriptFault) (result : ReplayEnd) (r0 r1 w0 w w1 : Option (List ℕ)) → Driven end r0 r1 w0 w →
-      Concludes (conclusion end (is_some (seen new))) result w w1 → Replays result r0 r1 w0 w1
+      Concludes (conclusion end (is_some (seen new))) result w w1 → ReplaysOn machine result r0 r1 w0 w1
   replays-concluded (ends.Last line) result r0 r1 w0 w w1 d f = replays-finished (ends.Last line) (cond (is_some (seen new)) None (Some (line, faults.First))) result r0 r1 w0 w w1 refl d f
   replays-concluded (ends.Wrong line g) result r0 r1 w0 w w1 d f = replays-finished (ends.Wrong line g) (Some (line, g)) result r0 r1 w0 w w1 refl d f
   replays-concluded (ends.Long line) result r0 r1 w0 w w1 d f = replays-finished (ends.Long line) (Some (line, faults.Long)) result r0 r1 w0 w w1 refl d f
@@ -185,5 +185,5 @@ module _ {J : Type 0} (seen : J → Machine) (old new : J) (start : seen old ≡
   replays-concluded ends.Writing result r0 r1 w0 w w1 d f = rw (f.0, f.1) (replays-writing r0 r1 w0 w d)
 
 -- Before anything was read.
-pub replays-nothing : (r w : Option (List ℕ)) → BegunText output_of r r w w
-replays-nothing r w = record { taken = []; sent = []; unsent = output_of []; reads = Consumes-nil r; writes = Appends-nil w; begins = refl }
+pub replays-nothing : (machine : Machine) (r w : Option (List ℕ)) → BegunText (output_on machine) r r w w
+replays-nothing machine r w = record { taken = []; sent = []; unsent = output_on machine []; reads = Consumes-nil r; writes = Appends-nil w; begins = refl }

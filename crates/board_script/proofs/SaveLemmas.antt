@@ -37,7 +37,7 @@ reached seen old new (line ∷ lines) left answers h =
 
 module _ {J : Type 0} (seen : J → Machine) (old new : J) (start : seen old ≡ None) where
   -- if each line is good, the machine at the end is the one that the drive leaves
-  at-end : (line : ℕ) (answers text : List ℕ) → Ended seen old new start (ends.Last line) answers text → machine_at_end text ≡ seen new
+  at-end : (line : ℕ) (answers text : List ℕ) → Ended seen old new None start (ends.Last line) answers text → machine_at_end text ≡ seen new
   unfolding machine_at_end
   at-end line answers text h =
       let e = h.ends in
@@ -48,20 +48,20 @@ module _ {J : Type 0} (seen : J → Machine) (old new : J) (start : seen old ≡
       ∙ ap seen (sym e.1)
 
   -- the text to save, once the fault and the machine are known
-  saved-fault : (end : End ScriptFault) (line : ℕ) (g : ScriptFault) (answers text : List ℕ) → FaultAt end (is_some (seen new)) (Some (line, g)) → Ended seen old new start end answers text →
+  saved-fault : (end : End ScriptFault) (line : ℕ) (g : ScriptFault) (answers text : List ℕ) → FaultAt end (is_some (seen new)) (Some (line, g)) → Ended seen old new None start end answers text →
       (fault_of text ≡ Some (line, g)) × (saved_text text ≡ fault_text (Some (line, g)))
   saved-fault end line g answers text is h =
-      let k = known seen old new start end (Some (line, g)) answers text is h in
+      let k = known seen old new None start end (Some (line, g)) answers text is h in
       (k.1, ap (λ (f : Option (ℕ × ScriptFault)). saved_of f (machine_at_end text)) k.1)
 
-  saved-image : (line : ℕ) (s : State) (answers text : List ℕ) → seen new ≡ Some s → Ended seen old new start (ends.Last line) answers text →
+  saved-image : (line : ℕ) (s : State) (answers text : List ℕ) → seen new ≡ Some s → Ended seen old new None start (ends.Last line) answers text →
       (fault_of text ≡ None) × (saved_text text ≡ image s)
   saved-image line s answers text is h =
-      let k = known seen old new start (ends.Last line) None answers text (rw is refl) h in
+      let k = known seen old new None start (ends.Last line) None answers text (rw is refl) h in
       (k.1, ap (λ (f : Option (ℕ × ScriptFault)). saved_of f (machine_at_end text)) k.1 ∙ ap (saved_of None) (at-end line answers text h ∙ is))
 
   module _ (r0 r1 v0 v1 w0 w1 : Option (List ℕ)) where
-    fault-saved : (end : End ScriptFault) (line : ℕ) (g : ScriptFault) (result : ReplayEnd) → FaultAt end (is_some (seen new)) (Some (line, g)) → Driven seen old new start end r0 r1 v0 v1 →
+    fault-saved : (end : End ScriptFault) (line : ℕ) (g : ScriptFault) (result : ReplayEnd) → FaultAt end (is_some (seen new)) (Some (line, g)) → Driven seen old new None start end r0 r1 v0 v1 →
         Finishes result (Some (line, g)) w0 w1 → Saves result r0 r1 w0 w1
     fault-saved end line g Done is d f = let off = f.0 in cc
     fault-saved end line g (Script l h) is d f =
@@ -72,7 +72,7 @@ module _ {J : Type 0} (seen : J → Machine) (old new : J) (start : seen old ≡
         let b = saved-fault end line g d.answers d.taken is d.read in
         record { taken = d.taken; sent = f.0; unsent = f.1; reads = d.reads; writes = f.2; begins = b.1 ∙ f.3 }
 
-    image-saved : (line : ℕ) (s : State) (result : ReplayEnd) → seen new ≡ Some s → Driven seen old new start (ends.Last line) r0 r1 v0 v1 → SavesImage result s w0 w1 → Saves result r0 r1 w0 w1
+    image-saved : (line : ℕ) (s : State) (result : ReplayEnd) → seen new ≡ Some s → Driven seen old new None start (ends.Last line) r0 r1 v0 v1 → SavesImage result s w0 w1 → Saves result r0 r1 w0 w1
     image-saved line s Done is d f =
         some-map r0 _ _ (λ input k. let b = saved-image line s d.answers input is k in (b.0, subst (Appends w0 w1) (sym b.1) f)) d.whole
     image-saved line s (Script l h) is d f = absurd f
@@ -83,7 +83,7 @@ module _ {J : Type 0} (seen : J → Machine) (old new : J) (start : seen old ≡
         record { taken = d.taken; sent = f.0; unsent = f.1; reads = d.reads; writes = f.2; begins = b.1 ∙ f.3 }
 
     -- a drive, and what is written after it
-    pub saves-concluded : (end : End ScriptFault) (result : ReplayEnd) → Driven seen old new start end r0 r1 v0 v1 → SavesEnd end (seen new) result w0 w1 → Saves result r0 r1 w0 w1
+    pub saves-concluded : (end : End ScriptFault) (result : ReplayEnd) → Driven seen old new None start end r0 r1 v0 v1 → SavesEnd end (seen new) result w0 w1 → Saves result r0 r1 w0 w1
     saves-concluded (ends.Last line) result d f = by (seen new) refl f
       where
         by : (m : Machine) → seen new ≡ m → SavesEnd (ends.Last line) m result w0 w1 → Saves result r0 r1 w0 w1

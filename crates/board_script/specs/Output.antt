@@ -1,5 +1,5 @@
 -- The output of a script: the machine's answers to its good lines, and then its first fault. What is saved of it: the machine's image at the end.
-use Rattle.std.specs.Prelude.{ℕ, List, [], ◌∷◌, ◌++◌, map, Option, None, Some, is_some, false}
+use Rattle.std.specs.Prelude.{ℕ, List, [], ◌∷◌, ◌++◌, map, Bool, false, Option, None, Some, is_some}
 use Rattle.std.specs.Option.{option_map_or}
 use Rattle.text_base.specs.Lines.{lines_of, rest_of}
 use Rattle.synic_board.specs.State.{State, opened}
@@ -43,17 +43,24 @@ answers machine (item ∷ items) = answer machine item ++ answers (machine_after
 abbrev pub output_from : Machine → List (List ℕ) → List ℕ
 output_from machine lines = answers machine (good_items (is_some machine) lines)
 
--- the output before the fault's line
-unfoldable pub output_of : List ℕ → List ℕ
-output_of input = output_from None (lines_of input)
+-- the output before the fault's line, starting in a state
+unfoldable pub output_on : Machine → List ℕ → List ℕ
+output_on machine input = output_from machine (lines_of input)
 
--- the first fault of an input
-unfoldable pub fault_of : List ℕ → Option (ℕ × ScriptFault)
-fault_of input = first_fault 1 false (lines_of input) (rest_of input)
+-- the first fault of an input, given whether the board is open
+unfoldable pub fault_on : Bool → List ℕ → Option (ℕ × ScriptFault)
+fault_on opened input = first_fault 1 opened (lines_of input) (rest_of input)
 
--- the whole output
+-- the whole output, starting in a state
+abbrev pub text_on : Machine → List ℕ → List ℕ
+text_on machine input = output_on machine input ++ fault_text (fault_on (is_some machine) input)
+
+-- the same of a script that opens its board
+abbrev pub fault_of : List ℕ → Option (ℕ × ScriptFault)
+fault_of = fault_on false
+
 abbrev pub text : List ℕ → List ℕ
-text input = output_of input ++ fault_text (fault_of input)
+text = text_on None
 
 -- the machine after a list of items
 abbrev pub machine_from : Machine → List Item → Machine

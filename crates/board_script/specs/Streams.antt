@@ -1,9 +1,9 @@
 -- What a replay and a save read and write.
-use Rattle.std.specs.Prelude.{◌≡◌, ℕ, List, [], ◌++◌, Option, None, Some, IfSome}
+use Rattle.std.specs.Prelude.{◌≡◌, ℕ, List, [], ◌++◌, Option, None, Some, is_some, IfSome}
 use Rattle.std.specs.Io.KnownBytes.{Consumes, Appends}
 use Rattle.text_driver.specs.Driving.{ReadsNear}
 use Rattle.text_driver.specs.declared.judge.Taken.TheVariants as taken
-use Rattle.board_script.specs.Output.{output_of, fault_of, text, saved_text}
+use Rattle.board_script.specs.Output.{Machine, output_on, fault_on, text_on, fault_of, saved_text}
 use Rattle.board_script.specs.declared.stream.ReplayEnd.{ReplayEnd}
 use Rattle.board_script.specs.declared.stream.ReplayEnd.TheVariants.{Done, Script, Memory, Reading, Writing}
 
@@ -16,13 +16,17 @@ pub record BegunText (of : List ℕ → List ℕ) (r0 r1 w0 w1 : Option (List �
   pub writes : Appends w0 w1 sent
   pub begins : of taken ≡ sent ++ unsent
 
--- the reader and the writer before and after
+-- The reader and the writer before and after, of a script that starts in a state of the machine.
+abbrev pub ReplaysOn : Machine → ReplayEnd → Option (List ℕ) → Option (List ℕ) → Option (List ℕ) → Option (List ℕ) → Type 0
+ReplaysOn machine Done r0 r1 w0 w1 = IfSome r0 (λ input. (fault_on (is_some machine) input ≡ None) × Appends w0 w1 (text_on machine input))
+ReplaysOn machine (Script line fault) r0 r1 w0 w1 = IfSome r0 (λ input. (fault_on (is_some machine) input ≡ Some (line, fault)) × Appends w0 w1 (text_on machine input))
+ReplaysOn machine Memory r0 r1 w0 w1 = BegunText (output_on machine) r0 r1 w0 w1
+ReplaysOn machine Reading r0 r1 w0 w1 = BegunText (output_on machine) r0 r1 w0 w1
+ReplaysOn machine Writing r0 r1 w0 w1 = BegunText (text_on machine) r0 r1 w0 w1
+
+-- the same of a script that opens its board
 abbrev pub Replays : ReplayEnd → Option (List ℕ) → Option (List ℕ) → Option (List ℕ) → Option (List ℕ) → Type 0
-Replays Done r0 r1 w0 w1 = IfSome r0 (λ input. (fault_of input ≡ None) × Appends w0 w1 (text input))
-Replays (Script line fault) r0 r1 w0 w1 = IfSome r0 (λ input. (fault_of input ≡ Some (line, fault)) × Appends w0 w1 (text input))
-Replays Memory r0 r1 w0 w1 = BegunText output_of r0 r1 w0 w1
-Replays Reading r0 r1 w0 w1 = BegunText output_of r0 r1 w0 w1
-Replays Writing r0 r1 w0 w1 = BegunText text r0 r1 w0 w1
+Replays = ReplaysOn None
 
 -- the same for a save: nothing is written before the whole input is read
 abbrev pub Saves : ReplayEnd → Option (List ℕ) → Option (List ℕ) → Option (List ℕ) → Option (List ℕ) → Type 0

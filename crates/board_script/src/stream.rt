@@ -1,6 +1,7 @@
 // Replaying a script from a reader to a writer.
 ghost use Rattle.text_base.specs.Streams.{ReadsUpTo};
-ghost use Rattle.board_script.specs.Streams.{Replays, Saves, most_read, StopsNear};
+ghost use Rattle.std.specs.Prelude.{Some};
+ghost use Rattle.board_script.specs.Streams.{Replays, ReplaysOn, Saves, most_read, StopsNear};
 ghost use Rattle.board_script.specs.inside.Judging.{machine_of, conclusion, Concludes, Finishes, SavesEnd, SavesImage};
 
 use crate::judge::ScriptJudge;
@@ -36,12 +37,41 @@ pub fn replay<R: Read, W: Write>(alloc: Global, reader: &mut R, writer: &mut W) 
     ensures limit { ReadsUpTo (most_read result) (R.remaining reader.old) (R.remaining reader.new) }
     ensures near { StopsNear result (R.remaining reader.old) (R.remaining reader.new) }
 {
+    perform_script(alloc, None, reader, writer)
+}
+
+/// Performs the script of the reader on a board that is open, such as one that was restored. The
+/// script has no board line. Otherwise the same as `replay`.
+pub fn replay_on<R: Read, W: Write>(
+    alloc: Global,
+    board: Board,
+    reader: &mut R,
+    writer: &mut W,
+) -> ReplayEnd
+    ensures text { ReplaysOn (Some board.state) result (R.remaining reader.old) (R.remaining reader.new) (W.contents writer.old) (W.contents writer.new) }
+    ensures limit { ReadsUpTo (most_read result) (R.remaining reader.old) (R.remaining reader.new) }
+    ensures near { StopsNear result (R.remaining reader.old) (R.remaining reader.new) }
+{
+    perform_script(alloc, Some(board), reader, writer)
+}
+
+/// Performs a script on this board, or on the one that its first line opens.
+fn perform_script<R: Read, W: Write>(
+    alloc: Global,
+    board: Option<Board>,
+    reader: &mut R,
+    writer: &mut W,
+) -> ReplayEnd
+    ensures text { ReplaysOn (machine_of board) result (R.remaining reader.old) (R.remaining reader.new) (W.contents writer.old) (W.contents writer.new) }
+    ensures limit { ReadsUpTo (most_read result) (R.remaining reader.old) (R.remaining reader.new) }
+    ensures near { StopsNear result (R.remaining reader.old) (R.remaining reader.new) }
+{
     let Ok(notices) = Notices::open(alloc) else {
         return ReplayEnd::Memory;
     };
     let mut judge = ScriptJudge {
         alloc,
-        board: None,
+        board,
         event: Event::Take { vp: 0 },
         notices,
     };
@@ -52,7 +82,7 @@ pub fn replay<R: Read, W: Write>(alloc: Global, reader: &mut R, writer: &mut W) 
     conclude(writer, &mut out, end, judge.board.is_some())
 }
 
-/// Writes what is left to write when reading ends. It is separate from `replay`, so that one owner
+/// Writes what is left to write when reading ends. It is separate from `perform_script`, so that one owner
 /// drops everything.
 fn conclude<W: Write>(
     writer: &mut W,

@@ -1,10 +1,15 @@
--- A local APIC for C.
-use Rattle.std.specs.Prelude.{ℕ, ◌*◌, nat_lt, false, List, [], ◌∷◌, Option, None, Some, if◌then◌else◌}
+-- A local APIC, a timer and a slot for C.
+use Rattle.std.specs.Prelude.{◌≡◌, ℕ, ◌*◌, ◌/◌, ◌%◌, ◌^◌, ◌&&◌, nat_lt, Bool, true, false, List, [], ◌∷◌, Option, None, Some, is_some, if◌then◌else◌}
+use Rattle.std.specs.Option.{option_map_or}
+use Rattle.board_terms.specs.Quantities.{Ticket}
 use Rattle.lapic_core.specs.Vectors.{Vectors, word_of}
 use Rattle.lapic_core.specs.Apic.{Apic, class, in_service_class}
-use Rattle.synic_board.specs.State.{State, processors, apic_of}
+use Rattle.stimer_bank.specs.declared.timer.Timer.{Timer}
+use Rattle.stimer_bank.specs.Bank.{timer_in}
+use Rattle.synic_board.specs.State.{State, processors, apic_of, bank_of, slot_of}
 use Rattle.c_handles.specs.declared.board.BoardWithNotices.{BoardWithNotices}
 use Rattle.c_calls.specs.declared.inspect.CLapic.{CLapic}
+use Rattle.c_calls.specs.declared.inspect_parts.CTimer.{CTimer}
 
 -- a set of vectors, those from 0 on in the first word
 abbrev pub words_of : Vectors → List ℕ
@@ -39,3 +44,37 @@ lapic_on s vp = if nat_lt vp (processors s) then lapic_to_c (apic_of s vp) else 
 abbrev pub lapic_at : Option BoardWithNotices → ℕ → CLapic
 lapic_at None vp = no_lapic
 lapic_at (Some board) vp = lapic_on board.board.state vp
+
+-- a timer, with its deadline as two words
+abbrev pub timer_to_c : Timer → CTimer
+timer_to_c x = record {
+  is_due = is_some x.due;
+  config = x.config;
+  count = x.count;
+  low = option_map_or (λ due. due % 2 ^ 64) x.due 0;
+  high = option_map_or (λ due. due / 2 ^ 64) x.due 0;
+}
+
+abbrev pub no_timer : CTimer
+no_timer = record { is_due = false; config = 0; count = 0; low = 0; high = 0 }
+
+-- the timer of a processor with an index, if there is one
+abbrev pub timer_on : State → ℕ → ℕ → CTimer
+timer_on s vp index = if nat_lt vp (processors s) && nat_lt index 4 then timer_to_c (timer_in (bank_of s) (vp, index)) else no_timer
+
+abbrev pub timer_at : Option BoardWithNotices → ℕ → ℕ → CTimer
+timer_at None vp index = no_timer
+timer_at (Some board) vp index = timer_on board.board.state vp index
+
+-- the ticket in the slot of a source, if there is one
+abbrev pub slot_on : State → ℕ → ℕ → Option Ticket
+slot_on s vp sint = if nat_lt vp (processors s) && nat_lt sint 16 then slot_of s vp sint else None
+
+abbrev pub slot_at : Option BoardWithNotices → ℕ → ℕ → Option Ticket
+slot_at None vp sint = None
+slot_at (Some board) vp sint = slot_on board.board.state vp sint
+
+-- the ticket was stored, or there is none
+abbrev pub StoresTicket : Option Ticket → Bool → Ticket → Ticket → Type 0
+StoresTicket None result old new = (result ≡ false) × (new ≡ old)
+StoresTicket (Some ticket) result old new = (result ≡ true) × (new ≡ ticket)

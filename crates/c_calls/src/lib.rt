@@ -5,6 +5,7 @@
 mod batches;
 mod events;
 mod inspect;
+mod inspect_parts;
 mod lines;
 mod looks;
 mod notices;

@@ -1,11 +1,16 @@
-// Opening and closing boards.
-ghost use Rattle.std.specs.Prelude.{◌≡◌, ◌≢◌, ◌<◌, ◌↔◌, IsSome, None};
+// Opening, restoring and closing boards.
+ghost use Rattle.std.specs.Prelude.{◌≡◌, ◌≢◌, ◌<◌, ◌↔◌, true, [], ◌∷◌, IsSome, IfSome, None};
 ghost use Rattle.synic_board.specs.State.{AreSizes};
-ghost use Rattle.c_calls.specs.Opened.{IsNewBoard};
+ghost use Rattle.text_restore.specs.Images.{FirstWrong};
+ghost use Rattle.c_calls.specs.Opened.{IsNewBoard, IsRestoredBoard};
+ghost use Rattle.c_calls.specs.Outcomes.{is_among};
 
+use crate::texts::{CEnd, not_written};
+use board_terms::Notices;
 use c_handles::{BoardHandle, BoardWithNotices};
 use std::alloc::Global;
-use synic_board::OpenFault;
+use synic_board::{Board, OpenFault};
+use text_restore::{RestoreEnd, restore};
 
 /// Opens a board of that many processors and guest pages at time 0, in a closed handle. The first
 /// message that it accepts gets the ticket `first_ticket`. Returns 0; or 1 unless there are 1 to 8
@@ -41,6 +46,51 @@ pub extern "C" fn synicboard_open(
         }
         Err(_) => 2,
     }
+}
+
+/// Restores a board from an image, in a closed handle. The result has kind 0; or 10 and the first wrong
+/// line if the text is no image, 2 if an allocation fails, 3 if the handle is open, and 11 for a text
+/// of more than 1,073,741,824 bytes.
+#[unsafe(no_mangle)]
+pub extern "C" fn synicboard_restore(alloc: Global, handle: &mut BoardHandle, image: &[u8]) -> CEnd
+    ensures kinds { is_among (0 ∷ 2 ∷ 3 ∷ 10 ∷ 11 ∷ []) result.kind ≡ true }
+    ensures before { (result.kind ≡ 3) ↔ IsSome handle.old.board }
+    ensures restored { result.kind ≡ 0 → IsRestoredBoard image.now handle.new.board }
+    ensures wrong { result.kind ≡ 10 → FirstWrong image.now result.line }
+    ensures line { result.kind ≢ 10 → result.line ≡ 0 }
+    ensures length { result.length ≡ 0 }
+    ensures not_restored { result.kind ≢ 0 → handle.new.board ≡ handle.old.board }
+{
+    if let Some(board) = handle.take(alloc) {
+        let _ = handle.put(alloc, board);
+        return not_written(3, 0);
+    }
+    // README text_restore: begin
+    let mut reader = image;
+    let board = match restore(alloc, &mut reader) {
+        RestoreEnd::Restored(board) => board,
+        RestoreEnd::Refused(line) => return not_written(10, line),
+        RestoreEnd::Memory => return not_written(2, 0),
+        RestoreEnd::Reading => return not_written(11, 0),
+    };
+    // README text_restore: end
+    match without_notices(alloc, board) {
+        Some(owned) => {
+            let _ = handle.put(alloc, owned);
+            not_written(0, 0)
+        }
+        None => not_written(2, 0),
+    }
+}
+
+/// A board without notices, as a handle owns it; `None` if an allocation failed.
+fn without_notices(alloc: Global, board: Board) -> Option<Box<BoardWithNotices>>
+    ensures { IfSome result (λ boxed. (boxed.value.board ≡ board) × (boxed.value.notices ≡ [])) }
+{
+    let Ok(notices) = Notices::open(alloc) else {
+        return None;
+    };
+    Box::new(alloc, BoardWithNotices { board, notices }).ok()
 }
 
 /// Frees the board of a handle, and closes the handle.

@@ -15,9 +15,9 @@ use std::alloc::Global;
 use text_image::put_image;
 use text_trace::{CheckEnd, check_trace};
 
-/// The result of a call that writes a text. `kind` is 0 if no line is wrong, 10 if `line` is the
-/// first wrong line, 2 if an allocation failed, 4 if the handle of the board is closed, and 11 for a
-/// text of more than 1,073,741,824 bytes.
+/// The result of a call that writes a text, or reads an image. `kind` is 0 if no line is wrong, 10 if
+/// `line` is the first wrong line, 2 if an allocation failed, 3 if the handle to restore a board in is
+/// open, 4 if the handle of the board is closed, and 11 for a text of more than 1,073,741,824 bytes.
 /// `length` is the length of the whole output, or 0.
 #[repr(C)]
 #[derive(Clone, Copy)]
@@ -39,7 +39,7 @@ pub struct CVerdict {
 }
 
 /// The result without an output, because of a wrong line or for another reason.
-fn not_written(kind: u8, line: u64) -> CEnd
+pub(crate) fn not_written(kind: u8, line: u64) -> CEnd
     ensures { result ≡ record { kind = kind; line = line; length = 0 } }
 {
     CEnd {

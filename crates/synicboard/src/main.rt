@@ -1,19 +1,22 @@
 //! `synicboard`: reads a script of events and writes the board's replies, or the image of the board
-//! at its end; or reads a script of actors and lines and writes the trace of a run; or reads a trace
-//! and writes whether it is legal.
+//! at its end, from which another script can continue; or reads a script of actors and lines and
+//! writes the trace of a run; or reads a trace and writes whether it is legal.
 #![tactic(auto)]
 
 use board_script::{
-    CheckEnd, CrewRun, OpenGate, ReplayEnd, check_trace, crew, replay, save_script,
+    CheckEnd, CrewRun, OpenGate, ReplayEnd, check_trace, crew, replay, replay_on, save_script,
 };
 use clap::error::ErrorKind;
-use clap::{Command, Error};
+use clap::{Arg, ArgMatches, Command, Error};
 use std::alloc::{AllocError, Global};
 use std::env;
+use std::fs::File;
 use std::io::{self, BufWriter};
 use std::process::ExitCode;
 use std::sync::Wait;
 use std::thread::Threads;
+use synic_board::Board;
+use text_restore::{RestoreEnd, restore};
 
 const SCRIPT_FAULT: u8 = 1;
 
@@ -26,8 +29,11 @@ const NO_MEMORY: u8 = 4;
 const STREAM_FAULT: u8 = 5;
 
 /// The result of reading the command line.
+#[derive(Drop)]
 enum Asked {
     Replay,
+    /// A replay on the board of the image in that file.
+    ReplayFrom(String),
     Save,
     Crew,
     Check,
@@ -40,6 +46,7 @@ enum Asked {
 fn main(rt: HostRuntime) -> ExitCode {
     match judge_command_line(&rt) {
         Asked::Replay => replay_input(&rt),
+        Asked::ReplayFrom(path) => replay_from(&rt, path.as_str()),
         Asked::Save => save_input(&rt),
         Asked::Crew => crew_input(&rt, &rt),
         Asked::Check => check_input(&rt),
@@ -50,9 +57,12 @@ fn main(rt: HostRuntime) -> ExitCode {
 
 /// The command line of the program.
 fn command<'a>(alloc: Global) -> Result<Command<'a>, AllocError> {
-    let replay = Command::new(alloc, "replay").about(
-        "Performs the script on standard input, and writes each reply, notice and summary",
+    let from = Arg::new(alloc, "from").long("from").value_name("FILE").help(
+        "Starts on the board of this image; then the script has no board line",
     );
+    let replay = Command::new(alloc, "replay")
+        .about("Performs the script on standard input, and writes each reply, notice and summary")
+        .arg(from)?;
     let save = Command::new(alloc, "save").about(
         "Performs the script on standard input, and writes the image of the board at its end",
     );
@@ -92,9 +102,23 @@ fn judge_command_line(rt: &HostRuntime) -> Asked {
             Some("save") => Asked::Save,
             Some("crew") => Asked::Crew,
             Some("check") => Asked::Check,
-            _ => Asked::Replay,
+            _ => asked_replay(rt, &matches),
         },
         Err(error) => show(rt, error),
+    }
+}
+
+/// A replay, on the board of an image if the command line names one.
+fn asked_replay(rt: &HostRuntime, matches: &ArgMatches<'_>) -> Asked {
+    let Some(replay) = matches.subcommand_matches("replay") else {
+        return Asked::Replay;
+    };
+    let Some(path) = replay.get_str("from") else {
+        return Asked::Replay;
+    };
+    match format!(in rt.alloc(); "{path}") {
+        Ok(path) => Asked::ReplayFrom(path),
+        Err(_) => Asked::Memory,
     }
 }
 
@@ -130,6 +154,38 @@ fn replay_input(rt: &HostRuntime) -> ExitCode {
         return fail(rt, "out of memory", NO_MEMORY);
     };
     let end = replay(rt.alloc(), &mut reader, &mut writer);
+    status_of(rt, end)
+}
+
+/// Restores the board of an image, and replays standard input on it to standard output.
+fn replay_from(rt: &HostRuntime, path: &str) -> ExitCode {
+    match restore_file(rt, path) {
+        RestoreEnd::Restored(board) => replay_input_on(rt, board),
+        RestoreEnd::Refused(line) => {
+            let _ = eprintln!(rt; "synicboard: line {line} of the image is wrong");
+            ExitCode::from(REFUSED)
+        }
+        RestoreEnd::Memory => fail(rt, "out of memory", NO_MEMORY),
+        RestoreEnd::Reading => fail(rt, "read failed", STREAM_FAULT),
+    }
+}
+
+/// Restores the board of the image in a file.
+fn restore_file(rt: &HostRuntime, path: &str) -> RestoreEnd {
+    match File::open(rt, path) {
+        Ok(mut file) => restore(rt.alloc(), &mut file),
+        Err(error) if error.kind() == io::ErrorKind::OutOfMemory => RestoreEnd::Memory,
+        Err(_) => RestoreEnd::Reading,
+    }
+}
+
+/// Replays standard input on a board to standard output.
+fn replay_input_on(rt: &HostRuntime, board: Board) -> ExitCode {
+    let mut reader = rt.reader();
+    let Ok(mut writer) = BufWriter::new(rt.alloc(), io::writer(rt)) else {
+        return fail(rt, "out of memory", NO_MEMORY);
+    };
+    let end = replay_on(rt.alloc(), board, &mut reader, &mut writer);
     status_of(rt, end)
 }
 

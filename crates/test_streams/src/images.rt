@@ -1,11 +1,12 @@
 // Images of boards.
-use crate::peers::{Refuses, takes};
+use crate::peers::{Refuses, gives, takes};
 use board_terms::{Notices, Vector};
 use std::alloc::{AllocError, Global};
 use std::cell::Cell;
 use synic_board::{Board, Event, Reply};
 use test_steps::{SCONTROL, SIMP, SINT2, open_messages, post, start_timer, store, write};
 use text_image::{SaveEnd, put_image, save};
+use text_restore::{RestoreEnd, restore};
 
 /// Three posts, of which the first is in its slot and two are queued, on a board of which each part
 /// differs from that of a newly opened one.
@@ -133,6 +134,44 @@ fn a_failing_writer_has_the_beginning_of_an_image(rt: HostRuntime) -> Result<(),
     }
     assert!(rt; is_cut_there(alloc, &board, Refuses::Flushes, 0));
     Ok(())
+}
+
+/// The board of an image.
+fn restored(alloc: Global, image: &[u8]) -> Option<Board> {
+    let mut reader = image;
+    match restore(alloc, &mut reader) {
+        RestoreEnd::Restored(board) => Some(board),
+        _ => None,
+    }
+}
+
+#[test]
+fn a_restored_board_has_its_image(rt: HostRuntime) -> Result<(), AllocError> {
+    let alloc = rt.alloc();
+    let image = image_of_storm(alloc)?;
+    let Some(board) = restored(alloc, image.as_slice()) else {
+        return Err(AllocError);
+    };
+    let mut again = Vec::new(alloc);
+    put_image(&mut again, &board)?;
+    assert!(rt; again.as_slice() == image.as_slice());
+    Ok(())
+}
+
+/// Whether a restore from a reader that fails at this read ends so.
+fn fails_to_read(alloc: Global, place: usize) -> bool {
+    let held_back = Cell::new(0);
+    let mut reader = gives(OPENED, &held_back);
+    reader.fails_at = place;
+    matches!(restore(alloc, &mut reader), RestoreEnd::Reading)
+}
+
+#[test]
+fn a_failing_reader_restores_no_board(rt: HostRuntime) {
+    for place in 0..OPENED.len() + 2 {
+        let fails = fails_to_read(rt.alloc(), place);
+        assert_eq!(rt; fails, place <= OPENED.len(), "{place}");
+    }
 }
 
 #[test]

@@ -195,12 +195,7 @@ fn restore_message(
     draft.push_message(vp, sint, message)
 }
 
-fn restore_ticket(
-    draft: &mut Draft,
-    vp: u8,
-    sint: u8,
-    ticket: Ticket,
-) -> Result<bool, AllocError>
+fn restore_ticket(draft: &mut Draft, vp: u8, sint: u8, ticket: Ticket) -> Result<bool, AllocError>
     ensures { IfOk result (λ taken. Tries taken draft.old (piece.Slot vp sint ticket) draft.new) }
 {
     let Some(vp) = on_board(draft, vp) else {

@@ -25,11 +25,7 @@ pub(crate) enum Stage {
     Titled,
     /// The board line and some pieces: the board, the place of the last piece, and how many local
     /// APICs the pieces have.
-    Body {
-        draft: Draft,
-        last: u64,
-        lapics: u8,
-    },
+    Body { draft: Draft, last: u64, lapics: u8 },
 }
 
 /// Takes a line, if it may come next.

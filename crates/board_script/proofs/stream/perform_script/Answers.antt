@@ -5,7 +5,7 @@ use Rattle.board_script.specs.inside.Judging.{machine_of, conclusion, Concludes}
 use Rattle.board_script.specs.declared.judge.ScriptJudge.{ScriptJudge}
 use Rattle.board_script.proofs.Limits.{concluded-within, concluded-near}
 use Rattle.board_script.proofs.Judged.{replays-concluded, replays-nothing}
-use Rattle.board_script.proofs.stream.replay.Goals as goal
+use Rattle.board_script.proofs.stream.perform_script.Goals as goal
 
 abbrev seen : ScriptJudge → Machine
 seen judge = machine_of judge.board
@@ -15,14 +15,14 @@ is-open None = refl
 is-open (Some held) = refl
 
 pub returns-in_default-clause-text : goal.returns-in_default-clause-text
-returns-in_default-clause-text g c = replays-nothing _ _
+returns-in_default-clause-text g c = replays-nothing _ _ _
 
 pub returns-clause-text : goal.returns-clause-text
 returns-clause-text g c =
     let same = c.is_some.ensures ∙ is-open c.drive-end.new.judge.board in
     let concludes = subst (λ (opened : Bool). Concludes (conclusion c.drive-end.result opened) c.conclude.result (g.W.Write.contents c.drive-end.new.writer)
     (g.W.Write.contents c.conclude.new.writer)) same c.conclude.ensures in
-    replays-concluded seen _ _ refl c.drive-end.result c.conclude.result _ _ _ _ _ c.drive-end.ensures.lines concludes
+    replays-concluded seen _ _ _ refl c.drive-end.result c.conclude.result _ _ _ _ _ c.drive-end.ensures.lines concludes
 
 pub returns-clause-limit : goal.returns-clause-limit
 returns-clause-limit g c = concluded-within c.drive-end.result c.is_some.result c.conclude.result _ _ _ _ c.conclude.ensures c.drive-end.ensures.limit
