@@ -16,6 +16,9 @@ pub const SLOT_SIZE: usize = 256;
 /// The number of bytes of a message before its payload (TLFS, "SynIC Message").
 pub const HEADER_SIZE: usize = 16;
 
+/// The number of bytes of the payload of a timer's message (TLFS, "Message Payload Format").
+const TIMER_PAYLOAD_SIZE: usize = 24;
+
 /// The offset of the message flags in a slot; their bit 0 is MessagePending (TLFS, "SynIC Message
 /// Flags").
 pub const MESSAGE_FLAGS: usize = 5;
@@ -138,14 +141,6 @@ impl Page {
         self.put_whole(at, slot);
     }
 
-    /// Sets some of the bytes to zero.
-    fn clear(&mut self, at: usize, count: usize)
-        requires { at + count ≤ 4096 }
-        ensures { self.new ≡ overwritten self.old at (replicate count 0) }
-    {
-        self.bytes[at..at + count].fill(0);
-    }
-
     /// Sets all bytes to zero.
     pub fn erase(&mut self)
         ensures { self.new ≡ zero_page }
@@ -153,16 +148,15 @@ impl Page {
         self.bytes.fill(0);
     }
 
-    /// Replaces the slot of a source by a header, a payload of at most 240 bytes, and zeros.
+    /// Replaces the slot of a source by a header, a payload of at most 240 bytes, and zeros. In
+    /// place, so that a payload of a known length is moved as words.
+    #[inline(always)]
     pub fn write_message(&mut self, sint: Sint, header: &[u8; HEADER_SIZE], payload: &[u8])
         requires { length payload.now ≤ 240 }
         ensures { self.new ≡ with_slot self.old sint (message_bytes header.now payload.now) }
     {
         let at = SLOT_SIZE * sint.number() as usize;
-        let size = HEADER_SIZE + payload.len();
-        self.put_whole(at, header);
-        self.store(at + HEADER_SIZE, payload);
-        self.clear(at + size, SLOT_SIZE - size);
+        fill_slot(&mut self.bytes[at..at + SLOT_SIZE], header, payload);
     }
 
     /// Sets a bit, 0 to 7, of the byte at `at`, and returns whether it was clear.
@@ -192,4 +186,32 @@ fn assign<const N: usize>(place: &mut [u8], bytes: &[u8; N])
         unreachable!()
     };
     *place = *bytes;
+}
+
+/// Replaces the bytes of a slot by a header, a payload, and zeros. The slot is set to zero first:
+/// its size is known, so that takes stores of words and no call.
+#[inline(always)]
+fn fill_slot(slot: &mut [u8], header: &[u8; HEADER_SIZE], payload: &[u8])
+    requires whole { length slot.old ≡ 256 }
+    requires fits { length payload.now ≤ 240 }
+    ensures after { slot.new ≡ message_bytes header.now payload.now }
+    ensures len { length slot.new ≡ length slot.old }
+{
+    assign(slot, &[0; SLOT_SIZE]);
+    assign(&mut slot[..HEADER_SIZE], header);
+    fill(&mut slot[HEADER_SIZE..HEADER_SIZE + payload.len()], payload);
+}
+
+/// Replaces all bytes of a slice by as many others. The 24 bytes of a timer's payload are moved as
+/// words.
+#[inline(always)]
+fn fill(place: &mut [u8], bytes: &[u8])
+    requires { length place.old ≡ length bytes.now }
+    ensures after { place.new ≡ bytes.now }
+    ensures len { length place.new ≡ length place.old }
+{
+    match bytes.as_array::<TIMER_PAYLOAD_SIZE>() {
+        Some(whole) => assign(place, whole),
+        None => place.copy_from_slice(bytes),
+    }
 }

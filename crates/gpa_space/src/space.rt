@@ -220,6 +220,7 @@ impl Space {
 
     /// Writes a header, a payload of at most 240 bytes, and zeros to the slot of a source in the
     /// message page, visible or not.
+    #[inline(always)]
     pub fn write_message(&mut self, vp: Vp, sint: Sint, header: &[u8; HEADER_SIZE], payload: &[u8])
         requires on_board { vp < processors_of self.old }
         requires fits { length payload.now ≤ 240 }
