@@ -96,7 +96,9 @@ impl Page {
     }
 
     /// Replaces the bytes from the offset `at` on. They must be within the page. Eight or four bytes,
-    /// the usual sizes, are moved as one word each.
+    /// the usual sizes, are moved as one word each. Inlined, so that a caller that knows the size
+    /// tests none.
+    #[inline(always)]
     pub fn store(&mut self, at: usize, bytes: &[u8])
         requires { at + length bytes.now ≤ 4096 }
         ensures after { self.new ≡ overwritten self.old at bytes.now }

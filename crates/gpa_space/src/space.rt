@@ -147,6 +147,7 @@ impl Space {
     }
 
     /// `store` of bytes in a slice. No bytes, or more than 8, are refused with `BadLength`.
+    #[inline(always)]
     pub fn store_slice(&mut self, address: u64, bytes: &[u8]) -> Result<Owner, Refusal>
         ensures answer { result ≡ store_answer self.old address bytes.now }
         ensures after { self.new ≡ after_store self.old address bytes.now }

@@ -10,7 +10,7 @@ use Rattle.std.proofs.lemmas.List.Elements.{filter_map-append}
 use Rattle.std.proofs.lemmas.List.Sums.{sum_by-cons, sum_by-set, get_or-le-sum_by}
 use Rattle.std.proofs.lemmas.Option.{slice_get_read, get_or_from_slice_get, slice_get_within}
 use Rattle.board_terms.specs.declared.messages.Message.{Message}
-use Rattle.message_queues.specs.declared.chains.Buffer.{Buffer}
+use Rattle.message_queues.specs.inside.Buffers.{Buffer}
 use Rattle.message_queues.specs.declared.chains.Chain.{Chain}
 use Rattle.message_queues.specs.Queues.{Queues}
 use Rattle.message_queues.specs.inside.Chains.{Buffers, messages, queue_at, queues_at, keys_from, ReadsBothWays, Links, IsChain, AreChains}

@@ -1,5 +1,6 @@
 mod Counts
 mod ChainLemmas
+mod Parts
 pub mod Reading
 mod Walks
 mod Steps

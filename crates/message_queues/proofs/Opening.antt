@@ -4,9 +4,10 @@ use Rattle.std.specs.List.{All, slice_get}
 use Rattle.std.specs.Prelude.{count_by, is_some}
 use Rattle.std.proofs.lemmas.List.{get_or-replicate, length-replicate}
 use Rattle.std.proofs.lemmas.List.Sums.{sum_by-cons}
-use Rattle.slab.specs.Slab.{Slab, get}
+use Rattle.slab.specs.Slab.{Slab}
+use Rattle.message_queues.specs.declared.chains.Neighbours.{Neighbours}
+use Rattle.message_queues.specs.inside.Buffers.{buffer_at}
 use Rattle.board_terms.specs.declared.messages.Message.{Message}
-use Rattle.message_queues.specs.declared.chains.Buffer.{Buffer}
 use Rattle.message_queues.specs.declared.chains.Chain.{Chain}
 use Rattle.message_queues.specs.Queues.{Queues}
 use Rattle.message_queues.specs.inside.Owners.{owner_of, HasOwner, used_by}
@@ -37,27 +38,28 @@ none_owned n k d below i e inside =
     let none = get_or-replicate n k empty d (omega (arith, below, length-replicate n empty)) in
     absurd (omega (arith, inside, ap length none))
 
-pub opened-queues : (new : Slab Buffer) (n : ℕ) → queues_at (get new) (replicate n empty_chain) ≡ replicate n []
-opened-queues new zero = refl
-opened-queues new (suc n) = ap (λ (x : Queues). [] ∷ x) (opened-queues new n)
+pub opened-queues : (new : Slab Neighbours) (messages : List Message) (n : ℕ) → queues_at (buffer_at new messages) (replicate n empty_chain) ≡ replicate n []
+opened-queues new messages zero = refl
+opened-queues new messages (suc n) = ap (λ (x : Queues). [] ∷ x) (opened-queues new messages n)
 
-pub opened : (new : Slab Buffer) (n : ℕ) → new.slots ≡ [] → 288 ≤ new.capacity → Step new (replicate n empty_chain) (replicate 48 0) (replicate n [])
-opened new n empty room = record {
+pub opened : (new : Slab Neighbours) (messages : List Message) (n : ℕ) → new.slots ≡ [] → 288 ≤ new.capacity → length messages ≡ new.capacity → Step new messages (replicate n empty_chain) (replicate 48 0) (replicate n [])
+opened new messages n empty room size = record {
   linked = linked;
-  both_ways = both-ways (get new) (replicate n empty_chain) linked;
+  both_ways = both-ways (buffer_at new messages) (replicate n empty_chain) linked;
   held = ap (count_by is_some) empty ∙ sym (no_keys n);
   room = room;
-  owned = rw (opened-queues new n) (none_owned n);
-  counts = rw (opened-queues new n) (record {
+  size = size;
+  owned = rw (opened-queues new messages n) (none_owned n);
+  counts = rw (opened-queues new messages n) (record {
     size = refl;
     counted = λ o below. get_or-replicate 48 o 0 0 below ∙ sym (none_used n o);
     within = λ o below. rw (none_used n o) (omega arith);
   });
-  view_is = opened-queues new n;
+  view_is = opened-queues new messages n;
 }
   where
-    one : (queue : ℕ) → IsChain (get new) (λ k. 0) (λ k. 0) queue empty_chain
+    one : (queue : ℕ) → IsChain (buffer_at new messages) (λ k. 0) (λ k. 0) queue empty_chain
     one queue = record { keys = []; top = 0; links = (refl, refl, omega arith); len = refl }
 
-    linked : AreChains (get new) (replicate n empty_chain)
+    linked : AreChains (buffer_at new messages) (replicate n empty_chain)
     linked = record { owner = λ k. 0; rank = λ k. 0; each = λ queue chain at. rw (← is-empty n queue chain at) (one queue) }

@@ -1,9 +1,9 @@
 -- The message at a place of a chain.
-use Rattle.std.proofs.Common.{◌≡◌, ℕ, zero, suc, ◌<◌, List, [], ◌∷◌, length, Option, Some, None, refl, sym, ap, ◌∙◌, arith}
-use Rattle.std.specs.Option.{option_and_then, option_map}
+use Rattle.std.proofs.Common.{◌≡◌, ℕ, zero, suc, ◌<◌, List, [], ◌∷◌, length, Option, Some, None, sym, ap, ◌∙◌, arith}
+use Rattle.std.specs.Option.{option_and_then}
 use Rattle.std.specs.List.{slice_get}
 use Rattle.board_terms.specs.declared.messages.Message.{Message}
-use Rattle.message_queues.specs.declared.chains.Buffer.{Buffer}
+use Rattle.message_queues.specs.inside.Buffers.{Buffer}
 use Rattle.message_queues.specs.declared.chains.Chain.{Chain}
 use Rattle.message_queues.specs.inside.Chains.{Buffers, behind_of, put_first, messages, queue_at, key_at, Links, IsChain}
 
@@ -60,6 +60,3 @@ at_key m from ms i key a e =
 
 pub behind-key : (m : Buffers) (from : Option ℕ) (ms : List Message) (i key : ℕ) (b : Buffer) → At m from ms (suc i) → key_at i m from ≡ Some key → m key ≡ Some b → (next : ℕ) × (b.behind ≡ Some next)
 behind-key m from ms i key b a e there = (a.key, sym (ap (next_of m) e ∙ ap behind_of there) ∙ a.is)
-
-pub message-is : (m : Buffers) (ms : List Message) (i key : ℕ) (b : Buffer) → AtKey m ms i key → m key ≡ Some b → slice_get ms i ≡ Some b.message
-message-is m ms i key b a there = a.message ∙ ap (option_map (λ (x : Buffer). x.message)) (sym a.there ∙ there)

@@ -4,33 +4,36 @@ use Rattle.std.specs.List.{All, filter, slice_get}
 use Rattle.std.specs.Prelude.{◌==◌, slice_index_or, slice_set, count_by}
 use Rattle.std.proofs.lemmas.Bool.{cases_lt}
 use Rattle.std.proofs.lemmas.Bool.Decides.{eqb_tells}
-use Rattle.std.proofs.lemmas.List.{length-map, set-get_or}
+use Rattle.std.proofs.lemmas.List.{length-map, length-set, set-get_or}
 use Rattle.std.proofs.lemmas.List.Elements.{All-append, All-drop, All-filter, All-get_or, All-set}
 use Rattle.std.proofs.lemmas.List.Sums.{sum_by-cons, get_or-le-sum_by, length-filter}
 use Rattle.slab.specs.Slab.{Slab, get, slab_len}
+use Rattle.message_queues.specs.declared.chains.Neighbours.{Neighbours}
 use Rattle.board_terms.specs.Messages.{ticket_of}
 use Rattle.board_terms.specs.declared.messages.Message.{Message}
-use Rattle.message_queues.specs.declared.chains.Buffer.{Buffer}
+use Rattle.message_queues.specs.inside.Buffers.{Buffer, message_in, buffer_of, buffer_at}
 use Rattle.message_queues.specs.declared.chains.Chain.{Chain}
 use Rattle.message_queues.specs.declared.queues.Queues.TheInside.{Inside}
 use Rattle.message_queues.specs.Queues.{Queues, HasBuffer, is_from_port, port_used, withdrawn_of, left_of}
 use Rattle.message_queues.specs.inside.Owners.{owner_of, HasOwner, used_by, share, IsCounted}
-use Rattle.message_queues.specs.inside.Chains.{Buffers, queue_at, queues_at, ReadsBothWays, AreChains}
-use Rattle.message_queues.specs.inside.Moves.{Pushed, Unlinked, Withdrawn}
-use Rattle.message_queues.specs.inside.View.{queues_of, total_of, QueuesInvariant}
+use Rattle.message_queues.specs.inside.Chains.{queue_at, queues_at, ReadsBothWays, AreChains}
+use Rattle.message_queues.specs.inside.Moves.{Linked, Freed, Withdrawn}
+use Rattle.message_queues.specs.inside.View.{buffers_of, queues_of, total_of, QueuesInvariant}
 use Rattle.message_queues.proofs.Counts.{owner-below, has_room, all-within, buffer-left, share-le, each-owned, counted-append, counted-place, counted-set, head-used, at_place, at_place-other, count_of, count_of-cons, sum_by-same, is_from_port-owner, port_used-past, count-le-used}
+use Rattle.message_queues.proofs.Parts.{pushed, unlinked, message-there}
 use Rattle.message_queues.proofs.ChainLemmas.{those, push-moved, unlink-moved, first-split, no-first, row-chain, chain_at, queue-is, length-chain, total-queues, total-set, len-le-total, both-ways}
 use Rattle.message_queues.proofs.Walks.{withdrawn-moved}
 
 -- the fields satisfy the invariant, and their view is these queues
-pub record Step (buffers : Slab Buffer) (chains : List Chain) (in_use : List ℕ) (view : Queues) : Type 0 where
-  pub linked : AreChains (get buffers) chains
-  pub held : slab_len buffers ≡ total_of chains
-  pub both_ways : (queue : ℕ) (chain : Chain) → slice_get chains queue ≡ Some chain → ReadsBothWays (get buffers) chain
-  pub room : 288 ≤ buffers.capacity
-  pub owned : All (λ (queue : List Message). All HasOwner queue) (queues_at (get buffers) chains)
-  pub counts : IsCounted (queues_at (get buffers) chains) in_use
-  pub view_is : queues_at (get buffers) chains ≡ view
+pub record Step (neighbours : Slab Neighbours) (messages : List Message) (chains : List Chain) (in_use : List ℕ) (view : Queues) : Type 0 where
+  pub linked : AreChains (buffer_at neighbours messages) chains
+  pub held : slab_len neighbours ≡ total_of chains
+  pub both_ways : (queue : ℕ) (chain : Chain) → slice_get chains queue ≡ Some chain → ReadsBothWays (buffer_at neighbours messages) chain
+  pub room : 288 ≤ neighbours.capacity
+  pub size : length messages ≡ neighbours.capacity
+  pub owned : All (λ (queue : List Message). All HasOwner queue) (queues_at (buffer_at neighbours messages) chains)
+  pub counts : IsCounted (queues_at (buffer_at neighbours messages) chains) in_use
+  pub view_is : queues_at (buffer_at neighbours messages) chains ≡ view
 
 -- What an append relies on: its owner has a free buffer, and the slab and each chain have capacity.
 pub record Room (a : Inside) (owner : ℕ) : Type 0 where
@@ -45,7 +48,7 @@ room-for a qs message o k shown own has is =
     let has' : HasBuffer (queues_of a) message = subst (λ (x : Queues). HasBuffer x message) (sym shown) has in
     let left = buffer-left (queues_of a) message owned own has' in
     let bound = has_room (queues_of a) a.in_use (owner_of message) owned k.counts below left in
-    let total = total-queues (get a.buffers) a.chains.items k.linked in
+    let total = total-queues (buffers_of a) a.chains.items k.linked in
     rw is (record {
       left = left;
       fits = omega (arith, left, share-le (owner_of message), k.counts.counted (owner_of message) below);
@@ -55,24 +58,24 @@ room-for a qs message o k shown own has is =
 -- What every call relies on: the chain of the queue, and the queue that is its view.
 pub record Here (a : Inside) (qs : Queues) (q : ℕ) (c : Chain) : Type 0 where
   pub at : slice_get a.chains.items q ≡ Some c
-  pub row : slice_index_or (queues_of a) q [] ≡ queue_at (get a.buffers) c
-  pub shown_row : slice_index_or qs q [] ≡ queue_at (get a.buffers) c
+  pub row : slice_index_or (queues_of a) q [] ≡ queue_at (buffers_of a) c
+  pub shown_row : slice_index_or qs q [] ≡ queue_at (buffers_of a) c
   pub within : q < length (queues_of a)
-  pub len : length (queue_at (get a.buffers) c) ≡ c.len
+  pub len : length (queue_at (buffers_of a) c) ≡ c.len
   pub bound : c.len ≤ 288
 
 pub here : (a : Inside) (qs : Queues) (q : ℕ) (c : Chain) → QueuesInvariant a → queues_of a ≡ qs → q < length qs → c ≡ get_or a.chains.items q c → Here a qs q c
 here a qs q c k shown within read =
-    let at = chain_at (get a.buffers) a.chains.items qs q c shown within read in
-    let row = queue-is (get a.buffers) a.chains.items q c at in
-    let total = total-queues (get a.buffers) a.chains.items k.linked in
+    let at = chain_at (buffers_of a) a.chains.items qs q c shown within read in
+    let row = queue-is (buffers_of a) a.chains.items q c at in
+    let total = total-queues (buffers_of a) a.chains.items k.linked in
     let all = all-within (queues_of a) a.in_use (each-owned (queues_of a) k.owned) k.counts in
     record {
       at = at;
       row = row;
       shown_row = ap (λ (x : Queues). slice_index_or x q []) (sym shown) ∙ row;
       within = omega (arith, within, ap length shown);
-      len = length-chain (get a.buffers) k.linked.owner k.linked.rank q c (k.linked.each q c at);
+      len = length-chain (buffers_of a) k.linked.owner k.linked.rank q c (k.linked.each q c at);
       bound = omega (arith, total, all, len-le-total a.chains.items q c at);
     }
 
@@ -89,21 +92,24 @@ one-owned m own = by
     by zero d below = own
     by (suc k) d below = absurd (omega arith)
 
-pub append-step : (a : Inside) (qs : Queues) (q : ℕ) (c d : Chain) (key : ℕ) (message : Message) (o : ℕ) (new : Slab Buffer) → QueuesInvariant a → queues_of a ≡ qs →
+pub append-step : (a : Inside) (qs : Queues) (q : ℕ) (c d : Chain) (key : ℕ) (message : Message) (o : ℕ) (new : Slab Neighbours) → QueuesInvariant a → queues_of a ≡ qs →
     q < length qs → c ≡ get_or a.chains.items q c → HasOwner message → HasBuffer qs message → o ≡ owner_of message →
-    Pushed (get a.buffers) (get new) c d message key → slab_len new ≡ slab_len a.buffers + 1 → new.capacity ≡ a.buffers.capacity →
-    Step new (slice_set a.chains.items q d) (slice_set a.in_use o (slice_index_or a.in_use o 0 + 1)) (slice_set qs q (slice_index_or qs q [] ++ message ∷ []))
-append-step a qs q c d key message o new k shown within read own has is pushed len capacity =
+    Linked (get a.neighbours) (get new) c d key → slab_len new ≡ slab_len a.neighbours + 1 → new.capacity ≡ a.neighbours.capacity → key < a.neighbours.capacity →
+    Step new (slice_set a.messages.items key message) (slice_set a.chains.items q d) (slice_set a.in_use o (slice_index_or a.in_use o 0 + 1)) (slice_set qs q (slice_index_or qs q [] ++ message ∷ []))
+append-step a qs q c d key message o new k shown within read own has is move len capacity range =
+    let messages : List Message = slice_set a.messages.items key message in
+    let push = pushed a.neighbours new a.messages.items c d key message move (omega (arith, range, k.size)) in
     let h = here a qs q c k shown within read in
     let room = room-for a qs message o k shown own has is in
-    let m = push-moved (get a.buffers) (get new) a.chains.items q c d message key k.linked h.at pushed in
+    let m = push-moved (buffers_of a) (buffer_at new messages) a.chains.items q c d message key k.linked h.at push in
     let view = m.view ∙ ap (λ (x : List Message). slice_set (queues_of a) q (x ++ message ∷ [])) (sym h.row) in
     let left : used_by (owner_of message) (queues_of a) < share (owner_of message) = rw is at room.left in
     record {
       linked = m.kept;
-      both_ways = both-ways (get new) (slice_set a.chains.items q d) m.kept;
-      held = omega (arith, total-set a.chains.items q c d h.at, k.held, len, pushed.len);
+      both_ways = both-ways (buffer_at new messages) (slice_set a.chains.items q d) m.kept;
+      held = omega (arith, total-set a.chains.items q c d h.at, k.held, len, move.len);
       room = omega (arith, k.room, capacity);
+      size = length-set a.messages.items key message ∙ k.size ∙ sym capacity;
       owned = rw view (owned-set a q (slice_index_or (queues_of a) q [] ++ message ∷ []) k
           (All-append HasOwner (slice_index_or (queues_of a) q []) (message ∷ []) (owned-at a q k h.within) (one-owned message own)));
       counts = rw (view, is) (counted-append (queues_of a) a.in_use q message k.counts h.within (owner-below message own) left);
@@ -114,7 +120,7 @@ append-step a qs q c d key message o new k shown within read own has is pushed l
 pub record Head (a : Inside) (qs : Queues) (q : ℕ) (c : Chain) (key : ℕ) : Type 0 where
   pub b : Buffer
   pub rest : List Message
-  pub there : get a.buffers key ≡ Some b
+  pub there : buffers_of a key ≡ Some b
   pub some : 1 ≤ c.len
   pub row : slice_index_or qs q [] ≡ b.message ∷ rest
   pub own : HasOwner b.message
@@ -124,12 +130,12 @@ pub head-at : (a : Inside) (qs : Queues) (q : ℕ) (c : Chain) (key : ℕ) → Q
 head-at a qs q c key k shown within read first =
     let h = here a qs q c k shown within read in
     let chain = k.linked.each q c h.at in
-    let split = first-split (get a.buffers) k.linked.owner k.linked.rank q c key chain first in
+    let split = first-split (buffers_of a) k.linked.owner k.linked.rank q c key chain first in
     let links = rw split.1 at chain.links in
-    let rest = those (get a.buffers) split.0 in
-    let there : get a.buffers key ≡ Some links.0 = links.4 in
-    let one : those (get a.buffers) (key ∷ split.0) ≡ links.0.message ∷ rest = rw there refl in
-    let row = h.row ∙ row-chain (get a.buffers) k.linked.owner k.linked.rank q c chain ∙ ap (those (get a.buffers)) split.1 ∙ one in
+    let rest = those (buffers_of a) split.0 in
+    let there : buffers_of a key ≡ Some links.0 = links.4 in
+    let one : those (buffers_of a) (key ∷ split.0) ≡ links.0.message ∷ rest = rw there refl in
+    let row = h.row ∙ row-chain (buffers_of a) k.linked.owner k.linked.rank q c chain ∙ ap (those (buffers_of a)) split.1 ∙ one in
     let own : HasOwner links.0.message = rw row at (owned-at a q k h.within) 0 links.0.message (omega (arith, ap length row)) in
     record {
       b = links.0;
@@ -141,46 +147,45 @@ head-at a qs q c key k shown within read first =
       used = head-used (queues_of a) a.in_use q links.0.message rest k.counts h.within (owner-below links.0.message own) row;
     }
 
-pub head-message : (a : Inside) (qs : Queues) (q : ℕ) (c d : Chain) (key : ℕ) (new : Buffers) (b : Buffer) (message : Message) (h : Head a qs q c key) →
-    Unlinked (get a.buffers) new c d key b message → h.b.message ≡ message
-head-message a qs q c d key new b message h gone =
-    let two : Some h.b ≡ Some b = sym h.there ∙ gone.was in
-    let same : h.b ≡ b = cc in
-    ap (λ (x : Buffer). x.message) same ∙ sym gone.message_is
+-- the message at the first key
+pub head-message : (a : Inside) (qs : Queues) (q : ℕ) (c : Chain) (key : ℕ) (h : Head a qs q c key) → message_in a.messages.items key ≡ h.b.message
+head-message a qs q c key h = message-there a.neighbours a.messages.items key h.b h.there
 
-pub place-step : (a : Inside) (qs : Queues) (q : ℕ) (c d : Chain) (key : ℕ) (b : Buffer) (message : Message) (o : ℕ) (new : Slab Buffer) → QueuesInvariant a →
-    queues_of a ≡ qs → q < length qs → c ≡ get_or a.chains.items q c → c.first ≡ Some key → o ≡ owner_of message →
-    Unlinked (get a.buffers) (get new) c d key b message → slab_len new + 1 ≡ slab_len a.buffers → new.capacity ≡ a.buffers.capacity →
-    Step new (slice_set a.chains.items q d) (slice_set a.in_use o (slice_index_or a.in_use o 0 - 1)) (slice_set qs q (drop 1 (slice_index_or qs q [])))
-    × (slice_get (slice_index_or qs q []) 0 ≡ Some message)
-place-step a qs q c d key b message o new k shown within read first is gone len capacity =
+pub place-step : (a : Inside) (qs : Queues) (q : ℕ) (c d : Chain) (key : ℕ) (n : Neighbours) (o : ℕ) (new : Slab Neighbours) → QueuesInvariant a →
+    queues_of a ≡ qs → q < length qs → c ≡ get_or a.chains.items q c → c.first ≡ Some key → o ≡ owner_of (message_in a.messages.items key) →
+    Freed (get a.neighbours) (get new) c d key n → slab_len new + 1 ≡ slab_len a.neighbours → new.capacity ≡ a.neighbours.capacity →
+    Step new a.messages.items (slice_set a.chains.items q d) (slice_set a.in_use o (slice_index_or a.in_use o 0 - 1)) (slice_set qs q (drop 1 (slice_index_or qs q [])))
+place-step a qs q c d key n o new k shown within read first is move len capacity =
+    let messages = a.messages.items in
+    let message = message_in messages key in
+    let b = buffer_of message n in
+    let gone = unlinked a.neighbours new messages c d key n move in
     let h = here a qs q c k shown within read in
     let chain = k.linked.each q c h.at in
-    let split = first-split (get a.buffers) k.linked.owner k.linked.rank q c key chain first in
-    let m = unlink-moved (get a.buffers) (get new) a.chains.items q c d key b message k.linked h.at [] split.0 split.1 gone in
-    let rest = those (get a.buffers) split.0 in
+    let split = first-split (buffers_of a) k.linked.owner k.linked.rank q c key chain first in
+    let m = unlink-moved (buffers_of a) (buffer_at new messages) a.chains.items q c d key b message k.linked h.at [] split.0 split.1 gone in
+    let rest = those (buffers_of a) split.0 in
     let row : slice_index_or (queues_of a) q [] ≡ message ∷ rest = h.row ∙ m.1 in
     let left : drop 1 (slice_index_or (queues_of a) q []) ≡ rest = ap (λ (x : List Message). drop 1 x) row in
     let view = m.0.view ∙ ap (λ (x : List Message). slice_set (queues_of a) q x) (sym left) in
-    let own : HasOwner message = rw row at (owned-at a q k h.within) 0 message (omega (arith, ap length row)) in (
-      record {
-        linked = m.0.kept;
-        both_ways = both-ways (get new) (slice_set a.chains.items q d) m.0.kept;
-        held = omega (arith, total-set a.chains.items q c d h.at, k.held, len, gone.len);
-        room = omega (arith, k.room, capacity);
-        owned = rw view (owned-set a q (drop 1 (slice_index_or (queues_of a) q [])) k (All-drop HasOwner 1 (slice_index_or (queues_of a) q []) (owned-at a q k h.within)));
-        counts = rw (m.0.view, is) (counted-place (queues_of a) a.in_use q message rest k.counts h.within (owner-below message own) row);
-        view_is = view ∙ ap (λ (x : Queues). slice_set x q (drop 1 (slice_index_or x q []))) shown;
-      },
-      ap (λ (x : List Message). slice_get x 0) (ap (λ (x : Queues). slice_index_or x q []) (sym shown) ∙ row),
-    )
+    let own : HasOwner message = rw row at (owned-at a q k h.within) 0 message (omega (arith, ap length row)) in
+    record {
+      linked = m.0.kept;
+      both_ways = both-ways (buffer_at new messages) (slice_set a.chains.items q d) m.0.kept;
+      held = omega (arith, total-set a.chains.items q c d h.at, k.held, len, gone.len);
+      room = omega (arith, k.room, capacity);
+      size = k.size ∙ sym capacity;
+      owned = rw view (owned-set a q (drop 1 (slice_index_or (queues_of a) q [])) k (All-drop HasOwner 1 (slice_index_or (queues_of a) q []) (owned-at a q k h.within)));
+      counts = rw (m.0.view, is) (counted-place (queues_of a) a.in_use q message rest k.counts h.within (owner-below message own) row);
+      view_is = view ∙ ap (λ (x : Queues). slice_set x q (drop 1 (slice_index_or x q []))) shown;
+    }
 
 -- a queue whose chain has no first key is empty
 pub place-none : (a : Inside) (qs : Queues) (q : ℕ) (c : Chain) → QueuesInvariant a → queues_of a ≡ qs → q < length qs → c ≡ get_or a.chains.items q c → c.first ≡ None → slice_index_or qs q [] ≡ []
 place-none a qs q c k shown within read none =
     let h = here a qs q c k shown within read in
     let chain = k.linked.each q c h.at in
-    h.shown_row ∙ row-chain (get a.buffers) k.linked.owner k.linked.rank q c chain ∙ ap (those (get a.buffers)) (no-first (get a.buffers) k.linked.owner k.linked.rank q c chain none)
+    h.shown_row ∙ row-chain (buffers_of a) k.linked.owner k.linked.rank q c chain ∙ ap (those (buffers_of a)) (no-first (buffers_of a) k.linked.owner k.linked.rank q c chain none)
 
 -- the port's messages of a queue are its buffers there
 withdrawn-count : (port : ℕ) (q : List Message) → port < 16 → length (withdrawn_of port q) ≡ count_of port q
@@ -218,7 +223,7 @@ port-below a qs port k shown some = go (cases_lt port 16)
 
 -- What a withdrawal relies on: the port's messages in the queue are among its buffers in use.
 pub record Found (a : Inside) (c : Chain) (port : ℕ) : Type 0 where
-  pub bound : length (withdrawn_of port (queue_at (get a.buffers) c)) ≤ slice_index_or a.in_use port 0
+  pub bound : length (withdrawn_of port (queue_at (buffers_of a) c)) ≤ slice_index_or a.in_use port 0
   pub in_use : slice_index_or a.in_use port 0 ≤ 16
 
 pub found : (a : Inside) (qs : Queues) (q : ℕ) (c : Chain) (port : ℕ) → QueuesInvariant a → queues_of a ≡ qs → q < length qs → c ≡ get_or a.chains.items q c → port < 16 → Found a c port
@@ -228,29 +233,30 @@ found a qs q c port k shown within read below =
     let same = ap (count_of port) h.row in
     let count = k.counts.counted port (omega arith) in
     record {
-      bound = omega (arith, withdrawn-count port (queue_at (get a.buffers) c) below, same, least, count);
+      bound = omega (arith, withdrawn-count port (queue_at (buffers_of a) c) below, same, least, count);
       in_use = omega (arith, count, k.counts.within port (omega arith), share-le port);
     }
 
-pub withdrawn-step : (a : Inside) (qs : Queues) (q : ℕ) (c d : Chain) (port n : ℕ) (tickets : List ℕ) (new : Slab Buffer) (k : QueuesInvariant a) → queues_of a ≡ qs →
+pub withdrawn-step : (a : Inside) (qs : Queues) (q : ℕ) (c d : Chain) (port n : ℕ) (tickets : List ℕ) (new : Slab Neighbours) (k : QueuesInvariant a) → queues_of a ≡ qs →
     q < length qs → c ≡ get_or a.chains.items q c → port < 16 →
-    Withdrawn (get a.buffers) (get new) k.linked.owner k.linked.rank q c d port tickets → slab_len new + length tickets ≡ slab_len a.buffers → new.capacity ≡ a.buffers.capacity → n ≡ length tickets →
-    Step new (slice_set a.chains.items q d) (slice_set a.in_use port (slice_index_or a.in_use port 0 - n)) (slice_set qs q (left_of port (slice_index_or qs q [])))
+    Withdrawn (buffers_of a) (buffer_at new a.messages.items) k.linked.owner k.linked.rank q c d port tickets → slab_len new + length tickets ≡ slab_len a.neighbours → new.capacity ≡ a.neighbours.capacity → n ≡ length tickets →
+    Step new a.messages.items (slice_set a.chains.items q d) (slice_set a.in_use port (slice_index_or a.in_use port 0 - n)) (slice_set qs q (left_of port (slice_index_or qs q [])))
 withdrawn-step a qs q c d port n tickets new k shown within read below w len capacity is =
     let h = here a qs q c k shown within read in
-    let m = withdrawn-moved (get a.buffers) (get new) a.chains.items q c d port tickets k.linked h.at w in
+    let m = withdrawn-moved (buffers_of a) (buffer_at new a.messages.items) a.chains.items q c d port tickets k.linked h.at w in
     let row = slice_index_or (queues_of a) q [] in
     let view = m.view ∙ ap (λ (x : List Message). slice_set (queues_of a) q (left_of port x)) (sym h.row) in
     let f = found a qs q c port k shown within read below in
     let taken = ap length w.tickets_are in
     let count = k.counts.counted port (omega arith) in
-    let gone = withdrawn-count port (queue_at (get a.buffers) c) below in
+    let gone = withdrawn-count port (queue_at (buffers_of a) c) below in
     let same = ap (count_of port) h.row in
     record {
       linked = m.kept;
-      both_ways = both-ways (get new) (slice_set a.chains.items q d) m.kept;
+      both_ways = both-ways (buffer_at new a.messages.items) (slice_set a.chains.items q d) m.kept;
       held = omega (arith, total-set a.chains.items q c d h.at, k.held, len, w.len);
       room = omega (arith, k.room, capacity);
+      size = k.size ∙ sym capacity;
       owned = rw view (owned-set a q (left_of port row) k (All-filter (λ x. not (is_from_port port x)) HasOwner row (owned-at a q k h.within)));
       counts = rw view (counted-set (queues_of a) a.in_use q (left_of port row) port (slice_index_or a.in_use port 0 - n) k.counts h.within (omega arith)
           (λ x ne. left-count port x row below ne)

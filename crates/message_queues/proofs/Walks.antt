@@ -6,7 +6,7 @@ use Rattle.std.proofs.lemmas.List.{map-append}
 use Rattle.std.proofs.lemmas.List.Elements.{filter_map-append, filter-append}
 use Rattle.board_terms.specs.Messages.{ticket_of}
 use Rattle.board_terms.specs.declared.messages.Message.{Message}
-use Rattle.message_queues.specs.declared.chains.Buffer.{Buffer}
+use Rattle.message_queues.specs.inside.Buffers.{Buffer}
 use Rattle.message_queues.specs.declared.chains.Chain.{Chain}
 use Rattle.message_queues.specs.Queues.{is_from_port, withdrawn_of, left_of}
 use Rattle.message_queues.specs.inside.Chains.{Buffers, queue_at, Links, IsChain, AreChains}

@@ -1,22 +1,23 @@
 // Doubly linked chains of buffers.
 ghost use Rattle.std.specs.Prelude.{◌≡◌, ℕ, ◌+◌, ◌<◌, ◌≤◌, ◌^◌, Some, slice_get, length};
 ghost use Rattle.slab.specs.Slab.{get, slab_len, ContainsKey, HasRoomFor};
-ghost use Rattle.message_queues.specs.declared.chains.Buffer.{Buffer};
+ghost use Rattle.message_queues.specs.declared.chains.Neighbours.{Neighbours};
 ghost use Rattle.message_queues.specs.Queues.{is_from_port, withdrawn_of};
+ghost use Rattle.message_queues.specs.inside.Buffers.{message_in, buffer_at};
 ghost use Rattle.message_queues.specs.inside.Chains.{queue_at, IsChain};
-ghost use Rattle.message_queues.specs.inside.Moves.{Sets, with_behind, with_before, Pushed, Unlinked, Withdrawn};
+ghost use Rattle.message_queues.specs.inside.Moves.{Sets, followed_by, preceded_by, Linked, Freed, Withdrawn};
 
 use arrayvec::ArrayVec;
 use board_terms::{Message, Ticket};
 use slab::Slab;
 
-/// A queued message.
+/// The neighbours of a queued message. The message itself is at the same key in a list, so that
+/// linking and unlinking move no message.
 #[derive(Drop)]
-pub(crate) struct Buffer {
-    pub(crate) message: Message,
-    /// The key of the next buffer towards the front. `push` and `unlink` maintain it.
+pub(crate) struct Neighbours {
+    /// The key of the next buffer towards the front. `link` and `unlink` maintain it.
     pub(crate) before: Option<usize>,
-    /// The key of the next buffer towards the end. `push` and `unlink` maintain it.
+    /// The key of the next buffer towards the end. `link` and `unlink` maintain it.
     pub(crate) behind: Option<usize>,
 }
 
@@ -27,54 +28,54 @@ pub(crate) struct Chain {
     pub(crate) first: Option<usize>,
     /// The key of its last buffer, which has none after it.
     pub(crate) last: Option<usize>,
-    /// The number of its buffers. `push` increments it, `unlink` decrements it.
+    /// The number of its buffers. `link` increments it, `unlink` decrements it.
     pub(crate) len: u16,
 }
 
 /// Sets the successor of a key, if there is a key.
 #[inline]
-fn set_behind(buffers: &mut Slab<Buffer>, at: Option<usize>, to: Option<usize>)
-    ensures sets { Sets (get buffers.old) (get buffers.new) at (with_behind to) }
-    ensures len { slab_len buffers.new ≡ slab_len buffers.old }
-    ensures capacity { buffers.new.capacity ≡ buffers.old.capacity }
+fn set_behind(neighbours: &mut Slab<Neighbours>, at: Option<usize>, to: Option<usize>)
+    ensures sets { Sets (get neighbours.old) (get neighbours.new) at (followed_by to) }
+    ensures len { slab_len neighbours.new ≡ slab_len neighbours.old }
+    ensures capacity { neighbours.new.capacity ≡ neighbours.old.capacity }
 {
     if let Some(at) = at {
-        if let Some(buffer) = buffers.get_mut(at) {
-            buffer.behind = to;
+        if let Some(here) = neighbours.get_mut(at) {
+            here.behind = to;
         }
     }
 }
 
 /// Sets the predecessor of a key, if there is a key.
 #[inline]
-fn set_before(buffers: &mut Slab<Buffer>, at: Option<usize>, to: Option<usize>)
-    ensures sets { Sets (get buffers.old) (get buffers.new) at (with_before to) }
-    ensures len { slab_len buffers.new ≡ slab_len buffers.old }
-    ensures capacity { buffers.new.capacity ≡ buffers.old.capacity }
+fn set_before(neighbours: &mut Slab<Neighbours>, at: Option<usize>, to: Option<usize>)
+    ensures sets { Sets (get neighbours.old) (get neighbours.new) at (preceded_by to) }
+    ensures len { slab_len neighbours.new ≡ slab_len neighbours.old }
+    ensures capacity { neighbours.new.capacity ≡ neighbours.old.capacity }
 {
     if let Some(at) = at {
-        if let Some(buffer) = buffers.get_mut(at) {
-            buffer.before = to;
+        if let Some(here) = neighbours.get_mut(at) {
+            here.before = to;
         }
     }
 }
 
-/// Appends a message to a chain, and returns its key.
+/// Links a free key to the end of a chain, and returns it.
 #[inline]
-pub(crate) fn push(buffers: &mut Slab<Buffer>, chain: &mut Chain, message: Message) -> usize
-    requires room { HasRoomFor buffers.old 1 }
+pub(crate) fn link(neighbours: &mut Slab<Neighbours>, chain: &mut Chain) -> usize
+    requires room { HasRoomFor neighbours.old 1 }
     requires bound { chain.old.len + 1 < 2 ^ 16 }
-    ensures pushed { Pushed (get buffers.old) (get buffers.new) chain.old chain.new message result }
-    ensures len { slab_len buffers.new ≡ slab_len buffers.old + 1 }
-    ensures capacity { buffers.new.capacity ≡ buffers.old.capacity }
+    ensures linked { Linked (get neighbours.old) (get neighbours.new) chain.old chain.new result }
+    ensures len { slab_len neighbours.new ≡ slab_len neighbours.old + 1 }
+    ensures capacity { neighbours.new.capacity ≡ neighbours.old.capacity }
+    ensures range { result < neighbours.old.capacity }
 {
     let last = chain.last;
-    let key = buffers.insert_reserved(Buffer {
-        message,
+    let key = neighbours.insert_reserved(Neighbours {
         before: last,
         behind: None,
     });
-    set_behind(buffers, last, Some(key));
+    set_behind(neighbours, last, Some(key));
     if last.is_none() {
         chain.first = Some(key);
     }
@@ -83,23 +84,19 @@ pub(crate) fn push(buffers: &mut Slab<Buffer>, chain: &mut Chain, message: Messa
     key
 }
 
-/// Removes the message at a key from its chain. Its neighbours are linked to each other, or become
-/// the chain's ends.
+/// Removes a key from its chain. Its neighbours are linked to each other, or become the chain's
+/// ends.
 #[inline]
-pub(crate) fn unlink(buffers: &mut Slab<Buffer>, chain: &mut Chain, key: usize) -> Message
-    requires there { ContainsKey buffers.old key }
+pub(crate) fn unlink(neighbours: &mut Slab<Neighbours>, chain: &mut Chain, key: usize)
+    requires there { ContainsKey neighbours.old key }
     requires some { 1 ≤ chain.old.len }
-    ensures unlinked { (b : Buffer) × Unlinked (get buffers.old) (get buffers.new) chain.old chain.new key b result }
-    ensures len { slab_len buffers.new + 1 ≡ slab_len buffers.old }
-    ensures capacity { buffers.new.capacity ≡ buffers.old.capacity }
+    ensures unlinked { (n : Neighbours) × Freed (get neighbours.old) (get neighbours.new) chain.old chain.new key n }
+    ensures len { slab_len neighbours.new + 1 ≡ slab_len neighbours.old }
+    ensures capacity { neighbours.new.capacity ≡ neighbours.old.capacity }
 {
-    let Buffer {
-        message,
-        before,
-        behind,
-    } = buffers.remove(key);
-    set_behind(buffers, before, behind);
-    set_before(buffers, behind, before);
+    let Neighbours { before, behind } = neighbours.remove(key);
+    set_behind(neighbours, before, behind);
+    set_before(neighbours, behind, before);
     if before.is_none() {
         chain.first = behind;
     }
@@ -107,7 +104,22 @@ pub(crate) fn unlink(buffers: &mut Slab<Buffer>, chain: &mut Chain, key: usize) 
         chain.last = before;
     }
     chain.len -= 1;
-    message
+}
+
+/// The message at a key that is in use.
+#[inline]
+pub(crate) fn message_in<'a>(
+    neighbours: &Slab<Neighbours>,
+    messages: &'a [Message],
+    key: usize,
+) -> &'a Message
+    requires there { ContainsKey neighbours.now key }
+    requires size { length messages.now ≡ neighbours.now.capacity }
+    ensures { result.now ≡ message_in messages.now key }
+{
+    // A key in use is below the capacity, by the contract of this call.
+    let _capacity = neighbours.capacity();
+    &messages[key]
 }
 
 /// Whether a message is from a port.
@@ -124,39 +136,48 @@ fn is_from_port(message: &Message, port: u8) -> bool
 /// Removes the messages of a port from a chain, and returns their tickets, front first. Other
 /// messages stay in order.
 pub(crate) fn withdraw(
-    buffers: &mut Slab<Buffer>,
+    neighbours: &mut Slab<Neighbours>,
+    messages: &[Message],
     chain: &mut Chain,
     port: u8,
 ) -> ArrayVec<Ticket, 16>
-    requires linked { (owner : ℕ → ℕ) × (rank : ℕ → ℕ) × (queue : ℕ) × IsChain (get buffers.old) owner rank queue chain.old }
-    requires bound { length (withdrawn_of port (queue_at (get buffers.old) chain.old)) ≤ 16 }
-    ensures withdrawn { (owner rank : ℕ → ℕ) (queue : ℕ) → IsChain (get buffers.old) owner rank queue chain.old
-        → Withdrawn (get buffers.old) (get buffers.new) owner rank queue chain.old chain.new port result.items }
-    ensures len { slab_len buffers.new + length result.items ≡ slab_len buffers.old }
-    ensures capacity { buffers.new.capacity ≡ buffers.old.capacity }
+    requires linked { (owner : ℕ → ℕ) × (rank : ℕ → ℕ) × (queue : ℕ) × IsChain (buffer_at neighbours.old messages.now) owner rank queue chain.old }
+    requires bound { length (withdrawn_of port (queue_at (buffer_at neighbours.old messages.now) chain.old)) ≤ 16 }
+    requires size { length messages.now ≡ neighbours.old.capacity }
+    ensures withdrawn { (owner rank : ℕ → ℕ) (queue : ℕ) → IsChain (buffer_at neighbours.old messages.now) owner rank queue chain.old
+        → Withdrawn (buffer_at neighbours.old messages.now) (buffer_at neighbours.new messages.now) owner rank queue chain.old chain.new port result.items }
+    ensures len { slab_len neighbours.new + length result.items ≡ slab_len neighbours.old }
+    ensures capacity { neighbours.new.capacity ≡ neighbours.old.capacity }
 {
     let mut tickets = ArrayVec::new();
     let mut next = chain.first;
     for _ in 0..chain.len {
         let key = next.unwrap();
-        let buffer = &buffers[key];
-        next = buffer.behind;
-        if is_from_port(&buffer.message, port) {
-            tickets.push(unlink(buffers, chain, key).ticket());
+        next = neighbours[key].behind;
+        let message = message_in(neighbours, messages, key);
+        if is_from_port(message, port) {
+            tickets.push(message.ticket());
+            unlink(neighbours, chain, key);
         }
     }
     tickets
 }
 
 /// The message at an index of a chain, counted from the front.
-pub(crate) fn message_at<'a>(buffers: &'a Slab<Buffer>, chain: &Chain, index: u16) -> &'a Message
-    requires linked { (owner : ℕ → ℕ) × (rank : ℕ → ℕ) × (queue : ℕ) × IsChain (get buffers.now) owner rank queue chain.now }
+pub(crate) fn message_at<'a>(
+    neighbours: &Slab<Neighbours>,
+    messages: &'a [Message],
+    chain: &Chain,
+    index: u16,
+) -> &'a Message
+    requires linked { (owner : ℕ → ℕ) × (rank : ℕ → ℕ) × (queue : ℕ) × IsChain (buffer_at neighbours.now messages.now) owner rank queue chain.now }
     requires inside { index < chain.now.len }
-    ensures { slice_get (queue_at (get buffers.now) chain.now) index ≡ Some result.now }
+    requires size { length messages.now ≡ neighbours.now.capacity }
+    ensures { slice_get (queue_at (buffer_at neighbours.now messages.now) chain.now) index ≡ Some result.now }
 {
     let mut key = chain.first.unwrap();
     for _ in 0..index {
-        key = buffers[key].behind.unwrap();
+        key = neighbours[key].behind.unwrap();
     }
-    &buffers[key].message
+    message_in(neighbours, messages, key)
 }

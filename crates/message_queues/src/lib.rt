@@ -2,9 +2,10 @@
 #![tactic(auto)]
 
 mod chains;
+mod messages;
 mod owners;
 mod queues;
 mod slots;
 
 pub use queues::Queues;
-pub use slots::{header, image, slot_type};
+pub use slots::{header, image, slot_type, timer_header, timer_payload};

@@ -2,13 +2,15 @@
 ghost use Rattle.std.specs.Prelude.{◌≡◌, ◌↔◌, IsTrue, ◌<◌, ◌≤◌, [], length, map, sum_by, IfOk, slice_get};
 ghost use Rattle.std.specs.Option.{option_copied};
 ghost use Rattle.board_terms.specs.Messages.{ticket_of};
+ghost use Rattle.board_terms.specs.declared.messages.Message.TheVariants.{FromPort, FromTimer};
 ghost use Rattle.board_terms.specs.Sources.{source_number};
 ghost use Rattle.message_queues.specs.Queues.{no_messages, queue_of, with_queue, appended, after_place, after_withdrawal, withdrawn_of, port_used, is_timer_free, HasBuffer};
 
-use crate::chains::{Buffer, Chain, message_at, push, unlink, withdraw};
+use crate::chains::{Chain, Neighbours, link, message_at, message_in, unlink, withdraw};
+use crate::messages::{no_message, write_expiry, write_post};
 use crate::owners::{OWNERS, PORTS, owner_of, owner_of_timer};
 use arrayvec::ArrayVec;
-use board_terms::{Message, Sint, Ticket, TimerId, Vp, source_number};
+use board_terms::{Message, Moment, Sint, Ticket, TimerId, Vp, source_number};
 use slab::Slab;
 use std::alloc::{AllocError, Global};
 use std::marker::Model;
@@ -19,14 +21,16 @@ const BUFFERS: usize = 288;
 /// The message queues of a board: one for each source of each processor.
 #[derive(Drop)]
 pub struct Queues {
-    /// The messages of all queues, each with the keys of its neighbours: each key is in exactly one
-    /// chain, once. `append`, `place` and `withdraw_port` maintain this.
-    buffers: Slab<Buffer>,
-    /// The ends and the length of each queue, those of processor 0 first. `append`, `place` and
-    /// `withdraw_port` maintain them.
+    /// The neighbours of each queued message: each key is in exactly one chain, once. `append`,
+    /// `drop_head` and `withdraw_port` maintain this.
+    neighbours: Slab<Neighbours>,
+    /// The message at each key. One that left its queue stays until its key is used again.
+    messages: Vec<Message>,
+    /// The ends and the length of each queue, those of processor 0 first. `append`, `drop_head`
+    /// and `withdraw_port` maintain them.
     chains: Vec<Chain>,
-    /// How many messages of each owner are queued. `append` increments it, `place` and
-    /// `withdraw_port` decrement it.
+    /// How many messages of each owner are queued. `append` increments it, `drop_head`
+    /// and `withdraw_port` decrement it.
     in_use: [u8; OWNERS],
 }
 
@@ -52,7 +56,8 @@ impl Queues {
         ensures { IfOk result (λ q. q ≡ no_messages processors) }
     {
         let queues = 16 * processors as usize;
-        let buffers = Slab::with_capacity(alloc, BUFFERS)?;
+        let neighbours = Slab::with_capacity(alloc, BUFFERS)?;
+        let messages = unused(alloc, neighbours.capacity())?;
         let mut chains = Vec::with_capacity(alloc, queues)?;
         for _ in 0..queues {
             chains.push_reserved(Chain {
@@ -62,7 +67,8 @@ impl Queues {
             });
         }
         Ok(Queues {
-            buffers,
+            neighbours,
+            messages,
             chains,
             in_use: [0; OWNERS],
         })
@@ -70,35 +76,101 @@ impl Queues {
 
     /// Appends a message to a queue. Never allocates. Requires that the processor has queues here,
     /// and that the message has a free buffer (`port_used`, `timer_buffer_free`).
-    #[inline]
-    pub fn append(&mut self, vp: Vp, sint: Sint, message: Message)
+    pub fn append(&mut self, vp: Vp, sint: Sint, message: &Message)
         requires on_the_board { source_number vp sint < length self.old }
-        requires buffer { HasBuffer self.old message }
-        ensures queued { self.new ≡ appended self.old vp sint message }
+        requires buffer { HasBuffer self.old message.now }
+        ensures queued { self.new ≡ appended self.old vp sint message.now }
         ensures as_many { length self.new ≡ length self.old }
     {
-        self.in_use[owner_of(&message)] += 1;
-        let chain = &mut self.chains[source_number(vp, sint)];
-        let _ = push(&mut self.buffers, chain, message);
+        match message {
+            Message::FromPort {
+                ticket,
+                port,
+                kind,
+                payload,
+            } => self.append_post(vp, sint, *ticket, *port, *kind, payload.as_slice()),
+            Message::FromTimer {
+                ticket,
+                timer,
+                expiration,
+            } => self.append_expiry(vp, sint, *ticket, *timer, *expiration),
+        }
     }
 
-    /// Removes and returns the head of a queue, if there is one. Requires that the processor has
-    /// queues here.
+    /// Appends the message of a post to a queue. Its payload is copied once, to its buffer. Never
+    /// allocates. Requires that the port has a free buffer (`port_used`).
     #[inline]
+    pub fn append_post(
+        &mut self,
+        vp: Vp,
+        sint: Sint,
+        ticket: Ticket,
+        port: u8,
+        kind: u32,
+        payload: &[u8],
+    )
+        requires on_the_board { source_number vp sint < length self.old }
+        requires fits { length payload.now ≤ 240 }
+        requires buffer { HasBuffer self.old (FromPort ticket port kind (record { items = payload.now })) }
+        ensures queued { self.new ≡ appended self.old vp sint (FromPort ticket port kind (record { items = payload.now })) }
+        ensures as_many { length self.new ≡ length self.old }
+    {
+        self.in_use[port as usize] += 1;
+        let chain = &mut self.chains[source_number(vp, sint)];
+        let key = link(&mut self.neighbours, chain);
+        write_post(&mut self.messages[key], ticket, port, kind, payload);
+    }
+
+    /// Appends the message of a timer to a queue. Never allocates. Requires that the buffer of the
+    /// timer is free (`timer_buffer_free`).
+    #[inline]
+    pub fn append_expiry(
+        &mut self,
+        vp: Vp,
+        sint: Sint,
+        ticket: Ticket,
+        timer: TimerId,
+        expiration: Moment,
+    )
+        requires on_the_board { source_number vp sint < length self.old }
+        requires buffer { HasBuffer self.old (FromTimer ticket timer expiration) }
+        ensures queued { self.new ≡ appended self.old vp sint (FromTimer ticket timer expiration) }
+        ensures as_many { length self.new ≡ length self.old }
+    {
+        self.in_use[owner_of_timer(timer)] += 1;
+        let chain = &mut self.chains[source_number(vp, sint)];
+        let key = link(&mut self.neighbours, chain);
+        write_expiry(&mut self.messages[key], ticket, timer, expiration);
+    }
+
+    /// The head of a queue, if there is one. Requires that the processor has queues here.
+    #[inline]
+    pub fn head(&self, vp: Vp, sint: Sint) -> Option<&Message>
+        requires { source_number vp sint < length self.now }
+        ensures { option_copied result ≡ slice_get (queue_of self.now vp sint) 0 }
+    {
+        let chain = &self.chains[source_number(vp, sint)];
+        match chain.first {
+            Some(key) => Some(message_in(&self.neighbours, self.messages.as_slice(), key)),
+            None => None,
+        }
+    }
+
+    /// Removes the head of a queue, if there is one. Requires that the processor has queues here.
     #[inline(always)]
-    pub fn place(&mut self, vp: Vp, sint: Sint) -> Option<Message>
+    pub fn drop_head(&mut self, vp: Vp, sint: Sint)
         requires { source_number vp sint < length self.old }
-        ensures head { result ≡ slice_get (queue_of self.old vp sint) 0 }
         ensures rest { self.new ≡ after_place self.old vp sint }
         ensures as_many { length self.new ≡ length self.old }
     {
         let chain = &mut self.chains[source_number(vp, sint)];
         let Some(key) = chain.first else {
-            return None;
+            return;
         };
-        let message = unlink(&mut self.buffers, chain, key);
-        self.in_use[owner_of(&message)] -= 1;
-        Some(message)
+        let message = message_in(&self.neighbours, self.messages.as_slice(), key);
+        let owner = owner_of(message);
+        unlink(&mut self.neighbours, chain, key);
+        self.in_use[owner] -= 1;
     }
 
     /// Removes the messages of a port from a queue, and returns their tickets, front first. The
@@ -113,7 +185,8 @@ impl Queues {
             return ArrayVec::new();
         }
         let chain = &mut self.chains[source_number(vp, sint)];
-        let tickets = withdraw(&mut self.buffers, chain, port);
+        let messages = self.messages.as_slice();
+        let tickets = withdraw(&mut self.neighbours, messages, chain, port);
         self.in_use[port as usize] -= tickets.len() as u8;
         tickets
     }
@@ -130,8 +203,8 @@ impl Queues {
         let count = self.count(vp, sint);
         let mut tickets = ArrayVec::new();
         for _ in 0..count {
-            let message = self.place(vp, sint).unwrap();
-            tickets.push(message.ticket());
+            tickets.push(self.head(vp, sint).unwrap().ticket());
+            self.drop_head(vp, sint);
         }
         tickets
     }
@@ -188,6 +261,18 @@ impl Queues {
         if index >= chain.len {
             return None;
         }
-        Some(message_at(&self.buffers, chain, index))
+        let messages = self.messages.as_slice();
+        Some(message_at(&self.neighbours, messages, chain, index))
     }
+}
+
+/// The messages of buffers that were never used.
+fn unused(alloc: Global, count: usize) -> Result<Vec<Message>, AllocError>
+    ensures { IfOk result (λ messages. length messages.items ≡ count) }
+{
+    let mut messages = Vec::with_capacity(alloc, count)?;
+    for _ in 0..count {
+        messages.push_reserved(no_message());
+    }
+    Ok(messages)
 }

@@ -1,6 +1,6 @@
 // The images of messages in their slots.
 ghost use Rattle.std.specs.Prelude.{◌≡◌, ◌-◌, ◌≤◌, ◌++◌, length, replicate};
-ghost use Rattle.message_queues.specs.Image.{flags_of, header, timer_payload, image, slot_type};
+ghost use Rattle.message_queues.specs.Image.{flags_of, header, timer_kind, timer_payload, image, slot_type};
 
 use board_terms::{Message, Moment, Sint};
 
@@ -31,7 +31,7 @@ pub fn image(message: &Message, pending: bool, moment: Moment) -> [u8; SLOT]
             expiration,
             ..
         } => {
-            let header = header(TIMER_EXPIRED, 24, pending, 0);
+            let header = timer_header(pending);
             assembled(&header, &timer_payload(timer.index(), *expiration, moment))
         }
     }
@@ -73,9 +73,18 @@ pub fn header(kind: u32, size: u8, pending: bool, port: u64) -> [u8; 16]
     header
 }
 
-/// The payload of a timer's message.
+/// Bytes 0 to 15 of a timer's message.
 #[inline]
-fn timer_payload(index: u8, expiration: Moment, delivery: Moment) -> [u8; 24]
+pub fn timer_header(pending: bool) -> [u8; 16]
+    ensures { result ≡ header timer_kind 24 pending 0 }
+{
+    header(TIMER_EXPIRED, 24, pending, 0)
+}
+
+/// The payload of a timer's message: its index, the time at which it expired, and the time of
+/// delivery (TLFS, "Timer Message Payload").
+#[inline]
+pub fn timer_payload(index: u8, expiration: Moment, delivery: Moment) -> [u8; 24]
     ensures { result ≡ timer_payload index expiration delivery }
 {
     let mut payload = [0; 24];

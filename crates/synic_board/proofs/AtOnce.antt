@@ -1,10 +1,10 @@
 -- Placing a message at once equals queueing and then placing it.
-use Rattle.std.proofs.Common.{◌≡◌, ℕ, ◌+◌, ◌<◌, Bool, true, false, ◌&&◌, not, nat_lt, List, [], ◌∷◌, ◌++◌, length, set, refl, ap, sym, ◌∙◌, Some, arith}
+use Rattle.std.proofs.Common.{◌≡◌, ℕ, ◌+◌, ◌<◌, Bool, true, false, ◌&&◌, not, nat_lt, List, [], ◌∷◌, ◌++◌, length, set, length-append, refl, ap, sym, ◌∙◌, Some, arith}
 use Rattle.std.specs.Prelude.{if◌then◌else◌}
 use Rattle.std.proofs.lemmas.Bool.Decides.{nat_tests}
 use Rattle.std.proofs.lemmas.List.{get_or-set_same, set-set, set-get_or}
 use Rattle.board_terms.specs.declared.messages.Message.{Message}
-use Rattle.board_terms.specs.declared.messages.Message.TheVariants.{FromPort}
+use Rattle.board_terms.specs.declared.messages.Message.TheVariants.{FromPort, FromTimer}
 use Rattle.board_terms.specs.Messages.{ticket_of}
 use Rattle.board_terms.specs.declared.notices.Notice.TheVariants.{Accepted, Placed}
 use Rattle.board_terms.specs.Sources.{source_number}
@@ -15,8 +15,9 @@ use Rattle.gpa_space.specs.Space.{after_slot}
 use Rattle.synic_board.specs.State.{State, space_of, with_space, with_slot_ticket}
 use Rattle.synic_board.specs.Effects.{Effect, nothing, after}
 use Rattle.synic_board.specs.Interrupts.{raised}
-use Rattle.synic_board.specs.Delivery.{delivers, is_slot_empty, placed_head, marked, tried, accepted, delivered}
-use Rattle.synic_board.specs.inside.AtOnce.{delivers_at_once, placed_at_once}
+use Rattle.synic_board.specs.Delivery.{delivers, is_slot_empty, placed, placed_head, marked, tried, accepted, delivered}
+use Rattle.synic_board.specs.inside.Steps.{timer_bytes}
+use Rattle.synic_board.specs.inside.AtOnce.{delivers_at_once, marks, placed_at_once}
 
 -- an empty queue
 nothing-queued : (q : List Message) → nat_lt 0 (length q) ≡ false → q ≡ []
@@ -58,8 +59,34 @@ at-once s p i m free within =
         let t : State = with_slot_ticket (record (with_space s (after_slot (space_of s) p i (image m false s.moment))) { next_ticket = s.next_ticket + 1; queues = qs }) p i (Some (ticket_of m)) in
         ((raised t p i).0, Accepted (ticket_of m) p i ∷ Placed (ticket_of m) p i ∷ (raised t p i).1)
 
--- the image of a post after which nothing is queued
-pub post-image : (ticket port kind moment : ℕ) (payload : List ℕ) →
-    image (FromPort ticket port kind (record { items = payload })) false moment ≡ message_bytes (header kind (length payload) false port) payload
+both : (a b : Bool) → (a && not b) ≡ true → (a ≡ true) × (b ≡ false)
+both true false h = (refl, refl)
+both true true h = absurd (cc)
+both false b h = absurd (cc)
+
+-- a queue that a message joins is not empty
+joined-some : (q : List Message) (m : Message) → nat_lt 0 (length (q ++ m ∷ [])) ≡ true
+joined-some q m = let long = length-append q (m ∷ []) in grind (arith, nat_tests)
+
+-- if the slot is occupied, an accepted message only sets MessagePending there
+pub only-marked : (s : State) (p i : ℕ) (m : Message) → marks s p i ≡ true → source_number p i < length s.queues → delivered s p i m ≡ after (accepted s p i m) (marked (accepted s p i m).0 p i)
+unfolding tried
+only-marked s p i m occupied within =
+    let h = both (delivers s p) (is_slot_empty s p i) occupied in
+    let a : State = (accepted s p i m).0 in
+    let joined : queue_of a.queues p i ≡ queue_of s.queues p i ++ m ∷ [] = get_or-set_same s.queues (source_number p i) (queue_of s.queues p i ++ m ∷ []) [] within in
+    let some : nat_lt 0 (length (queue_of a.queues p i)) ≡ true = ap (λ (q : List Message). nat_lt 0 (length q)) joined ∙ joined-some (queue_of s.queues p i) m in
+    let tries : tried a p i ≡ marked a p i =
+    (λ j. if h.0 j && some j then (if h.1 j then after (placed a p i) (raised (placed a p i).0 p i) else marked a p i) else nothing a) in
+    ap (after (accepted s p i m)) tries
+
+-- the image of a post
+pub post-image : (ticket port kind moment : ℕ) (payload : List ℕ) (pending : Bool) →
+    image (FromPort ticket port kind (record { items = payload })) pending moment ≡ message_bytes (header kind (length payload) pending port) payload
 unfolding image
-post-image ticket port kind moment payload = refl
+post-image ticket port kind moment payload pending = refl
+
+-- the image of a timer's message
+pub timer-image : (ticket : ℕ) (timer : ℕ × ℕ) (expiration moment : ℕ) (pending : Bool) → image (FromTimer ticket timer expiration) pending moment ≡ timer_bytes timer expiration pending moment
+unfolding image
+timer-image ticket timer expiration moment pending = refl

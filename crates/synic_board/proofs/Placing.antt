@@ -1,5 +1,5 @@
 -- Placing the head of a queue in its slot.
-use Rattle.std.proofs.Common.{◌≡◌, ℕ, ◌<◌, Bool, nat_lt, List, [], ◌∷◌, ◌++◌, drop, length, sym, ap, ◌∙◌, set}
+use Rattle.std.proofs.Common.{◌≡◌, ℕ, ◌-◌, ◌<◌, ◌≤◌, Bool, nat_lt, List, [], ◌∷◌, ◌++◌, drop, length, refl, sym, ap, ◌∙◌, set, arith}
 use Rattle.std.specs.Prelude.{Option, Some}
 use Rattle.std.specs.List.{slice_get}
 use Rattle.std.proofs.lemmas.List.{get_or-set_same}
@@ -21,6 +21,18 @@ headed (x ∷ q) m e = let same : x ≡ m = cc in ap (λ y. y ∷ q) same
 -- the number of messages that stay in the queue
 left_behind : (qs now : Queues) (p i left : ℕ) → source_number p i < length qs → now ≡ after_place qs p i → left ≡ length (queue_of now p i) → left ≡ length (drop 1 (queue_of qs p i))
 left_behind qs now p i left h is count = count ∙ ap (λ xs. length (queue_of xs p i)) is ∙ ap length (get_or-set_same qs (source_number p i) (drop 1 (queue_of qs p i)) [] h)
+
+-- the queue has a head
+pub some_head : (q : List Message) (m : Message) → slice_get q 0 ≡ Some m → 1 ≤ length q
+some_head q m e = let long = ap length (headed q m e) in omega (arith, long)
+
+-- how many messages are left once the head is removed
+pub left_after : (qs now : Queues) (p i count : ℕ) (m : Message) → source_number p i < length qs → slice_get (queue_of qs p i) 0 ≡ Some m → now ≡ after_place qs p i →
+    count ≡ length (queue_of qs p i) → count - 1 ≡ length (queue_of now p i)
+left_after qs now p i count m h first taken is =
+    let long = ap length (headed (queue_of qs p i) m first) in
+    let rest = left_behind qs now p i (length (queue_of now p i)) h taken refl in
+    omega (arith, long, rest, is)
 
 -- after a message was placed, the fields and the notices are those of the definition
 pub placed_is : (s : State) (p i left at ticket : ℕ) (pending : Bool) (m : Message) (img : List ℕ) (b t : Space) (now : Queues) (slots : List (Option ℕ)) (before emitted : List Notice) →

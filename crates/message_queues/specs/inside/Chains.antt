@@ -3,7 +3,7 @@ use Rattle.std.specs.Prelude.{◌≡◌, ℕ, zero, suc, ◌≤◌, List, [], �
 use Rattle.std.specs.Option.{option_and_then}
 use Rattle.board_terms.specs.declared.messages.Message.{Message}
 use Rattle.message_queues.specs.Queues.{Queues}
-use Rattle.message_queues.specs.declared.chains.Buffer.{Buffer}
+use Rattle.message_queues.specs.inside.Buffers.{Buffer}
 use Rattle.message_queues.specs.declared.chains.Chain.{Chain}
 
 abbrev pub Buffers : Type 0

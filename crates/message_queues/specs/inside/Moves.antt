@@ -4,7 +4,8 @@ use Rattle.std.specs.Option.{option_map}
 use Rattle.board_terms.specs.declared.messages.Message.{Message}
 use Rattle.message_queues.specs.Queues.{withdrawn_of, left_of}
 use Rattle.message_queues.specs.inside.Chains.{Buffers, queue_at, IsChain}
-use Rattle.message_queues.specs.declared.chains.Buffer.{Buffer}
+use Rattle.message_queues.specs.inside.Buffers.{Buffer}
+use Rattle.message_queues.specs.declared.chains.Neighbours.{Neighbours}
 use Rattle.message_queues.specs.declared.chains.Chain.{Chain}
 
 -- a buffer with another successor, and with another predecessor
@@ -14,8 +15,19 @@ with_behind key b = record b { behind = key }
 abbrev pub with_before : Option ℕ → Buffer → Buffer
 with_before key b = record b { before = key }
 
--- the buffer at a key, if there is one, is changed by `change`, and no other buffer is changed
-pub record Sets (old new : Buffers) (at : Option ℕ) (change : Buffer → Buffer) : Type 0 where
+-- the neighbours of each key in use
+abbrev pub Neighbourhoods : Type 0
+Neighbourhoods = ℕ → Option Neighbours
+
+-- neighbours with another successor, and with another predecessor
+abbrev pub followed_by : Option ℕ → Neighbours → Neighbours
+followed_by key n = record n { behind = key }
+
+abbrev pub preceded_by : Option ℕ → Neighbours → Neighbours
+preceded_by key n = record n { before = key }
+
+-- the neighbours of a key, if it is in use, are changed by `change`, and no others are changed
+pub record Sets (old new : Neighbourhoods) (at : Option ℕ) (change : Neighbours → Neighbours) : Type 0 where
   pub here : (k : ℕ) → at ≡ Some k → new k ≡ option_map change (old k)
   pub others : (k : ℕ) → at ≢ Some k → new k ≡ old k
 
@@ -23,6 +35,26 @@ pub record Sets (old new : Buffers) (at : Option ℕ) (change : Buffer → Buffe
 abbrev pub if_none : Option ℕ → Option ℕ → Option ℕ → Option ℕ
 if_none None it else_it = it
 if_none (Some k) it else_it = else_it
+
+-- A key that was free follows the last one of the chain, and of the other neighbours only those of the last one changed.
+pub record Linked (old new : Neighbourhoods) (c d : Chain) (key : ℕ) : Type 0 where
+  pub free : old key ≡ None
+  pub here : c.last ≢ Some key → new key ≡ Some (record { before = c.last; behind = None })
+  pub end : (k : ℕ) → c.last ≡ Some k → k ≢ key → new k ≡ option_map (followed_by (Some key)) (old k)
+  pub others : (k : ℕ) → c.last ≢ Some k → k ≢ key → new k ≡ old k
+  pub first : d.first ≡ if_none c.last (Some key) c.first
+  pub last : d.last ≡ Some key
+  pub len : d.len ≡ c.len + 1
+
+-- The key is free, and its neighbours n are linked to each other.
+pub record Freed (old new : Neighbourhoods) (c d : Chain) (key : ℕ) (n : Neighbours) : Type 0 where
+  pub was : old key ≡ Some n
+  pub left : (k : ℕ) → k ≢ key → n.before ≡ Some k → n.behind ≢ Some k → new k ≡ option_map (followed_by n.behind) (old k)
+  pub right : (k : ℕ) → k ≢ key → n.before ≢ Some k → n.behind ≡ Some k → new k ≡ option_map (preceded_by n.before) (old k)
+  pub others : (k : ℕ) → k ≢ key → n.before ≢ Some k → n.behind ≢ Some k → new k ≡ old k
+  pub first : d.first ≡ if_none n.before n.behind c.first
+  pub last : d.last ≡ if_none n.behind n.before c.last
+  pub len : d.len + 1 ≡ c.len
 
 -- The message is at a key that was free, and of the other buffers only the chain's last one changed.
 pub record Pushed (old new : Buffers) (c d : Chain) (message : Message) (key : ℕ) : Type 0 where

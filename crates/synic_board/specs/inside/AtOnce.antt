@@ -15,6 +15,10 @@ use Rattle.synic_board.specs.Delivery.{delivers, is_slot_empty}
 abbrev pub delivers_at_once : State → Processor → Source → Bool
 delivers_at_once s p i = delivers s p && not (nat_lt 0 (length (queue_of s.queues p i))) && is_slot_empty s p i
 
+-- a delivery attempt with something queued would only set MessagePending: its slot is occupied
+abbrev pub marks : State → Processor → Source → Bool
+marks s p i = delivers s p && not (is_slot_empty s p i)
+
 -- a message in its slot gets the next ticket, which the slot holds
 abbrev pub slot_taken : State → Processor → Source → Ticket → Effect
 slot_taken s p i ticket = (with_slot_ticket (record s { next_ticket = s.next_ticket + 1 }) p i (Some ticket), Accepted ticket p i ∷ Placed ticket p i ∷ [])

@@ -9,7 +9,9 @@ use Rattle.board_terms.specs.declared.pages.Owner.{Owner}
 use Rattle.board_terms.specs.declared.pages.Owner.TheVariants.{Guest, Sim, Sief, Nothing}
 use Rattle.board_terms.specs.Quantities.{PortNumber}
 use Rattle.board_terms.specs.declared.messages.Message.{Message}
-use Rattle.board_terms.specs.declared.messages.Message.TheVariants.{FromPort}
+use Rattle.board_terms.specs.declared.messages.Message.TheVariants.{FromPort, FromTimer}
+use Rattle.gpa_space.specs.Page.{message_bytes}
+use Rattle.message_queues.specs.Image.{header, timer_kind, timer_payload}
 
 -- timers of processors on the board
 abbrev pub AllOn : State → List TimerId → Type 0
@@ -37,3 +39,11 @@ IsOn s Nothing = Unit {0}
 -- the message of a post, with the next ticket
 abbrev pub posted_message : State → PortNumber → ℕ → List ℕ → Message
 posted_message s port kind payload = FromPort s.next_ticket port kind (record { items = payload })
+
+-- the message of a timer, with the next ticket
+abbrev pub expired_message : State → TimerId → Moment → Message
+expired_message s timer expiration = FromTimer s.next_ticket timer expiration
+
+-- the bytes of the message of a timer in its slot
+abbrev pub timer_bytes : TimerId → Moment → Bool → Moment → List ℕ
+timer_bytes timer expiration pending delivery = message_bytes (header timer_kind 24 pending 0) (timer_payload timer.1 expiration delivery)

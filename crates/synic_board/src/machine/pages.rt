@@ -65,9 +65,38 @@ impl Machine {
         }
     }
 
-    /// Stores bytes and returns why the store is refused, if it is. Out of line, with a result in registers.
+    /// Stores bytes and returns why the store is refused, if it is. Out of line, with a result in
+    /// registers. Four or eight bytes, the usual sizes, are known where they are stored, so they are
+    /// one word each, and their path has no call for which registers are saved.
     #[inline(never)]
     fn try_store(&mut self, address: u64, bytes: &[u8], notices: &mut Notices) -> Option<Refusal>
+        requires none { notices.old ≡ [] }
+        requires sound { IsSound self.old.state }
+        ensures step { (self.new.state, unless_refused Reply.Done result, notices.new) ≡ stored_bytes self.old.state address bytes.now }
+        ensures writes { self.new.writes ≡ self.old.writes }
+    {
+        if let Some(bytes) = bytes.as_array::<4>() {
+            return self.store_bytes(address, bytes, notices);
+        }
+        if let Some(bytes) = bytes.as_array::<8>() {
+            return self.store_bytes(address, bytes, notices);
+        }
+        self.store_few(address, bytes, notices)
+    }
+
+    /// The same for any number of bytes.
+    #[inline(never)]
+    fn store_few(&mut self, address: u64, bytes: &[u8], notices: &mut Notices) -> Option<Refusal>
+        requires none { notices.old ≡ [] }
+        requires sound { IsSound self.old.state }
+        ensures step { (self.new.state, unless_refused Reply.Done result, notices.new) ≡ stored_bytes self.old.state address bytes.now }
+        ensures writes { self.new.writes ≡ self.old.writes }
+    {
+        self.store_bytes(address, bytes, notices)
+    }
+
+    #[inline(always)]
+    fn store_bytes(&mut self, address: u64, bytes: &[u8], notices: &mut Notices) -> Option<Refusal>
         requires none { notices.old ≡ [] }
         requires sound { IsSound self.old.state }
         ensures step { (self.new.state, unless_refused Reply.Done result, notices.new) ≡ stored_bytes self.old.state address bytes.now }

@@ -8,4 +8,4 @@ returns-in-FromPort c = rw (c.assembled.ensures, c.header-header.ensures, c.as_s
 
 pub returns-in-FromTimer : goal.returns-in-FromTimer
 unfolding image
-returns-in-FromTimer c = rw (c.assembled-in-FromTimer.ensures, c.header-header-in-FromTimer.ensures, c.timer_payload.ensures, c.index.ensures.value, c.in-FromTimer.is) refl
+returns-in-FromTimer c = rw (c.assembled-in-FromTimer.ensures, c.timer_header-header.ensures, c.timer_payload.ensures, c.index.ensures.value, c.in-FromTimer.is) refl

@@ -1,7 +1,7 @@
 use Rattle.std.proofs.Common.{◌≡◌, ◌<◌, ℕ, IsTrue, nat_lt, sym, subst, ◌∙◌, arith}
 use Rattle.std.proofs.lemmas.Bool.Decides.{nat_tests}
 use Rattle.board_terms.specs.declared.messages.Message.{Message}
-use Rattle.message_queues.specs.Queues.{port_used, is_timer_free, HasBuffer}
+use Rattle.message_queues.specs.Queues.{HasBuffer}
 use Rattle.message_queues.proofs.queues.Queues.has_buffer.Goals as goal
 
 below : (m n : ℕ) → m ≡ n → IsTrue (nat_lt m 16) → n < 16

@@ -1,8 +1,6 @@
-use Rattle.std.proofs.Common.{◌<◌, ◌≤◌, ◌≡◌, ℕ, [], List, ap, ◌∙◌, sym, length, arith}
+use Rattle.std.proofs.Common.{◌<◌, ℕ, [], ap, ◌∙◌, sym, length, arith}
 use Rattle.std.specs.Prelude.{slice_index_or}
-use Rattle.std.specs.List.{slice_get}
 use Rattle.std.proofs.lemmas.Option.{slice_get_past}
-use Rattle.board_terms.specs.declared.messages.Message.{Message}
 use Rattle.message_queues.specs.Queues.{queue_of}
 use Rattle.message_queues.proofs.Steps.{here}
 use Rattle.message_queues.proofs.queues.Queues.message.Goals as goal
@@ -19,4 +17,7 @@ message_at-requires-clause-linked c =
     let within : c.source_number.result < length c.args.self.now = omega (arith, c.source_number.ensures.value, c.requires) in
     let h = here c.self.inside c.args.self.now c.source_number.result c.index-chain.result.now c.self.invariant c.self.view_is within c.index-chain.ensures in
     let k = c.self.invariant.linked in
-    (k.owner, k.rank, c.source_number.result, k.each c.source_number.result c.index-chain.result.now h.at)
+    rw c.as_slice-messages.ensures.value (k.owner, k.rank, c.source_number.result, k.each c.source_number.result c.index-chain.result.now h.at)
+
+pub message_at-requires-clause-size : goal.message_at-requires-clause-size
+message_at-requires-clause-size c = ap length c.as_slice-messages.ensures.value ∙ c.self.invariant.size

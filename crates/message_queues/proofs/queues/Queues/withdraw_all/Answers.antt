@@ -1,5 +1,6 @@
 use Rattle.std.proofs.Common.{◌≡◌, ℕ, ◌<◌, ◌+◌, List, [], ◌∷◌, ◌++◌, map, take, drop, length, ap, sym, ◌∙◌, arith, get_or}
 use Rattle.std.specs.Prelude.{Some, slice_get}
+use Rattle.std.specs.Option.{option_copied}
 use Rattle.std.proofs.lemmas.List.{take_more, drop_more, get_or-set_same, set-set, map_push}
 use Rattle.board_terms.specs.declared.messages.Message.{Message}
 use Rattle.board_terms.specs.Messages.{ticket_of}
@@ -23,10 +24,10 @@ taken qs now p i k m within less is head =
 
 pub loop-preserved : goal.loop-preserved
 loop-preserved c =
-    let step = taken c.args.self.now c.loop.self c.args.vp c.args.sint c.loop.counter c.unwrap-message.result c.requires
-    (omega (arith, c.loop-test.true, c.count-count.ensures.value)) c.loop.invariant.rest (sym c.unwrap-message.ensures ∙ c.place.ensures.head) in
+    let step = taken c.args.self.now c.loop.self c.args.vp c.args.sint c.loop.counter c.unwrap.result.now c.requires
+    (omega (arith, c.loop-test.true, c.count-count.ensures.value)) c.loop.invariant.rest (ap option_copied (sym c.unwrap.ensures) ∙ c.head.ensures) in
     record {
       tickets = c.push.ensures.items ∙ (λ i. c.loop.invariant.tickets i ++ c.ticket.ensures i ∷ [])
-          ∙ sym (ap (map ticket_of) step.1 ∙ map_push ticket_of (take c.loop.counter (queue_of c.args.self.now c.args.vp c.args.sint)) c.unwrap-message.result);
-      rest = c.place.ensures.rest ∙ step.0;
+          ∙ sym (ap (map ticket_of) step.1 ∙ map_push ticket_of (take c.loop.counter (queue_of c.args.self.now c.args.vp c.args.sint)) c.unwrap.result.now);
+      rest = c.drop_head.ensures.rest ∙ step.0;
     }

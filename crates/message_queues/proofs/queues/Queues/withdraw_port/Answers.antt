@@ -19,14 +19,14 @@ withdraw-tickets-requires-clause-linked c =
     let within : c.source_number.result < length c.args.self.now = omega (arith, c.source_number.ensures.value, c.requires) in
     let h = here c.self.inside c.args.self.now c.source_number.result c.index_mut-chain.result.now c.self.invariant c.self.view_is within c.index_mut-chain.ensures.value in
     let k = c.self.invariant.linked in
-    (k.owner, k.rank, c.source_number.result, k.each c.source_number.result c.index_mut-chain.result.now h.at)
+    rw c.as_slice-messages.ensures.value (k.owner, k.rank, c.source_number.result, k.each c.source_number.result c.index_mut-chain.result.now h.at)
 
 pub withdraw-tickets-requires-clause-bound : goal.withdraw-tickets-requires-clause-bound
 withdraw-tickets-requires-clause-bound c =
     let within : c.source_number.result < length c.args.self.now = omega (arith, c.source_number.ensures.value, c.requires) in
     let below = port-below c.self.inside c.args.self.now c.args.port c.self.invariant c.self.view_is (λ none. c.if-port_used-eq0.false (c.port_used.ensures.value ∙ none)) in
     let f = found c.self.inside c.args.self.now c.source_number.result c.index_mut-chain.result.now c.args.port c.self.invariant c.self.view_is within c.index_mut-chain.ensures.value below in
-    omega (arith, f.bound, f.in_use)
+    rw c.as_slice-messages.ensures.value (omega (arith, f.bound, f.in_use))
 
 pub bounds-self-inside-port : goal.bounds-self-inside-port
 bounds-self-inside-port c =
@@ -39,7 +39,8 @@ overflow_sub-self c =
     let below = port-below c.self.inside c.args.self.now c.args.port c.self.invariant c.self.view_is (λ none. c.if-port_used-eq0.false (c.port_used.ensures.value ∙ none)) in
     let h = here c.self.inside c.args.self.now c.source_number.result c.index_mut-chain.result.now c.self.invariant c.self.view_is within c.index_mut-chain.ensures.value in
     let k = c.self.invariant.linked in
-    let w = c.withdraw-tickets.ensures.withdrawn k.owner k.rank c.source_number.result (k.each c.source_number.result c.index_mut-chain.result.now h.at) in
+    let withdrawn = rw c.as_slice-messages.ensures.value at c.withdraw-tickets.ensures.withdrawn in
+    let w = withdrawn k.owner k.rank c.source_number.result (k.each c.source_number.result c.index_mut-chain.result.now h.at) in
     let f = found c.self.inside c.args.self.now c.source_number.result c.index_mut-chain.result.now c.args.port c.self.invariant c.self.view_is within c.index_mut-chain.ensures.value below in
     omega (arith, f.bound, c.len.ensures.value, ap length w.tickets_are)
 
@@ -54,18 +55,20 @@ invariant_of-self c =
     let below = port-below c.self.inside c.args.self.now c.args.port c.self.invariant c.self.view_is (λ none. c.if-port_used-eq0.false (c.port_used.ensures.value ∙ none)) in
     let h = here c.self.inside c.args.self.now c.source_number.result c.index_mut-chain.result.now c.self.invariant c.self.view_is within c.index_mut-chain.ensures.value in
     let k = c.self.invariant.linked in
-    let w = c.withdraw-tickets.ensures.withdrawn k.owner k.rank c.source_number.result (k.each c.source_number.result c.index_mut-chain.result.now h.at) in
+    let withdrawn = rw c.as_slice-messages.ensures.value at c.withdraw-tickets.ensures.withdrawn in
+    let w = withdrawn k.owner k.rank c.source_number.result (k.each c.source_number.result c.index_mut-chain.result.now h.at) in
     let s = withdrawn-step c.self.inside c.args.self.now c.source_number.result c.index_mut-chain.result.now c.withdraw-tickets.new.chain c.args.port c.len.result
-    c.withdraw-tickets.result.items c.withdraw-tickets.new.buffers c.self.invariant c.self.view_is within c.index_mut-chain.ensures.value below w
+    c.withdraw-tickets.result.items c.withdraw-tickets.new.neighbours c.self.invariant c.self.view_is within c.index_mut-chain.ensures.value below w
     c.withdraw-tickets.ensures.len c.withdraw-tickets.ensures.capacity c.len.ensures.value in
-    record { linked = s.linked; held = s.held; both_ways = s.both_ways; room = s.room; owned = s.owned; counts = s.counts }
+    record { linked = s.linked; held = s.held; both_ways = s.both_ways; room = s.room; size = s.size; owned = s.owned; counts = s.counts }
 
 pub returns-clause-tickets : goal.returns-clause-tickets
 returns-clause-tickets c =
     let within : c.source_number.result < length c.args.self.now = omega (arith, c.source_number.ensures.value, c.requires) in
     let h = here c.self.inside c.args.self.now c.source_number.result c.index_mut-chain.result.now c.self.invariant c.self.view_is within c.index_mut-chain.ensures.value in
     let k = c.self.invariant.linked in
-    let w = c.withdraw-tickets.ensures.withdrawn k.owner k.rank c.source_number.result (k.each c.source_number.result c.index_mut-chain.result.now h.at) in
+    let withdrawn = rw c.as_slice-messages.ensures.value at c.withdraw-tickets.ensures.withdrawn in
+    let w = withdrawn k.owner k.rank c.source_number.result (k.each c.source_number.result c.index_mut-chain.result.now h.at) in
     w.tickets_are ∙ ap (withdrawn_of c.args.port) (sym h.shown_row) ∙ ap (λ (k : ℕ). withdrawn_of c.args.port (slice_index_or c.args.self.now k [])) c.source_number.ensures.value
 
 pub returns-clause-rest : goal.returns-clause-rest
@@ -74,8 +77,12 @@ returns-clause-rest c =
     let below = port-below c.self.inside c.args.self.now c.args.port c.self.invariant c.self.view_is (λ none. c.if-port_used-eq0.false (c.port_used.ensures.value ∙ none)) in
     let h = here c.self.inside c.args.self.now c.source_number.result c.index_mut-chain.result.now c.self.invariant c.self.view_is within c.index_mut-chain.ensures.value in
     let k = c.self.invariant.linked in
-    let w = c.withdraw-tickets.ensures.withdrawn k.owner k.rank c.source_number.result (k.each c.source_number.result c.index_mut-chain.result.now h.at) in
+    let withdrawn = rw c.as_slice-messages.ensures.value at c.withdraw-tickets.ensures.withdrawn in
+    let w = withdrawn k.owner k.rank c.source_number.result (k.each c.source_number.result c.index_mut-chain.result.now h.at) in
     let s = withdrawn-step c.self.inside c.args.self.now c.source_number.result c.index_mut-chain.result.now c.withdraw-tickets.new.chain c.args.port c.len.result
-    c.withdraw-tickets.result.items c.withdraw-tickets.new.buffers c.self.invariant c.self.view_is within c.index_mut-chain.ensures.value below w
+    c.withdraw-tickets.result.items c.withdraw-tickets.new.neighbours c.self.invariant c.self.view_is within c.index_mut-chain.ensures.value below w
     c.withdraw-tickets.ensures.len c.withdraw-tickets.ensures.capacity c.len.ensures.value in
     s.view_is ∙ ap (λ (k : ℕ). slice_set c.args.self.now k (left_of c.args.port (slice_index_or c.args.self.now k []))) c.source_number.ensures.value
+
+pub withdraw-tickets-requires-clause-size : goal.withdraw-tickets-requires-clause-size
+withdraw-tickets-requires-clause-size c = ap length c.as_slice-messages.ensures.value ∙ c.self.invariant.size

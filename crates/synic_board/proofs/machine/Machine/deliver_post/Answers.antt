@@ -20,7 +20,7 @@ returns-then-delivers_at_once c =
     let filled : List ℕ → Effect = λ b. filled_at_once s p i b s.next_ticket in
     let first = c.post_at_once.ensures in
     let second = c.raise.ensures in
-    let image = sym (post-image s.next_ticket c.args.port c.args.kind s.moment payload) in
+    let image = sym (post-image s.next_ticket c.args.port c.args.kind s.moment payload false) in
     let once = at-once s p i (posted_message s c.args.port c.args.kind payload) (sym c.delivers_at_once.ensures.answer ∙ c.if-delivers_at_once.true) c.delivers_at_once.ensures.queue in
     record {
       effect = chained _ _ _ _ _ (filled bytes) (λ t. raised t p i) first.effect second.effect

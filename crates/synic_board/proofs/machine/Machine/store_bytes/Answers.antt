@@ -7,7 +7,7 @@ use Rattle.synic_board.specs.inside.Touches.{OthersFree}
 use Rattle.synic_board.specs.inside.View.{state_of}
 use Rattle.synic_board.proofs.Storing.{stored_is}
 use Rattle.synic_board.proofs.Touching.{others-free}
-use Rattle.synic_board.proofs.machine.Machine.try_store.Goals as goal
+use Rattle.synic_board.proofs.machine.Machine.store_bytes.Goals as goal
 
 pub consume_in-requires-clause-others : goal.consume_in-requires-clause-others
 consume_in-requires-clause-others c =
