@@ -128,7 +128,7 @@ fn perform<T: Tally>(
 ) {
     for event in events.iter_mut() {
         let reply = board.perform(event, notices);
-        tally.add(&reply, notices.as_slice());
+        tally.add(reply, notices.as_slice());
         put_off(event, span);
     }
 }

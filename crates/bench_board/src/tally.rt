@@ -13,8 +13,9 @@ const SOURCES: u8 = 16;
 
 /// Accumulates the replies and notices of events.
 pub(crate) trait Tally {
-    /// Adds the reply and the notices of an event.
-    fn add(&mut self, reply: &Reply, notices: &[Notice]);
+    /// Adds the reply and the notices of an event. By value, so that a reply without bytes is in
+    /// registers.
+    fn add(&mut self, reply: Reply, notices: &[Notice]);
 }
 
 /// The number of notices and the sum of the replies: little work compared with an event.
@@ -25,7 +26,7 @@ pub(crate) struct Totals {
 }
 
 impl Tally for Totals {
-    fn add(&mut self, reply: &Reply, notices: &[Notice]) {
+    fn add(&mut self, reply: Reply, notices: &[Notice]) {
         self.notices = self.notices.wrapping_add(notices.len() as u64);
         self.replies = self.replies.wrapping_add(value_of(reply));
     }
@@ -36,8 +37,8 @@ impl Tally for Totals {
 pub(crate) struct Digest(u64);
 
 impl Tally for Digest {
-    fn add(&mut self, reply: &Reply, notices: &[Notice]) {
-        self.add_all(&[kind_of(reply), value_of(reply)]);
+    fn add(&mut self, reply: Reply, notices: &[Notice]) {
+        self.add_all(&[kind_of(&reply), value_of(reply)]);
         for notice in notices {
             self.add_notice(notice);
         }
@@ -143,9 +144,9 @@ fn kind_of(reply: &Reply) -> u64 {
 }
 
 /// The number in a reply. A flag that was set counts as one, and bytes as their sum.
-fn value_of(reply: &Reply) -> u64 {
+fn value_of(reply: Reply) -> u64 {
     match reply {
-        Reply::Value(value) | Reply::Accepted(value) => *value,
+        Reply::Value(value) | Reply::Accepted(value) => value,
         Reply::Bytes(bytes) => bytes
             .iter()
             .fold(0, |sum: u64, byte| sum.wrapping_add(*byte as u64)),

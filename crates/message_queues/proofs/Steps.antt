@@ -20,7 +20,7 @@ use Rattle.message_queues.specs.inside.Chains.{queue_at, queues_at, ReadsBothWay
 use Rattle.message_queues.specs.inside.Moves.{Linked, Freed, Withdrawn}
 use Rattle.message_queues.specs.inside.View.{buffers_of, queues_of, total_of, QueuesInvariant}
 use Rattle.message_queues.proofs.Counts.{owner-below, has_room, all-within, buffer-left, share-le, each-owned, counted-append, counted-place, counted-set, head-used, at_place, at_place-other, count_of, count_of-cons, sum_by-same, is_from_port-owner, port_used-past, count-le-used}
-use Rattle.message_queues.proofs.Parts.{pushed, unlinked, message-there}
+use Rattle.message_queues.proofs.Parts.{pushed, unlinked, message-there, buffer-there}
 use Rattle.message_queues.proofs.ChainLemmas.{those, push-moved, unlink-moved, first-split, no-first, row-chain, chain_at, queue-is, length-chain, total-queues, total-set, len-le-total, both-ways}
 use Rattle.message_queues.proofs.Walks.{withdrawn-moved}
 
@@ -121,6 +121,7 @@ pub record Head (a : Inside) (qs : Queues) (q : ℕ) (c : Chain) (key : ℕ) : T
   pub b : Buffer
   pub rest : List Message
   pub there : buffers_of a key ≡ Some b
+  pub first : b.before ≡ None
   pub some : 1 ≤ c.len
   pub row : slice_index_or qs q [] ≡ b.message ∷ rest
   pub own : HasOwner b.message
@@ -141,6 +142,7 @@ head-at a qs q c key k shown within read first =
       b = links.0;
       rest = rest;
       there = there;
+      first = links.5;
       some = omega (arith, chain.len, ap length split.1);
       row = ap (λ (x : Queues). slice_index_or x q []) (sym shown) ∙ row;
       own = own;
@@ -150,6 +152,13 @@ head-at a qs q c key k shown within read first =
 -- the message at the first key
 pub head-message : (a : Inside) (qs : Queues) (q : ℕ) (c : Chain) (key : ℕ) (h : Head a qs q c key) → message_in a.messages.items key ≡ h.b.message
 head-message a qs q c key h = message-there a.neighbours a.messages.items key h.b h.there
+
+-- nothing is before the first key
+pub head-first : (a : Inside) (qs : Queues) (q : ℕ) (c : Chain) (key : ℕ) (n : Neighbours) (h : Head a qs q c key) → get a.neighbours key ≡ Some n → n.before ≡ None
+head-first a qs q c key n h there =
+    let two : Some (buffer_of (message_in a.messages.items key) n) ≡ Some h.b = sym (buffer-there a.neighbours a.messages.items key n there) ∙ h.there in
+    let same : buffer_of (message_in a.messages.items key) n ≡ h.b = cc in
+    ap (λ (x : Buffer). x.before) same ∙ h.first
 
 pub place-step : (a : Inside) (qs : Queues) (q : ℕ) (c d : Chain) (key : ℕ) (n : Neighbours) (o : ℕ) (new : Slab Neighbours) → QueuesInvariant a →
     queues_of a ≡ qs → q < length qs → c ≡ get_or a.chains.items q c → c.first ≡ Some key → o ≡ owner_of (message_in a.messages.items key) →

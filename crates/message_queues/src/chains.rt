@@ -1,5 +1,5 @@
 // Doubly linked chains of buffers.
-ghost use Rattle.std.specs.Prelude.{◌≡◌, ℕ, ◌+◌, ◌<◌, ◌≤◌, ◌^◌, Some, slice_get, length};
+ghost use Rattle.std.specs.Prelude.{◌≡◌, ℕ, ◌+◌, ◌<◌, ◌≤◌, ◌^◌, Some, None, slice_get, length};
 ghost use Rattle.slab.specs.Slab.{get, slab_len, ContainsKey, HasRoomFor};
 ghost use Rattle.message_queues.specs.declared.chains.Neighbours.{Neighbours};
 ghost use Rattle.message_queues.specs.Queues.{is_from_port, withdrawn_of};
@@ -102,6 +102,25 @@ pub(crate) fn unlink(neighbours: &mut Slab<Neighbours>, chain: &mut Chain, key: 
     }
     if behind.is_none() {
         chain.last = before;
+    }
+    chain.len -= 1;
+}
+
+/// Removes the first key of a chain, as `unlink` does. Nothing is before it.
+#[inline(always)]
+pub(crate) fn drop_first(neighbours: &mut Slab<Neighbours>, chain: &mut Chain, key: usize)
+    requires there { ContainsKey neighbours.old key }
+    requires first { (n : Neighbours) → get neighbours.old key ≡ Some n → n.before ≡ None }
+    requires some { 1 ≤ chain.old.len }
+    ensures unlinked { (n : Neighbours) × Freed (get neighbours.old) (get neighbours.new) chain.old chain.new key n }
+    ensures len { slab_len neighbours.new + 1 ≡ slab_len neighbours.old }
+    ensures capacity { neighbours.new.capacity ≡ neighbours.old.capacity }
+{
+    let Neighbours { before: _, behind } = neighbours.remove(key);
+    set_before(neighbours, behind, None);
+    chain.first = behind;
+    if behind.is_none() {
+        chain.last = None;
     }
     chain.len -= 1;
 }

@@ -6,7 +6,7 @@ ghost use Rattle.board_terms.specs.declared.messages.Message.TheVariants.{FromPo
 ghost use Rattle.board_terms.specs.Sources.{source_number};
 ghost use Rattle.message_queues.specs.Queues.{no_messages, queue_of, with_queue, appended, after_place, after_withdrawal, withdrawn_of, port_used, is_timer_free, HasBuffer};
 
-use crate::chains::{Chain, Neighbours, link, message_at, message_in, unlink, withdraw};
+use crate::chains::{Chain, Neighbours, drop_first, link, message_at, message_in, withdraw};
 use crate::messages::{no_message, write_expiry, write_post};
 use crate::owners::{OWNERS, PORTS, owner_of, owner_of_timer};
 use arrayvec::ArrayVec;
@@ -169,7 +169,7 @@ impl Queues {
         };
         let message = message_in(&self.neighbours, self.messages.as_slice(), key);
         let owner = owner_of(message);
-        unlink(&mut self.neighbours, chain, key);
+        drop_first(&mut self.neighbours, chain, key);
         self.in_use[owner] -= 1;
     }
 

@@ -9,7 +9,7 @@ use Rattle.message_queues.specs.inside.Owners.{owner_of, HasOwner, IsPortOwned}
 use Rattle.message_queues.specs.inside.Chains.{queues_at}
 use Rattle.message_queues.specs.inside.View.{buffers_of}
 use Rattle.message_queues.proofs.Parts.{neighbours-there}
-use Rattle.message_queues.proofs.Steps.{head-at, head-message, place-step, place-none}
+use Rattle.message_queues.proofs.Steps.{head-at, head-message, head-first, place-step, place-none}
 use Rattle.message_queues.proofs.queues.Queues.drop_head.Goals as goal
 
 owned_port : (message : Message) → HasOwner message → IsPortOwned message
@@ -45,15 +45,15 @@ owner_of-owner-requires c =
     let same = c.message_in-message.ensures ∙ ap (λ (ms : List Message). message_in ms c.in-Some.key) c.as_slice.ensures.value ∙ head-message c.self.inside c.args.self.now c.source_number.result c.index_mut-chain.result.now c.in-Some.key h in
     owned_port c.message_in-message.result.now (rw same h.own)
 
-pub unlink-requires-clause-there : goal.unlink-requires-clause-there
-unlink-requires-clause-there c =
+pub drop_first-requires-clause-there : goal.drop_first-requires-clause-there
+drop_first-requires-clause-there c =
     let within : c.source_number.result < length c.args.self.now = omega (arith, c.source_number.ensures.value, c.requires) in
     let h = head-at c.self.inside c.args.self.now c.source_number.result c.index_mut-chain.result.now c.in-Some.key c.self.invariant c.self.view_is within
     c.index_mut-chain.ensures.value c.in-Some.is in
     neighbours-there c.self.inside.neighbours c.self.inside.messages.items c.in-Some.key h.b h.there
 
-pub unlink-requires-clause-some : goal.unlink-requires-clause-some
-unlink-requires-clause-some c =
+pub drop_first-requires-clause-some : goal.drop_first-requires-clause-some
+drop_first-requires-clause-some c =
     let within : c.source_number.result < length c.args.self.now = omega (arith, c.source_number.ensures.value, c.requires) in
     (head-at c.self.inside c.args.self.now c.source_number.result c.index_mut-chain.result.now c.in-Some.key c.self.invariant c.self.view_is within c.index_mut-chain.ensures.value c.in-Some.is).some
 
@@ -70,15 +70,22 @@ overflow_sub-self c =
 pub invariant_of-self-2 : goal.invariant_of-self-2
 invariant_of-self-2 c =
     let within : c.source_number.result < length c.args.self.now = omega (arith, c.source_number.ensures.value, c.requires) in
-    let s = place-step c.self.inside c.args.self.now c.source_number.result c.index_mut-chain.result.now c.unlink.new.chain c.in-Some.key
-    c.unlink.ensures.unlinked.0 c.owner_of-owner.result c.unlink.new.neighbours c.self.invariant c.self.view_is within
-    c.index_mut-chain.ensures.value c.in-Some.is (c.owner_of-owner.ensures.value ∙ ap owner_of (c.message_in-message.ensures ∙ ap (λ (ms : List Message). message_in ms c.in-Some.key) c.as_slice.ensures.value)) c.unlink.ensures.unlinked.1 c.unlink.ensures.len c.unlink.ensures.capacity in
+    let s = place-step c.self.inside c.args.self.now c.source_number.result c.index_mut-chain.result.now c.drop_first.new.chain c.in-Some.key
+    c.drop_first.ensures.unlinked.0 c.owner_of-owner.result c.drop_first.new.neighbours c.self.invariant c.self.view_is within
+    c.index_mut-chain.ensures.value c.in-Some.is (c.owner_of-owner.ensures.value ∙ ap owner_of (c.message_in-message.ensures ∙ ap (λ (ms : List Message). message_in ms c.in-Some.key) c.as_slice.ensures.value)) c.drop_first.ensures.unlinked.1 c.drop_first.ensures.len c.drop_first.ensures.capacity in
     record { linked = s.linked; held = s.held; both_ways = s.both_ways; room = s.room; size = s.size; owned = s.owned; counts = s.counts }
 
 pub returns-clause-rest : goal.returns-clause-rest
 returns-clause-rest c =
     let within : c.source_number.result < length c.args.self.now = omega (arith, c.source_number.ensures.value, c.requires) in
-    let s = place-step c.self.inside c.args.self.now c.source_number.result c.index_mut-chain.result.now c.unlink.new.chain c.in-Some.key
-    c.unlink.ensures.unlinked.0 c.owner_of-owner.result c.unlink.new.neighbours c.self.invariant c.self.view_is within
-    c.index_mut-chain.ensures.value c.in-Some.is (c.owner_of-owner.ensures.value ∙ ap owner_of (c.message_in-message.ensures ∙ ap (λ (ms : List Message). message_in ms c.in-Some.key) c.as_slice.ensures.value)) c.unlink.ensures.unlinked.1 c.unlink.ensures.len c.unlink.ensures.capacity in
+    let s = place-step c.self.inside c.args.self.now c.source_number.result c.index_mut-chain.result.now c.drop_first.new.chain c.in-Some.key
+    c.drop_first.ensures.unlinked.0 c.owner_of-owner.result c.drop_first.new.neighbours c.self.invariant c.self.view_is within
+    c.index_mut-chain.ensures.value c.in-Some.is (c.owner_of-owner.ensures.value ∙ ap owner_of (c.message_in-message.ensures ∙ ap (λ (ms : List Message). message_in ms c.in-Some.key) c.as_slice.ensures.value)) c.drop_first.ensures.unlinked.1 c.drop_first.ensures.len c.drop_first.ensures.capacity in
     s.view_is ∙ ap (λ (k : ℕ). slice_set c.args.self.now k (drop 1 (slice_index_or c.args.self.now k []))) c.source_number.ensures.value
+
+pub drop_first-requires-clause-first : goal.drop_first-requires-clause-first
+drop_first-requires-clause-first c n there =
+    let within : c.source_number.result < length c.args.self.now = omega (arith, c.source_number.ensures.value, c.requires) in
+    let h = head-at c.self.inside c.args.self.now c.source_number.result c.index_mut-chain.result.now c.in-Some.key c.self.invariant c.self.view_is within
+    c.index_mut-chain.ensures.value c.in-Some.is in
+    head-first c.self.inside c.args.self.now c.source_number.result c.index_mut-chain.result.now c.in-Some.key n h there

@@ -35,7 +35,7 @@ returns-then-marks c =
     let message = expired_message s c.args.timer c.args.expiration in
     let first = c.accept_expiry.ensures in
     let second = c.mark.ensures in
-    let only = only-marked s p i message (sym c.marks.ensures ∙ c.if-marks.true) c.delivers_at_once.ensures.queue in
+    let only = only-marked s p i message (sym c.marks.ensures.answer ∙ c.if-marks.true) c.marks.ensures.queue in
     record {
       effect = chained _ _ _ _ _ (accepted s p i message) (λ t. marked t p i) first.effect second.effect ∙ ap (preceded c.args.notices.now) (sym only);
       writes_monotone = omega (arith, first.writes_monotone, second.writes_monotone);
