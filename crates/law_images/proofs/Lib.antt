@@ -1,0 +1,9 @@
+mod Growing
+mod Spots
+mod Drawn
+mod Blocks
+mod Moves
+mod parts
+mod Opened
+mod Steps
+mod Written

@@ -1,0 +1,10 @@
+//! Theorems about images.
+ghost use Rattle.std.specs.Prelude.{◌≡◌, ℕ, List};
+ghost use Rattle.synic_board.specs.State.{State};
+ghost use Rattle.text_image.specs.Image.{image};
+ghost use Rattle.text_restore.specs.Images.{IsImage};
+
+/// What a restored board saves is the image that it was restored from, byte for byte.
+pub fn a_restored_board_saves_its_image()
+    ensures { (text : List ℕ) (s : State) → IsImage text s → text ≡ image s }
+{}
