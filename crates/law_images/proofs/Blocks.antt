@@ -6,7 +6,7 @@ use Rattle.std.proofs.lemmas.Slice.{between_is}
 use Rattle.gpa_space.specs.Page.{zero_page, overwritten}
 use Rattle.synic_board.proofs.keeping.Slots.{overwritten-other}
 use Rattle.synic_board.proofs.keeping.Stores.{length-overwritten}
-use Rattle.law_images.proofs.Drawn.{block_of}
+use Rattle.law_images.proofs.Printed.{block_of}
 
 length-block : (page : List ℕ) (c : ℕ) → length page ≡ 4096 → c < 16 → length (block_of page c) ≡ 256
 length-block page c l h = ap length (between_is page (256 * c) (256 * c + 256)) ∙ omega (arith, length-drop (256 * c) (take (256 * c + 256) page), length-take (256 * c + 256) page)

@@ -1,4 +1,4 @@
--- The lines of the numbers below a bound, when those of one number grow at the end of what is written.
+-- The lines of the numbers below a bound, when those of one number get one more line and no lines follow them.
 use Rattle.std.proofs.Common.{◌≡◌, ◌≢◌, ◌⊎◌, inl, inr, ℕ, zero, suc, ◌<◌, List, [], ◌∷◌, ◌++◌, append_assoc, append-nil, refl, sym, ap, ◌∙◌, arith}
 use Rattle.std.proofs.lemmas.Bool.{cases_eq}
 use Rattle.text_image.specs.Image.{Lines, each_below}
@@ -18,7 +18,7 @@ unfolding each_below
 each-empty zero f h = refl
 each-empty (suc n) f h = let first = each-empty n f (λ j below. h j (omega arith)) in let last = h n (omega arith) in (λ i. first i ++ last i)
 
--- The lines of number k grow by a line, those of the other numbers stay, and nothing is written after number k.
+-- The lines of number k get one more line, those of the other numbers stay, and there are none after number k.
 pub record Grows (n k : ℕ) (f g : ℕ → Lines) (x : List (List ℕ)) : Type 0 where
   pub within : k < n
   pub others : (j : ℕ) → j < n → j ≢ k → g j ≡ f j
@@ -45,4 +45,5 @@ each-grows (suc n) k f g x h = by (cases_eq k n) (λ within. each-grows n k f g 
         let more = before (omega arith) in
         let none = h.empty n (omega arith) (omega arith) in
         let still = h.others n (omega arith) (λ e. other (sym e)) ∙ none in
-        (λ i. more i ++ still i) ∙ append-nil (each_below n f ++ x ∷ []) ∙ ap (λ (y : Lines). y ++ x ∷ []) (sym (append-nil (each_below n f)) ∙ ap (λ (y : Lines). each_below n f ++ y) (sym none))
+        (λ i. more i ++ still i) ∙ append-nil (each_below n f ++ x ∷ [])
+        ∙ ap (λ (y : Lines). y ++ x ∷ []) (sym (append-nil (each_below n f)) ∙ ap (λ (y : Lines). each_below n f ++ y) (sym none))

@@ -1,9 +1,9 @@
 mod Growing
 mod Spots
-mod Drawn
+mod Printed
 mod Blocks
-mod Moves
+mod Extending
 mod parts
 mod Opened
 mod Steps
-mod Written
+mod Reading

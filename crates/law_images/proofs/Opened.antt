@@ -22,8 +22,8 @@ use Rattle.text_image.specs.Pieces.{piece_fields}
 use Rattle.text_image.specs.Image.{each_below, changed_line, source_name, lapic_lines, port_line, timer_line, message_fields, slot_line}
 use Rattle.law_images.proofs.Blocks.{zero-block}
 use Rattle.law_images.proofs.Spots.{Section, Time, Lapics, Registers, Guests, Owns, Ports, Timers, Queues, Slots, IsSpot}
-use Rattle.law_images.proofs.Drawn.{drawn, register_drawn, guest_drawn, own_drawn, block_drawn, block_of, kind_of}
-use Rattle.law_images.proofs.Moves.{IsShaped}
+use Rattle.law_images.proofs.Printed.{printed, register_printed, guest_printed, own_printed, block_printed, block_of, kind_of}
+use Rattle.law_images.proofs.Extending.{IsShaped}
 
 pub opened-shaped : (n m ticket : ℕ) → IsShaped n m ticket (opened n m ticket)
 opened-shaped n m ticket = record {
@@ -41,13 +41,13 @@ opened-shaped n m ticket = record {
   own_bytes = All-replicate (λ (page : List ℕ). length page ≡ 4096) (2 * n) zero_page (length-replicate {A = ℕ} 4096 0);
 }
 
-registers-blank : (p b : ℕ) → b < 19 → register_drawn p reset_regs b ≡ []
+registers-blank : (p b : ℕ) → b < 19 → register_printed p reset_regs b ≡ []
 registers-blank p zero h = refl
 registers-blank p (suc zero) h = refl
 registers-blank p (suc (suc zero)) h = refl
 registers-blank p (suc (suc (suc i))) h = ap (λ (value : ℕ). changed_line p (source_name i) value masked) (get_or-replicate 16 i masked 0 (omega (arith, h)))
 
-block-blank : (x : Piece) (bytes : List ℕ) → bytes ≡ replicate 256 0 → block_drawn x bytes ≡ []
+block-blank : (x : Piece) (bytes : List ℕ) → bytes ≡ replicate 256 0 → block_printed x bytes ≡ []
 block-blank x bytes is = let same : bytes_eq bytes (replicate 256 0) ≡ true = (bytes_eq-Decides bytes (replicate 256 0)).1 is in ap (λ (t : Bool). cond t [] (piece_fields x ∷ [])) same
 
 queue-blank : (p i : ℕ) (q : List Message) → q ≡ [] → each_below (length q) (λ k. option_map_or (λ m. message_fields p i m ∷ []) (slice_get q k) []) ≡ []
@@ -58,15 +58,16 @@ own-in : (n p b : ℕ) → p < n → overlay_of p (kind_of b) < 2 * n
 own-in n p zero h = omega arith
 own-in n p (suc b) h = omega arith
 
-pub opened-blank : (n m ticket : ℕ) → AreSizes n m → (σ : Section) (a b c : ℕ) → IsSpot n m σ a b c → drawn (opened n m ticket) 0 σ a b c ≡ []
+pub opened-blank : (n m ticket : ℕ) → AreSizes n m → (σ : Section) (a b c : ℕ) → IsSpot n m σ a b c → printed (opened n m ticket) 0 σ a b c ≡ []
 opened-blank n m ticket sizes Time a b c h = refl
 opened-blank n m ticket sizes Lapics p b c h =
     let off : nat_lt p 0 ≡ false = grind (arith, nat_tests) in ap (λ (t : Bool). cond t (lapic_lines (opened n m ticket) p) []) off
-opened-blank n m ticket sizes Registers p b c h = ap (λ (r : Regs). register_drawn p r b) (get_or-replicate n p reset_regs reset_regs h.0) ∙ registers-blank p b h.1
+opened-blank n m ticket sizes Registers p b c h = ap (λ (r : Regs). register_printed p r b) (get_or-replicate n p reset_regs reset_regs h.0) ∙ registers-blank p b h.1
 opened-blank n m ticket sizes Guests k b c h =
-    ap (λ (page : List ℕ). guest_drawn k page c) (get_or-replicate m k zero_page [] h.0) ∙ block-blank (pieces.Guest k (256 * c) (record { items = block_of zero_page c })) (block_of zero_page c) (zero-block c h.2)
+    ap (λ (page : List ℕ). guest_printed k page c) (get_or-replicate m k zero_page [] h.0)
+    ∙ block-blank (pieces.Guest k (256 * c) (record { items = block_of zero_page c })) (block_of zero_page c) (zero-block c h.2)
 opened-blank n m ticket sizes Owns p b c h =
-    ap (λ (page : List ℕ). own_drawn p (kind_of b) page c) (get_or-replicate (2 * n) (overlay_of p (kind_of b)) zero_page [] (own-in n p b h.0))
+    ap (λ (page : List ℕ). own_printed p (kind_of b) page c) (get_or-replicate (2 * n) (overlay_of p (kind_of b)) zero_page [] (own-in n p b h.0))
     ∙ block-blank (pieces.Own p (kind_of b) (256 * c) (record { items = block_of zero_page c })) (block_of zero_page c) (zero-block c h.2)
 opened-blank n m ticket sizes Ports k b c h = ap (λ (o : Option Port). option_map_or (λ port. port_line k port ∷ []) o []) (get_or-replicate 16 k None None h.0)
 opened-blank n m ticket sizes Timers p i c h =

@@ -1,4 +1,4 @@
--- The places of an image where lines may be, and what a board has there.
+-- The spots of an image, in their order: where lines may be. Spots before a line stay when it is added, and those after it are empty.
 use Rattle.std.proofs.Common.{◌≡◌, ◌≢◌, ℕ, zero, suc, ◌+◌, ◌*◌, ◌<◌, ◌≤◌, List, [], ◌∷◌, ◌++◌, refl, sym, subst, ◌∙◌, arith}
 use Rattle.text_image.specs.Image.{Lines, each_below}
 use Rattle.text_restore.specs.Restoring.{place}
@@ -75,16 +75,24 @@ place_at section a b c = place (number section + 1) a b (256 * c)
 abbrev pub IsSpot : ℕ → ℕ → Section → ℕ → ℕ → ℕ → Type 0
 IsSpot n m section a b c = (a < first_size n m section) × (b < second_size section) × (c < third_size section)
 
--- The layout grows by one line at a place, and nothing is after that place.
-pub record Adds (n m : ℕ) (old new : Layout) (at : ℕ) (x : List (List ℕ)) : Type 0 where
+-- two layouts differ at this place at most
+abbrev pub AgreeElsewhere : ℕ → ℕ → ℕ → Layout → Layout → Type 0
+AgreeElsewhere n m at old new = (σ : Section) (i j k : ℕ) → IsSpot n m σ i j k → place_at σ i j k ≢ at → new σ i j k ≡ old σ i j k
+
+-- a layout has no lines after this place
+abbrev pub IsEmptyAfter : ℕ → ℕ → ℕ → Layout → Type 0
+IsEmptyAfter n m at lines = (σ : Section) (i j k : ℕ) → IsSpot n m σ i j k → at < place_at σ i j k → lines σ i j k ≡ []
+
+-- A layout gets one more line, at the end of a spot, and has no lines after that spot.
+pub record AddsLine (n m : ℕ) (old new : Layout) (at : ℕ) (x : List (List ℕ)) : Type 0 where
   pub section : Section
   pub a : ℕ
   pub b : ℕ
   pub c : ℕ
   pub spot : IsSpot n m section a b c
   pub is : at ≡ place_at section a b c
-  pub frame : (σ : Section) (i j k : ℕ) → IsSpot n m σ i j k → place_at σ i j k ≢ at → new σ i j k ≡ old σ i j k
-  pub blank : (σ : Section) (i j k : ℕ) → IsSpot n m σ i j k → at < place_at σ i j k → old σ i j k ≡ []
+  pub frame : AgreeElsewhere n m at old new
+  pub blank : IsEmptyAfter n m at old
   pub added : new section a b c ≡ old section a b c ++ x ∷ []
 
 pub all-empty : (n m : ℕ) (lines : Layout) → ((σ : Section) (a b c : ℕ) → IsSpot n m σ a b c → lines σ a b c ≡ []) → all_lines n m lines ≡ []
@@ -161,7 +169,7 @@ third-few Time = omega arith
 third-few Ports = omega arith
 third-few Lapics = omega arith
 
--- Numbers at each level order the places.
+-- Numbers are so low that the places are in the order of the spots.
 record IsLow (n m : ℕ) (σ : Section) (a b c : ℕ) : Type 0 where
   first : a < 64
   second : b < 19
@@ -178,8 +186,8 @@ low n m processors pages σ a b c h = record {
 pub before-end : (n m : ℕ) → n ≤ 8 → m ≤ 64 → (σ : Section) (a b c : ℕ) → IsSpot n m σ a b c → place_at σ a b c < place 10 0 0 0
 before-end n m processors pages σ a b c spot = let l = low n m processors pages σ a b c spot in omega (arith, l.first, l.second, l.third, few σ)
 
--- All lines grow by that line.
-module _ (n m : ℕ) (processors : n ≤ 8) (pages : m ≤ 64) (old new : Layout) (at : ℕ) (x : List (List ℕ)) (h : Adds n m old new at x) where
+-- All lines get that line at their end.
+module _ (n m : ℕ) (processors : n ≤ 8) (pages : m ≤ 64) (old new : Layout) (at : ℕ) (x : List (List ℕ)) (h : AddsLine n m old new at x) where
   here : IsLow n m h.section h.a h.b h.c
   here = low n m processors pages h.section h.a h.b h.c h.spot
 
@@ -245,7 +253,9 @@ module _ (n m : ℕ) (processors : n ≤ 8) (pages : m ≤ 64) (old new : Layout
       after σ i j k later = omega (arith, h.is, later, here.first, here.second, here.third)
 
       same : (σ : Section) → number σ ≢ number h.section → section_lines n m new σ ≡ section_lines n m old σ
-      same σ other = each-same (first_size n m σ) (λ a. each_below (second_size σ) (λ b. each_below (third_size σ) (old σ a b))) (λ a. each_below (second_size σ) (λ b. each_below (third_size σ) (new σ a b)))
+      same σ other = each-same (first_size n m σ)
+          (λ a. each_below (second_size σ) (λ b. each_below (third_size σ) (old σ a b)))
+          (λ a. each_below (second_size σ) (λ b. each_below (third_size σ) (new σ a b)))
           (λ i below. each-same (second_size σ) (λ b. each_below (third_size σ) (old σ i b)) (λ b. each_below (third_size σ) (new σ i b))
           (λ j middle. each-same (third_size σ) (old σ i j) (new σ i j)
           (λ k inside. let s : IsSpot n m σ i j k = (below, middle, inside) in

@@ -11,13 +11,13 @@ use Rattle.synic_board.specs.Restoring.{with_processor}
 use Rattle.text_image.specs.declared.piece.Piece.TheVariants as pieces
 use Rattle.text_image.specs.Image.{moment_fields, lapic_line, lapic_lines}
 use Rattle.text_restore.specs.Restoring.{place_of}
-use Rattle.law_images.proofs.Spots.{Section, Time, Lapics, IsSpot, place_at}
-use Rattle.law_images.proofs.Drawn.{drawn}
-use Rattle.law_images.proofs.Moves.{IsShaped, IsBlank, Moves, first-added}
+use Rattle.law_images.proofs.Spots.{Time, Lapics, IsSpot, AgreeElsewhere}
+use Rattle.law_images.proofs.Printed.{printed}
+use Rattle.law_images.proofs.Extending.{IsShaped, IsBlank, Extends, first-added}
 
-pub moment-moves : (n m ticket : ℕ) (s : State) (last lapics t : ℕ) → IsShaped n m ticket s → IsBlank n m s last lapics → last < place_of (pieces.Moment t) → t ≢ 0 →
-    Moves n m ticket s lapics (pieces.Moment t) (at_moment s t) lapics
-moment-moves n m ticket s last lapics t h blank later ne = record {
+pub moment-extends : (n m ticket : ℕ) (s : State) (last lapics t : ℕ) → IsShaped n m ticket s → IsBlank n m s last lapics →
+    last < place_of (pieces.Moment t) → t ≢ 0 → Extends n m ticket s lapics (pieces.Moment t) (at_moment s t) lapics
+moment-extends n m ticket s last lapics t h blank later ne = record {
   shaped = record {
     apics = h.apics;
     pages = h.pages;
@@ -39,7 +39,8 @@ moment-moves n m ticket s last lapics t h blank later ne = record {
   spot = spot;
   is = refl;
   frame = frame;
-  added = first-added (drawn s lapics Time 0 0 0) (drawn (at_moment s t) lapics Time 0 0 0) (moment_fields t) (blank Time 0 0 0 spot later) (ap (λ (y : Bool). cond y [] (moment_fields t ∷ [])) off);
+  added = first-added (printed s lapics Time 0 0 0) (printed (at_moment s t) lapics Time 0 0 0) (moment_fields t) (blank Time 0 0 0 spot later)
+      (ap (λ (y : Bool). cond y [] (moment_fields t ∷ [])) off);
 }
   where
     spot : IsSpot n m Time 0 0 0
@@ -48,14 +49,14 @@ moment-moves n m ticket s last lapics t h blank later ne = record {
     off : (t == 0) ≡ false
     off = grind (arith, nat_tests)
 
-    frame : (σ : Section) (i j k : ℕ) → IsSpot n m σ i j k → place_at σ i j k ≢ place_of (pieces.Moment t) → drawn (at_moment s t) lapics σ i j k ≡ drawn s lapics σ i j k
+    frame : AgreeElsewhere n m (place_of (pieces.Moment t)) (printed s lapics) (printed (at_moment s t) lapics)
     frame Time i j k h' other = absurd (other (omega (arith, h'.0, h'.1, h'.2)))
     frame σ i j k h' other = refl
 
 -- processor p is the next one
-pub lapic-moves : (n m ticket : ℕ) (s : State) (last lapics p : ℕ) (a : Apic) → IsShaped n m ticket s → IsBlank n m s last lapics → last < place_of (pieces.Lapic p a) → p < n → p ≡ lapics →
-    Moves n m ticket s lapics (pieces.Lapic p a) (with_processor s p a) (lapics + 1)
-lapic-moves n m ticket s last lapics p a h blank later on turn = record {
+pub lapic-extends : (n m ticket : ℕ) (s : State) (last lapics p : ℕ) (a : Apic) → IsShaped n m ticket s → IsBlank n m s last lapics →
+    last < place_of (pieces.Lapic p a) → p < n → p ≡ lapics → Extends n m ticket s lapics (pieces.Lapic p a) (with_processor s p a) (lapics + 1)
+lapic-extends n m ticket s last lapics p a h blank later on turn = record {
   shaped = record {
     apics = length-set s.apics p a ∙ h.apics;
     pages = h.pages;
@@ -77,7 +78,7 @@ lapic-moves n m ticket s last lapics p a h blank later on turn = record {
   spot = spot;
   is = refl;
   frame = frame;
-  added = first-added (drawn s lapics Lapics p 0 0) (drawn (with_processor s p a) (lapics + 1) Lapics p 0 0) (lapic_line p a) (blank Lapics p 0 0 spot later)
+  added = first-added (printed s lapics Lapics p 0 0) (printed (with_processor s p a) (lapics + 1) Lapics p 0 0) (lapic_line p a) (blank Lapics p 0 0 spot later)
       (ap (λ (y : Bool). cond y (lapic_lines (with_processor s p a) p) []) yes ∙ ap (λ (y : Apic). lapic_line p y ∷ []) same);
 }
   where
@@ -97,7 +98,7 @@ lapic-moves n m ticket s last lapics p a h blank later on turn = record {
         by (inl low) = let one : nat_lt q (lapics + 1) ≡ true = grind (arith, nat_tests) in let two : nat_lt q lapics ≡ true = grind (arith, nat_tests) in one ∙ sym two
         by (inr high) = let one : nat_lt q (lapics + 1) ≡ false = grind (arith, nat_tests) in let two : nat_lt q lapics ≡ false = grind (arith, nat_tests) in one ∙ sym two
 
-    frame : (σ : Section) (i j k : ℕ) → IsSpot n m σ i j k → place_at σ i j k ≢ place_of (pieces.Lapic p a) → drawn (with_processor s p a) (lapics + 1) σ i j k ≡ drawn s lapics σ i j k
+    frame : AgreeElsewhere n m (place_of (pieces.Lapic p a)) (printed s lapics) (printed (with_processor s p a) (lapics + 1))
     frame Lapics q j k h' other =
         let ne : q ≢ p = λ e. other (omega (arith, e, h'.1, h'.2)) in
         ap (λ (y : Bool). cond y (lapic_lines (with_processor s p a) q) []) (still q ne)

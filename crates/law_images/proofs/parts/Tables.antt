@@ -1,5 +1,5 @@
 -- An open port, a timer, a queued message, and a ticket in a slot.
-use Rattle.std.proofs.Common.{◌≡◌, ◌≢◌, ℕ, zero, suc, ◌+◌, ◌*◌, ◌<◌, ◌≤◌, Bool, true, false, List, [], ◌∷◌, ◌++◌, ◌&&◌, cond, length, refl, sym, ap, subst, ◌∙◌, arith, nat_lt, length-append}
+use Rattle.std.proofs.Common.{◌≡◌, ℕ, zero, suc, ◌+◌, ◌*◌, ◌<◌, ◌≤◌, Bool, true, false, List, [], ◌∷◌, ◌++◌, ◌&&◌, cond, length, refl, sym, ap, subst, ◌∙◌, arith, nat_lt, length-append}
 use Rattle.std.specs.Prelude.{◌==◌, Option, None, Some, is_none, slice_get}
 use Rattle.std.specs.Option.{option_map_or}
 use Rattle.std.proofs.lemmas.Bool.Decides.{nat_tests}
@@ -23,9 +23,9 @@ use Rattle.text_image.specs.Pieces.{piece_fields}
 use Rattle.text_image.specs.Image.{Lines, each_below, port_line, timer_line, timer_fields, message_fields, slot_line}
 use Rattle.text_restore.specs.Restoring.{place_of}
 use Rattle.law_images.proofs.Growing.{each-same}
-use Rattle.law_images.proofs.Spots.{Section, Ports, Timers, Queues, Slots, IsSpot, place_at}
-use Rattle.law_images.proofs.Drawn.{drawn}
-use Rattle.law_images.proofs.Moves.{IsShaped, IsBlank, Moves, first-added}
+use Rattle.law_images.proofs.Spots.{Ports, Timers, Queues, Slots, IsSpot, AgreeElsewhere}
+use Rattle.law_images.proofs.Printed.{printed}
+use Rattle.law_images.proofs.Extending.{IsShaped, IsBlank, Extends, first-added}
 
 -- a port that can be opened has a number below 16
 record IsOpened (s : State) (k : ℕ) (port : Port) (new : State) : Type 0 where
@@ -46,9 +46,9 @@ is-opened s k p i shape new e = by (open_refusal (ports_of s) k p i shape) refl 
     by None is e = record { low = numbered (nat_lt 15 k) _ refl is; is = ap (λ (x : Outcome). x.0) e }
     by (Some r) is e = let reply : Done ≡ Refused r = ap (λ (x : Outcome). x.1) e in cc
 
-port-moves : (n m ticket : ℕ) (s : State) (last lapics k p i : ℕ) (shape : PortShape) → IsShaped n m ticket s → IsBlank n m s last lapics → last < place_of (pieces.Port k p i shape) → k < 16 →
-    Moves n m ticket s lapics (pieces.Port k p i shape) (with_port s k (record { vp = p; sint = i; shape = shape })) lapics
-port-moves n m ticket s last lapics k p i shape h blank later low = record {
+port-extends : (n m ticket : ℕ) (s : State) (last lapics k p i : ℕ) (shape : PortShape) → IsShaped n m ticket s → IsBlank n m s last lapics →
+    last < place_of (pieces.Port k p i shape) → k < 16 → Extends n m ticket s lapics (pieces.Port k p i shape) (with_port s k (record { vp = p; sint = i; shape = shape })) lapics
+port-extends n m ticket s last lapics k p i shape h blank later low = record {
   shaped = record {
     apics = h.apics;
     pages = h.pages;
@@ -70,7 +70,7 @@ port-moves n m ticket s last lapics k p i shape h blank later low = record {
   spot = spot;
   is = refl;
   frame = frame;
-  added = first-added (drawn s lapics Ports k 0 0) (drawn (with_port s k port) lapics Ports k 0 0) (piece_fields (pieces.Port k p i shape)) (blank Ports k 0 0 spot later)
+  added = first-added (printed s lapics Ports k 0 0) (printed (with_port s k port) lapics Ports k 0 0) (piece_fields (pieces.Port k p i shape)) (blank Ports k 0 0 spot later)
       (ap (lines k) (get_or-set_same s.ports k (Some port) None (omega (arith, h.ports, low))));
 }
   where
@@ -83,21 +83,21 @@ port-moves n m ticket s last lapics k p i shape h blank later low = record {
     spot : IsSpot n m Ports k 0 0
     spot = (low, omega arith, omega arith)
 
-    frame : (σ : Section) (a b c : ℕ) → IsSpot n m σ a b c → place_at σ a b c ≢ place_of (pieces.Port k p i shape) → drawn (with_port s k port) lapics σ a b c ≡ drawn s lapics σ a b c
+    frame : AgreeElsewhere n m (place_of (pieces.Port k p i shape)) (printed s lapics) (printed (with_port s k port) lapics)
     frame Ports q b c h' other = ap (lines q) (get_or-set_other s.ports k q (Some port) None (λ e. other (omega (arith, e, h'.1, h'.2))))
     frame σ a b c h' other = refl
 
-pub opened_port-moves : (n m ticket : ℕ) (s : State) (last lapics k p i : ℕ) (shape : PortShape) (new : State) → IsShaped n m ticket s → IsBlank n m s last lapics →
-    last < place_of (pieces.Port k p i shape) → (new, Done, []) ≡ opened_port s k p i shape → Moves n m ticket s lapics (pieces.Port k p i shape) new lapics
-opened_port-moves n m ticket s last lapics k p i shape new h blank later e =
+pub opened_port-extends : (n m ticket : ℕ) (s : State) (last lapics k p i : ℕ) (shape : PortShape) (new : State) → IsShaped n m ticket s → IsBlank n m s last lapics →
+    last < place_of (pieces.Port k p i shape) → (new, Done, []) ≡ opened_port s k p i shape → Extends n m ticket s lapics (pieces.Port k p i shape) new lapics
+opened_port-extends n m ticket s last lapics k p i shape new h blank later e =
     let o = is-opened s k p i shape new e in
-    subst (λ (t : State). Moves n m ticket s lapics (pieces.Port k p i shape) t lapics) (sym o.is) (port-moves n m ticket s last lapics k p i shape h blank later o.low)
+    subst (λ (t : State). Extends n m ticket s lapics (pieces.Port k p i shape) t lapics) (sym o.is) (port-extends n m ticket s last lapics k p i shape h blank later o.low)
 
 -- a timer that is not idle
-pub timer-moves : (n m ticket : ℕ) (s : State) (last lapics p i config count : ℕ) (due : Option ℕ) → n ≤ 8 → IsShaped n m ticket s → IsBlank n m s last lapics →
+pub timer-extends : (n m ticket : ℕ) (s : State) (last lapics p i config count : ℕ) (due : Option ℕ) → n ≤ 8 → IsShaped n m ticket s → IsBlank n m s last lapics →
     last < place_of (pieces.Timer p i config count due) → p < n → i < 4 → ((config == 0) && ((count == 0) && is_none due) ≡ false) →
-    Moves n m ticket s lapics (pieces.Timer p i config count due) (with_saved_timer s (p, i) (record { config = config; count = count; due = due })) lapics
-timer-moves n m ticket s last lapics p i config count due few h blank later on low some = record {
+    Extends n m ticket s lapics (pieces.Timer p i config count due) (with_saved_timer s (p, i) (record { config = config; count = count; due = due })) lapics
+timer-extends n m ticket s last lapics p i config count due few h blank later on low some = record {
   shaped = record {
     apics = h.apics;
     pages = h.pages;
@@ -119,7 +119,7 @@ timer-moves n m ticket s last lapics p i config count due few h blank later on l
   spot = spot;
   is = refl;
   frame = frame;
-  added = first-added (drawn s lapics Timers p i 0) (drawn new lapics Timers p i 0) (timer_fields (p, i) config count due) (blank Timers p i 0 spot later)
+  added = first-added (printed s lapics Timers p i 0) (printed new lapics Timers p i 0) (timer_fields (p, i) config count due) (blank Timers p i 0 spot later)
       (ap (lines p i) (get_or-set_same s.timers (4 * p + i) x idle_timer (omega (arith, h.timers, few, on, low))) ∙ ap (λ (t : Bool). cond t [] (timer_fields (p, i) config count due ∷ [])) some);
 }
   where
@@ -135,7 +135,7 @@ timer-moves n m ticket s last lapics p i config count due few h blank later on l
     spot : IsSpot n m Timers p i 0
     spot = (on, low, omega arith)
 
-    frame : (σ : Section) (a b c : ℕ) → IsSpot n m σ a b c → place_at σ a b c ≢ place_of (pieces.Timer p i config count due) → drawn new lapics σ a b c ≡ drawn s lapics σ a b c
+    frame : AgreeElsewhere n m (place_of (pieces.Timer p i config count due)) (printed s lapics) (printed new lapics)
     frame Timers q j c h' other = ap (lines q j) (get_or-set_other s.timers (4 * p + i) (4 * q + j) x idle_timer
         (λ e. let same : q ≡ p = omega (arith, e, low, h'.1) in other (omega (arith, e, same, h'.2))))
     frame σ a b c h' other = refl
@@ -153,7 +153,8 @@ slice_get-last (x ∷ q) m = slice_get-last q m
 abbrev lines_in : ℕ → ℕ → List Message → ℕ → Lines
 lines_in p i q k = option_map_or (λ (m : Message). message_fields p i m ∷ []) (slice_get q k) []
 
-queue-grows : (p i : ℕ) (q : List Message) (m : Message) → each_below (length (q ++ m ∷ [])) (lines_in p i (q ++ m ∷ [])) ≡ each_below (length q) (lines_in p i q) ++ message_fields p i m ∷ []
+queue-grows : (p i : ℕ) (q : List Message) (m : Message) →
+    each_below (length (q ++ m ∷ [])) (lines_in p i (q ++ m ∷ [])) ≡ each_below (length q) (lines_in p i q) ++ message_fields p i m ∷ []
 unfolding each_below
 queue-grows p i q m =
     let size : length (q ++ m ∷ []) ≡ suc (length q) = omega (arith, length-append q (m ∷ [])) in
@@ -161,9 +162,9 @@ queue-grows p i q m =
     let front = each-same (length q) (lines_in p i q) (lines_in p i (q ++ m ∷ [])) (λ k below. ap line (slice_get-front q m k below)) in
     ap (λ (n : ℕ). each_below n (lines_in p i (q ++ m ∷ []))) size ∙ (λ j. front j ++ line (slice_get-last q m j))
 
-pub message-moves : (n m ticket : ℕ) (s : State) (lapics p i : ℕ) (x : Message) → IsShaped n m ticket s → p < n → i < 16 →
-    Moves n m ticket s lapics (pieces.Queued p i x) (with_message s p i x) lapics
-message-moves n m ticket s lapics p i x h on low = record {
+pub message-extends : (n m ticket : ℕ) (s : State) (lapics p i : ℕ) (x : Message) → IsShaped n m ticket s → p < n → i < 16 →
+    Extends n m ticket s lapics (pieces.Queued p i x) (with_message s p i x) lapics
+message-extends n m ticket s lapics p i x h on low = record {
   shaped = record {
     apics = h.apics;
     pages = h.pages;
@@ -194,15 +195,15 @@ message-moves n m ticket s lapics p i x h on low = record {
     lines : ℕ → ℕ → List Message → Lines
     lines q j y = each_below (length y) (lines_in q j y)
 
-    frame : (σ : Section) (a b c : ℕ) → IsSpot n m σ a b c → place_at σ a b c ≢ place_of (pieces.Queued p i x) → drawn (with_message s p i x) lapics σ a b c ≡ drawn s lapics σ a b c
+    frame : AgreeElsewhere n m (place_of (pieces.Queued p i x)) (printed s lapics) (printed (with_message s p i x) lapics)
     frame Queues q j c h' other = ap (lines q j) (get_or-set_other s.queues (16 * p + i) (16 * q + j) now []
         (λ e. let same : q ≡ p = omega (arith, e, low, h'.1) in other (omega (arith, e, same, h'.2))))
     frame σ a b c h' other = refl
 
 -- the ticket of the message in a slot
-pub ticket-moves : (n m ticket : ℕ) (s : State) (last lapics p i x : ℕ) → IsShaped n m ticket s → IsBlank n m s last lapics → last < place_of (pieces.Slot p i x) → p < n → i < 16 →
-    Moves n m ticket s lapics (pieces.Slot p i x) (with_slot_ticket s p i (Some x)) lapics
-ticket-moves n m ticket s last lapics p i x h blank later on low = record {
+pub ticket-extends : (n m ticket : ℕ) (s : State) (last lapics p i x : ℕ) → IsShaped n m ticket s → IsBlank n m s last lapics → last < place_of (pieces.Slot p i x) → p < n → i < 16 →
+    Extends n m ticket s lapics (pieces.Slot p i x) (with_slot_ticket s p i (Some x)) lapics
+ticket-extends n m ticket s last lapics p i x h blank later on low = record {
   shaped = record {
     apics = h.apics;
     pages = h.pages;
@@ -224,14 +225,14 @@ ticket-moves n m ticket s last lapics p i x h blank later on low = record {
   spot = spot;
   is = refl;
   frame = frame;
-  added = first-added (drawn s lapics Slots p i 0) (drawn (with_slot_ticket s p i (Some x)) lapics Slots p i 0) (piece_fields (pieces.Slot p i x)) (blank Slots p i 0 spot later)
+  added = first-added (printed s lapics Slots p i 0) (printed (with_slot_ticket s p i (Some x)) lapics Slots p i 0) (piece_fields (pieces.Slot p i x)) (blank Slots p i 0 spot later)
       (ap (slot_line p i) (get_or-set_same s.slots (16 * p + i) (Some x) None (omega (arith, h.slots, on, low))));
 }
   where
     spot : IsSpot n m Slots p i 0
     spot = (on, low, omega arith)
 
-    frame : (σ : Section) (a b c : ℕ) → IsSpot n m σ a b c → place_at σ a b c ≢ place_of (pieces.Slot p i x) → drawn (with_slot_ticket s p i (Some x)) lapics σ a b c ≡ drawn s lapics σ a b c
+    frame : AgreeElsewhere n m (place_of (pieces.Slot p i x)) (printed s lapics) (printed (with_slot_ticket s p i (Some x)) lapics)
     frame Slots q j c h' other = ap (slot_line q j) (get_or-set_other s.slots (16 * p + i) (16 * q + j) (Some x) None
         (λ e. let same : q ≡ p = omega (arith, e, low, h'.1) in other (omega (arith, e, same, h'.2))))
     frame σ a b c h' other = refl

@@ -1,4 +1,4 @@
--- What was read of an image at each stage, as the lines that the board of that stage has.
+-- The lines that were read at each stage are those that an image of the board would have so far.
 use Rattle.std.proofs.Common.{◌≡◌, ℕ, ◌<◌, ◌≤◌, Bool, false, List, [], ◌∷◌, ◌++◌, append_assoc, append-nil, cond, refl, sym, ap, subst, ◌∙◌, arith, codes}
 use Rattle.std.specs.Prelude.{◌==◌}
 use Rattle.std.proofs.lemmas.Bool.Decides.{nat_tests}
@@ -18,20 +18,20 @@ use Rattle.text_image.proofs.PieceLemmas.{reading-means}
 use Rattle.text_restore.specs.Restoring.{Stage, Untitled, Titled, Body, place_of, lapics_after, Continues, Opens, Follows, IsLater, IsInTurn}
 use Rattle.text_restore.specs.Images.{Leads, IsImage}
 use Rattle.law_images.proofs.Spots.{all_lines, all-empty, all-grow, before-end}
-use Rattle.law_images.proofs.Drawn.{drawn, titles, image-drawn}
-use Rattle.law_images.proofs.Moves.{IsShaped, IsBlank, Moves, moves-adds, still-blank}
+use Rattle.law_images.proofs.Printed.{printed, titles, image-printed}
+use Rattle.law_images.proofs.Extending.{IsShaped, IsBlank, Extends, extends-adds, still-blank}
 use Rattle.law_images.proofs.Opened.{opened-shaped, opened-blank}
-use Rattle.law_images.proofs.Steps.{IsInner, moves}
+use Rattle.law_images.proofs.Steps.{IsInner, extends}
 
--- the line after all pieces
+-- the end line, if it was read
 abbrev ended : ℕ → Lines
 ended last = cond (last == place_of pieces.End) (end_fields ∷ []) []
 
 abbrev so_far : ℕ → ℕ → ℕ → State → ℕ → ℕ → Lines
-so_far n m ticket s last lapics = titles n m ticket ++ (all_lines n m (drawn s lapics) ++ ended last)
+so_far n m ticket s last lapics = titles n m ticket ++ (all_lines n m (printed s lapics) ++ ended last)
 
--- these lines were read, and led to a board
-record IsWritten (s : State) (last lapics : ℕ) (lines : Lines) : Type 0 where
+-- These lines were read, and led to this state: they are what is printed of it so far, and the rest of it is as on a newly opened board.
+record IsRead (s : State) (last lapics : ℕ) (lines : Lines) : Type 0 where
   n : ℕ
   m : ℕ
   ticket : ℕ
@@ -44,9 +44,9 @@ record IsWritten (s : State) (last lapics : ℕ) (lines : Lines) : Type 0 where
 abbrev HasRead : Stage → Lines → Type 0
 HasRead Untitled lines = lines ≡ []
 HasRead Titled lines = lines ≡ (codes "image" ∷ codes "1" ∷ []) ∷ []
-HasRead (Body s last lapics) lines = IsWritten s last lapics lines
+HasRead (Body s last lapics) lines = IsRead s last lapics lines
 
--- a piece comes after what was read
+-- a later piece is not before the last one
 late : (last : ℕ) (x : Piece) → IsInner x → IsLater last x → last ≤ place_of x
 late last (pieces.Moment t) inner h = omega (arith, h)
 late last (pieces.Lapic p a) inner h = omega (arith, h)
@@ -64,8 +64,8 @@ late last pieces.End inner h = absurd inner
 not-ended : (last : ℕ) → last < place_of pieces.End → ended last ≡ []
 not-ended last h = let off : (last == place_of pieces.End) ≡ false = grind (arith, nat_tests) in ap (λ (t : Bool). cond t (end_fields ∷ []) []) off
 
--- a line before the end
-inner-read : (s : State) (last lapics : ℕ) (x : Piece) (new : Stage) (lines : Lines) → IsInner x → IsPiece x → Continues s last lapics x new → IsWritten s last lapics lines →
+-- a piece before the end
+inner-read : (s : State) (last lapics : ℕ) (x : Piece) (new : Stage) (lines : Lines) → IsInner x → IsPiece x → Continues s last lapics x new → IsRead s last lapics lines →
     HasRead new (lines ++ piece_fields x ∷ [])
 inner-read s last lapics x new lines inner fits h k =
     subst (λ (st : Stage). HasRead st (lines ++ piece_fields x ∷ [])) (sym h.stage) written
@@ -73,45 +73,46 @@ inner-read s last lapics x new lines inner fits h k =
     after : ℕ
     after = lapics_after lapics x
 
-    move : Moves k.n k.m k.ticket s lapics x h.next after
-    move = moves k.n k.m k.ticket s last lapics h.next k.sizes k.shaped k.blank x inner fits h.later (subst (λ (n : ℕ). IsInTurn n lapics x) k.shaped.apics h.turn) h.restores
+    step : Extends k.n k.m k.ticket s lapics x h.next after
+    step = extends k.n k.m k.ticket s last lapics h.next k.sizes k.shaped k.blank x inner fits h.later (subst (λ (n : ℕ). IsInTurn n lapics x) k.shaped.apics h.turn) h.restores
 
     low : place_of x < place_of pieces.End
-    low = omega (arith, move.is, before-end k.n k.m k.sizes.processor_bound k.sizes.page_bound move.section move.a move.b move.c move.spot)
+    low = omega (arith, step.is, before-end k.n k.m k.sizes.processor_bound k.sizes.page_bound step.section step.a step.b step.c step.spot)
 
     later : last ≤ place_of x
     later = late last x inner h.later
 
-    grown : all_lines k.n k.m (drawn h.next after) ≡ all_lines k.n k.m (drawn s lapics) ++ piece_fields x ∷ []
-    grown = all-grow k.n k.m k.sizes.processor_bound k.sizes.page_bound (drawn s lapics) (drawn h.next after) (place_of x) (piece_fields x)
-        (moves-adds k.n k.m k.ticket s last lapics x h.next after k.blank later move)
+    grown : all_lines k.n k.m (printed h.next after) ≡ all_lines k.n k.m (printed s lapics) ++ piece_fields x ∷ []
+    grown = all-grow k.n k.m k.sizes.processor_bound k.sizes.page_bound (printed s lapics) (printed h.next after) (place_of x) (piece_fields x)
+        (extends-adds k.n k.m k.ticket s last lapics x h.next after k.blank later step)
 
-    longer : (front old now e e' read : Lines) (line : List (List ℕ)) → read ≡ front ++ (old ++ e) → now ≡ old ++ line ∷ [] → e ≡ [] → e' ≡ [] → read ++ line ∷ [] ≡ front ++ (now ++ e')
+    longer : (front old now e e' read : Lines) (line : List (List ℕ)) → read ≡ front ++ (old ++ e) → now ≡ old ++ line ∷ [] → e ≡ [] → e' ≡ [] →
+        read ++ line ∷ [] ≡ front ++ (now ++ e')
     longer front old now e e' read line is more none none' = rw (is, more, none, none') (simp (append_assoc, append-nil))
 
-    written : IsWritten h.next (place_of x) after (lines ++ piece_fields x ∷ [])
+    written : IsRead h.next (place_of x) after (lines ++ piece_fields x ∷ [])
     written = record {
       n = k.n;
       m = k.m;
       ticket = k.ticket;
       sizes = k.sizes;
-      shaped = move.shaped;
-      blank = still-blank k.n k.m k.ticket s last lapics x h.next after k.blank later move;
+      shaped = step.shaped;
+      blank = still-blank k.n k.m k.ticket s last lapics x h.next after k.blank later step;
       full = λ e. absurd (omega (arith, e, low));
-      same = longer (titles k.n k.m k.ticket) (all_lines k.n k.m (drawn s lapics)) (all_lines k.n k.m (drawn h.next after)) (ended last) (ended (place_of x)) lines (piece_fields x)
+      same = longer (titles k.n k.m k.ticket) (all_lines k.n k.m (printed s lapics)) (all_lines k.n k.m (printed h.next after)) (ended last) (ended (place_of x)) lines (piece_fields x)
           k.same grown (not-ended last (omega (arith, later, low))) (not-ended (place_of x) low);
     }
 
--- the last line
-end-read : (s : State) (last lapics : ℕ) (new : Stage) (lines : Lines) → Continues s last lapics pieces.End new → IsWritten s last lapics lines → HasRead new (lines ++ end_fields ∷ [])
+-- the end
+end-read : (s : State) (last lapics : ℕ) (new : Stage) (lines : Lines) → Continues s last lapics pieces.End new → IsRead s last lapics lines → HasRead new (lines ++ end_fields ∷ [])
 end-read s last lapics new lines h k =
     subst (λ (st : Stage). HasRead st (lines ++ end_fields ∷ [])) (sym h.stage)
-    (subst (λ (t : State). IsWritten t (place_of pieces.End) lapics (lines ++ end_fields ∷ [])) (sym h.restores) written)
+    (subst (λ (t : State). IsRead t (place_of pieces.End) lapics (lines ++ end_fields ∷ [])) (sym h.restores) written)
   where
     longer : (front old e read : Lines) → read ≡ front ++ (old ++ e) → e ≡ [] → read ++ end_fields ∷ [] ≡ front ++ (old ++ end_fields ∷ [])
     longer front old e read is none = rw (is, none) (simp (append_assoc, append-nil))
 
-    written : IsWritten s (place_of pieces.End) lapics (lines ++ end_fields ∷ [])
+    written : IsRead s (place_of pieces.End) lapics (lines ++ end_fields ∷ [])
     written = record {
       n = k.n;
       m = k.m;
@@ -120,13 +121,19 @@ end-read s last lapics new lines h k =
       shaped = k.shaped;
       blank = λ σ i j l spot behind. k.blank σ i j l spot (omega (arith, behind, h.later));
       full = λ _. h.turn ∙ k.shaped.apics;
-      same = longer (titles k.n k.m k.ticket) (all_lines k.n k.m (drawn s lapics)) (ended last) lines k.same (not-ended last h.later);
+      same = longer (titles k.n k.m k.ticket) (all_lines k.n k.m (printed s lapics)) (ended last) lines k.same (not-ended last h.later);
     }
 
-piece-read : (s : State) (last lapics : ℕ) (x : Piece) (new : Stage) (lines : Lines) → IsPiece x → Continues s last lapics x new → IsWritten s last lapics lines →
+piece-read : (s : State) (last lapics : ℕ) (x : Piece) (new : Stage) (lines : Lines) → IsPiece x → Continues s last lapics x new → IsRead s last lapics lines →
     HasRead new (lines ++ piece_fields x ∷ [])
 piece-read s last lapics pieces.End new lines fits h k = end-read s last lapics new lines h k
 piece-read s last lapics x new lines fits h k = inner-read s last lapics x new lines tt fits h k
+
+-- a newly opened board has a title and a board line alone
+opened-lines : (n m ticket : ℕ) → AreSizes n m → titles n m ticket ≡ so_far n m ticket (opened n m ticket) 0 0
+opened-lines n m ticket sizes =
+    let lines : Lines = all_lines n m (printed (opened n m ticket) 0) in
+    ap (λ (x : Lines). titles n m ticket ++ x) (sym (append-nil lines ∙ all-empty n m (printed (opened n m ticket) 0) (opened-blank n m ticket sizes)))
 
 -- the board line
 opening-read : (line : List ℕ) (new : Stage) (lines : Lines) (h : Opens line new) → lines ≡ (codes "image" ∷ codes "1" ∷ []) ∷ [] →
@@ -139,8 +146,7 @@ opening-read line new lines h is = subst (λ (st : Stage). HasRead st (lines ++ 
   shaped = opened-shaped h.count h.pages h.ticket;
   blank = λ σ i j k spot behind. opened-blank h.count h.pages h.ticket h.sizes σ i j k spot;
   full = λ e. absurd (omega (arith, e));
-  same = ap (λ (x : Lines). x ++ item_fields (Opening h.count h.pages h.ticket) ∷ []) is
-      ∙ ap (λ (x : Lines). titles h.count h.pages h.ticket ++ x) (sym (append-nil (all_lines h.count h.pages (drawn (opened h.count h.pages h.ticket) 0)) ∙ all-empty h.count h.pages (drawn (opened h.count h.pages h.ticket) 0) (opened-blank h.count h.pages h.ticket h.sizes)));
+  same = ap (λ (x : Lines). x ++ item_fields (Opening h.count h.pages h.ticket) ∷ []) is ∙ opened-lines h.count h.pages h.ticket h.sizes;
 })
 
 -- a line has the fields of what it denotes
@@ -189,12 +195,14 @@ lines-read old new (line ∷ ls) lines h is =
 
 pub saved : (text : List ℕ) (s : State) → IsImage text s → text ≡ image s
 unfolding image
-saved text s h = (cut text).whole ∙ (λ i. joined (lines_of text) ++ h.whole i) ∙ append-nil (joined (lines_of text)) ∙ read.text_is ∙ ap text_of (drawn-last (subst (λ (st : Stage). HasRead st read.more) h.complete.1 read.read))
+saved text s h =
+    (cut text).whole ∙ (λ i. joined (lines_of text) ++ h.whole i) ∙ append-nil (joined (lines_of text)) ∙ read.text_is
+    ∙ ap text_of (all-read (subst (λ (st : Stage). HasRead st read.more) h.complete.1 read.read))
   where
     read : ReadsLines (joined (lines_of text)) h.stage []
     read = lines-read Untitled h.stage (lines_of text) [] h.leads refl
 
-    drawn-last : IsWritten s (place_of pieces.End) h.complete.0 read.more → read.more ≡ image_lines s
-    drawn-last w = w.same ∙ (λ i. titles (sym w.shaped.apics i) (sym w.shaped.pages i) (sym w.shaped.next i)
-        ++ (all_lines (sym w.shaped.apics i) (sym w.shaped.pages i) (drawn s ((w.full refl ∙ sym w.shaped.apics) i)) ++ end_fields ∷ []))
-        ∙ image-drawn s
+    all-read : IsRead s (place_of pieces.End) h.complete.0 read.more → read.more ≡ image_lines s
+    all-read w = w.same ∙ (λ i. titles (sym w.shaped.apics i) (sym w.shaped.pages i) (sym w.shaped.next i)
+        ++ (all_lines (sym w.shaped.apics i) (sym w.shaped.pages i) (printed s ((w.full refl ∙ sym w.shaped.apics) i)) ++ end_fields ∷ []))
+        ∙ image-printed s

@@ -1,5 +1,5 @@
--- What a piece of an image does to what was written before it.
-use Rattle.std.proofs.Common.{◌≡◌, ◌≢◌, ℕ, ◌*◌, ◌<◌, ◌≤◌, List, [], ◌∷◌, ◌++◌, length, sym, ap, ◌∙◌, arith}
+-- A piece of an image adds its line to what was printed before it.
+use Rattle.std.proofs.Common.{◌≡◌, ℕ, ◌*◌, ◌≤◌, List, [], ◌∷◌, ◌++◌, length, sym, ap, ◌∙◌, arith}
 use Rattle.std.specs.List.{All}
 use Rattle.synic_regs.specs.Regs.{Regs}
 use Rattle.synic_board.specs.State.{State}
@@ -7,8 +7,8 @@ use Rattle.text_image.specs.Image.{Lines}
 use Rattle.text_image.specs.declared.piece.Piece.{Piece}
 use Rattle.text_image.specs.Pieces.{piece_fields}
 use Rattle.text_restore.specs.Restoring.{place_of}
-use Rattle.law_images.proofs.Spots.{Section, IsSpot, place_at, Adds}
-use Rattle.law_images.proofs.Drawn.{drawn}
+use Rattle.law_images.proofs.Spots.{Section, IsSpot, place_at, AgreeElsewhere, IsEmptyAfter, AddsLine}
+use Rattle.law_images.proofs.Printed.{printed}
 
 -- a state of a board of n processors and m guest pages, with this next ticket
 pub record IsShaped (n m ticket : ℕ) (s : State) : Type 0 where
@@ -25,12 +25,12 @@ pub record IsShaped (n m ticket : ℕ) (s : State) : Type 0 where
   pub page_bytes : All (λ (page : List ℕ). length page ≡ 4096) s.pages
   pub own_bytes : All (λ (page : List ℕ). length page ≡ 4096) s.own
 
--- nothing is written after a place
+-- nothing is printed after a place
 abbrev pub IsBlank : ℕ → ℕ → State → ℕ → ℕ → Type 0
-IsBlank n m s last lapics = (σ : Section) (a b c : ℕ) → IsSpot n m σ a b c → last < place_at σ a b c → drawn s lapics σ a b c ≡ []
+IsBlank n m s last lapics = IsEmptyAfter n m last (printed s lapics)
 
--- A piece leads to a state in which its line is at its spot, after what was there, and all else is as it was.
-pub record Moves (n m ticket : ℕ) (s : State) (lapics : ℕ) (x : Piece) (new : State) (after : ℕ) : Type 0 where
+-- A piece leads to a state in which its line is at its spot, after the lines that were there, and the other spots are unchanged.
+pub record Extends (n m ticket : ℕ) (s : State) (lapics : ℕ) (x : Piece) (new : State) (after : ℕ) : Type 0 where
   pub shaped : IsShaped n m ticket new
   pub section : Section
   pub a : ℕ
@@ -38,16 +38,16 @@ pub record Moves (n m ticket : ℕ) (s : State) (lapics : ℕ) (x : Piece) (new 
   pub c : ℕ
   pub spot : IsSpot n m section a b c
   pub is : place_of x ≡ place_at section a b c
-  pub frame : (σ : Section) (i j k : ℕ) → IsSpot n m σ i j k → place_at σ i j k ≢ place_of x → drawn new after σ i j k ≡ drawn s lapics σ i j k
-  pub added : drawn new after section a b c ≡ drawn s lapics section a b c ++ piece_fields x ∷ []
+  pub frame : AgreeElsewhere n m (place_of x) (printed s lapics) (printed new after)
+  pub added : printed new after section a b c ≡ printed s lapics section a b c ++ piece_fields x ∷ []
 
 -- the first line at a spot
 pub first-added : (old new : Lines) (x : List (List ℕ)) → old ≡ [] → new ≡ x ∷ [] → new ≡ old ++ x ∷ []
 first-added old new x empty is = is ∙ ap (λ (y : Lines). y ++ x ∷ []) (sym empty)
 
-pub moves-adds : (n m ticket : ℕ) (s : State) (last lapics : ℕ) (x : Piece) (new : State) (after : ℕ) → IsBlank n m s last lapics → last ≤ place_of x →
-    Moves n m ticket s lapics x new after → Adds n m (drawn s lapics) (drawn new after) (place_of x) (piece_fields x)
-moves-adds n m ticket s last lapics x new after blank later h = record {
+pub extends-adds : (n m ticket : ℕ) (s : State) (last lapics : ℕ) (x : Piece) (new : State) (after : ℕ) → IsBlank n m s last lapics → last ≤ place_of x →
+    Extends n m ticket s lapics x new after → AddsLine n m (printed s lapics) (printed new after) (place_of x) (piece_fields x)
+extends-adds n m ticket s last lapics x new after blank later h = record {
   section = h.section;
   a = h.a;
   b = h.b;
@@ -60,6 +60,6 @@ moves-adds n m ticket s last lapics x new after blank later h = record {
 }
 
 pub still-blank : (n m ticket : ℕ) (s : State) (last lapics : ℕ) (x : Piece) (new : State) (after : ℕ) → IsBlank n m s last lapics → last ≤ place_of x →
-    Moves n m ticket s lapics x new after → IsBlank n m new (place_of x) after
+    Extends n m ticket s lapics x new after → IsBlank n m new (place_of x) after
 still-blank n m ticket s last lapics x new after blank later h =
     λ σ i j k spot behind. h.frame σ i j k spot (λ e. omega (arith, e, behind)) ∙ blank σ i j k spot (omega (arith, behind, later))
