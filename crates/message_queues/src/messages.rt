@@ -74,6 +74,34 @@ pub(crate) fn write_expiry(place: &mut Message, ticket: Ticket, timer: TimerId, 
     }
 }
 
+/// An equal message.
+pub(crate) fn copied(message: &Message) -> Message
+    ensures { result ≡ message.now }
+{
+    match message {
+        Message::FromPort {
+            ticket,
+            port,
+            kind,
+            payload,
+        } => Message::FromPort {
+            ticket: *ticket,
+            port: *port,
+            kind: *kind,
+            payload: payload_of(payload.as_slice()),
+        },
+        Message::FromTimer {
+            ticket,
+            timer,
+            expiration,
+        } => Message::FromTimer {
+            ticket: *ticket,
+            timer: *timer,
+            expiration: *expiration,
+        },
+    }
+}
+
 /// A payload with these bytes.
 #[inline(never)]
 fn payload_of(bytes: &[u8]) -> PayloadBytes

@@ -7,7 +7,7 @@ ghost use Rattle.board_terms.specs.Sources.{source_number};
 ghost use Rattle.message_queues.specs.Queues.{no_messages, queue_of, with_queue, appended, after_place, after_withdrawal, withdrawn_of, port_used, is_timer_free, HasBuffer};
 
 use crate::chains::{Chain, Neighbours, drop_first, link, message_at, message_in, withdraw};
-use crate::messages::{no_message, write_expiry, write_post};
+use crate::messages::{copied, no_message, write_expiry, write_post};
 use crate::owners::{OWNERS, PORTS, owner_of, owner_of_timer};
 use arrayvec::ArrayVec;
 use board_terms::{Message, Moment, Sint, Ticket, TimerId, Vp, source_number};
@@ -76,13 +76,13 @@ impl Queues {
 
     /// Appends a message to a queue. Never allocates. Requires that the processor has queues here,
     /// and that the message has a free buffer (`port_used`, `timer_buffer_free`).
-    pub fn append(&mut self, vp: Vp, sint: Sint, message: &Message)
+    pub fn append(&mut self, vp: Vp, sint: Sint, message: Message)
         requires on_the_board { source_number vp sint < length self.old }
-        requires buffer { HasBuffer self.old message.now }
-        ensures queued { self.new ≡ appended self.old vp sint message.now }
+        requires buffer { HasBuffer self.old message }
+        ensures queued { self.new ≡ appended self.old vp sint message }
         ensures as_many { length self.new ≡ length self.old }
     {
-        match message {
+        match &message {
             Message::FromPort {
                 ticket,
                 port,
@@ -171,6 +171,22 @@ impl Queues {
         let owner = owner_of(message);
         drop_first(&mut self.neighbours, chain, key);
         self.in_use[owner] -= 1;
+    }
+
+    /// Removes and returns the head of a queue, if there is one. Requires that the processor has
+    /// queues here. `head` and `drop_head` copy nothing.
+    pub fn place(&mut self, vp: Vp, sint: Sint) -> Option<Message>
+        requires { source_number vp sint < length self.old }
+        ensures head { result ≡ slice_get (queue_of self.old vp sint) 0 }
+        ensures rest { self.new ≡ after_place self.old vp sint }
+        ensures as_many { length self.new ≡ length self.old }
+    {
+        let head = match self.head(vp, sint) {
+            Some(message) => Some(copied(message)),
+            None => None,
+        };
+        self.drop_head(vp, sint);
+        head
     }
 
     /// Removes the messages of a port from a queue, and returns their tickets, front first. The

@@ -73,7 +73,7 @@ fn on_board(number: u8) -> Option<Vp>
     if number < 2 { Vp::new(number) } else { None }
 }
 
-fn answer_of(message: Option<&Message>) -> Answer {
+fn answer_of(message: Option<Message>) -> Answer {
     match message {
         Some(message) => Answer::Message(message.ticket()),
         None => NoMessage,
@@ -108,7 +108,7 @@ impl Scene {
         if port > 15 || self.queues.port_used(port) > 15 {
             return None;
         }
-        self.queues.append(vp, sint, &post(ticket, port));
+        self.queues.append(vp, sint, post(ticket, port));
         Some(Done)
         // README message_queues: end
     }
@@ -127,7 +127,7 @@ impl Scene {
         if !self.queues.timer_buffer_free(timer) {
             return None;
         }
-        self.queues.append(vp, sint, &expired(ticket, timer));
+        self.queues.append(vp, sint, expired(ticket, timer));
         Some(Done)
     }
 
@@ -140,9 +140,7 @@ impl Scene {
 
     fn place(&mut self, queue: Queue) -> Option<Answer> {
         let (vp, sint) = (on_board(queue.0)?, Sint::new(queue.1)?);
-        let answer = answer_of(self.queues.head(vp, sint));
-        self.queues.drop_head(vp, sint);
-        Some(answer)
+        Some(answer_of(self.queues.place(vp, sint)))
     }
 
     fn withdraw_port(&mut self, queue: Queue, port: u8) -> Option<Answer> {

@@ -84,7 +84,7 @@ impl Machine {
         requires buffer { HasBuffer self.old.state.queues message }
         ensures { self.new.state ≡ with_message self.old.state vp sint message }
     {
-        self.queues.append(vp, sint, &message);
+        self.queues.append(vp, sint, message);
         let count = self.queues.count(vp, sint);
         self.summary.write(Entry::Queued(vp, sint, count));
     }
