@@ -1,4 +1,4 @@
-/* Saves a board in the middle of a message storm, while a timer is late, and goes on with it in another
+/* Saves a board in the middle of a message storm, while a timer is late, and continues in another
  * process, as a hypervisor does that moves a guest to another host.
  *
  *   snapshot             opens a board, saves it, and starts `snapshot restore` on its image

@@ -1,4 +1,4 @@
-/* Restoring boards from images: the restored board is the saved one and goes on like it, and an image that
+/* Restoring boards from images: the restored board answers like the saved one, and an image that
  * was cut, changed or forged is refused at its first wrong line, or is the image of another board. */
 #include <stdbool.h>
 #include <stddef.h>
