@@ -221,12 +221,14 @@ impl Board {
     /// those before it. Allocates all memory that the board needs.
     ///
     /// ```
-    /// let mut board = synicboard::Board::open(1, 1, 5).unwrap();
-    /// let _ = board.assert(0, 0x60);
+    /// use synicboard::{Board, Reply, Vector};
+    ///
+    /// let mut board = Board::open(1, 1, 5).unwrap();
+    /// assert_eq!(board.assert(0, Vector::new(0x60).unwrap()), Reply::Done);
     /// let mut room = [0; 80];
     /// let length = board.save(&mut room).unwrap();
-    /// let restored = synicboard::Board::restore(&room[..length]).unwrap();
-    /// assert_eq!(restored.next(0), board.next(0));
+    /// let restored = Board::restore(&room[..length]).unwrap();
+    /// assert_eq!(restored.next(0), Vector::new(0x60));
     /// ```
     ///
     /// # Errors

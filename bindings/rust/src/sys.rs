@@ -314,22 +314,6 @@ pub const SYNICBOARD_OWNER_MESSAGES: u8 = 2;
 /// Owner: the event flags page of `vp`.
 pub const SYNICBOARD_OWNER_FLAGS: u8 = 3;
 
-/// A timer: its registers and its deadline.
-#[repr(C)]
-#[derive(Clone, Copy, PartialEq, Eq, Debug)]
-pub struct synicboard_timer_state {
-    /// Whether the timer has a deadline.
-    pub is_due: bool,
-    /// STIMERn_CONFIG.
-    pub config: u64,
-    /// STIMERn_COUNT.
-    pub count: u64,
-    /// The deadline, modulo 2^64.
-    pub low: u64,
-    /// The deadline, divided by 2^64.
-    pub high: u64,
-}
-
 /// A local APIC. Bit i of word k is vector 64 * k + i.
 #[repr(C)]
 #[derive(Clone, Copy, PartialEq, Eq, Debug)]
@@ -344,6 +328,22 @@ pub struct synicboard_local_apic {
     pub processor_priority: u8,
     /// Whether the processor is suspended.
     pub is_suspended: bool,
+}
+
+/// A timer: its registers and its deadline.
+#[repr(C)]
+#[derive(Clone, Copy, PartialEq, Eq, Debug)]
+pub struct synicboard_timer_state {
+    /// Whether the timer has a deadline.
+    pub is_due: bool,
+    /// STIMERn_CONFIG.
+    pub config: u64,
+    /// STIMERn_COUNT.
+    pub count: u64,
+    /// The deadline, modulo 2^64.
+    pub low: u64,
+    /// The deadline, divided by 2^64.
+    pub high: u64,
 }
 
 /// Which page a guest sees.
