@@ -573,7 +573,7 @@ synicboard_reply synicboard_act(synicboard_shared *shared, uint8_t actor, const 
 /* The same for synicboard_absorb_line. Other threads may raise through other lines at the same time. */
 synicboard_reply synicboard_act_absorb(synicboard_shared *shared, uint8_t actor, synicboard_line *line, uint8_t vp, uint8_t part, synicboard_notice *notices, size_t room);
 
-/* Acquires the lock and returns the board, for queries; null if the handle is closed, and then no lock is
+/* Acquires the lock and returns the board, for queries and synicboard_save; null if the handle is closed, and then no lock is
  * held. The pointer is valid until the thread calls synicboard_release. Until then, the thread must
  * make no other call on the shared board. It must not close the board, and must perform no event on it,
  * since the history would lack that event. */

@@ -311,6 +311,23 @@ static void test_mutations(void)
     CHECK_NUMBER(blocks_out, 0);
 }
 
+/* A shared board is saved while its lock is held. */
+static void test_shared_board(void)
+{
+    synicboard_shared shared = SYNICBOARD_SHARED_CLOSED;
+    synicboard restored = SYNICBOARD_CLOSED;
+    synicboard_event event = { .kind = SYNICBOARD_ASSERT, .vp = 1, .vector = 0x61 };
+    synicboard_open_shared(&shared, 2, 1, 0);
+    CHECK_REPLY(synicboard_act(&shared, 3, &event, NULL, 0), SYNICBOARD_DONE);
+    size_t length = save(synicboard_hold(&shared), first);
+    synicboard_release(&shared);
+    CHECK_NUMBER(synicboard_restore(&restored, first, length).kind, SYNICBOARD_OK);
+    CHECK_NUMBER(synicboard_next(&restored, 1), 0x61);
+    synicboard_close(&restored);
+    synicboard_close_shared(&shared);
+    CHECK_NUMBER(blocks_out, 0);
+}
+
 static void test_refused_memory(void)
 {
     synicboard board = SYNICBOARD_CLOSED, restored = SYNICBOARD_CLOSED;
@@ -340,6 +357,7 @@ static const struct test tests[] = {
     { "forged images", test_forgeries },
     { "the first lines", test_first_lines },
     { "mutated images", test_mutations },
+    { "a shared board is saved", test_shared_board },
     { "refused memory of a restore", test_refused_memory },
 };
 
