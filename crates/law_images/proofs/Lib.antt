@@ -7,3 +7,4 @@ mod parts
 mod Opened
 mod Steps
 mod Reading
+mod Unique

@@ -8,3 +8,8 @@ ghost use Rattle.text_restore.specs.Images.{IsImage};
 pub fn a_restored_board_saves_its_image()
     ensures { (text : List ℕ) (s : State) → IsImage text s → text ≡ image s }
 {}
+
+/// A text is the image of at most one state.
+pub fn an_image_has_one_state()
+    ensures { (text : List ℕ) (s t : State) → IsImage text s → IsImage text t → s ≡ t }
+{}
