@@ -8,14 +8,16 @@ use Rattle.synic_board.proofs.keeping.Slots.{overwritten-other}
 use Rattle.synic_board.proofs.keeping.Stores.{length-overwritten}
 use Rattle.law_images.proofs.Printed.{block_of}
 
-length-block : (page : List ℕ) (c : ℕ) → length page ≡ 4096 → c < 16 → length (block_of page c) ≡ 256
+pub length-block : (page : List ℕ) (c : ℕ) → length page ≡ 4096 → c < 16 → length (block_of page c) ≡ 256
 length-block page c l h = ap length (between_is page (256 * c) (256 * c + 256)) ∙ omega (arith, length-drop (256 * c) (take (256 * c + 256) page), length-take (256 * c + 256) page)
+
+pub byte-at : (page : List ℕ) (c i d : ℕ) → i < 256 → get_or (drop (256 * c) (take (256 * c + 256) page)) i d ≡ get_or page (256 * c + i) d
+byte-at page c i d h = get_or-drop (256 * c) (take (256 * c + 256) page) i d ∙ get_or-take (256 * c + 256) page (256 * c + i) d (omega arith)
 
 byte-in : (page : List ℕ) (c i : ℕ) → i < 256 → get_or (block_of page c) i 0 ≡ get_or page (256 * c + i) 0
 byte-in page c i h =
     ap (λ (xs : List ℕ). get_or xs i 0) (between_is page (256 * c) (256 * c + 256))
-    ∙ get_or-drop (256 * c) (take (256 * c + 256) page) i 0
-    ∙ get_or-take (256 * c + 256) page (256 * c + i) 0 (omega arith)
+    ∙ byte-at page c i 0 h
 
 same-block : (xs ys : List ℕ) → length xs ≡ 256 → length ys ≡ 256 → ((i : ℕ) → i < 256 → get_or xs i 0 ≡ get_or ys i 0) → xs ≡ ys
 same-block xs ys l k h = ext_get_or 0 xs ys (l ∙ sym k) (λ i below. h i (omega arith))

@@ -8,3 +8,9 @@ mod Opened
 mod Steps
 mod Reading
 mod Unique
+mod Fronts
+mod Short
+mod Walks
+mod Blends
+mod passing
+mod Accepted

@@ -3,6 +3,7 @@ ghost use Rattle.std.specs.Prelude.{◌≡◌, ℕ, List};
 ghost use Rattle.synic_board.specs.State.{State};
 ghost use Rattle.text_image.specs.Image.{image};
 ghost use Rattle.text_restore.specs.Images.{IsImage};
+ghost use Rattle.law_images.specs.States.{IsBoardState};
 
 /// What a restored board saves is the image that it was restored from, byte for byte.
 pub fn a_restored_board_saves_its_image()
@@ -12,4 +13,9 @@ pub fn a_restored_board_saves_its_image()
 /// A text is the image of at most one state.
 pub fn an_image_has_one_state()
     ensures { (text : List ℕ) (s t : State) → IsImage text s → IsImage text t → s ≡ t }
+{}
+
+/// The image of a board's state is an image of this state, so a board that is saved can be restored, and is the same board.
+pub fn an_image_restores_its_board()
+    ensures { (s : State) → IsBoardState s → IsImage (image s) s }
 {}
