@@ -13,14 +13,15 @@ use Rattle.text_lines.specs.Items.{Opening, item_fields}
 use Rattle.text_lines.proofs.ReadLemmas.{reading-means as item-reading}
 use Rattle.text_lines.proofs.WrittenLemmas.{board-written, item-means}
 use Rattle.text_image.specs.declared.piece.Piece.TheVariants as pieces
-use Rattle.text_image.specs.Image.{image, image_lines, body_lines, moment_lines, end_fields, each_below, lapic_lines, register_lines, guest_lines, own_lines, port_lines, timers_lines, queues_lines, slots_lines}
+use Rattle.text_image.specs.Image.{image, image_lines, body_lines, moment_lines, end_fields, each_below}
+use Rattle.text_image.specs.Image.{lapic_lines, register_lines, guest_lines, own_lines, port_lines, timers_lines, queues_lines, slots_lines}
 use Rattle.text_image.specs.Pieces.{piece_fields}
 use Rattle.text_image.proofs.PieceLemmas.{reading-means, piece-means}
 use Rattle.text_restore.specs.Restoring.{Stage, Untitled, Titled, Body, place, place_of, Opens}
 use Rattle.text_restore.specs.Images.{IsImage}
 use Rattle.law_images.specs.States.{IsBoardState}
 use Rattle.law_images.proofs.Short.{piece-written}
-use Rattle.law_images.proofs.Walks.{Point, Passes, Arrives, Walks, walks-append, walks-lead, walks-whole, passes-append}
+use Rattle.law_images.proofs.Walks.{Point, point, Passes, Arrives, Walks, walks-append, walks-lead, walks-whole, passes-append}
 use Rattle.law_images.proofs.passing.Processors.{moment-passed, lapics-passed}
 use Rattle.law_images.proofs.passing.Registers.{regs-passed}
 use Rattle.law_images.proofs.passing.Pages.{guests-passed, owns-passed}
@@ -28,9 +29,6 @@ use Rattle.law_images.proofs.passing.Ports.{ports-passed}
 use Rattle.law_images.proofs.passing.Timers.{timers-passed}
 use Rattle.law_images.proofs.passing.Queues.{queues-passed}
 use Rattle.law_images.proofs.passing.Slots.{slots-passed}
-
-abbrev point : State → ℕ → ℕ → Point
-point board lapics at = record { board = board; lapics = lapics; at = at }
 
 -- Empty slots have no tickets.
 no-ticket : (n j : ℕ) → get_or {A = Option ℕ} (replicate n None) j None ≡ None

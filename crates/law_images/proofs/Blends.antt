@@ -14,7 +14,7 @@ use Rattle.text_image.specs.Pieces.{IsBlock}
 use Rattle.text_restore.specs.Restoring.{IsBlock as MayCome}
 use Rattle.law_images.proofs.Printed.{block_of, block_printed}
 use Rattle.law_images.proofs.Blocks.{length-block, byte-at, zero-block}
-use Rattle.law_images.proofs.Walks.{Point, Passes, Fits, passes-unless, passes-none, passes-each, passes-to}
+use Rattle.law_images.proofs.Walks.{Point, point, Passes, Fits, passes-unless, passes-none, passes-each, passes-to}
 
 abbrev pub blend : List ℕ → ℕ → List ℕ
 blend page c = take (256 * c) page ++ drop (256 * c) zero_page
@@ -83,16 +83,16 @@ pub record IsPageWalk (page : List ℕ) (board : List ℕ → State) (lapics : �
   pub whole : length page ≡ 4096
   pub rising : (c : ℕ) → at c ≤ at (suc c)
   pub step : (c : ℕ) → c < 16 → bytes_eq (block_of page c) (replicate 256 0) ≡ false →
-      Fits (record { board = board (blend page c); lapics = lapics; at = at c }) (x c) (record { board = board (blend page (suc c)); lapics = lapics; at = at (suc c) })
+      Fits (point (board (blend page c)) lapics (at c)) (x c) (point (board (blend page (suc c))) lapics (at (suc c)))
 
 pub page-passed : (page : List ℕ) (board : List ℕ → State) (lapics : ℕ) (at : ℕ → ℕ) (x : ℕ → Piece) → IsPageWalk page board lapics at x →
-    Passes (record { board = board zero_page; lapics = lapics; at = at 0 }) (each_below 16 (λ c. block_printed (x c) (block_of page c))) (record { board = board page; lapics = lapics; at = at 16 })
+    Passes (point (board zero_page) lapics (at 0)) (each_below 16 (λ c. block_printed (x c) (block_of page c))) (point (board page) lapics (at 16))
 page-passed page board lapics at x h =
-    passes-to (to 0) (to 16) (record { board = board page; lapics = lapics; at = at 16 }) (each_below 16 (λ c. block_printed (x c) (block_of page c)))
+    passes-to (to 0) (to 16) (point (board page) lapics (at 16)) (each_below 16 (λ c. block_printed (x c) (block_of page c)))
     (ap board (sym (blend-all page h.whole))) refl (omega arith)
     (passes-each 16 (λ c. block_printed (x c) (block_of page c)) to (λ c below. passes-unless (bytes_eq (block_of page c) (replicate 256 0)) (to c) (x c) (to (suc c))
     (λ e. passes-none (to c) (to (suc c)) (ap board (blend-still page c h.whole below ((bytes_eq-Decides (block_of page c) (replicate 256 0)).0 e))) refl (h.rising c))
     (h.step c below)))
   where
     to : ℕ → Point
-    to c = record { board = board (blend page c); lapics = lapics; at = at c }
+    to c = point (board (blend page c)) lapics (at c)

@@ -1,4 +1,4 @@
--- The front of a list: its elements below a number, and behind them, up to its length, what a newly opened board has.
+-- The front of a list: its first k elements. The others are as on a newly opened board.
 use Rattle.std.proofs.Common.{◌≡◌, ℕ, zero, suc, ◌+◌, ◌<◌, ◌≤◌, List, [], ◌∷◌, length, get_or, set, replicate, refl, sym, ap, ◌∙◌, arith}
 use Rattle.std.specs.Prelude.{sum_by}
 use Rattle.std.proofs.lemmas.List.{set-get_or}
@@ -18,13 +18,13 @@ pub front-none : {A : Type 0} (xs : List A) (d : A) → replicate (length xs) d 
 front-none [] d = refl
 front-none {A} (x ∷ xs) d = ap (λ (ys : List A). d ∷ ys) (front-none xs d)
 
--- one more element
+-- the next element is set
 pub front-more : {A : Type 0} (k : ℕ) (xs : List A) (d e : A) → k < length xs → front (suc k) xs d ≡ set (front k xs d) k (get_or xs k e)
 front-more k [] d e h = absurd (omega (arith, h))
 front-more zero (x ∷ xs) d e h = refl
 front-more {A} (suc k) (x ∷ xs) d e h = ap (λ (ys : List A). x ∷ ys) (front-more k xs d e (omega (arith, h)))
 
--- an element that is as on a newly opened board
+-- an element of the list that is as on a newly opened board
 pub front-still : {A : Type 0} (k : ℕ) (xs : List A) (d : A) → get_or xs k d ≡ d → front (suc k) xs d ≡ front k xs d
 front-still k [] d e = refl
 front-still {A} zero (x ∷ xs) d e = ap (λ (y : A). y ∷ front zero xs d) e
@@ -37,7 +37,7 @@ front-new zero (suc j) (x ∷ xs) d e h below = front-new zero j xs d e (omega a
 front-new (suc k) zero (x ∷ xs) d e h below = absurd (omega (arith, h))
 front-new (suc k) (suc j) (x ∷ xs) d e h below = front-new k j xs d e (omega (arith, h)) (omega (arith, below))
 
--- with nothing else behind it, a front is the list
+-- if the other elements of the list are as on a newly opened board, the front is the list
 pub front-all : {A : Type 0} (k : ℕ) (xs : List A) (d : A) → ((j : ℕ) → k ≤ j → j < length xs → get_or xs j d ≡ d) → front k xs d ≡ xs
 front-all k [] d h = refl
 front-all {A} zero (x ∷ xs) d h =
@@ -49,7 +49,7 @@ front-all {A} (suc k) (x ∷ xs) d h = ap (λ (ys : List A). x ∷ ys) (front-al
 pub front-whole : {A : Type 0} (xs : List A) (d : A) (k : ℕ) → length xs ≤ k → front k xs d ≡ xs
 front-whole xs d k h = front-all k xs d (λ j up below. absurd (omega (arith, h, up, below)))
 
--- the element behind a front, written
+-- the next element is as on a newly opened board
 pub front-start : {A : Type 0} (k : ℕ) (xs : List A) (d : A) → k < length xs → set (front k xs d) k d ≡ front k xs d
 front-start {A} k xs d h = ap (set (front k xs d) k) (sym (front-new k k xs d d (omega arith) h)) ∙ set-get_or (front k xs d) k d
 

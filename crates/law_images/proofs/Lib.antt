@@ -8,6 +8,7 @@ mod Opened
 mod Steps
 mod Reading
 mod Unique
+mod Tests
 mod Fronts
 mod Short
 mod Walks

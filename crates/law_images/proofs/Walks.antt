@@ -41,6 +41,9 @@ pub record Point : Type 0 where
   pub lapics : ℕ
   pub at : ℕ
 
+abbrev pub point : State → ℕ → ℕ → Point
+point board lapics at = record { board = board; lapics = lapics; at = at }
+
 -- where a walk ends that began after the piece at `last`
 pub record Arrives (p : Point) (last : ℕ) (lines : Lines) (q : Point) : Type 0 where
   pub now : ℕ

@@ -12,7 +12,7 @@ use Rattle.synic_board.specs.Buffers.{HasBuffers}
 use Rattle.synic_board.specs.Settled.{IsSettled}
 use Rattle.text_image.specs.Pieces.{IsApic, IsMessage}
 
--- the stored value of a source: a write of it is not refused
+-- the value of a source: a write of it is not refused
 abbrev pub IsSource : ℕ → Type 0
 IsSource value = (value < 2 ^ 64) × (is_legal value ≡ true)
 
@@ -28,7 +28,7 @@ pub record AreRegs (r : Regs) : Type 0 where
 abbrev pub IsTimer : Timer → Type 0
 IsTimer x = (x.config < 2 ^ 64) × (x.count < 2 ^ 64) × IfSome x.due (λ d. d < 2 ^ 128)
 
--- the ranges that the types of a board's parts have
+-- the ranges that the types of a board's parts ensure
 pub record HasRanges (s : State) : Type 0 where
   pub moment : s.moment < 2 ^ 64
   pub next_ticket : s.next_ticket < 2 ^ 64
@@ -39,7 +39,7 @@ pub record HasRanges (s : State) : Type 0 where
   pub timers : All IsTimer s.timers
   pub queues : All (All IsMessage) s.queues
 
--- what holds of each board
+-- What holds of every board: its sizes, the invariants, and the ranges of its parts.
 pub record IsBoardState (s : State) : Type 0 where
   pub sizes : AreSizes (processors s) (length s.pages)
   pub sound : IsSound s

@@ -14,10 +14,7 @@ use Rattle.law_images.specs.States.{IsBoardState}
 use Rattle.law_images.proofs.Blends.{blend, blend-more, block-fits, block-comes, page-passed}
 use Rattle.law_images.proofs.Fronts.{front, length-front, front-none, front-more, front-start, front-whole}
 use Rattle.law_images.proofs.Printed.{block_of}
-use Rattle.law_images.proofs.Walks.{Point, Passes, passes-append, passes-each, passes-from, passes-to}
-
-abbrev point : State → ℕ → ℕ → Point
-point board lapics at = record { board = board; lapics = lapics; at = at }
+use Rattle.law_images.proofs.Walks.{Point, point, Passes, passes-append, passes-each, passes-from, passes-to}
 
 -- one more block of a page in a list of pages
 block-put : (pages : List (List ℕ)) (k c : ℕ) (page : List ℕ) → k < length pages → length page ≡ 4096 → c < 16 →

@@ -20,10 +20,7 @@ use Rattle.text_image.specs.Image.{each_below, port_line, port_lines}
 use Rattle.text_restore.specs.Restoring.{place}
 use Rattle.law_images.specs.States.{IsBoardState}
 use Rattle.law_images.proofs.Fronts.{front, front-none, front-more, front-still, front-new, front-whole}
-use Rattle.law_images.proofs.Walks.{Point, Passes, passes-one, passes-none, passes-each, passes-from, passes-to}
-
-abbrev point : State → ℕ → ℕ → Point
-point board lapics at = record { board = board; lapics = lapics; at = at }
+use Rattle.law_images.proofs.Walks.{Point, point, Passes, passes-one, passes-none, passes-each, passes-from, passes-to}
 
 shape-fits : (shape : PortShape) → fits shape ≡ true → IsShape shape
 shape-fits (Messages buffers) e = by (nat_le 1 buffers) (nat_le buffers 16) refl e

@@ -1,7 +1,6 @@
 -- The present time, and the local APICs.
-use Rattle.std.proofs.Common.{◌≡◌, ◌≢◌, ℕ, suc, ◌<◌, Bool, true, false, List, set, replicate, refl, sym, ap, ◌∙◌, arith}
+use Rattle.std.proofs.Common.{◌≡◌, ℕ, suc, ◌<◌, Bool, false, List, set, replicate, refl, sym, ap, ◌∙◌, arith}
 use Rattle.std.specs.Prelude.{◌==◌}
-use Rattle.std.proofs.lemmas.Bool.Decides.{nat_tests}
 use Rattle.std.proofs.lemmas.List.{get_or_past}
 use Rattle.lapic_core.specs.Apic.{Apic, empty_apic}
 use Rattle.synic_board.specs.State.{State, processors, apic_of}
@@ -11,20 +10,15 @@ use Rattle.text_image.specs.Image.{each_below, moment_lines, lapic_lines}
 use Rattle.text_restore.specs.Restoring.{place}
 use Rattle.law_images.specs.States.{IsBoardState}
 use Rattle.law_images.proofs.Fronts.{front, length-front, front-none, front-more, front-all, front-whole}
-use Rattle.law_images.proofs.Walks.{Point, Passes, passes-unless, passes-one, passes-none, passes-each, passes-from, passes-to}
-
-abbrev point : State → ℕ → ℕ → Point
-point board lapics at = record { board = board; lapics = lapics; at = at }
-
-differs : (a b : ℕ) → (a == b) ≡ false → a ≢ b
-differs a b e is = grind (arith, nat_tests)
+use Rattle.law_images.proofs.Tests.{same, other}
+use Rattle.law_images.proofs.Walks.{Point, point, Passes, passes-unless, passes-one, passes-none, passes-each, passes-from, passes-to}
 
 pub moment-passed : (s : State) → IsBoardState s → (t : State) → Passes (point (at_moment t 0) 0 (place 1 0 0 0)) (moment_lines s.moment) (point (at_moment t s.moment) 0 (place 2 0 0 0))
-moment-passed s h t = passes-unless (s.moment == 0) old (pieces.Moment s.moment) new (λ e. passes-none old new (ap (at_moment t) (zero e)) refl (omega arith)) (λ e. record {
+moment-passed s h t = passes-unless (s.moment == 0) old (pieces.Moment s.moment) new (λ e. passes-none old new (ap (at_moment t) (same s.moment 0 e)) refl (omega arith)) (λ e. record {
   fits = h.ranges.moment;
   later = λ last below. below;
   turn = refl;
-  restores = (differs s.moment 0 e, refl);
+  restores = (other s.moment 0 e, refl);
   count = refl;
   before = omega arith;
 })
@@ -34,9 +28,6 @@ moment-passed s h t = passes-unless (s.moment == 0) old (pieces.Moment s.moment)
 
     new : Point
     new = point (at_moment t s.moment) 0 (place 2 0 0 0)
-
-    zero : (s.moment == 0) ≡ true → s.moment ≡ 0
-    zero e = grind (arith, nat_tests)
 
 module _ (s : State) (h : IsBoardState s) (t : State) where
   abbrev with_lapics : List Apic → List Bool → State
@@ -62,7 +53,8 @@ module _ (s : State) (h : IsBoardState s) (t : State) where
       (point (with_lapics s.apics s.suspended) (processors s) (place 3 0 0 0))
   lapics-passed =
       passes-from (point (with_lapics (replicate (processors s) empty_apic) (replicate 8 false)) 0 (place 2 0 0 0)) (lapics-at 0)
-      (point (with_lapics s.apics s.suspended) (processors s) (place 3 0 0 0)) (each_below (processors s) (lapic_lines s)) (λ i. with_lapics (sym (front-none s.apics empty_apic) i) (sym none i)) refl (omega arith)
+      (point (with_lapics s.apics s.suspended) (processors s) (place 3 0 0 0)) (each_below (processors s) (lapic_lines s))
+      (λ i. with_lapics (sym (front-none s.apics empty_apic) i) (sym none i)) refl (omega arith)
       (passes-to (lapics-at 0) (lapics-at (processors s)) (point (with_lapics s.apics s.suspended) (processors s) (place 3 0 0 0)) (each_below (processors s) (lapic_lines s))
       (λ i. with_lapics (sym whole i) (sym all i)) refl (omega (arith, h.settled.bound))
       (passes-each (processors s) (lapic_lines s) lapics-at lapic-passed))

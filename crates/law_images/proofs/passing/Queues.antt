@@ -22,10 +22,8 @@ use Rattle.text_image.specs.Pieces.{IsMessage as InRange}
 use Rattle.text_restore.specs.Restoring.{place}
 use Rattle.law_images.specs.States.{IsBoardState}
 use Rattle.law_images.proofs.Fronts.{front, length-front, front-none, front-more, front-start, front-whole, front-sum-room}
-use Rattle.law_images.proofs.Walks.{Point, Passes, passes-one, passes-each, passes-from, passes-to}
-
-abbrev point : State → ℕ → ℕ → Point
-point board lapics at = record { board = board; lapics = lapics; at = at }
+use Rattle.law_images.proofs.Tests.{test-same}
+use Rattle.law_images.proofs.Walks.{Point, point, Passes, passes-one, passes-each, passes-from, passes-to}
 
 -- an element of a list
 record Got (q : List Message) (k : ℕ) (m : Message) : Type 0 where
@@ -52,9 +50,6 @@ in_queue-sum t (m ∷ q) = in_queue-cons t m q ∙ ap (λ (n : ℕ). one (ticket
 abbrev counted : Bool → ℕ
 counted b = cond b 1 0
 
-same-number : (n : ℕ) → (n == n) ≡ true
-same-number n = grind (arith, nat_tests)
-
 module _ (qs : Queues) (j k : ℕ) (m : Message) (inside : j < length qs) (g : Got (get_or qs j []) k m) where
   abbrev drafted : Queues
   drafted = set (front j qs []) j (take k (get_or qs j []))
@@ -80,7 +75,7 @@ module _ (qs : Queues) (j k : ℕ) (m : Message) (inside : j < length qs) (g : G
       q = get_or qs j []
 
       last : one (ticket_of (get_or q k m)) t ≡ 1
-      last = ap (λ (x : Message). one (ticket_of x) t) (g.is m) ∙ ap counted (same-number t)
+      last = ap (λ (x : Message). one (ticket_of x) t) (g.is m) ∙ ap counted (test-same t)
 
       part : in_queue t (take k q) + 1 ≤ in_queue t q
       part = omega (arith, last, in_queue-sum t (take k q), in_queue-sum t q, sum_by_more_le (λ (x : Message). one (ticket_of x) t) q k m g.within)
@@ -89,12 +84,12 @@ module _ (qs : Queues) (j k : ℕ) (m : Message) (inside : j < length qs) (g : G
 has-buffer : (s : State) → IsBoardState s → (p j k : ℕ) (m : Message) (inside : j < length s.queues) (g : Got (get_or s.queues j []) k m) → IsHome p m →
     HasBuffer (drafted s.queues j k m inside g) m
 has-buffer s h p j k (FromPort ticket port kind payload) inside g home =
-    (home, omega (arith, more-counted s.queues j k (FromPort ticket port kind payload) inside g (is_from_port port) (same-number port), h.buffers.room port))
+    (home, omega (arith, more-counted s.queues j k (FromPort ticket port kind payload) inside g (is_from_port port) (test-same port), h.buffers.room port))
 has-buffer s h p j k (FromTimer ticket timer expiration) inside g home = free _
     (omega (arith, more-counted s.queues j k (FromTimer ticket timer expiration) inside g (is_from_timer timer) itself, h.buffers.one_each timer))
   where
     itself : is_from_timer timer (FromTimer ticket timer expiration) ≡ true
-    itself = rw (same-number timer.0, same-number timer.1) refl
+    itself = rw (test-same timer.0, test-same timer.1) refl
 
     free : (n : ℕ) → n ≡ 0 → (n == 0) ≡ true
     free n e = grind (arith, nat_tests)
@@ -174,11 +169,17 @@ module _ (s : State) (h : IsBoardState s) (t : State) (full : processors t ≡ p
               before = omega arith;
             })
 
-    queue-passed : Passes (point (with_queues old) (processors s) (place 8 p i 0)) (queue_lines s p i) (point (with_queues (front (16 * p + suc i) s.queues [])) (processors s) (place 8 p (suc i) 0))
+    abbrev start : Point
+    start = point (with_queues old) (processors s) (place 8 p i 0)
+
+    abbrev end : Point
+    end = point (with_queues (front (16 * p + suc i) s.queues [])) (processors s) (place 8 p (suc i) 0)
+
+    queue-passed : Passes start (queue_lines s p i) end
     queue-passed =
-        passes-from (point (with_queues old) (processors s) (place 8 p i 0)) (queue-at 0) (point (with_queues (front (16 * p + suc i) s.queues [])) (processors s) (place 8 p (suc i) 0)) (queue_lines s p i)
+        passes-from start (queue-at 0) end (queue_lines s p i)
         (ap with_queues (front-start j s.queues [] inside)) refl (omega arith)
-        (passes-to (queue-at 0) (queue-at (length q)) (point (with_queues (front (16 * p + suc i) s.queues [])) (processors s) (place 8 p (suc i) 0)) (queue_lines s p i)
+        (passes-to (queue-at 0) (queue-at (length q)) end (queue_lines s p i)
         (ap with_queues (following ∙ front-more j s.queues [] [] inside ∙ ap (set old j) (sym (take_all (length q) q (omega arith))))) refl (omega arith)
         (passes-each (length q) (queued_lines s p i) queue-at message-passed))
       where

@@ -1,7 +1,6 @@
 -- The registers of the processors.
-use Rattle.std.proofs.Common.{◌≡◌, ◌≢◌, ℕ, suc, ◌+◌, ◌<◌, ◌≤◌, ◌^◌, Bool, true, false, not, List, [], ◌∷◌, ◌++◌, cond, length, set, replicate, refl, sym, ap, ◌∙◌, arith, codes}
+use Rattle.std.proofs.Common.{◌≡◌, ◌≢◌, ℕ, suc, ◌+◌, ◌<◌, ◌≤◌, ◌^◌, Bool, true, not, List, [], ◌∷◌, ◌++◌, cond, length, set, replicate, refl, sym, ap, ◌∙◌, arith, codes}
 use Rattle.std.specs.Prelude.{◌==◌}
-use Rattle.std.proofs.lemmas.Bool.Decides.{nat_tests}
 use Rattle.std.proofs.lemmas.List.{get_or-set_same, set-set}
 use Rattle.board_terms.specs.declared.pages.Kind.TheVariants as kinds
 use Rattle.synic_regs.specs.declared.register.Register.{Register}
@@ -18,16 +17,8 @@ use Rattle.text_image.specs.Pieces.{piece_fields}
 use Rattle.text_restore.specs.Restoring.{place}
 use Rattle.law_images.specs.States.{IsBoardState, AreRegs}
 use Rattle.law_images.proofs.Fronts.{front, length-front, front-none, front-more, front-start, front-whole}
-use Rattle.law_images.proofs.Walks.{Point, Passes, Fits, passes-unless, passes-none, passes-append, passes-each, passes-from, passes-to}
-
-abbrev point : State → ℕ → ℕ → Point
-point board lapics at = record { board = board; lapics = lapics; at = at }
-
-same-value : (a b : ℕ) → (a == b) ≡ true → a ≡ b
-same-value a b e = grind (arith, nat_tests)
-
-other-value : (a b : ℕ) → (a == b) ≡ false → a ≢ b
-other-value a b e is = grind (arith, nat_tests)
+use Rattle.law_images.proofs.Tests.{same as same-value, other as other-value}
+use Rattle.law_images.proofs.Walks.{Point, point, Passes, Fits, passes-unless, passes-none, passes-append, passes-each, passes-from, passes-to}
 
 -- a write that is not refused
 legal-stored : (s : State) (p i value : ℕ) (new : State) → is_legal value ≡ true → new ≡ with_regs s p (with_value (regs_of s p) (registers.Source i) value) →

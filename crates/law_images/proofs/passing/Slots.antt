@@ -2,7 +2,6 @@
 use Rattle.std.proofs.Common.{◌≡◌, ◌⊎◌, inl, inr, ℕ, suc, ◌+◌, ◌*◌, ◌<◌, ◌≤◌, Bool, true, false, List, [], cond, length, get_or, set, replicate, refl, sym, ap, ◌∙◌, arith}
 use Rattle.std.specs.Prelude.{◌==◌, Option, None, Some}
 use Rattle.std.proofs.lemmas.Bool.{cases_lt}
-use Rattle.std.proofs.lemmas.Bool.Decides.{nat_tests}
 use Rattle.board_terms.specs.declared.pages.Kind.TheVariants.{Sim}
 use Rattle.gpa_space.specs.Space.{own_page}
 use Rattle.message_queues.specs.Image.{slot_type}
@@ -16,13 +15,8 @@ use Rattle.text_image.specs.Image.{each_below, slot_line, slot_lines, slots_line
 use Rattle.text_restore.specs.Restoring.{place}
 use Rattle.law_images.specs.States.{IsBoardState}
 use Rattle.law_images.proofs.Fronts.{front, front-none, front-more, front-start, front-still, front-new, front-whole, front-sum-room}
-use Rattle.law_images.proofs.Walks.{Point, Passes, passes-one, passes-none, passes-each, passes-from, passes-to}
-
-abbrev point : State → ℕ → ℕ → Point
-point board lapics at = record { board = board; lapics = lapics; at = at }
-
-same-number : (n : ℕ) → (n == n) ≡ true
-same-number n = grind (arith, nat_tests)
+use Rattle.law_images.proofs.Tests.{test-same, same}
+use Rattle.law_images.proofs.Walks.{Point, point, Passes, passes-one, passes-none, passes-each, passes-from, passes-to}
 
 module _ (s : State) (h : IsBoardState s) (t : State) (full : processors t ≡ processors s) (next : t.next_ticket ≡ s.next_ticket) (pages : t.own ≡ s.own) (queues : t.queues ≡ s.queues) where
   abbrev with_slots : List (Option ℕ) → State
@@ -45,7 +39,7 @@ module _ (s : State) (h : IsBoardState s) (t : State) (full : processors t ≡ p
     there : in_slots x (front (16 * p + i) s.slots None) + 1 ≤ in_slots x s.slots
     there =
         let same = ap (in_slots x) (front-start j s.slots None inside) in
-        let last : in_slot x (get_or s.slots j None) ≡ 1 = ap (in_slot x) is ∙ ap (λ (b : Bool). cond b 1 0) (same-number x) in
+        let last : in_slot x (get_or s.slots j None) ≡ 1 = ap (in_slot x) is ∙ ap (λ (b : Bool). cond b 1 0) (test-same x) in
         omega (arith, same, front-sum-room (in_slot x) j 1 s.slots None None refl inside (omega (arith, last)))
 
     total : times x (locations s) ≡ in_queues x s.queues + in_slots x s.slots
@@ -66,12 +60,8 @@ module _ (s : State) (h : IsBoardState s) (t : State) (full : processors t ≡ p
       where
         by : (b : Bool) → (slot_type (own_page (space_of s) p Sim) i == 0) ≡ b → b ≡ false
         by true e =
-            let zero : slot_type (own_page (space_of s) p Sim) i ≡ 0 = empty (slot_type (own_page (space_of s) p Sim) i) e in
-            let none = h.sound.empty p i below low zero in
+            let none = h.sound.empty p i below low (same (slot_type (own_page (space_of s) p Sim) i) 0 e) in
             absurd (cc)
-          where
-            empty : (n : ℕ) → (n == 0) ≡ true → n ≡ 0
-            empty n e = grind (arith, nat_tests)
         by false e = refl
 
     occupies : MayOccupy board p i x

@@ -1,7 +1,6 @@
 -- The timers.
 use Rattle.std.proofs.Common.{◌≡◌, ℕ, suc, ◌+◌, ◌*◌, ◌<◌, Bool, true, false, List, ◌&&◌, length, get_or, replicate, refl, sym, ap, ◌∙◌, arith}
 use Rattle.std.specs.Prelude.{Option, None, Some, is_none, ◌==◌}
-use Rattle.std.proofs.lemmas.Bool.Decides.{nat_tests}
 use Rattle.stimer_bank.specs.declared.timer.Timer.{Timer}
 use Rattle.stimer_bank.specs.Bank.{idle_timer}
 use Rattle.synic_board.specs.State.{State, processors}
@@ -10,10 +9,8 @@ use Rattle.text_image.specs.Image.{each_below, timer_lines, timers_lines}
 use Rattle.text_restore.specs.Restoring.{place}
 use Rattle.law_images.specs.States.{IsBoardState, IsTimer}
 use Rattle.law_images.proofs.Fronts.{front, front-none, front-more, front-still, front-all}
-use Rattle.law_images.proofs.Walks.{Point, Passes, passes-unless, passes-none, passes-each, passes-from, passes-to}
-
-abbrev point : State → ℕ → ℕ → Point
-point board lapics at = record { board = board; lapics = lapics; at = at }
+use Rattle.law_images.proofs.Tests.{same}
+use Rattle.law_images.proofs.Walks.{Point, point, Passes, passes-unless, passes-none, passes-each, passes-from, passes-to}
 
 known-none : (o : Option ℕ) → is_none o ≡ true → o ≡ None
 known-none None e = refl
@@ -25,8 +22,8 @@ is-idle x e = by (x.config == 0) (x.count == 0) (is_none x.due) refl refl refl e
   where
     by : (a b c : Bool) → (x.config == 0) ≡ a → (x.count == 0) ≡ b → is_none x.due ≡ c → (a && (b && c)) ≡ true → x ≡ idle_timer
     by true true true a b c e =
-        let config : x.config ≡ 0 = grind (arith, nat_tests, a) in
-        let count : x.count ≡ 0 = grind (arith, nat_tests, b) in
+        let config = same x.config 0 a in
+        let count = same x.count 0 b in
         let due = known-none x.due c in
         (λ i. record { config = config i; count = count i; due = due i })
     by true true false a b c e = absurd (cc)
