@@ -2,7 +2,7 @@
 ghost use Rattle.std.specs.Prelude.{◌≡◌, ℕ, List};
 ghost use Rattle.synic_board.specs.State.{State};
 ghost use Rattle.text_image.specs.Image.{image};
-ghost use Rattle.text_restore.specs.Images.{IsImage};
+ghost use Rattle.text_restore.specs.Images.{IsImage, FirstWrong};
 ghost use Rattle.law_images.specs.States.{IsBoardState};
 
 /// What a restored board saves is the image that it was restored from, byte for byte.
@@ -18,4 +18,9 @@ pub fn an_image_has_one_state()
 /// The image of a board's state is an image of this state, so a board that is saved can be restored, and is the same board.
 pub fn an_image_restores_its_board()
     ensures { (s : State) → IsBoardState s → IsImage (image s) s }
+{}
+
+/// An image has no wrong line. So `restore` refuses no image.
+pub fn an_image_has_no_wrong_line()
+    ensures { (text : List ℕ) (s : State) (k : ℕ) → IsImage text s → FirstWrong text k → ⊥ }
 {}
