@@ -39,7 +39,7 @@ pub record HasRanges (s : State) : Type 0 where
   pub timers : All IsTimer s.timers
   pub queues : All (All IsMessage) s.queues
 
--- What holds of every board: its sizes, the invariants, and the ranges of its parts.
+-- What an image needs of a state: its sizes, the invariants of a board, and the ranges of its parts, which the types of a board give and no contract states.
 pub record IsBoardState (s : State) : Type 0 where
   pub sizes : AreSizes (processors s) (length s.pages)
   pub sound : IsSound s

@@ -15,7 +15,8 @@ pub fn an_image_has_one_state()
     ensures { (text : List ℕ) (s t : State) → IsImage text s → IsImage text t → s ≡ t }
 {}
 
-/// The image of a board's state is an image of this state, so a board that is saved can be restored, and is the same board.
+/// The image of a state with the invariants of a board, and with its numbers in range, is an image of
+/// this state. So `restore` accepts what is saved of a board with such a state, and leads back to it.
 pub fn an_image_restores_its_board()
     ensures { (s : State) → IsBoardState s → IsImage (image s) s }
 {}
