@@ -7,7 +7,7 @@ use Rattle.text_driver.specs.Driving.{next_of, NextLine, Stops, Drives}
 use Rattle.text_driver.specs.declared.driving.End.{End}
 use Rattle.text_driver.specs.declared.driving.End.TheVariants as ends
 use Rattle.synic_board.specs.State.{State}
-use Rattle.text_restore.specs.Restoring.{Stage, Untitled, Follows, IsComplete}
+use Rattle.text_restore.specs.Restoring.{Stage, Untitled, IsComplete}
 use Rattle.text_restore.specs.Images.{Leads, IsImage, IsStuck, FirstWrong, Ends}
 use Rattle.text_restore.specs.declared.restoring.RestoreEnd.{RestoreEnd}
 use Rattle.text_restore.specs.declared.restoring.RestoreEnd.TheVariants as results

@@ -1,5 +1,5 @@
 -- The greatest number of bytes read.
-use Rattle.std.proofs.Common.{◌≡◌, ℕ, List, Option, sym, subst}
+use Rattle.std.proofs.Common.{ℕ, List, Option, sym, subst}
 use Rattle.text_base.specs.Streams.{ReadsUpTo}
 use Rattle.text_driver.specs.Driving.{most_of, ReadsNear, StopsNear as DriveStopsNear}
 use Rattle.text_driver.specs.declared.driving.End.{End}

@@ -3,11 +3,10 @@ use Rattle.std.proofs.Common.{◌≡◌, ℕ, List, [], ◌∷◌, Option, Some,
 use Rattle.std.specs.Option.{IfSome}
 use Rattle.std.specs.Str.{bytes_eq}
 use Rattle.text_base.specs.Fields.{fields_of}
-use Rattle.synic_board.specs.State.{AreSizes, opened}
-use Rattle.text_lines.specs.Items.{Opening, Denotes}
-use Rattle.text_lines.specs.Reading.{Fields, parse_item, opening_item, parse_opening, item_at}
+use Rattle.synic_board.specs.State.{AreSizes}
+use Rattle.text_lines.specs.Items.{Opening}
+use Rattle.text_lines.specs.Reading.{Fields, parse_item, parse_opening, item_at}
 use Rattle.text_lines.proofs.ReadLemmas.{reading-means, says-opening}
-use Rattle.text_restore.specs.Restoring.{Stage, Body, Opens}
 use Rattle.text_restore.specs.inside.Stages.{OpensNone}
 
 parsed : (word : List ℕ) (fields : Fields) (n p t : ℕ) → bytes_eq word (codes "board") ≡ true → parse_opening fields ≡ Some (n, p, t) → parse_item (word ∷ fields) ≡ Some (Opening n p t)

@@ -1,5 +1,5 @@
 -- Texts that are images, and the first wrong line of a text that is none.
-use Rattle.std.specs.Prelude.{◌≡◌, ◌≢◌, ◌≤◌, ◌+◌, ℕ, List, [], ◌∷◌, ◌++◌, length, Option, IfSome}
+use Rattle.std.specs.Prelude.{◌≡◌, ◌≤◌, ◌+◌, ℕ, List, [], ◌∷◌, ◌++◌, length, Option}
 use Rattle.text_base.specs.Lines.{lines_of, rest_of}
 use Rattle.text_driver.specs.Driving.{ReadsNear}
 use Rattle.synic_board.specs.State.{State}

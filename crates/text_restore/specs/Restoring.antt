@@ -1,5 +1,5 @@
 -- The lines of an image, one after another: which one may come next, and to which state of the board it leads.
-use Rattle.std.specs.Prelude.{◌≡◌, ◌≢◌, ◌<◌, ◌≤◌, ◌+◌, ◌*◌, ◌%◌, ◌==◌, ◌&&◌, ℕ, false, List, [], length, replicate, Option, None, Some, is_none, codes}
+use Rattle.std.specs.Prelude.{◌≡◌, ◌≢◌, ◌<◌, ◌≤◌, ◌+◌, ◌*◌, ◌%◌, ◌==◌, ◌&&◌, ℕ, false, List, [], length, replicate, Some, is_none, codes}
 use Rattle.std.specs.Str.{bytes_eq}
 use Rattle.board_terms.specs.declared.pages.Kind.{Kind}
 use Rattle.board_terms.specs.declared.pages.Kind.TheVariants as kind

@@ -1,5 +1,5 @@
 -- The stage of a judge, and what it decides about a line.
-use Rattle.std.specs.Prelude.{◌≡◌, ℕ, List, [], Bool, true, false, Result, Ok, Err}
+use Rattle.std.specs.Prelude.{◌≡◌, ℕ, List, [], Bool, true, false}
 use Rattle.synic_board.specs.State.{State}
 use Rattle.text_image.specs.declared.piece.Piece.{Piece}
 use Rattle.text_restore.specs.Restoring.{Stage, Untitled, Titled, Body, Opens, Restores, Continues, Follows}
