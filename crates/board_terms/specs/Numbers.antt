@@ -1,7 +1,7 @@
 -- The number of each refusal.
 use Rattle.std.specs.Prelude.{ℕ}
 use Rattle.board_terms.specs.declared.refusal.Refusal.{Refusal}
-use Rattle.board_terms.specs.declared.refusal.Refusal.TheVariants.{UnknownPort, PortOpen, WrongKind, BadTarget, BadType, BadFlag, SynicOff, NoBuffers, TicketsSpent, ClockBack, OutsideSpace, CrossesPage, BadLength, NoSuchProcessor, AlreadySuspended, NotSuspended}
+use Rattle.board_terms.specs.declared.refusal.Refusal.TheVariants.{UnknownPort, PortOpen, WrongKind, BadTarget, BadType, BadFlag, SynicOff, NoBuffers, TicketsSpent, ClockBack, OutsideSpace, CrossesPage, BadLength, NoSuchProcessor, AlreadySuspended, NotSuspended, Elsewhere}
 
 abbrev pub refusal_number : Refusal → ℕ
 refusal_number UnknownPort = 1
@@ -20,3 +20,4 @@ refusal_number BadLength = 13
 refusal_number NoSuchProcessor = 14
 refusal_number AlreadySuspended = 15
 refusal_number NotSuspended = 16
+refusal_number Elsewhere = 17

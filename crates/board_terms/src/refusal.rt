@@ -4,7 +4,8 @@ ghost use Rattle.board_terms.specs.Numbers.{refusal_number};
 
 use thiserror::Error;
 
-/// Why an event was refused. A refused event changes nothing and emits no notice.
+/// Why an event was refused. A refused event changes nothing and emits no notice. `Elsewhere` comes
+/// from a sparse board only: the guest's load or store is of memory that the board does not hold.
 #[derive(Clone, Copy, PartialEq, Eq, Debug, Drop, Error)]
 pub enum Refusal {
     #[error("the port is not open")]
@@ -39,6 +40,8 @@ pub enum Refusal {
     AlreadySuspended = 15,
     #[error("the processor is not suspended")]
     NotSuspended = 16,
+    #[error("the page is in the caller's memory")]
+    Elsewhere = 17,
 }
 
 impl Refusal {

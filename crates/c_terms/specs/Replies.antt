@@ -3,7 +3,7 @@ use Rattle.std.specs.Prelude.{ℕ, ◌≤◌, ◌-◌, ◌==◌, List, ◌++◌,
 use Rattle.std.specs.Option.{option_map}
 use Rattle.board_terms.specs.Numbers.{refusal_number}
 use Rattle.board_terms.specs.declared.refusal.Refusal.{Refusal}
-use Rattle.board_terms.specs.declared.refusal.Refusal.TheVariants.{UnknownPort, PortOpen, WrongKind, BadTarget, BadType, BadFlag, SynicOff, NoBuffers, TicketsSpent, ClockBack, OutsideSpace, CrossesPage, BadLength, NoSuchProcessor, AlreadySuspended, NotSuspended}
+use Rattle.board_terms.specs.declared.refusal.Refusal.TheVariants.{UnknownPort, PortOpen, WrongKind, BadTarget, BadType, BadFlag, SynicOff, NoBuffers, TicketsSpent, ClockBack, OutsideSpace, CrossesPage, BadLength, NoSuchProcessor, AlreadySuspended, NotSuspended, Elsewhere}
 use Rattle.synic_board.specs.declared.event.Reply.{Reply}
 use Rattle.synic_board.specs.declared.event.Reply.TheVariants.{Done, Value, Bytes, Taken, Accepted, FlagWasClear, FlagWasSet, GeneralProtection, Refused}
 use Rattle.c_terms.specs.declared.reply.CReply.{CReply}
@@ -61,6 +61,7 @@ refusal_from_c number =
     else if number == 14 then Some NoSuchProcessor
     else if number == 15 then Some AlreadySuspended
     else if number == 16 then Some NotSuspended
+    else if number == 17 then Some Elsewhere
     else None
 
 -- the decoded reply, by the kind; none if no event was performed. Fields that the kind does not use are ignored.

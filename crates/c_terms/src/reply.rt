@@ -154,6 +154,7 @@ fn refusal_of(number: u8) -> Option<Refusal>
         14 => Some(Refusal::NoSuchProcessor),
         15 => Some(Refusal::AlreadySuspended),
         16 => Some(Refusal::NotSuspended),
+        17 => Some(Refusal::Elsewhere),
         _ => None,
     }
 }

@@ -1,4 +1,5 @@
 pub mod Bits
 pub mod Loads
 pub mod Messages
+pub mod Next
 pub mod Visible

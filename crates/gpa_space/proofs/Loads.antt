@@ -16,9 +16,9 @@ put_there page bytes at h =
     let seam = rw (length-take-le at page h) at (drop-append_seam (take at page) (bytes ++ rest)) in
     ap (take (length bytes)) (joined ∙ seam) ∙ take-append_seam bytes rest
 
--- if the access is not refused, its first byte is in a page
-inside : (s : Space) (address count : ℕ) → refusal_of s address count ≡ None → address / 4096 < length s.pages
-inside s address count none = grind (arith, nat_tests)
+-- if the access is not refused and no overlay is visible there, its first byte is in a page that the space holds
+inside : (s : Space) (address count : ℕ) → refusal_of s address count ≡ None → visible s (address / 4096) ≡ None → address / 4096 < length s.pages
+inside s address count none below = grind (arith, nat_tests)
 
 abbrev Loads : Space → ℕ → List ℕ → Type 0
 Loads t address bytes = loaded t address (length bytes) ≡ Ok (record { items = bytes })
@@ -35,7 +35,7 @@ below s address bytes whole none e =
     let g : ℕ = address / 4096 in
     let page : List ℕ = get_or s.pages g [] in
     let stored : List ℕ = overwritten page (address % 4096) bytes in
-    let within : g < length s.pages = inside s address (length bytes) none in
+    let within : g < length s.pages = inside s address (length bytes) none e in
     rw e (loads (record s { pages = set s.pages g stored }) address page bytes (rw (length-set s.pages g stored) none) (rw e (get_or-set_same s.pages g stored [] within)) (whole.pages g [] within))
 
 -- a store to an overlay

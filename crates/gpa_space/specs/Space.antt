@@ -1,17 +1,17 @@
 -- Guest pages, and the overlay pages that may obscure them (TLFS, "GPA Overlay Pages").
-use Rattle.std.specs.Prelude.{ℕ, Bool, ◌+◌, ◌*◌, ◌/◌, ◌%◌, ◌==◌, ◌&&◌, ◌||◌, not, nat_lt, List, [], Option, None, Some, Result, Ok, Err, position, slice_index_or, slice_set, take, drop, length, replicate, if◌then◌else◌, bit_and}
+use Rattle.std.specs.Prelude.{◌≡◌, ◌≤◌, ◌<◌, ℕ, Bool, true, false, ◌+◌, ◌*◌, ◌/◌, ◌%◌, ◌^◌, ◌==◌, ◌&&◌, ◌||◌, not, nat_lt, List, [], Option, None, Some, is_none, Result, Ok, Err, position, slice_index_or, slice_set, take, drop, length, replicate, if◌then◌else◌, bit_and}
 use Rattle.std.specs.Option.{option_map_or}
 use Rattle.board_terms.specs.Quantities.{Processor, Source, Flag, PageNumber, Address}
 use Rattle.arrayvec.specs.ArrayVec.{ArrayVec}
 use Rattle.board_terms.specs.declared.refusal.Refusal.{Refusal}
-use Rattle.board_terms.specs.declared.refusal.Refusal.TheVariants.{BadLength, OutsideSpace, CrossesPage}
+use Rattle.board_terms.specs.declared.refusal.Refusal.TheVariants.{BadLength, OutsideSpace, CrossesPage, Elsewhere}
 use Rattle.board_terms.specs.declared.pages.Kind.{Kind}
 use Rattle.board_terms.specs.declared.pages.Kind.TheVariants as kind
 use Rattle.board_terms.specs.declared.pages.Owner.{Owner}
 use Rattle.board_terms.specs.declared.pages.Owner.TheVariants.{Guest, Sim, Sief, Nothing}
 use Rattle.gpa_space.specs.Page.{zero_page, overwritten, with_slot, is_set, with_bit, pending_place, flag_place}
 
--- the guest pages; the overlays' registers and their own pages, both in the order of visibility: processor 0 SIM, processor 0 SIEF, processor 1 SIM, and so on (profile)
+-- the guest pages that the space holds, all or none; the overlays' registers and their own pages, both in the order of visibility: processor 0 SIM, processor 0 SIEF, processor 1 SIM, and so on (profile)
 pub record Space : Type 0 where
   pub pages : List (List ℕ)
   pub registers : List ℕ
@@ -23,6 +23,14 @@ opened processors pages = record { pages = replicate pages zero_page; registers 
 
 abbrev pub processors_of : Space → ℕ
 processors_of s = length s.registers / 2
+
+-- a space that holds no guest pages is sparse: they are in the caller's memory, and there are as many as an address of 64 bits reaches
+abbrev pub is_sparse : Space → Bool
+is_sparse s = length s.pages == 0
+
+-- the number of pages that the guest has
+abbrev pub page_count : Space → ℕ
+page_count s = if is_sparse s then 2 ^ 52 else length s.pages
 
 -- the number of an overlay in the order of visibility
 abbrev pub overlay_of : Processor → Kind → ℕ
@@ -53,7 +61,20 @@ overlay_owner overlay = if overlay % 2 == 0 then Sim (overlay / 2) else Sief (ov
 
 -- which page a guest sees
 abbrev pub owner_of : Space → PageNumber → Owner
-owner_of s page = if nat_lt page (length s.pages) then option_map_or overlay_owner (visible s page) Guest else Nothing
+owner_of s page = if nat_lt page (page_count s) then option_map_or overlay_owner (visible s page) Guest else Nothing
+
+-- a guest sees an overlay there
+abbrev pub is_covered : Space → PageNumber → Bool
+is_covered s page = nat_lt page (page_count s) && not (is_none (visible s page))
+
+-- the first page from a number on where a guest sees an overlay, with its owner, if there is one
+abbrev pub IsNextOverlay : Space → PageNumber → Option (PageNumber × Owner) → Type 0
+IsNextOverlay s from None = (page : ℕ) → from ≤ page → is_covered s page ≡ false
+IsNextOverlay s from (Some o) = (from ≤ o.0) × (is_covered s o.0 ≡ true) × (o.1 ≡ owner_of s o.0) × ((page : ℕ) → from ≤ page → page < o.0 → is_covered s page ≡ false)
+
+-- the page that a guest sees there is in the caller's memory
+abbrev pub is_elsewhere : Space → PageNumber → Bool
+is_elsewhere s page = is_sparse s && is_none (visible s page)
 
 -- the bytes that a guest sees at a page
 abbrev pub visible_page : Space → PageNumber → List ℕ
@@ -67,8 +88,9 @@ with_visible_page s page bytes = option_map_or (λ overlay. record s { own = sli
 abbrev pub refusal_of : Space → Address → ℕ → Option Refusal
 refusal_of s address count =
     if (count == 0) || nat_lt 8 count then Some BadLength
-    else if not (nat_lt (address / 4096) (length s.pages)) then Some OutsideSpace
+    else if not (nat_lt (address / 4096) (page_count s)) then Some OutsideSpace
     else if nat_lt 4096 (address % 4096 + count) then Some CrossesPage
+    else if is_elsewhere s (address / 4096) then Some Elsewhere
     else None
 
 -- the bytes that a guest loads

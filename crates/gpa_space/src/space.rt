@@ -1,22 +1,26 @@
 // Guest pages, and the overlay pages that may obscure them.
-ghost use Rattle.std.specs.Prelude.{[], ◌≡◌, ◌+◌, ◌<◌, ◌≤◌, ◌*◌, length, slice_index_or, not, IfOk, IfSome, replicate, slice_get};
+ghost use Rattle.std.specs.Prelude.{[], ◌≡◌, ◌+◌, ◌<◌, ◌≤◌, ◌*◌, ◌/◌, length, slice_index_or, not, IfOk, IfSome, Ok, Err, replicate, slice_get};
 ghost use Rattle.std.specs.List.{All};
-ghost use Rattle.std.specs.Option.{option_copied};
+ghost use Rattle.std.specs.Option.{option_copied, option_map_or};
 ghost use Rattle.board_terms.specs.declared.pages.Kind.TheVariants as kind;
 ghost use Rattle.gpa_space.specs.Page.{zero_page, overwritten, message_bytes};
-ghost use Rattle.gpa_space.specs.Space.{opened, processors_of, overlay_of, with_register, visible, overlay_owner, owner_of, refusal_of, loaded, store_answer, after_store, own_page, with_own_page, with_guest_page, after_slot, is_pending, after_pending, is_flag_set, after_flag, after_clearing};
+ghost use Rattle.gpa_space.specs.Space.{opened, processors_of, overlay_of, with_register, visible, overlay_owner, is_sparse, page_count, owner_of, IsNextOverlay, refusal_of, loaded, store_answer, after_store, own_page, with_own_page, with_guest_page, after_slot, is_pending, after_pending, is_flag_set, after_flag, after_clearing};
 
-use crate::mapped::OverlaysAt;
+use crate::mapped::{OverlaysAt, least_page};
 use crate::overlay::OverlayWord;
 use crate::page::{HEADER_SIZE, MESSAGE_FLAGS, Page, SIZE, SLOT_SIZE};
 use board_terms::{Bytes8, Kind, Owner, Refusal, Sint, Vp};
 use std::alloc::{AllocError, Global};
 use std::marker::Model;
 
+/// The number of pages that an address of 64 bits reaches.
+const ALL_PAGES: u64 = 1 << 52;
+
 /// Guest pages, shared by all processors, and two overlay pages for each processor: the message
 /// page (SIM) and the event flags page (SIEF). An overlay page has bytes of its own, which stay
-/// while it is disabled, obscured or moved. The calls with a processor require that it is on the
-/// board.
+/// while it is disabled, obscured or moved. A sparse space holds only the overlay pages: the guest
+/// pages, 2^52 of them, are in the caller's memory. The calls with a processor require that it is
+/// on the board.
 #[derive(Drop)]
 pub struct Space {
     pages: Vec<Page>,
@@ -44,12 +48,11 @@ impl Model for Space {
 }
 
 impl Space {
-    /// A space for 1 to 8 processors with 1 to 64 guest pages: all bytes are zero and all overlays
-    /// are disabled. The only call here that allocates.
+    /// A space for 1 to 8 processors with 1 to 64 guest pages, or with 0: then it is sparse. All
+    /// bytes are zero and all overlays are disabled. The only call here that allocates.
     pub fn open(alloc: Global, processors: u8, pages: u8) -> Result<Space, AllocError>
         requires some_processor { 1 ≤ processors }
         requires processor_bound { processors ≤ 8 }
-        requires some_page { 1 ≤ pages }
         requires page_bound { pages ≤ 64 }
         ensures { IfOk result (λ space. space ≡ opened processors pages) }
     {
@@ -81,19 +84,54 @@ impl Space {
         self.mapped.mark(word.page(), overlay, word.is_enabled());
     }
 
-    /// The number of the overlay that is visible at a guest page.
-    fn visible(&self, page: u64) -> Option<usize>
-        requires { page < length self.now.pages }
-        ensures { result ≡ visible self.now page }
+    /// Whether the guest pages are in the caller's memory.
+    #[inline(always)]
+    pub fn is_sparse(&self) -> bool
+        ensures { result ≡ is_sparse self.now }
     {
-        self.mapped.first(page as usize)
+        self.pages.is_empty()
+    }
+
+    /// The number of pages that the guest has.
+    fn page_count(&self) -> u64
+        ensures { result ≡ page_count self.now }
+    {
+        if self.is_sparse() {
+            ALL_PAGES
+        } else {
+            self.pages.len() as u64
+        }
+    }
+
+    /// The number of the overlay that is visible at a page.
+    #[inline(always)]
+    fn visible(&self, page: u64) -> Option<usize>
+        ensures value { result ≡ visible self.now page }
+        ensures bound { IfSome result (λ overlay. overlay < 16) }
+    {
+        if page < self.pages.len() as u64 {
+            self.mapped.first(page as usize)
+        } else {
+            self.search(page)
+        }
+    }
+
+    /// The number of the first overlay that is mapped at a page which the space does not hold.
+    #[inline(never)]
+    fn search(&self, page: u64) -> Option<usize>
+        ensures value { result ≡ visible self.now page }
+        ensures bound { IfSome result (λ overlay. overlay < 16) }
+    {
+        self.registers
+            .iter()
+            .position(|register| OverlayWord::new(*register).is_mapped_at(page))
     }
 
     /// Which page a guest sees at a page number.
     pub fn owner(&self, page: u64) -> Owner
         ensures { result ≡ owner_of self.now page }
     {
-        if page >= self.pages.len() as u64 {
+        if page >= self.page_count() {
             return Owner::Nothing;
         }
         match self.visible(page) {
@@ -102,37 +140,55 @@ impl Space {
         }
     }
 
-    /// Why a load or a store of that many bytes is refused.
-    #[inline(always)]
-    fn refusal_of(&self, address: u64, length: usize) -> Option<Refusal>
-        ensures { result ≡ refusal_of self.now address length }
+    /// The first page from `from` on at which a guest sees an overlay, with its owner; `None` if there
+    /// is none. From 0 on, and then from the page after each answer, these are all such pages.
+    pub fn next_overlay(&self, from: u64) -> Option<(u64, Owner)>
+        ensures { IsNextOverlay self.now from result }
     {
-        if length == 0 || length > 8 {
-            Some(Refusal::BadLength)
-        } else if address / SIZE as u64 >= self.pages.len() as u64 {
-            Some(Refusal::OutsideSpace)
-        } else if (address % SIZE as u64) as usize + length > SIZE {
-            Some(Refusal::CrossesPage)
-        } else {
-            None
+        match least_page(self.registers.as_slice(), from, self.page_count()) {
+            Some(page) => Some((page, self.owner(page))),
+            None => None,
         }
+    }
+
+    /// The number of the overlay that is visible at an address, `None` for a guest page that the
+    /// space holds, or why a load or a store of that many bytes there is refused.
+    #[inline(always)]
+    fn overlay_at(&self, address: u64, length: usize) -> Result<Option<usize>, Refusal>
+        ensures { result ≡ option_map_or (λ r. Err r) (refusal_of self.now address length) (Ok (visible self.now (address / 4096))) }
+    {
+        let page = address / SIZE as u64;
+        // If the page is in the space, nothing that concerns a sparse one is tested.
+        let is_here = page < self.pages.len() as u64;
+        if length == 0 || length > 8 {
+            return Err(Refusal::BadLength);
+        }
+        if !is_here && !self.is_sparse() {
+            return Err(Refusal::OutsideSpace);
+        }
+        if (address % SIZE as u64) as usize + length > SIZE {
+            return Err(Refusal::CrossesPage);
+        }
+        let overlay = self.visible(page);
+        if !is_here && overlay.is_none() {
+            return Err(Refusal::Elsewhere);
+        }
+        Ok(overlay)
     }
 
     /// The bytes that a guest sees at an address. Refused, in this order: `BadLength` unless there
     /// are 1 to 8 bytes; `OutsideSpace` if the first is in no page; `CrossesPage` if the last is in
-    /// another page.
+    /// another page; `Elsewhere` if the page is in the caller's memory.
     #[inline(always)]
     pub fn load(&self, address: u64, length: u8) -> Result<Bytes8, Refusal>
         ensures { result ≡ loaded self.now address length }
     {
-        if let Some(refusal) = self.refusal_of(address, length as usize) {
-            return Err(refusal);
-        }
         let page = address / SIZE as u64;
         let at = (address % SIZE as u64) as usize;
-        match self.visible(page) {
-            None => Ok(self.pages[page as usize].load(at, length)),
-            Some(overlay) => Ok(self.own[overlay].load(at, length)),
+        match self.overlay_at(address, length as usize) {
+            Err(refusal) => Err(refusal),
+            Ok(None) => Ok(self.pages[page as usize].load(at, length)),
+            Ok(Some(overlay)) => Ok(self.own[overlay].load(at, length)),
         }
     }
 
@@ -152,17 +208,15 @@ impl Space {
         ensures answer { result ≡ store_answer self.old address bytes.now }
         ensures after { self.new ≡ after_store self.old address bytes.now }
     {
-        if let Some(refusal) = self.refusal_of(address, bytes.len()) {
-            return Err(refusal);
-        }
         let page = address / SIZE as u64;
         let at = (address % SIZE as u64) as usize;
-        match self.visible(page) {
-            None => {
+        match self.overlay_at(address, bytes.len()) {
+            Err(refusal) => Err(refusal),
+            Ok(None) => {
                 self.pages[page as usize].store(at, bytes);
                 Ok(Owner::Guest)
             }
-            Some(overlay) => {
+            Ok(Some(overlay)) => {
                 self.own[overlay].store(at, bytes);
                 Ok(overlay_owner(overlay))
             }

@@ -1,5 +1,5 @@
 -- What a guest store leaves unchanged.
-use Rattle.std.proofs.Common.{◌≡◌, ◌≢◌, ◌⊎◌, inl, inr, ℕ, zero, suc, ◌/◌, ◌%◌, List, [], length, get_or, set, nat_lt, refl, ap, sym, ◌∙◌, subst, length-set}
+use Rattle.std.proofs.Common.{◌≡◌, ◌≢◌, ◌⊎◌, inl, inr, ℕ, zero, suc, ◌/◌, ◌%◌, ◌^◌, ◌==◌, List, [], length, get_or, set, nat_lt, refl, ap, sym, ◌∙◌, subst, length-set}
 use Rattle.std.specs.Prelude.{Option, None, Some, map, if◌then◌else◌}
 use Rattle.std.specs.List.{range_with_len}
 use Rattle.std.specs.Option.{option_map_or}
@@ -66,7 +66,7 @@ visible_page-there s page bytes = seen (visible (space_of s) page)
 
 -- the owners, as a function of the number of pages
 abbrev owners_among : State → ℕ → List Owner
-owners_among s n = map (λ page. if nat_lt page n then option_map_or overlay_owner (visible (space_of s) page) Guest else Nothing) (range_with_len 0 n)
+owners_among s n = map (λ page. if nat_lt page (if n == 0 then 2 ^ 52 else n) then option_map_or overlay_owner (visible (space_of s) page) Guest else Nothing) (range_with_len 0 n)
 
 leaves-summary-there : (s : State) (page : ℕ) (bytes : List ℕ) (o : Option ℕ) → LeavesSummary s (there s page bytes o)
 leaves-summary-there s page bytes None = record { summary = ap (λ n. record (summary_of s) { owners = owners_among s n }) (length-set s.pages page bytes); ticket = refl }

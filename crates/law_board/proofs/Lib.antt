@@ -4,6 +4,7 @@ mod Refusing
 mod Timing
 mod Requesting
 mod Seeing
+mod Sparse
 mod Queueing
 mod Flagging
 mod Timers

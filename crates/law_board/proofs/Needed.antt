@@ -1,6 +1,6 @@
 -- What may join a queue is just what leaves a sound board.
-use Rattle.std.proofs.Common.{◌≡◌, ◌≢◌, ◌⊎◌, inl, inr, ℕ, ◌+◌, ◌<◌, ◌≤◌, Bool, true, false, cond, ◌&&◌, List, [], ◌∷◌, ◌++◌, length, refl, ap, sym, subst, ◌∙◌, arith}
-use Rattle.std.specs.Prelude.{◌==◌, count_by, Option, Some, IfSome}
+use Rattle.std.proofs.Common.{◌≡◌, ◌⊎◌, inl, inr, ℕ, ◌+◌, ◌<◌, ◌≤◌, Bool, true, cond, ◌&&◌, List, [], ◌∷◌, ◌++◌, length, refl, ap, subst, ◌∙◌, arith}
+use Rattle.std.specs.Prelude.{◌==◌, count_by, Some}
 use Rattle.std.specs.List.{All}
 use Rattle.std.proofs.lemmas.Bool.{cases_lt}
 use Rattle.std.proofs.lemmas.Bool.Decides.{nat_tests}
@@ -11,12 +11,12 @@ use Rattle.board_terms.specs.declared.messages.Message.{Message}
 use Rattle.board_terms.specs.declared.messages.Message.TheVariants.{FromPort, FromTimer}
 use Rattle.board_terms.specs.Messages.{ticket_of}
 use Rattle.board_terms.specs.Sources.{source_number}
-use Rattle.message_queues.specs.Queues.{is_from_port, is_from_timer, port_used, timer_used, queue_of, HasBuffer}
+use Rattle.message_queues.specs.Queues.{is_from_port, is_from_timer, timer_used, queue_of, HasBuffer}
 use Rattle.synic_board.specs.State.{State, processors}
 use Rattle.synic_board.specs.Locations.{times, locations}
 use Rattle.synic_board.specs.Sound.{IsMessage, IsSound}
 use Rattle.synic_board.specs.Buffers.{IsHome, HasBuffers}
-use Rattle.synic_board.specs.Restoring.{with_message, IsUnplaced, MayJoin}
+use Rattle.synic_board.specs.Restoring.{with_message, MayJoin}
 use Rattle.synic_board.proofs.keeping.Counts.{in_queue, one, times-locations, in_queue-push}
 use Rattle.synic_board.proofs.keeping.Placements.{queue-good}
 use Rattle.synic_board.proofs.keeping.Uses.{found_in}

@@ -1,10 +1,10 @@
 -- No reply has more than 8 bytes.
-use Rattle.std.proofs.Common.{◌≡◌, ℕ, ◌+◌, ◌≤◌, List, length, take, drop, Option, None, Some, Ok, Err, refl, arith, cond, Bool, true, false, nat_lt, ◌/◌, ◌%◌, ◌==◌, ◌||◌, not}
+use Rattle.std.proofs.Common.{◌≡◌, ℕ, ◌≤◌, List, take, drop, Option, None, Some, Ok, Err, refl, arith, cond, Bool, true, false, nat_lt, ◌/◌, ◌%◌, ◌==◌, ◌||◌}
 use Rattle.std.specs.Option.{option_map_or}
 use Rattle.std.proofs.lemmas.Bool.{ltb-false}
 use Rattle.std.proofs.lemmas.List.{length-take}
 use Rattle.board_terms.specs.declared.refusal.Refusal.{Refusal}
-use Rattle.board_terms.specs.declared.refusal.Refusal.TheVariants.{OutsideSpace, CrossesPage, BadLength}
+use Rattle.board_terms.specs.declared.refusal.Refusal.TheVariants.{BadLength}
 use Rattle.gpa_space.specs.Space.{refusal_of, visible_page}
 use Rattle.synic_regs.specs.Registers.{register_of}
 use Rattle.synic_regs.specs.declared.register.Register.{Register}
@@ -55,17 +55,15 @@ fits-load s address count = long (nat_lt 8 count) refl
     answered (Some r) bound = tt
 
     long : (t : Bool) → nat_lt 8 count ≡ t → IsReply (read_bytes s address count)
-    long true is = by ((count == 0) || nat_lt 8 count) (rw is (either_true (count == 0)))
+    long true is = by ((count == 0) || nat_lt 8 count) _ (rw is (either_true (count == 0)))
       where
         either_true : (b : Bool) → (b || true) ≡ true
         either_true true = refl
         either_true false = refl
 
-        by : (t : Bool) → t ≡ true → IsReply (load_reply (option_map_or (λ r. Err r)
-            (cond t (Some BadLength) (cond (not (nat_lt (address / 4096) (length s.pages))) (Some OutsideSpace) (cond (nat_lt 4096 (address % 4096 + count)) (Some CrossesPage) None)))
-            (Ok (record { items = bytes }))))
-        by true e = tt
-        by false e = cc
+        by : (t : Bool) (other : Option Refusal) → t ≡ true → IsReply (load_reply (option_map_or (λ r. Err r) (cond t (Some BadLength) other) (Ok (record { items = bytes }))))
+        by true other e = tt
+        by false other e = cc
     long false is = answered (refusal_of (space_of s) address count) (ltb-false 8 count is)
 
 pub step-fits : (s : State) (event : Event) → IsReply (step s event).1

@@ -7,5 +7,6 @@ pub mod OneShots
 pub mod Periods
 pub mod Order
 pub mod Seen
+pub mod Sparse
 pub mod Leaving
 pub mod Saved

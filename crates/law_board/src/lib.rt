@@ -27,6 +27,7 @@ ghost use Rattle.synic_board.specs.Run.{run_of};
 ghost use Rattle.law_board.specs.Accounts.{Accounts};
 ghost use Rattle.synic_board.specs.Replies.{IsReply, IsRefusal};
 ghost use Rattle.law_board.specs.Leaving.{LeavesSummary, LeavesHidden};
+ghost use Rattle.law_board.specs.Sparse.{Memory, AreAllPages, holding, completed, completed_run};
 ghost use Rattle.law_board.specs.Requests.{has_request_notice, Takes};
 ghost use Rattle.law_board.specs.Timely.{AreTimely};
 ghost use Rattle.synic_board.specs.Slots.{IsApart, LeavesSlot};
@@ -67,6 +68,24 @@ pub fn a_processor_has_one_suspension()
 /// No reply has more than 8 bytes, the most that a guest may load at once.
 pub fn no_reply_has_more_than_eight_bytes()
     ensures { (s : State) (event : Event) → IsReply (step s event).1 }
+{}
+
+/// A sparse board and the memory of its guest, 2^52 pages, are a board that holds all these pages: each
+/// event has the outcome of that board, where the caller performs in the memory each load and store that
+/// the sparse board refuses as `Elsewhere`.
+pub fn a_sparse_board_acts_like_one_with_all_pages()
+    ensures { (s : State) (memory : Memory) (event : Event) → s.pages ≡ [] → AreAllPages memory → step (holding s memory) event ≡ completed memory event (step s event) }
+{}
+
+/// The same for any list of events. So what is proved of any board's replies, notices and states holds
+/// of a sparse board with the memory of its guest.
+pub fn a_sparse_board_runs_like_one_with_all_pages()
+    ensures { (s : State) (memory : Memory) (events : List Event) → s.pages ≡ [] → AreAllPages memory → run_of (holding s memory) events ≡ completed_run s memory events }
+{}
+
+/// A sparse board stays sparse.
+pub fn a_sparse_board_stays_sparse()
+    ensures { (s : State) (event : Event) → s.pages ≡ [] → (step s event).0.pages ≡ [] }
 {}
 
 /// A guest store leaves everything in a summary unchanged, and the next ticket.

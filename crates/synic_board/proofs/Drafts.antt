@@ -1,6 +1,6 @@
 -- A board that is being restored is sound at each moment.
 use Rattle.std.proofs.Common.{◌≡◌, ◌≢◌, ◌⊎◌, inl, inr, ℕ, ◌+◌, ◌*◌, ◌<◌, ◌≤◌, Bool, true, false, cond, List, [], ◌∷◌, ◌++◌, ◌||◌, IsTrue, length, length-set, refl, ap, sym, subst, ◌∙◌, arith}
-use Rattle.std.specs.Prelude.{◌==◌, not, count_by, Option, None, Some, slice_index_or, slice_set}
+use Rattle.std.specs.Prelude.{◌==◌, not, count_by, Option, None, Some}
 use Rattle.std.specs.List.{All, list_any}
 use Rattle.std.specs.Option.{option_map_or}
 use Rattle.std.proofs.lemmas.Bool.{cases_eq}
@@ -36,7 +36,7 @@ use Rattle.synic_board.specs.Timers.{at_moment}
 use Rattle.synic_board.specs.Delivery.{is_slot_empty, accepted}
 use Rattle.synic_board.specs.Locations.{times, locations, AreTickets}
 use Rattle.synic_board.specs.Sound.{IsMessage, IsFree}
-use Rattle.synic_board.specs.Buffers.{IsHome, HasBuffers}
+use Rattle.synic_board.specs.Buffers.{IsHome}
 use Rattle.synic_board.specs.Settled.{IsSettled}
 use Rattle.synic_board.specs.Restoring.{with_processor, with_saved_timer, with_own_bytes, with_guest_bytes, with_message, HasNoTickets, IsUnplaced, MayJoin, MayOccupy}
 use Rattle.synic_board.specs.inside.Drafts.{IsDraft}

@@ -16,7 +16,7 @@ use Rattle.lapic_core.proofs.Priority.{next-empty}
 use Rattle.synic_regs.specs.Regs.{Regs, reset_regs, masked, is_auto_source, auto_vectors}
 use Rattle.synic_regs.proofs.AutoVectors.{contains-auto_vectors}
 use Rattle.board_terms.specs.declared.pages.Owner.TheVariants.{Guest, Nothing}
-use Rattle.gpa_space.specs.Space.{Space, is_mapped_at, visible, owner_of, overlay_owner, opened as opened_space}
+use Rattle.gpa_space.specs.Space.{Space, is_mapped_at, visible, page_count, owner_of, overlay_owner, opened as opened_space}
 use Rattle.event_ports.specs.Ports.{Ports, no_ports}
 use Rattle.message_queues.specs.Queues.{Queues, no_messages}
 use Rattle.board_terms.specs.Dues.{least, least_below, earlier, timer_of}
@@ -55,7 +55,7 @@ none-visible s n page e =
 
 owner-opened : (s : Space) (n page : ℕ) → s.registers ≡ replicate n 0 → page < length s.pages → owner_of s page ≡ Guest
 owner-opened s n page e h =
-    let on : nat_lt page (length s.pages) ≡ true = grind (arith, nat_tests) in
+    let on : nat_lt page (page_count s) ≡ true = grind (arith, nat_tests) in
     ap (λ b. if b then option_map_or overlay_owner (visible s page) Guest else Nothing) on ∙ ap (λ o. option_map_or overlay_owner o Guest) (none-visible s n page e)
 
 owners-opened : (s : Space) (n k : ℕ) → s.registers ≡ replicate n 0 → length s.pages ≡ k → replicate k Guest ≡ owners_of s

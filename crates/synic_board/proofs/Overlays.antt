@@ -14,7 +14,7 @@ use Rattle.std.proofs.Math.Seq.{map-set_same}
 use Rattle.lapic_core.specs.Vectors.{Vectors}
 use Rattle.synic_regs.specs.declared.register.Register.TheVariants.{Source}
 use Rattle.synic_regs.specs.Regs.{Regs, reset_regs, stores, is_refused, with_value, after_write, value_of, auto_vectors}
-use Rattle.gpa_space.specs.Space.{Space, overlay_of, is_mapped_at, visible, owner_of, overlay_owner}
+use Rattle.gpa_space.specs.Space.{Space, overlay_of, is_mapped_at, visible, page_count, owner_of, overlay_owner}
 use Rattle.synic_board.specs.State.{overlay_registers}
 use Rattle.synic_board.specs.Summaries.{Values, owners_of}
 use Rattle.synic_board.specs.inside.Moves.{looked_up, with_owners}
@@ -80,7 +80,7 @@ visible-moved s k u v page was a b =
 
 -- a page that the overlay neither left nor reached keeps its owner
 owner-moved : (s : Space) (k u v page : ℕ) → get_or s.registers k 0 ≡ u → u / 4096 ≢ page → v / 4096 ≢ page → owner_of (record s { registers = set s.registers k v }) page ≡ owner_of s page
-owner-moved s k u v page was a b = ap (λ o. if nat_lt page (length s.pages) then option_map_or overlay_owner o Guest else Nothing) (visible-moved s k u v page was a b)
+owner-moved s k u v page was a b = ap (λ o. if nat_lt page (page_count s) then option_map_or overlay_owner o Guest else Nothing) (visible-moved s k u v page was a b)
 
 pub length-looked_up : (s : Space) (owners : List Owner) (page : ℕ) → length (looked_up s owners page) ≡ length owners
 length-looked_up s owners page = elim (nat_lt page (length s.pages)) as

@@ -11,7 +11,7 @@ use Rattle.board_terms.specs.declared.pages.Owner.{Owner}
 use Rattle.board_terms.specs.Sources.{source_number}
 use Rattle.message_queues.specs.Image.{slot_type}
 use Rattle.gpa_space.specs.Page.{overwritten}
-use Rattle.gpa_space.specs.Space.{Space, refusal_of, owner_of, visible, is_mapped_at, overlay_owner, visible_page, with_visible_page, store_answer, after_store}
+use Rattle.gpa_space.specs.Space.{Space, page_count, refusal_of, owner_of, visible, is_mapped_at, overlay_owner, visible_page, with_visible_page, store_answer, after_store}
 use Rattle.synic_board.specs.State.{State, processors, overlay_registers, space_of, slot_of, with_space}
 use Rattle.synic_board.specs.Effects.{Effect, nothing, after}
 use Rattle.synic_board.specs.Delivery.{is_slot_empty}
@@ -118,9 +118,9 @@ others-free s address bytes t owner h answer after' =
     seen : refusal_of (space_of s) address (length bytes) ≡ None → (o : Option ℕ) → visible (space_of s) page ≡ o →
         OthersFree (with_space s (with_visible_page (space_of s) page (overwritten (visible_page (space_of s) page) at bytes))) (owner_of (space_of s) page) slot
     seen none None is = rw is
-        (either (λ o. OthersFree (record s { pages = set s.pages page (overwritten (get_or s.pages page []) at bytes) }) o slot) (nat_lt page (length s.pages)) _ _ (λ _. tt) (λ _. tt))
+        (either (λ o. OthersFree (record s { pages = set s.pages page (overwritten (get_or s.pages page []) at bytes) }) o slot) (nat_lt page (page_count (space_of s))) _ _ (λ _. tt) (λ _. tt))
     seen none (Some k) is =
         let low : k < 2 * processors s = omega (arith, (position-Some (is_mapped_at page) (overlay_registers s.regs) k 0 is).0, length-overlays s.regs, h.whole.registers) in
         let sizes : (at + length bytes ≤ 4096) × (0 < length bytes) × (length bytes ≤ 8) = (grind (arith, nat_tests), grind (arith, nat_tests), grind (arith, nat_tests)) in
-        rw is (either (λ o. OthersFree (record s { own = set s.own k (overwritten (get_or s.own k []) at bytes) }) o slot) (nat_lt page (length s.pages)) _ _
+        rw is (either (λ o. OthersFree (record s { own = set s.own k (overwritten (get_or s.own k []) at bytes) }) o slot) (nat_lt page (page_count (space_of s))) _ _
         (λ _. others-written s k at bytes h low sizes.0 sizes.1 sizes.2) (λ _. tt))

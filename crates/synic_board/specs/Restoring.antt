@@ -1,5 +1,5 @@
 -- The pieces of a board that is being restored.
-use Rattle.std.specs.Prelude.{◌≡◌, ◌≢◌, ◌<◌, ℕ, false, None, List, [], slice_index_or}
+use Rattle.std.specs.Prelude.{◌≡◌, ◌<◌, ℕ, false, None, List, [], slice_index_or}
 use Rattle.board_terms.specs.Quantities.{Processor, Source, Ticket, TimerId, PageNumber}
 use Rattle.board_terms.specs.Messages.{ticket_of}
 use Rattle.board_terms.specs.declared.messages.Message.{Message}
@@ -13,7 +13,7 @@ use Rattle.gpa_space.specs.Space.{own_page, with_own_page, with_guest_page}
 use Rattle.message_queues.specs.Queues.{HasBuffer, appended}
 use Rattle.stimer_bank.specs.declared.timer.Timer.{Timer}
 use Rattle.stimer_bank.specs.Bank.{with_timer, with_suspension as bank_with_suspension}
-use Rattle.synic_board.specs.State.{State, with_apic, with_bank, with_space, space_of, bank_of, slot_of, with_slot_ticket}
+use Rattle.synic_board.specs.State.{State, with_apic, with_bank, with_space, space_of, bank_of, slot_of}
 use Rattle.synic_board.specs.Delivery.{is_slot_empty}
 use Rattle.synic_board.specs.Locations.{times, locations}
 use Rattle.synic_board.specs.Sound.{IsMessage}

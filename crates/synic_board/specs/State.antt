@@ -21,7 +21,7 @@ pub record State : Type 0 where
   pub apics : List Apic
   -- the SynIC registers of each processor
   pub regs : List Regs
-  -- the guest pages
+  -- the guest pages that the board holds: all, or none of a sparse board's
   pub pages : List (List ℕ)
   -- the overlays' own pages, in the order of visibility
   pub own : List (List ℕ)
@@ -83,14 +83,19 @@ slot_of s p i = slice_index_or s.slots (source_number p i) None
 abbrev pub with_slot_ticket : State → Processor → Source → Option Ticket → State
 with_slot_ticket s p i ticket = record s { slots = slice_set s.slots (source_number p i) ticket }
 
--- the valid sizes of a board
+-- the number of processors that a board may have
+pub record IsCount (processors : ℕ) : Type 0 where
+  pub some : 1 ≤ processors
+  pub bound : processors ≤ 8
+
+-- the valid sizes of a board that holds its guest pages
 pub record AreSizes (processors pages : ℕ) : Type 0 where
   pub some_processor : 1 ≤ processors
   pub processor_bound : processors ≤ 8
   pub some_page : 1 ≤ pages
   pub page_bound : pages ≤ 64
 
--- the state of a newly opened board
+-- the state of a newly opened board; with no pages it is sparse
 abbrev pub opened : ℕ → ℕ → Ticket → State
 opened n pages ticket =
     record {

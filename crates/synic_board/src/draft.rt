@@ -6,7 +6,7 @@ ghost use Rattle.stimer_bank.specs.Timer.{IsSoundTimer};
 ghost use Rattle.synic_regs.specs.Regs.{after_write, with_value};
 ghost use Rattle.synic_regs.specs.declared.register.Register.TheVariants as register;
 ghost use Rattle.synic_board.specs.Registers.{stored};
-ghost use Rattle.synic_board.specs.State.{AreSizes, opened, processors, regs_of, with_regs, with_slot_ticket};
+ghost use Rattle.synic_board.specs.State.{AreSizes, IsCount, opened, processors, regs_of, with_regs, with_slot_ticket};
 ghost use Rattle.synic_board.specs.Posts.{opened_port};
 ghost use Rattle.synic_board.specs.Timers.{at_moment};
 ghost use Rattle.synic_board.specs.Sound.{IsMessage};
@@ -71,6 +71,28 @@ impl Draft {
         }
     }
 
+    /// A newly opened sparse board whose next accepted message gets the ticket `next_ticket`. `BadSize`
+    /// unless there are 1 to 8 processors.
+    pub fn open_sparse(
+        alloc: Global,
+        processors: u8,
+        next_ticket: Ticket,
+    ) -> Result<Draft, OpenFault>
+        ensures size { IsErrOf result OpenFault.BadSize ↔ (¬ IsCount processors) }
+        ensures opened { IfOk result (λ d. d ≡ opened processors 0 next_ticket) }
+    {
+        if processors < 1 || processors > 8 {
+            return Err(OpenFault::BadSize);
+        }
+        match Machine::open(alloc, processors, 0, next_ticket) {
+            Ok(machine) => Ok(Draft {
+                machine,
+                tickets: Vec::new(alloc),
+            }),
+            Err(_) => Err(OpenFault::Memory),
+        }
+    }
+
     /// The number of processors on the board.
     pub fn processors(&self) -> u8
         ensures count { result ≡ processors self.now }
@@ -79,7 +101,7 @@ impl Draft {
         self.machine.processors()
     }
 
-    /// The number of guest pages.
+    /// The number of guest pages that the board holds; 0 iff it is sparse.
     pub fn pages(&self) -> u8
         ensures { result ≡ length self.now.pages }
     {

@@ -3,7 +3,7 @@ ghost use Rattle.std.specs.Prelude.{◌≡◌, ◌<◌, ◌≤◌, ◌+◌, ◌�
 ghost use Rattle.lapic_core.specs.Apic.{empty_apic};
 ghost use Rattle.synic_regs.specs.Regs.{reset_regs};
 ghost use Rattle.synic_board.specs.declared.event.Event.TheVariants.{Post, Store};
-ghost use Rattle.synic_board.specs.State.{AreSizes, opened, processors};
+ghost use Rattle.synic_board.specs.State.{opened, processors};
 ghost use Rattle.synic_board.specs.Summaries.{summary_of, stored_summary, HasSizes};
 ghost use Rattle.synic_board.specs.Step.{step};
 ghost use Rattle.synic_board.specs.Sound.{IsSound, PayloadFits};
@@ -69,14 +69,16 @@ impl Model for Machine {
 }
 
 impl Machine {
-    /// A newly opened machine. Allocates all memory that events need.
+    /// A newly opened machine; with 0 pages it is sparse. Allocates all memory that events need.
     pub(crate) fn open(
         alloc: Global,
         processors: u8,
         pages: u8,
         first_ticket: Ticket,
     ) -> Result<Machine, AllocError>
-        requires { AreSizes processors pages }
+        requires some_processor { 1 ≤ processors }
+        requires processor_bound { processors ≤ 8 }
+        requires page_bound { pages ≤ 64 }
         ensures opened { IfOk result (λ m. m.state ≡ opened processors pages first_ticket) }
         ensures writes { IfOk result (λ m. m.writes ≡ 0) }
     {

@@ -77,6 +77,7 @@ const REFUSALS: [(u8, Refusal, &str); 16] = [
         "the processor is suspended already",
     ),
     (16, Refusal::NotSuspended, "the processor is not suspended"),
+    (17, Refusal::Elsewhere, "the page is in the caller's memory"),
 ];
 
 #[test]

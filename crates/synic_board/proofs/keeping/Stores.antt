@@ -14,7 +14,7 @@ use Rattle.board_terms.specs.declared.pages.Owner.TheVariants.{Guest, Nothing}
 use Rattle.board_terms.specs.Sources.{source_number}
 use Rattle.message_queues.specs.Image.{slot_type}
 use Rattle.gpa_space.specs.Page.{overwritten}
-use Rattle.gpa_space.specs.Space.{Space, refusal_of, overlay_owner, visible, is_mapped_at}
+use Rattle.gpa_space.specs.Space.{Space, page_count, refusal_of, overlay_owner, visible, is_mapped_at}
 use Rattle.synic_board.specs.State.{State, processors, overlay_registers, space_of, slot_of, with_space, with_slot_ticket}
 use Rattle.synic_board.specs.Effects.{Effect, nothing}
 use Rattle.synic_board.specs.Delivery.{is_slot_empty}
@@ -190,8 +190,8 @@ store_at s page at bytes o =
     let stored : List ℕ = overwritten (option_map_or (λ overlay. slice_index_or s.own overlay []) o (slice_index_or s.pages page [])) at bytes in
     option_map_or (λ overlay. record (space_of s) { own = slice_set s.own overlay stored }) o (record (space_of s) { pages = slice_set s.pages page stored })
 
-keeps-store_at : (n : ℕ) (s : State) (page at : ℕ) (bytes : List ℕ) → IsIntact n s → at + length bytes ≤ 4096 → nat_lt page (length s.pages) ≡ true → (o : Option ℕ) → visible (space_of s) page ≡ o →
-    KeepsMessages n s (consumed_in (with_space s (store_at s page at bytes o)) (if nat_lt page (length s.pages) then option_map_or overlay_owner o Guest else Nothing))
+keeps-store_at : (n : ℕ) (s : State) (page at : ℕ) (bytes : List ℕ) → IsIntact n s → at + length bytes ≤ 4096 → nat_lt page (page_count (space_of s)) ≡ true → (o : Option ℕ) → visible (space_of s) page ≡ o →
+    KeepsMessages n s (consumed_in (with_space s (store_at s page at bytes o)) (if nat_lt page (page_count (space_of s)) then option_map_or overlay_owner o Guest else Nothing))
 keeps-store_at n s page at bytes h fits inside o is = rw inside (seen o is)
   where
     seen : (o : Option ℕ) → visible (space_of s) page ≡ o → KeepsMessages n s (consumed_in (with_space s (store_at s page at bytes o)) (option_map_or overlay_owner o Guest))
@@ -207,7 +207,7 @@ keeps-store_at n s page at bytes h fits inside o is = rw inside (seen o is)
 fits-page : (s : Space) (address count : ℕ) → refusal_of s address count ≡ None → address % 4096 + count ≤ 4096
 fits-page s address count none = grind (arith, nat_tests)
 
-in-space : (s : Space) (address count : ℕ) → refusal_of s address count ≡ None → nat_lt (address / 4096) (length s.pages) ≡ true
+in-space : (s : Space) (address count : ℕ) → refusal_of s address count ≡ None → nat_lt (address / 4096) (page_count s) ≡ true
 in-space s address count none = grind (arith, nat_tests)
 
 pub keeps-stored_bytes : (n : ℕ) (s : State) (address : ℕ) (bytes : List ℕ) → IsIntact n s → KeepsMessagesOf n s (stored_bytes s address bytes)

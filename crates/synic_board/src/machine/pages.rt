@@ -1,8 +1,8 @@
 // Guest loads and stores, and the messages that a store consumes.
 ghost use Rattle.std.specs.Prelude.{◌≡◌, ◌<◌, ◌≤◌, ◌+◌, [], length, IfSome, slice_get};
 ghost use Rattle.std.specs.Option.{option_copied};
-ghost use Rattle.gpa_space.specs.Space.{overlay_of};
-ghost use Rattle.synic_board.specs.State.{processors};
+ghost use Rattle.gpa_space.specs.Space.{overlay_of, owner_of, IsNextOverlay};
+ghost use Rattle.synic_board.specs.State.{processors, space_of};
 ghost use Rattle.synic_board.specs.inside.Effected.{preceded};
 ghost use Rattle.synic_board.specs.Stores.{stored_bytes, read_bytes, consumed, consumed_in};
 ghost use Rattle.synic_board.specs.inside.Steps.{IsOn};
@@ -29,6 +29,20 @@ impl Machine {
         ensures len { IfSome result (λ page. length page.now ≡ 4096) }
     {
         self.space.own_page(vp, kind)
+    }
+
+    /// Which page a guest sees at a page number.
+    pub(crate) fn owner(&self, page: u64) -> Owner
+        ensures { result ≡ owner_of (space_of self.now.state) page }
+    {
+        self.space.owner(page)
+    }
+
+    /// The first page from a number on at which a guest sees an overlay, with its owner.
+    pub(crate) fn next_overlay(&self, from: u64) -> Option<(u64, Owner)>
+        ensures { IsNextOverlay (space_of self.now.state) from result }
+    {
+        self.space.next_overlay(from)
     }
 
     /// A guest page, without the overlays that obscure it.

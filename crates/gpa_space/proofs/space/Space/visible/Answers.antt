@@ -1,10 +1,10 @@
 use Rattle.std.proofs.Common.{◌<◌, length, ap, ◌∙◌, arith}
-use Rattle.gpa_space.specs.Space.{Space, visible}
+use Rattle.gpa_space.specs.Space.{visible}
 use Rattle.gpa_space.proofs.Visible.{lowest-visible}
 use Rattle.gpa_space.proofs.space.Space.visible.Goals as goal
 
-pub returns : goal.returns
-returns c =
+pub returns-then-page-len-clause-value : goal.returns-then-page-len-clause-value
+returns-then-page-len-clause-value c =
     let words = c.self.inside.mapped.words.items in
-    let within : c.args.page < length words = omega (arith, c.requires, c.self.invariant.each, ap (λ (s : Space). length s.pages) c.self.view_is) in
+    let within : c.args.page < length words = omega (arith, c.if-page-len.true, c.self.invariant.each) in
     lowest-visible c.self.inside.registers.items words c.args.page _ c.self.invariant.mapped within c.self.invariant.bound c.first.ensures ∙ ap (λ s. visible s c.args.page) c.self.view_is

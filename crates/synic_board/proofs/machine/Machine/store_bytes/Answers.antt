@@ -5,7 +5,7 @@ use Rattle.synic_board.specs.Stores.{stored_bytes}
 use Rattle.synic_board.specs.Sound.{IsSound}
 use Rattle.synic_board.specs.inside.Touches.{OthersFree}
 use Rattle.synic_board.specs.inside.View.{state_of}
-use Rattle.synic_board.proofs.Storing.{stored_is}
+use Rattle.synic_board.proofs.Storing.{stored_is, kept-stored}
 use Rattle.synic_board.proofs.Touching.{others-free}
 use Rattle.synic_board.proofs.machine.Machine.store_bytes.Goals as goal
 
@@ -27,3 +27,6 @@ returns-clause-step c =
     stored_is s c.consume_in.new.self.state c.args.address c.args.bytes.now c.self.inside.space c.store_slice.new.self c.in-Ok.owner c.args.notices.now c.consume_in.new.notices
     space (sym c.in-Ok.is ∙ c.store_slice.ensures.answer) c.store_slice.ensures.after c.requires.none c.consume_in.ensures.effect
     ∙ ap (λ (h : BoardModel). stored_bytes h.state c.args.address c.args.bytes.now) c.self.view_is
+
+pub invariant_of-self-2 : goal.invariant_of-self-2
+invariant_of-self-2 c = kept-stored c.self.inside c.store_slice.new.self c.args.address c.args.bytes.now c.self.invariant c.store_slice.ensures.after
