@@ -145,6 +145,7 @@ LOOK(uint16_t, synicboard_queued, (board, vp, sint), const synicboard *board, ui
 LOOK(uint64_t, synicboard_moment, (board), const synicboard *board)
 LOOK(uint64_t, synicboard_next_ticket, (board), const synicboard *board)
 LOOK(synicboard_page_owner, synicboard_owner, (board, page), const synicboard *board, uint64_t page)
+LOOK(synicboard_overlay, synicboard_next_overlay, (board, from), const synicboard *board, uint64_t from)
 CALL_FOR_STRUCT(synicboard_reply, synicboard_tick_due, board == NULL || due == NULL, BOARD(board) DUE(due),
                 (board, moment, due), synicboard *board, uint64_t moment, synicboard_due *due)
 CALL_FOR_STRUCT(synicboard_timer_state, synicboard_timer, board == NULL, CONST_BOARD(board), (board, vp, timer),
@@ -154,6 +155,8 @@ CALL(bool, synicboard_slot, board == NULL || ticket == NULL, CONST_BOARD(board) 
 CALL_FOR_STRUCT(synicboard_local_apic, synicboard_lapic, board == NULL, CONST_BOARD(board), (board, vp),
                 const synicboard *board, uint8_t vp)
 CALL_FOR_STRUCT(synicboard_due, synicboard_earliest, board == NULL, CONST_BOARD(board), (board), const synicboard *board)
+CALL_FOR_STRUCT(synicboard_due, synicboard_earliest_after, board == NULL, CONST_BOARD(board), (board, moment),
+                const synicboard *board, uint64_t moment)
 CALL(uint64_t, synicboard_update, board == NULL || view == NULL, CONST_BOARD(board) VIEW(view),
      (board, view), const synicboard *board, synicboard_view *view)
 CALL(uint64_t, synicboard_update_owners, board == NULL || owners == NULL, CONST_BOARD(board) OWNERS(owners),
@@ -188,6 +191,7 @@ CALL_FOR_STRUCT(synicboard_end, synicboard_format_entry, event == NULL || reply 
 #define PROVED(name) __typeof__(name) proved_##name
 
 PROVED(synicboard_open);
+PROVED(synicboard_open_sparse);
 PROVED(synicboard_restore);
 PROVED(synicboard_close);
 PROVED(synicboard_open_line);
@@ -201,6 +205,13 @@ uint8_t synicboard_open(synicboard *board, uint8_t processors, uint8_t pages, ui
     if (board == NULL)
         return SYNICBOARD_NO_HANDLE;
     return proved_synicboard_open(board, processors, pages, first_ticket);
+}
+
+uint8_t synicboard_open_sparse(synicboard *board, uint8_t processors, uint64_t first_ticket)
+{
+    if (board == NULL)
+        return SYNICBOARD_NO_HANDLE;
+    return proved_synicboard_open_sparse(board, processors, first_ticket);
 }
 
 void synicboard_close(synicboard *board)

@@ -1,7 +1,8 @@
 /* synicboard.h: the interrupt side of a Hyper-V-like partition, as a library for C.
  *
  * A board has 1 to 8 virtual processors, each with a local APIC, a SynIC and four synthetic timers,
- * and 1 to 64 guest pages of 4096 bytes. It starts no thread, reads no clock and calls nothing back:
+ * and 1 to 64 guest pages of 4096 bytes; a sparse board leaves all guest pages to the caller, and its
+ * guest may have any number of them. It starts no thread, reads no clock and calls nothing back:
  * the host performs events on it. Each event returns a reply and emits notices. docs/MACHINE.md
  * specifies both; docs/EMBEDDING.md shows the run loop of a host.
  *
@@ -80,6 +81,14 @@ enum {
  * SYNICBOARD_NO_MEMORY if an allocation fails. */
 uint8_t synicboard_open(synicboard *board, uint8_t processors, uint8_t pages, uint64_t first_ticket);
 
+/* Opens a sparse board at time 0, for a guest with memory of any size: page numbers are 0 to 2^52 - 1, and the
+ * caller has the pages. The board holds only the message and event flags pages, and decides at which page a
+ * guest sees them. A load or a store of any other page is refused as SYNICBOARD_ELSEWHERE: the caller performs
+ * it in the guest's memory. Everything else is as on a board with that many pages.
+ *
+ * Returns what synicboard_open returns; SYNICBOARD_BAD_SIZE unless `processors` is 1 to 8. */
+uint8_t synicboard_open_sparse(synicboard *board, uint8_t processors, uint64_t first_ticket);
+
 /* Frees the board and closes its handle. Does nothing if the handle is closed. Pointers to pages of the
  * board become invalid. */
 void synicboard_close(synicboard *board);
@@ -117,7 +126,8 @@ enum {
     SYNICBOARD_BAD_LENGTH = 13,         /* the length is 0 or above 8 */
     SYNICBOARD_NO_SUCH_PROCESSOR = 14,  /* the processor is not on the board */
     SYNICBOARD_ALREADY_SUSPENDED = 15,  /* the processor is suspended */
-    SYNICBOARD_NOT_SUSPENDED = 16       /* the processor is not suspended */
+    SYNICBOARD_NOT_SUSPENDED = 16,      /* the processor is not suspended */
+    SYNICBOARD_ELSEWHERE = 17           /* of a sparse board: the page is in the caller's memory */
 };
 
 /* A reply. Fields that its kind does not use are 0, except `value` in a reply of
@@ -427,7 +437,7 @@ bool synicboard_slot(const synicboard *board, uint8_t vp, uint8_t sint, uint64_t
 /* Which page is visible at a page number. */
 enum {
     SYNICBOARD_OWNER_NOTHING = 0,       /* no such page, or the handle is closed */
-    SYNICBOARD_OWNER_GUEST = 1,         /* the guest page */
+    SYNICBOARD_OWNER_GUEST = 1,         /* the guest page, of a sparse board the caller's */
     SYNICBOARD_OWNER_MESSAGES = 2,      /* the message page of `vp` */
     SYNICBOARD_OWNER_FLAGS = 3          /* the event flags page of `vp` */
 };
@@ -439,6 +449,17 @@ typedef struct synicboard_page_owner {
 
 /* The page that a guest sees at page number `page`. */
 synicboard_page_owner synicboard_owner(const synicboard *board, uint64_t page);
+
+/* A page at which a guest sees an overlay. */
+typedef struct synicboard_overlay {
+    synicboard_page_owner owner;        /* SYNICBOARD_OWNER_NOTHING if there is none */
+    uint64_t page;
+} synicboard_overlay;
+
+/* The first page from `from` on at which a guest sees an overlay. From 0 on, and then from `page` + 1, these are
+ * all of them in ascending order, at most 16, for a host to map. A write of SIMP or SIEFP, or a reset, may change
+ * them. */
+synicboard_overlay synicboard_next_overlay(const synicboard *board, uint64_t from);
 
 /* The earliest deadline of a timer. If `is_due`, timer `timer` of processor `vp` is due at
  * high * 2^64 + low, in units of 100 ns. The clock never reaches a deadline with `high` above 0. */
@@ -452,6 +473,11 @@ typedef struct synicboard_due {
 
 /* The timer with the earliest deadline, for a host to arm its own timer with. */
 synicboard_due synicboard_earliest(const synicboard *board);
+
+/* The earliest deadline that is later than `moment`. A timer that is due and not ready to expire, such as one
+ * without a free buffer, stays the earliest of all and hides the others; it is tried again at the next tick. So
+ * a host arms its timer for the earliest deadline after the present, and ticks again after a guest's events. */
+synicboard_due synicboard_earliest_after(const synicboard *board, uint64_t moment);
 
 /* synicboard_tick, and the earliest timer afterwards in `*due`: arm the host's timer for it. */
 synicboard_reply synicboard_tick_due(synicboard *board, uint64_t moment, synicboard_due *due);
@@ -487,7 +513,7 @@ uint64_t synicboard_update_owners(const synicboard *board, synicboard_owners *ow
  * and closing change the bytes, so do not read them while such a call runs. Each page is an allocation
  * of its own, so it is aligned to a host page if malloc aligns blocks of this size so
  * (examples/c/pages.c). The message and event flags pages are the processor's own, whether or not an
- * overlay makes them visible; a guest page is the page below the overlays. */
+ * overlay makes them visible; a guest page is the page below the overlays. A sparse board holds none. */
 bool synicboard_message_page(const synicboard *board, uint8_t vp, const uint8_t **page);
 bool synicboard_flag_page(const synicboard *board, uint8_t vp, const uint8_t **page);
 bool synicboard_guest_page(const synicboard *board, uint64_t number, const uint8_t **page);

@@ -1,9 +1,8 @@
 /* The board: each event with what its reply and its notices ask of the hypervisor. */
 #include <stdio.h>
+#include <string.h>
 
 #include "vmm.h"
-
-enum { PAUSE = 1000 };      /* 100 us */
 
 synicboard board = SYNICBOARD_CLOSED;
 pthread_mutex_t lock = PTHREAD_MUTEX_INITIALIZER;
@@ -12,11 +11,11 @@ uint64_t board_absorbed;
 static pthread_cond_t has_buffer = PTHREAD_COND_INITIALIZER;
 static uint64_t events, notices_seen, ticks, placed, consumed, withdrawn, expired, skipped;
 
-/* Every page that overlay.c may give an overlay is a page of the board. */
+/* The guest's memory is the hypervisor's, of any size. */
 void board_open(void)
 {
-    if (synicboard_open(&board, vm.vps, 2 * vm.vps, 0) != SYNICBOARD_OK)
-        fail("synicboard_open");
+    if (synicboard_open_sparse(&board, vm.vps, 0) != SYNICBOARD_OK)
+        fail("synicboard_open_sparse");
     if (synicboard_open_line(&vm.vp[0].line, vm.vps) != SYNICBOARD_OK)
         fail("synicboard_open_line");
     for (unsigned number = 1; number < vm.vps; number++)
@@ -58,32 +57,24 @@ static synicboard_reply answer(synicboard_reply reply)
 
 /* ---- Time ---- */
 
-/* Moves the board's clock to the present, and returns the earliest deadline then. The TSC of another host
- * processor may be a little lower. */
-static synicboard_due tick(uint64_t at_least)
+/* Moves the board's clock to the present. The TSC of another host processor may be a little lower. */
+static void tick(uint64_t at_least)
 {
-    synicboard_due due;
     uint64_t now = clock_now();
     ticks++;
-    answer(synicboard_tick_due(&board, now > at_least ? now : at_least, &due));
-    return due;
+    answer(synicboard_tick(&board, now > at_least ? now : at_least));
 }
 
-/* A timer that is due and not ready stays the earliest, with a deadline that has passed, and
- * hides the deadlines of all others. So while there is one, the board is asked again after a
- * pause, and the others may be late by that. A tick to the board's own time would try nothing,
- * hence the next later one. */
+/* A timer that is due and not ready stays the earliest, and gets ready by an event of a guest or a device,
+ * after which the board is advanced again. A tick to the board's own time would try nothing, hence the next
+ * later one. */
 void board_advance(void)
 {
     synicboard_due due = synicboard_earliest(&board);
     if (due.is_due && due.high == 0 && due.low <= clock_now())
-        due = tick(synicboard_moment(&board) + 1);
-    if (!due.is_due || due.high != 0)
-        clock_arm(UINT64_MAX);
-    else if (due.low > synicboard_moment(&board))
-        clock_arm(due.low);
-    else
-        clock_arm(synicboard_moment(&board) + PAUSE);
+        tick(synicboard_moment(&board) + 1);
+    due = synicboard_earliest_after(&board, synicboard_moment(&board));
+    clock_arm(due.is_due && due.high == 0 ? due.low : UINT64_MAX);
 }
 
 /* ---- What a guest does ---- */
@@ -103,6 +94,8 @@ synicboard_reply board_write(struct vp *vp, uint32_t msr, uint64_t value)
     synicboard_reply reply = answer(synicboard_write(&board, vp->number, msr, value));
     if (reply.kind == SYNICBOARD_DONE && msr == SYNICBOARD_MSR_TPR)
         vp->tpr = (uint8_t)value;
+    if (msr == SYNICBOARD_MSR_SIMP || msr == SYNICBOARD_MSR_SIEFP)
+        overlay_map();
     return reply;
 }
 
@@ -113,9 +106,14 @@ synicboard_reply board_read(struct vp *vp, uint32_t msr)
     return answer(synicboard_read(&board, vp->number, msr));
 }
 
+/* If the overlay moved after the exit, the store goes to the guest's memory. KVM passes a store that crosses
+ * a page as two. */
 void board_store(uint64_t address, const uint8_t *bytes, size_t length)
 {
-    answer(synicboard_store(&board, address, bytes, length));
+    synicboard_reply reply = answer(synicboard_store(&board, address, bytes, length));
+    uint8_t *memory = vm_memory(address, length);
+    if (reply.kind == SYNICBOARD_REFUSED && reply.refusal == SYNICBOARD_ELSEWHERE && memory != NULL)
+        memcpy(memory, bytes, length);
 }
 
 uint8_t board_take(struct vp *vp)

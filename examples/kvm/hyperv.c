@@ -77,8 +77,6 @@ static void write_reference_tsc(uint64_t value)
 
 bool hyperv_read_msr(struct vp *vp, uint32_t msr, uint64_t *value)
 {
-    if (overlay_read(vp, msr, value))
-        return true;
     if (is_of_board(msr)) {
         synicboard_reply reply = board_read(vp, msr);
         *value = reply.value;
@@ -100,8 +98,6 @@ bool hyperv_read_msr(struct vp *vp, uint32_t msr, uint64_t *value)
 
 bool hyperv_write_msr(struct vp *vp, uint32_t msr, uint64_t value)
 {
-    if (overlay_write(vp, msr, value))
-        return true;
     if (is_of_board(msr))
         return board_write(vp, msr, value).kind == SYNICBOARD_DONE;
     switch (msr) {

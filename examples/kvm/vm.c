@@ -51,6 +51,6 @@ void vm_open(void)
     board_open();
     for (unsigned number = 0; number < vm.vps; number++)
         vp_open(number);
-    overlay_open();
+    overlay_map();
     clock_open();
 }

@@ -107,11 +107,7 @@ extern atomic_uint board_fresh;             /* raises that were fresh */
 extern uint64_t board_absorbed;             /* bits that were absorbed */
 
 /* overlay.c */
-void overlay_open(void);
-bool overlay_read(struct vp *vp, uint32_t msr, uint64_t *value);        /* false: it is no overlay register */
-bool overlay_write(struct vp *vp, uint32_t msr, uint64_t value);
-void overlay_store(uint64_t address, const uint8_t *bytes, size_t length);  /* ignored outside overlays */
-void overlay_reset(struct vp *vp);
+void overlay_map(void);                     /* maps the overlays that the board shows now */
 
 /* hyperv.c */
 enum { HYPERCALL_PORT = 0xe8 };

@@ -61,7 +61,7 @@ static void handle_mmio(struct vp *vp)
         if (is_apic)
             apic_write(vp, address - APIC_BASE, value);
         else
-            overlay_store(address, run->mmio.data, run->mmio.len);
+            board_store(address, run->mmio.data, run->mmio.len);
         return;
     }
     if (is_apic)
@@ -163,7 +163,7 @@ static void accept_init(struct vp *vp)
     board_reset(vp);
     board_suspend(vp);
     apic_reset(vp);
-    overlay_reset(vp);
+    overlay_map();
 }
 
 static void accept_sipi(struct vp *vp)

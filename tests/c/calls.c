@@ -265,6 +265,29 @@ static void test_tick_due(void)
     synicboard_close(&board);
 }
 
+/* Timer 0 posts to a disabled SynIC, so it is due and not ready, and hides timer 1. */
+static void test_earliest_after(void)
+{
+    synicboard board = SYNICBOARD_CLOSED;
+    CHECK(!synicboard_earliest_after(&board, 0).is_due);
+    synicboard_open(&board, 1, 1, 0);
+    synicboard_write(&board, 0, STIMER0_COUNT, 5);
+    synicboard_write(&board, 0, STIMER0_CONFIG, 0x20001);
+    synicboard_write(&board, 0, STIMER0_COUNT + 2, 900);
+    synicboard_write(&board, 0, STIMER0_CONFIG + 2, 0x1501);
+    CHECK_REPLY(synicboard_tick(&board, 100), SYNICBOARD_DONE);
+    CHECK_NUMBER(synicboard_earliest(&board).low, 5);
+    synicboard_due due = synicboard_earliest_after(&board, 4);
+    CHECK(due.is_due && due.vp == 0 && due.timer == 0 && due.low == 5 && due.high == 0);
+    due = synicboard_earliest_after(&board, 5);
+    CHECK(due.is_due && due.vp == 0 && due.timer == 1 && due.low == 900 && due.high == 0);
+    CHECK_NUMBER(synicboard_earliest_after(&board, 899).timer, 1);
+    CHECK(!synicboard_earliest_after(&board, 900).is_due);
+    CHECK_REPLY(synicboard_suspend(&board, 0), SYNICBOARD_DONE);
+    CHECK(!synicboard_earliest_after(&board, 0).is_due);
+    synicboard_close(&board);
+}
+
 static void check_closed_looks(synicboard *board)
 {
     synicboard_notice notice = { .kind = 77 };
@@ -876,6 +899,7 @@ static const struct test tests[] = {
     { "a local APIC", test_local_apic },
     { "timers and slots", test_timers_and_slots },
     { "a tick with the earliest deadline", test_tick_due },
+    { "the earliest deadline after a time", test_earliest_after },
     { "a closed handle", test_closed_handle },
     { "opening twice", test_opening_twice },
     { "sizes", test_sizes },

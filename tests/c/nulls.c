@@ -114,6 +114,8 @@ static void test_null_board_looks(void)
     CHECK_NUMBER(synicboard_next_ticket(NULL), 0);
     CHECK_NUMBER(synicboard_owner(NULL, 0).kind, SYNICBOARD_OWNER_NOTHING);
     CHECK_NUMBER(synicboard_owner(NULL, 0).vp, 0);
+    synicboard_overlay overlay = synicboard_next_overlay(NULL, 0);
+    CHECK(overlay.owner.kind == SYNICBOARD_OWNER_NOTHING && overlay.owner.vp == 0 && overlay.page == 0);
     CHECK_NUMBER(synicboard_tick_due(NULL, 5, NULL).fault, SYNICBOARD_IS_CLOSED);
     synicboard_local_apic lapic = synicboard_lapic(NULL, 0);
     CHECK(lapic.requested[0] == 0 && lapic.in_service[3] == 0 && lapic.processor_priority == 0 && !lapic.is_suspended);
@@ -121,6 +123,8 @@ static void test_null_board_looks(void)
     CHECK_NUMBER(synicboard_timer(NULL, 0, 0).config, 0);
     CHECK(!synicboard_slot(NULL, 0, SOURCE, &ticket) && ticket == 9);
     synicboard_due due = synicboard_earliest(NULL);
+    CHECK(!due.is_due && due.vp == 0 && due.timer == 0 && due.low == 0 && due.high == 0);
+    due = synicboard_earliest_after(NULL, 0);
     CHECK(!due.is_due && due.vp == 0 && due.timer == 0 && due.low == 0 && due.high == 0);
     CHECK_NUMBER(synicboard_update(NULL, &view), 1);
     CHECK(view.next[0] == 0);
@@ -144,6 +148,7 @@ static void test_opening_and_closing(void)
     refuse(0);
     CHECK_NUMBER(synicboard_open(NULL, 1, 1, 0), SYNICBOARD_NO_HANDLE);
     CHECK_NUMBER(synicboard_open(NULL, 9, 0, 0), SYNICBOARD_NO_HANDLE);
+    CHECK_NUMBER(synicboard_open_sparse(NULL, 1, 0), SYNICBOARD_NO_HANDLE);
     CHECK_NUMBER(synicboard_open_line(NULL, 1), SYNICBOARD_NO_HANDLE);
     CHECK_NUMBER(synicboard_open_line(NULL, 9), SYNICBOARD_NO_HANDLE);
     synicboard_close(NULL);

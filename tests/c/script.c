@@ -2,10 +2,12 @@
  *
  *   script --calls FILE      each event by its own call
  *   script --structs FILE    each event by synicboard_perform
+ *   script --sparse FILE     each event by synicboard_perform, on a sparse board with the guest's memory here
  *   script --batches FILE    up to seven events at a time by synicboard_perform_all
  *   script --text FILE       the whole script by synicboard_replay, into buffers of several sizes
  *
- * With --calls and --structs, synicboard_format_entry also records a trace, which is then checked.
+ * With --calls, --structs and --sparse, synicboard_format_entry also records a trace, which is then checked:
+ * that of the sparse board as one of an ordinary board.
  *
  * Exit status: 0; 1 after a wrong line; 2 for a wrong command line; 3 if the library did not do
  * what its header says; 4 if a file could not be read or an allocation failed. */
@@ -414,6 +416,58 @@ static void print_queue(synicboard *board, uint8_t vp, uint8_t sint)
         printf(": queue %u %u %u\n", vp, sint, length);
 }
 
+/* ---- A sparse board ---- */
+
+enum { PAGE = 4096, MOST_PAGES = 64 };
+
+/* The guest's memory, for a sparse board. */
+static uint8_t memory[MOST_PAGES * PAGE];
+static size_t memory_size;
+
+/* Performs a load or a store that the board refused, in the guest's memory. */
+static void access_memory(const synicboard_event *event, synicboard_reply *reply)
+{
+    *reply = (synicboard_reply){ .kind = SYNICBOARD_DONE };
+    if (event->kind == SYNICBOARD_STORE) {
+        memcpy(memory + event->address, event->bytes, event->length);
+        return;
+    }
+    reply->kind = SYNICBOARD_BYTES;
+    reply->length = (uint8_t)event->length;
+    memcpy(reply->bytes, memory + event->address, event->length);
+}
+
+/* The guest has only the pages of the script, so the host refuses the others itself. The board's order of
+ * refusals is kept: it refuses an access without bytes first. */
+static synicboard_reply perform_sparse(synicboard *board, const synicboard_event *event)
+{
+    bool is_access = event->kind == SYNICBOARD_STORE || event->kind == SYNICBOARD_LOAD;
+    bool is_outside = is_access && event->length >= 1 && event->length <= MOST_STORED && event->address / PAGE >= memory_size / PAGE;
+    synicboard_event nothing = { .kind = SYNICBOARD_LOAD };
+    synicboard_reply reply = synicboard_perform(board, is_outside ? &nothing : event);
+    if (is_outside)
+        reply.refusal = SYNICBOARD_OUTSIDE_SPACE;
+    else if (reply.kind == SYNICBOARD_REFUSED && reply.refusal == SYNICBOARD_ELSEWHERE)
+        access_memory(event, &reply);
+    return reply;
+}
+
+/* The overlays that a guest sees are those of the owners, in ascending order. */
+static void check_overlays(synicboard *board, uint64_t pages)
+{
+    uint64_t from = 0;
+    for (uint64_t page = 0; page < pages; page++) {
+        synicboard_page_owner owner = synicboard_owner(board, page);
+        if (owner.kind == SYNICBOARD_OWNER_GUEST)
+            continue;
+        synicboard_overlay next = synicboard_next_overlay(board, from);
+        demand(next.owner.kind == owner.kind && next.owner.vp == owner.vp && next.page == page, "another overlay is next");
+        from = page + 1;
+    }
+    synicboard_overlay next = synicboard_next_overlay(board, from);
+    demand(next.owner.kind == SYNICBOARD_OWNER_NOTHING || next.page >= pages, "an overlay without an owner");
+}
+
 /* ---- The script ---- */
 
 typedef synicboard_reply perform_function(synicboard *board, const synicboard_event *event);
@@ -448,6 +502,7 @@ static void print_summary(struct script *script)
     print_timer(board);
     for (uint8_t page = 0; page < script->pages; page++)
         print_page(board, page);
+    check_overlays(board, script->pages);
     for (uint8_t vp = 0; vp < script->processors; vp++)
         for (uint8_t sint = 0; sint < SOURCES; sint++)
             print_queue(board, vp, sint);
@@ -492,6 +547,16 @@ static void open_trace(struct script *script, uint64_t ticket)
     fprintf(script->trace, "trace 2\nboard %u %u %" PRIu64 "\n", script->processors, script->pages, ticket);
 }
 
+static uint8_t open_sized(struct script *script, uint64_t ticket)
+{
+    if (script->perform != perform_sparse)
+        return synicboard_open(&script->board, script->processors, script->pages, ticket);
+    if (script->pages < 1 || script->pages > MOST_PAGES)
+        return SYNICBOARD_BAD_SIZE;
+    memory_size = (size_t)script->pages * PAGE;
+    return synicboard_open_sparse(&script->board, script->processors, ticket);
+}
+
 static const char *open_board(struct script *script)
 {
     struct cursor line;
@@ -505,7 +570,7 @@ static const char *open_board(struct script *script)
         return "first";
     script->processors = (uint8_t)sizes[0];
     script->pages = (uint8_t)sizes[1];
-    switch (synicboard_open(&script->board, script->processors, script->pages, ticket)) {
+    switch (open_sized(script, ticket)) {
     case SYNICBOARD_OK:
         if (script->perform != NULL)
             open_trace(script, ticket);
@@ -694,7 +759,7 @@ static char *read_file(const char *path, size_t *length)
 int main(int count, char **words)
 {
     if (count != 3)
-        give_up(WRONG_USAGE, "script --calls|--structs|--batches|--text FILE");
+        give_up(WRONG_USAGE, "script --calls|--structs|--sparse|--batches|--text FILE");
     size_t length;
     char *text = read_file(words[2], &length);
     int status = WRONG_USAGE;
@@ -702,6 +767,8 @@ int main(int count, char **words)
         status = perform_script(text, length, perform_by_call);
     else if (strcmp(words[1], "--structs") == 0)
         status = perform_script(text, length, synicboard_perform);
+    else if (strcmp(words[1], "--sparse") == 0)
+        status = perform_script(text, length, perform_sparse);
     else if (strcmp(words[1], "--batches") == 0)
         status = perform_script(text, length, NULL);
     else if (strcmp(words[1], "--text") == 0)

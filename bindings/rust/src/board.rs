@@ -217,6 +217,32 @@ impl Board {
         Ok(board)
     }
 
+    /// Opens a sparse board of 1 to 8 processors at time 0, for a guest with memory of any size: its page
+    /// numbers are 0 to 2^52 - 1, and the caller has the pages. The board holds only the message and event
+    /// flags pages, and decides where a guest sees them ([`next_overlay`](Board::next_overlay)). A load or a
+    /// store of any other page is refused with [`Elsewhere`](crate::Refusal::Elsewhere): the caller performs
+    /// it in the guest's memory. Everything else is as on a board with that many pages.
+    ///
+    /// ```
+    /// use synicboard::{msr, Board, Owner, Refusal, Reply, Vp};
+    ///
+    /// let mut board = Board::open_sparse(1, 0).unwrap();
+    /// assert_eq!(board.write(0, msr::SIMP, 0x7_fff0_0001), Reply::Done);
+    /// assert_eq!(board.next_overlay(0), Some((0x7_fff00, Owner::Sim(Vp::new(0).unwrap()))));
+    /// assert_eq!(board.store(0x7_fff0_0000, &[1; 4]), Reply::Done);
+    /// assert_eq!(board.store(0x7_ffef_f000, &[1; 4]), Reply::Refused(Refusal::Elsewhere));
+    /// ```
+    ///
+    /// # Errors
+    ///
+    /// [`OpenFault::BadSize`] if the size is out of range, [`OpenFault::Memory`] if an allocation fails.
+    pub fn open_sparse(processors: u8, first_ticket: Ticket) -> Result<Board, OpenFault> {
+        let handle = UnsafeCell::new(sys::SYNICBOARD_CLOSED);
+        let board = Board { handle, room: Room::new(), processors, pages: 0 };
+        OpenFault::judged(ask!(board, synicboard_open_sparse, processors, first_ticket))?;
+        Ok(board)
+    }
+
     /// Restores a board from an image, as [`save`](Board::save) writes it. Each line is checked against
     /// those before it. Allocates all memory that the board needs.
     ///
@@ -556,11 +582,28 @@ impl Board {
         owner_of(&ask!(self, synicboard_owner, page))
     }
 
+    /// The first page from `from` on at which a guest sees an overlay, with its owner; `None` if there is
+    /// none. From 0 on, and then from the page after each answer, these are all of them, at most 16, for a
+    /// host to map. A write of SIMP or SIEFP, or a reset, may change them.
+    pub fn next_overlay(&self, from: u64) -> Option<(u64, Owner)> {
+        let next = ask!(self, synicboard_next_overlay, from);
+        match owner_of(&next.owner) {
+            Owner::Nothing => None,
+            owner => Some((next.page, owner)),
+        }
+    }
+
     /// The timer with the earliest deadline, and the deadline in units of 100 ns: arm the host's
     /// timer for it. `None` if no timer has a deadline. Timers of suspended processors do not
     /// count. A deadline above 2^64 - 1 is never reached by a tick.
     pub fn earliest(&self) -> Option<(u128, TimerId)> {
         first_due(&ask!(self, synicboard_earliest))
+    }
+
+    /// The timer with the earliest deadline that is later than `moment`, and the deadline. A timer that is
+    /// due and not ready to expire stays the [`earliest`](Board::earliest) of all and hides the others.
+    pub fn earliest_after(&self, moment: Moment) -> Option<(u128, TimerId)> {
+        first_due(&ask!(self, synicboard_earliest_after, moment))
     }
 
     /// Updates a view of the board, and returns what differs from before: which threads of

@@ -129,11 +129,13 @@ pub enum Refusal {
     AlreadySuspended = sys::SYNICBOARD_ALREADY_SUSPENDED,
     /// The processor is not suspended.
     NotSuspended = sys::SYNICBOARD_NOT_SUSPENDED,
+    /// Of a sparse board: the page is in the caller's memory, where the caller performs the access.
+    Elsewhere = sys::SYNICBOARD_ELSEWHERE,
 }
 
 impl Refusal {
     /// All refusals, in the order of their numbers.
-    pub const ALL: [Refusal; 16] = [
+    pub const ALL: [Refusal; 17] = [
         Refusal::UnknownPort,
         Refusal::PortOpen,
         Refusal::WrongKind,
@@ -150,9 +152,10 @@ impl Refusal {
         Refusal::NoSuchProcessor,
         Refusal::AlreadySuspended,
         Refusal::NotSuspended,
+        Refusal::Elsewhere,
     ];
 
-    /// Its number, 1 to 16, as in the output of a script.
+    /// Its number, 1 to 17, as in the output of a script.
     pub const fn number(self) -> u8 {
         self as u8
     }
@@ -181,6 +184,7 @@ impl fmt::Display for Refusal {
             Refusal::NoSuchProcessor => "there is no such processor",
             Refusal::AlreadySuspended => "the processor is suspended already",
             Refusal::NotSuspended => "the processor is not suspended",
+            Refusal::Elsewhere => "the page is in the caller's memory",
         })
     }
 }

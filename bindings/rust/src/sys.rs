@@ -108,6 +108,8 @@ pub const SYNICBOARD_NO_SUCH_PROCESSOR: u8 = 14;
 pub const SYNICBOARD_ALREADY_SUSPENDED: u8 = 15;
 /// Refusal: the processor is not suspended.
 pub const SYNICBOARD_NOT_SUSPENDED: u8 = 16;
+/// Refusal: of a sparse board, the page is in the caller's memory.
+pub const SYNICBOARD_ELSEWHERE: u8 = 17;
 
 /// A reply. Fields that its kind does not use are 0.
 #[repr(C)]
@@ -356,6 +358,16 @@ pub struct synicboard_page_owner {
     pub vp: u8,
 }
 
+/// A page at which a guest sees an overlay.
+#[repr(C)]
+#[derive(Clone, Copy, PartialEq, Eq, Debug)]
+pub struct synicboard_overlay {
+    /// The owner; of kind `SYNICBOARD_OWNER_NOTHING` if there is none.
+    pub owner: synicboard_page_owner,
+    /// The page number.
+    pub page: u64,
+}
+
 /// The earliest deadline of a timer, if `is_due`: high * 2^64 + low.
 #[repr(C)]
 #[derive(Clone, Copy, PartialEq, Eq, Debug)]
@@ -449,6 +461,8 @@ pub struct synicboard_settled {
 extern "C" {
     /// Opens a board at time 0. Its first accepted message gets the ticket `first_ticket`.
     pub fn synicboard_open(board: *mut synicboard, processors: u8, pages: u8, first_ticket: u64) -> u8;
+    /// Opens a sparse board at time 0, whose guest's pages are in the caller's memory.
+    pub fn synicboard_open_sparse(board: *mut synicboard, processors: u8, first_ticket: u64) -> u8;
     /// Frees the board and closes its handle.
     pub fn synicboard_close(board: *mut synicboard);
 
@@ -560,6 +574,8 @@ extern "C" {
     pub fn synicboard_slot(board: *const synicboard, vp: u8, sint: u8, ticket: *mut u64) -> bool;
     /// Which page a guest sees at a page number.
     pub fn synicboard_owner(board: *const synicboard, page: u64) -> synicboard_page_owner;
+    /// The first page from `from` on at which a guest sees an overlay.
+    pub fn synicboard_next_overlay(board: *const synicboard, from: u64) -> synicboard_overlay;
     /// The timer with the earliest deadline.
     pub fn synicboard_earliest(board: *const synicboard) -> synicboard_due;
     /// Moves the clock, and stores the earliest deadline afterwards.
@@ -570,6 +586,8 @@ extern "C" {
     ) -> synicboard_reply;
     /// Updates a view, and returns a bit for each value that differs.
     pub fn synicboard_update(board: *const synicboard, view: *mut synicboard_view) -> u64;
+    /// The timer with the earliest deadline that is later than `moment`.
+    pub fn synicboard_earliest_after(board: *const synicboard, moment: u64) -> synicboard_due;
     /// Updates the owners, and returns a bit for each page whose owner differs.
     pub fn synicboard_update_owners(board: *const synicboard, owners: *mut synicboard_owners) -> u64;
 

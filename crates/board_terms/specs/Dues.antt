@@ -1,5 +1,5 @@
 -- The deadlines of all timers, and the earliest one (TLFS, "Synthetic Timers").
-use Rattle.std.specs.Prelude.{◌≡◌, ◌≤◌, ℕ, zero, suc, ◌<◌, ◌+◌, ◌*◌, ◌/◌, ◌%◌, nat_lt, List, Option, None, Some, slice_index_or, if◌then◌else◌}
+use Rattle.std.specs.Prelude.{◌≡◌, ◌≤◌, ℕ, zero, suc, ◌<◌, ◌+◌, ◌*◌, ◌/◌, ◌%◌, nat_lt, List, Option, None, Some, map, slice_index_or, if◌then◌else◌}
 use Rattle.std.specs.Option.{option_map_or, option_map}
 use Rattle.board_terms.specs.Quantities.{TimerId, Moment}
 
@@ -36,3 +36,10 @@ pub record IsLeast (m : Dues) (d n : ℕ) : Type 0 where
   pub low : n < 32
   pub due : slice_index_or m n None ≡ Some d
   pub first : (k e : ℕ) → slice_index_or m k None ≡ Some e → (d ≤ e) × (e ≡ d → n ≤ k)
+
+-- the deadlines that are later than a time
+abbrev pub if_later : Moment → Option Moment → Option Moment
+if_later moment due = option_map_or (λ d. if nat_lt moment d then Some d else None) due None
+
+abbrev pub later_than : Moment → Dues → Dues
+later_than moment m = map (if_later moment) m

@@ -7,3 +7,4 @@ pub mod Opened
 pub mod Texts
 pub mod Lines
 pub mod Outcomes
+pub mod inside

@@ -1,17 +1,21 @@
 -- The results of queries.
-use Rattle.std.specs.Prelude.{ℕ, ◌/◌, ◌%◌, ◌^◌, nat_lt, ◌&&◌, not, Bool, true, false, Option, Some, None, is_some, List, [], map, slice_get, slice_index_or, if◌then◌else◌}
+use Rattle.std.specs.Prelude.{◌≡◌, ℕ, ◌/◌, ◌%◌, ◌^◌, nat_lt, ◌&&◌, not, Bool, true, false, Option, Some, None, is_some, List, [], map, slice_get, slice_index_or, if◌then◌else◌}
 use Rattle.std.specs.Option.{option_map_or}
 use Rattle.std.specs.FinSet as set
 use Rattle.board_terms.specs.declared.pages.Kind.{Kind}
 use Rattle.board_terms.specs.declared.pages.Owner.{Owner}
 use Rattle.board_terms.specs.declared.pages.Owner.TheVariants.{Guest, Sim, Sief, Nothing}
 use Rattle.board_terms.specs.Sources.{source_number}
-use Rattle.gpa_space.specs.Space.{overlay_of}
+use Rattle.gpa_space.specs.Space.{overlay_of, owner_of, IsNextOverlay}
 use Rattle.c_handles.specs.declared.board.BoardWithNotices.{BoardWithNotices}
 use Rattle.c_terms.specs.declared.notice.CNotice.{CNotice}
 use Rattle.c_terms.specs.Notices.{notice_to_c}
 use Rattle.c_calls.specs.declared.looks.COwner.{COwner}
+use Rattle.c_calls.specs.declared.looks.COverlay.{COverlay}
 use Rattle.c_calls.specs.declared.looks.CDeadline.{CDeadline}
+use Rattle.board_terms.specs.Dues.{least, later_than}
+use Rattle.stimer_bank.specs.Bank.{dues}
+use Rattle.synic_board.specs.State.{space_of, bank_of}
 use Rattle.synic_board.specs.Summaries.{Values, summary_of}
 
 -- the notices of the last event
@@ -44,7 +48,17 @@ owner_to_c (Sim vp) = record { kind = 2; vp = vp }
 owner_to_c (Sief vp) = record { kind = 3; vp = vp }
 
 abbrev pub owner_at : Option BoardWithNotices → ℕ → COwner
-owner_at board page = owner_to_c (summary_or Nothing (λ values. slice_index_or values.owners page Nothing) board)
+owner_at None page = owner_to_c Nothing
+owner_at (Some board) page = owner_to_c (owner_of (space_of board.board.state) page)
+
+-- the first page from a number on at which a guest sees an overlay, as a struct; all 0 if there is none
+abbrev pub overlay_to_c : Option (ℕ × Owner) → COverlay
+overlay_to_c None = record { owner = owner_to_c Nothing; page = 0 }
+overlay_to_c (Some (page, owner)) = record { owner = owner_to_c owner; page = page }
+
+abbrev pub IsNextOverlayOf : Option BoardWithNotices → ℕ → COverlay → Type 0
+IsNextOverlayOf None from overlay = overlay ≡ overlay_to_c None
+IsNextOverlayOf (Some board) from overlay = (next : Option (ℕ × Owner)) × IsNextOverlay (space_of board.board.state) from next × (overlay ≡ overlay_to_c next)
 
 -- how many messages are queued for a source
 abbrev pub queue_length_of : Option BoardWithNotices → ℕ → ℕ → ℕ
@@ -57,6 +71,11 @@ deadline_to_c (Some (due, (vp, index))) = record { is_due = true; vp = vp; timer
 
 abbrev pub earliest_of : Option BoardWithNotices → CDeadline
 earliest_of board = deadline_to_c (summary_or None (λ values. values.earliest) board)
+
+-- the same among the deadlines later than a time
+abbrev pub earliest_after_of : Option BoardWithNotices → ℕ → CDeadline
+earliest_after_of None moment = deadline_to_c None
+earliest_after_of (Some board) moment = deadline_to_c (least (later_than moment (dues (bank_of board.board.state))))
 
 abbrev pub time_of : Option BoardWithNotices → ℕ
 time_of None = 0

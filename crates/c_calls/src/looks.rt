@@ -2,9 +2,9 @@
 ghost use Rattle.std.specs.Prelude.{◌≡◌, None};
 ghost use Rattle.std.specs.FinSet as set;
 ghost use Rattle.board_terms.specs.declared.pages.Owner.TheVariants as owner;
-ghost use Rattle.c_calls.specs.Looks.{next_vector_of, is_auto_eoi_of, owner_at, queue_length_of, earliest_of, time_of, next_ticket_of};
+ghost use Rattle.c_calls.specs.Looks.{next_vector_of, is_auto_eoi_of, owner_to_c, owner_at, IsNextOverlayOf, queue_length_of, deadline_to_c, earliest_of, earliest_after_of, time_of, next_ticket_of};
 
-use board_terms::{Owner, Sint, Vector, Vp};
+use board_terms::{Owner, Sint, TimerId, Vector, Vp};
 use c_handles::BoardHandle;
 
 /// Which page a guest sees. `kind` is 0 if there is no such page or no board, 1 for the guest page,
@@ -14,6 +14,14 @@ use c_handles::BoardHandle;
 pub struct COwner {
     pub kind: u8,
     pub vp: u8,
+}
+
+/// A page at which a guest sees an overlay, and its owner. All 0 if there is none.
+#[repr(C)]
+#[derive(Clone, Copy, PartialEq)]
+pub struct COverlay {
+    pub owner: COwner,
+    pub page: u64,
 }
 
 /// The earliest deadline: if `is_due`, timer `timer` of processor `vp` is due at `high` * 2^64 +
@@ -64,10 +72,38 @@ pub extern "C" fn synicboard_owner(handle: &mut BoardHandle, page: u64) -> COwne
     ensures board { handle.new.board ≡ handle.old.board }
     ensures owner { result ≡ owner_at handle.old.board page }
 {
-    let owner = match handle.board_mut() {
-        Some(board) => board.board.summary().owner(page),
-        None => Owner::Nothing,
+    match handle.board_mut() {
+        Some(board) => owner_to_c(board.board.owner(page)),
+        None => owner_to_c(Owner::Nothing),
+    }
+}
+
+/// The first page from `from` on at which a guest sees an overlay. Kind 0 if there is none.
+#[unsafe(no_mangle)]
+pub extern "C" fn synicboard_next_overlay(handle: &mut BoardHandle, from: u64) -> COverlay
+    ensures board { handle.new.board ≡ handle.old.board }
+    ensures overlay { IsNextOverlayOf handle.old.board from result }
+{
+    let next = match handle.board_mut() {
+        Some(board) => board.board.next_overlay(from),
+        None => None,
     };
+    match next {
+        Some((page, owner)) => COverlay {
+            owner: owner_to_c(owner),
+            page,
+        },
+        None => COverlay {
+            owner: owner_to_c(Owner::Nothing),
+            page: 0,
+        },
+    }
+}
+
+/// An owner as a struct.
+fn owner_to_c(owner: Owner) -> COwner
+    ensures { result ≡ owner_to_c owner }
+{
     match owner {
         Owner::Nothing => COwner { kind: 0, vp: 0 },
         Owner::Guest => COwner { kind: 1, vp: 0 },
@@ -115,6 +151,26 @@ pub(crate) fn earliest_on(handle: &mut BoardHandle) -> CDeadline
         Some(board) => board.board.summary().earliest(),
         None => None,
     };
+    deadline_to_c(earliest)
+}
+
+/// The timer with the earliest deadline that is later than `moment`.
+#[unsafe(no_mangle)]
+pub extern "C" fn synicboard_earliest_after(handle: &mut BoardHandle, moment: u64) -> CDeadline
+    ensures board { handle.new.board ≡ handle.old.board }
+    ensures due { result ≡ earliest_after_of handle.old.board moment }
+{
+    let earliest = match handle.board_mut() {
+        Some(board) => board.board.earliest_after(moment),
+        None => None,
+    };
+    deadline_to_c(earliest)
+}
+
+/// A timer with its deadline as a struct.
+fn deadline_to_c(earliest: Option<(u128, TimerId)>) -> CDeadline
+    ensures { result ≡ deadline_to_c earliest }
+{
     match earliest {
         Some((due, timer)) => CDeadline {
             is_due: true,

@@ -1,8 +1,9 @@
 // Opening, restoring and closing boards.
-ghost use Rattle.std.specs.Prelude.{◌≡◌, ◌≢◌, ◌<◌, ◌↔◌, true, [], ◌∷◌, IsSome, IfSome, None};
-ghost use Rattle.synic_board.specs.State.{AreSizes};
+ghost use Rattle.std.specs.Prelude.{◌≡◌, ◌≢◌, ◌<◌, ◌↔◌, true, [], ◌∷◌, IsSome, IfSome, IsErrOf, None};
+ghost use Rattle.synic_board.specs.State.{AreSizes, IsCount};
 ghost use Rattle.text_restore.specs.Images.{FirstWrong};
 ghost use Rattle.c_calls.specs.Opened.{IsNewBoard, IsRestoredBoard};
+ghost use Rattle.c_calls.specs.inside.Opening.{IsPut};
 ghost use Rattle.c_calls.specs.Outcomes.{is_among};
 
 use crate::texts::{CEnd, not_written};
@@ -34,7 +35,49 @@ pub extern "C" fn synicboard_open(
         let _ = handle.put(alloc, board);
         return 3;
     }
-    let board = match BoardWithNotices::open(alloc, processors, pages, first_ticket) {
+    let opened = BoardWithNotices::open(alloc, processors, pages, first_ticket);
+    put_opened(alloc, handle, opened)
+}
+
+/// Opens a sparse board of that many processors at time 0, in a closed handle: its guest's pages are in
+/// the caller's memory. The first message that it accepts gets the ticket `first_ticket`. Returns 0; or 1
+/// unless there are 1 to 8 processors, 2 if an allocation fails, 3 if the handle is open. Allocates all
+/// memory that events need.
+#[unsafe(no_mangle)]
+pub extern "C" fn synicboard_open_sparse(
+    alloc: Global,
+    handle: &mut BoardHandle,
+    processors: u8,
+    first_ticket: u64,
+) -> u8
+    ensures answers { result < 4 }
+    ensures before { (result ≡ 3) ↔ IsSome handle.old.board }
+    ensures size { (result ≡ 1) ↔ ((handle.old.board ≡ None) × (¬ IsCount processors)) }
+    ensures opened { result ≡ 0 → IsNewBoard processors 0 first_ticket handle.new.board }
+    ensures not_opened { result ≢ 0 → handle.new.board ≡ handle.old.board }
+{
+    if let Some(board) = handle.take(alloc) {
+        let _ = handle.put(alloc, board);
+        return 3;
+    }
+    let opened = BoardWithNotices::open_sparse(alloc, processors, first_ticket);
+    put_opened(alloc, handle, opened)
+}
+
+/// Puts a board that was opened into a closed handle. Returns 0, or why there is none: 1 for its sizes, 2
+/// for an allocation that failed.
+fn put_opened(
+    alloc: Global,
+    handle: &mut BoardHandle,
+    opened: Result<BoardWithNotices, OpenFault>,
+) -> u8
+    requires closed { handle.old.board ≡ None }
+    ensures answers { result < 3 }
+    ensures size { (result ≡ 1) ↔ IsErrOf opened OpenFault.BadSize }
+    ensures put { result ≡ 0 → IsPut opened handle.new.board }
+    ensures not_put { result ≢ 0 → handle.new.board ≡ None }
+{
+    let board = match opened {
         Ok(board) => board,
         Err(OpenFault::BadSize) => return 1,
         Err(OpenFault::Memory) => return 2,

@@ -2,7 +2,7 @@
 ghost use Rattle.std.specs.Prelude.{◌≡◌, ◌↔◌, ◌≤◌, [], length, IfOk, IsErrOf};
 ghost use Rattle.synic_board.specs.declared.event.Event.TheVariants.{Post, Store};
 ghost use Rattle.synic_board.specs.Performing.{Performs};
-ghost use Rattle.synic_board.specs.State.{AreSizes, opened};
+ghost use Rattle.synic_board.specs.State.{AreSizes, IsCount, opened};
 
 use board_terms::{Notices, Ticket};
 use std::alloc::Global;
@@ -32,6 +32,24 @@ impl BoardWithNotices {
         ensures notices { IfOk result (λ d. d.notices ≡ []) }
     {
         let board = Board::open(alloc, processors, pages, first_ticket)?;
+        match Notices::open(alloc) {
+            Ok(notices) => Ok(BoardWithNotices { board, notices }),
+            Err(_) => Err(OpenFault::Memory),
+        }
+    }
+
+    /// Opens a sparse board of that many processors at time 0, without notices. `BadSize` unless there
+    /// are 1 to 8 processors.
+    pub fn open_sparse(
+        alloc: Global,
+        processors: u8,
+        first_ticket: Ticket,
+    ) -> Result<BoardWithNotices, OpenFault>
+        ensures size { IsErrOf result OpenFault.BadSize ↔ (¬ IsCount processors) }
+        ensures board { IfOk result (λ d. d.board.state ≡ opened processors 0 first_ticket) }
+        ensures notices { IfOk result (λ d. d.notices ≡ []) }
+    {
+        let board = Board::open_sparse(alloc, processors, first_ticket)?;
         match Notices::open(alloc) {
             Ok(notices) => Ok(BoardWithNotices { board, notices }),
             Err(_) => Err(OpenFault::Memory),

@@ -1,5 +1,5 @@
 // Pages and overlays, at worked values.
-ghost use Rattle.std.specs.Prelude.{◌≡◌, ◌<◌, IfSome};
+ghost use Rattle.std.specs.Prelude.{◌≡◌, ◌<◌, ◌≤◌, IfSome};
 ghost use Rattle.gpa_space.specs.Space.{processors_of};
 
 use crate::steps::{Other, Part, first_other};
@@ -12,6 +12,8 @@ use std::alloc::{AllocError, Global};
 pub(crate) enum Call {
     SetOverlay(u8, Kind, u64),
     Owner(u64),
+    /// The first page from a number on with an overlay.
+    NextOverlay(u64),
     /// A load of that many bytes; the answer is the first.
     Load(u64, u8),
     LoadEight(u64),
@@ -39,17 +41,19 @@ pub(crate) enum Answer {
     Bytes([u8; 8]),
     Guest,
     Overlay(u8, Kind),
+    /// A page number.
+    At(u64),
     Nothing,
     Refused(Refusal),
 }
 
-use Answer::{Byte, Bytes, Done, Guest, Is, Nothing, Overlay, Refused};
+use Answer::{At, Byte, Bytes, Done, Guest, Is, Nothing, Overlay, Refused};
 use Call::{
-    ClearPages, GuestByte, Load, LoadEight, OwnByte, SetFlag, SetOverlay, SetPending, SiefByte,
-    SimByte, Store, StoreSome, WriteMessage, WriteSlot,
+    ClearPages, GuestByte, Load, LoadEight, NextOverlay, OwnByte, SetFlag, SetOverlay, SetPending,
+    SiefByte, SimByte, Store, StoreSome, WriteMessage, WriteSlot,
 };
 
-/// A space of two processors and four pages.
+/// A space of two processors, with four pages or sparse.
 #[derive(Drop)]
 struct Scene {
     space: Space,
@@ -80,8 +84,11 @@ fn byte(page: Option<&[u8]>, at: usize) -> Option<Answer> {
 }
 
 impl Scene {
-    fn open(alloc: Global) -> Result<Scene, AllocError> {
-        let space = Space::open(alloc, 2, 4)?;
+    /// Two processors, with that many pages.
+    fn open(alloc: Global, pages: u8) -> Result<Scene, AllocError>
+        requires { pages ≤ 64 }
+    {
+        let space = Space::open(alloc, 2, pages)?;
         Ok(Scene { space })
     }
 
@@ -160,6 +167,10 @@ impl Part for Scene {
                 Some(Done)
             }
             Call::Owner(page) => Some(owner(self.space.owner(page))),
+            NextOverlay(from) => Some(match self.space.next_overlay(from) {
+                Some((page, _)) => At(page),
+                None => Nothing,
+            }),
             Load(address, length) => self.load(address, length),
             LoadEight(address) => self.load_eight(address),
             Store(address, byte) => Some(self.store(address, &[byte])),
@@ -175,7 +186,15 @@ impl Part for Scene {
 
 /// The first step at which a new scene gives another answer.
 fn other(alloc: Global, steps: &[(Call, Answer)]) -> Result<Option<Other<Answer>>, AllocError> {
-    Ok(first_other(&mut Scene::open(alloc)?, steps))
+    Ok(first_other(&mut Scene::open(alloc, 4)?, steps))
+}
+
+/// The same of a sparse scene.
+fn other_sparse(
+    alloc: Global,
+    steps: &[(Call, Answer)],
+) -> Result<Option<Other<Answer>>, AllocError> {
+    Ok(first_other(&mut Scene::open(alloc, 0)?, steps))
 }
 
 /// An overlay obscures the page below, and the first of several obscures the others. Obscured bytes
@@ -273,6 +292,32 @@ const CLEARED_PAGES: [(Call, Answer); 16] = [
     (SetPending(1, 15), Is(true)),
 ];
 
+/// No page is in the space: overlays at the last page that an address reaches, and at one between.
+const SPARSE: [(Call, Answer); 22] = [
+    (Load(0, 1), Refused(Refusal::Elsewhere)),
+    (Store(u64::MAX, 5), Refused(Refusal::Elsewhere)),
+    (Load(u64::MAX, 2), Refused(Refusal::CrossesPage)),
+    (Load(0, 0), Refused(Refusal::BadLength)),
+    (Call::Owner(0xfffffffffffff), Guest),
+    (Call::Owner(0x10000000000000), Nothing),
+    (NextOverlay(0), Nothing),
+    (SetOverlay(1, Kind::Sim, 0xfffffffffffff001), Done),
+    (SetOverlay(0, Kind::Sief, 0xfffffffffffff001), Done),
+    (SetOverlay(0, Kind::Sim, 0x5000001), Done),
+    (NextOverlay(0), At(0x5000)),
+    (NextOverlay(0x5000), At(0x5000)),
+    (NextOverlay(0x5001), At(0xfffffffffffff)),
+    (NextOverlay(0x10000000000000), Nothing),
+    (Call::Owner(0xfffffffffffff), Overlay(0, Kind::Sief)),
+    (Store(u64::MAX, 5), Overlay(0, Kind::Sief)),
+    (SiefByte(0, 0xfff), Byte(5)),
+    (SetOverlay(0, Kind::Sief, 0xfffffffffffff000), Done),
+    (Store(u64::MAX, 7), Overlay(1, Kind::Sim)),
+    (Load(0x5000fff, 1), Byte(0)),
+    (Load(0x5001000, 1), Refused(Refusal::Elsewhere)),
+    (GuestByte(0, 0), Nothing),
+];
+
 const TABLES: [(&str, &[(Call, Answer)]); 4] = [
     ("overlays hide what is below", &OVERLAYS),
     ("addresses are refused in order", &REFUSALS),
@@ -285,4 +330,9 @@ fn each_table_is_answered(rt: HostRuntime) {
     for (table, steps) in &TABLES {
         assert_eq!(rt; other(rt.alloc(), *steps), Ok(None), "{table}");
     }
+}
+
+#[test]
+fn a_sparse_space_is_answered(rt: HostRuntime) {
+    assert_eq!(rt; other_sparse(rt.alloc(), &SPARSE), Ok(None));
 }

@@ -44,7 +44,7 @@ fn the_last_of_each_has_the_last_number(rt: HostRuntime) {
     assert_eq!(rt; last_timer(), (7, 3, false));
 }
 
-const REFUSALS: [(u8, Refusal, &str); 16] = [
+const REFUSALS: [(u8, Refusal, &str); 17] = [
     (1, Refusal::UnknownPort, "the port is not open"),
     (2, Refusal::PortOpen, "the port is open already"),
     (3, Refusal::WrongKind, "the port is of the other kind"),

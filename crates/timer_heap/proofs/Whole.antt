@@ -242,3 +242,16 @@ fresh-sound = record {
   };
   full = ap (λ m. idle m + 0) fresh-dues;
 }
+
+-- the earliest of any deadlines, by its number
+pub least-is-found : (m : Dues) (d n : ℕ) → Some (d, n) ≡ least_below m 32 → (n < 32) × (Some (d, timer_of n) ≡ least m)
+unfolding least
+least-is-found m d n h = (by (least_below m 32) (found m 32) h, ap (option_map {U = ℕ × (ℕ × ℕ)} (λ (r : ℕ × ℕ). (r.0, timer_of r.1))) h)
+  where
+    by : (o : Option (ℕ × ℕ)) → Found m 32 o → Some (d, n) ≡ o → n < 32
+    by None f e = absurd (none-some (d, n) (sym e))
+    by (Some r) f e = let same : n ≡ r.1 = ap (λ (x : ℕ × ℕ). x.1) (same_Some _ _ e) in omega (arith, same, f.low)
+
+pub least-is-none : (m : Dues) → None ≡ least_below m 32 → None ≡ least m
+unfolding least
+least-is-none m h = ap (option_map {U = ℕ × (ℕ × ℕ)} (λ (r : ℕ × ℕ). (r.0, timer_of r.1))) h

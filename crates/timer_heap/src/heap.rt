@@ -1,6 +1,6 @@
 // The timers that have deadlines, with the earliest first.
 ghost use Rattle.std.specs.Prelude.{◌≡◌, ◌+◌, ◌<◌, ◌≤◌, Option, None, Some, slice_set};
-ghost use Rattle.board_terms.specs.Dues.{number_of, due_of, least};
+ghost use Rattle.board_terms.specs.Dues.{number_of, due_of, least, later_than};
 ghost use Rattle.timer_heap.specs.Heap.{no_dues, without_processor, NoOther, Other, FirstOfThree, NoneOf, MarksDue};
 
 pub(crate) mod comparer;
@@ -97,6 +97,14 @@ impl TimerHeap {
         ensures { result ≡ least self.now.dues }
     {
         self.table.least()
+    }
+
+    /// The earliest of the timers whose deadlines are later than `moment`, and its deadline. Looks at
+    /// all timers.
+    pub fn least_after(&self, moment: u128) -> Option<(u128, TimerId)>
+        ensures { result ≡ least (later_than moment self.now.dues) }
+    {
+        self.table.least_after(moment)
     }
 
     /// The deadline of a timer, if it has one.

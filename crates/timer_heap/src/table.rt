@@ -1,7 +1,7 @@
 // The deadlines of the timers, and a tree of the timers that come first.
 ghost use Rattle.std.specs.Prelude.{◌≡◌, ◌≢◌, ℕ, ◌+◌, ◌/◌, ◌%◌, ◌^◌, ◌<◌, ◌≤◌, ◌==◌, true, false, None, Some, replicate, slice_set, if◌then◌else◌};
 ghost use Rattle.std.specs.Option.{option_map};
-ghost use Rattle.board_terms.specs.Dues.{least, least_below, earlier};
+ghost use Rattle.board_terms.specs.Dues.{least, least_below, earlier, if_later, later_than};
 ghost use Rattle.timer_heap.specs.Heap.{no_dues, is_due_by, MarksDue};
 ghost use Rattle.timer_heap.specs.inside.Table.{node, is_set, moment_of, word_for, word_of, due_at, dues, idle, with_due, IsBelow, IsTree, IsOrdered, IsSound};
 ghost use Rattle.timer_heap.specs.inside.Climbs.{IsClimbing, IsAlone, IsAlike};
@@ -340,6 +340,33 @@ impl Table {
         match first {
             Some((_, number)) => Some(number),
             None => None,
+        }
+    }
+
+    /// The earliest of the timers whose deadlines are later than `moment`, and its deadline.
+    pub(crate) fn least_after(&self, moment: u128) -> Option<(u128, TimerId)>
+        ensures { result ≡ least (later_than moment (dues self.now)) }
+    {
+        let mut first = None;
+        for number in 0..32 {
+            if let Some(due) = self.later(number, moment) {
+                first = Some(earlier(first, due, number));
+            }
+        }
+        match first {
+            Some((due, number)) => Some((due, TimerId::from_number(number).unwrap())),
+            None => None,
+        }
+    }
+
+    /// The deadline of a timer, if it is later than `moment`.
+    fn later(&self, number: u8, moment: u128) -> Option<u128>
+        requires { number < 32 }
+        ensures { result ≡ if_later moment (due_at self.now number) }
+    {
+        match self.due(number) {
+            Some(due) if due > moment => Some(due),
+            _ => None,
         }
     }
 

@@ -8,7 +8,8 @@ ghost use Rattle.std.specs.Option.{option_copied};
 ghost use Rattle.synic_regs.specs.Regs.{stores, value_of};
 ghost use Rattle.event_ports.specs.Ports.{port_at};
 ghost use Rattle.message_queues.specs.Queues.{queue_of};
-ghost use Rattle.stimer_bank.specs.Bank.{idle_timer, timer_in};
+ghost use Rattle.stimer_bank.specs.Bank.{idle_timer, timer_in, dues};
+ghost use Rattle.board_terms.specs.Dues.{least, later_than};
 ghost use Rattle.synic_board.specs.State.{processors, apic_of, regs_of, ports_of, bank_of, slot_of, with_slot_ticket};
 ghost use Rattle.synic_board.specs.Timers.{at_moment};
 ghost use Rattle.synic_board.specs.Restoring.{with_processor, with_saved_timer, with_own_bytes, with_guest_bytes, with_message, HasNoTickets};
@@ -172,6 +173,13 @@ impl Machine {
             self.timers.read_count(timer),
             self.timers.deadline(timer),
         )
+    }
+
+    /// The earliest of the timers whose deadlines are later than a time, and its deadline.
+    pub(crate) fn earliest_after(&self, moment: Moment) -> Option<(u128, TimerId)>
+        ensures { result ≡ least (later_than moment (dues (bank_of self.now.state))) }
+    {
+        self.timers.earliest_after(moment)
     }
 
     /// The message at an index of a queue, counted from the front.

@@ -35,6 +35,7 @@ refusal-meant refusals.BadLength = refl
 refusal-meant refusals.NoSuchProcessor = refl
 refusal-meant refusals.AlreadySuspended = refl
 refusal-meant refusals.NotSuspended = refl
+refusal-meant refusals.Elsewhere = refl
 
 told-meant : (reply : Reply) (notices : ℕ) → IsReply reply → reply_from_c (reply_to_c reply notices) ≡ Some reply
 told-meant Done n h = refl

@@ -1,0 +1,2 @@
+-- What helpers of the calls promise. Callers need none of it.
+pub mod Opening

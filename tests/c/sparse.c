@@ -1,0 +1,148 @@
+/* Sparse boards: overlays at any page of a guest's memory, which is the caller's. */
+#include <string.h>
+
+#include "checks.h"
+#include "synicboard.h"
+
+static const uint64_t LAST_PAGE = (UINT64_C(1) << 52) - 1;
+
+/* A value of SIMP or SIEFP that enables the overlay at a page. */
+static uint64_t at_page(uint64_t page)
+{
+    return page << 12 | 1;
+}
+
+static void test_opening(void)
+{
+    static const uint8_t wrong[] = { 0, 9, 255 };
+    synicboard board = SYNICBOARD_CLOSED;
+    for (size_t at = 0; at < sizeof wrong; at++)
+        CHECK_NUMBER(synicboard_open_sparse(&board, wrong[at], 0), SYNICBOARD_BAD_SIZE);
+    CHECK_NUMBER(synicboard_next_overlay(&board, 0).owner.kind, SYNICBOARD_OWNER_NOTHING);
+    CHECK_NUMBER(synicboard_open_sparse(&board, 8, 7), SYNICBOARD_OK);
+    CHECK_NUMBER(synicboard_open_sparse(&board, 8, 7), SYNICBOARD_IS_OPEN);
+    CHECK_NUMBER(synicboard_open(&board, 1, 1, 0), SYNICBOARD_IS_OPEN);
+    CHECK_NUMBER(synicboard_next_ticket(&board), 7);
+    CHECK_REPLY(synicboard_take(&board, 7), SYNICBOARD_NONE_TAKEN);
+    CHECK_REFUSAL(synicboard_take(&board, 8), SYNICBOARD_NO_SUCH_PROCESSOR);
+    synicboard_close(&board);
+}
+
+/* Refuses one allocation after another, until an opening succeeds. */
+static void test_refused_memory(void)
+{
+    synicboard board = SYNICBOARD_CLOSED;
+    size_t number = 1;
+    refuse(number);
+    while (synicboard_open_sparse(&board, PROCESSORS, 0) == SYNICBOARD_NO_MEMORY) {
+        CHECK_NUMBER(blocks_out, 0);
+        refuse(++number);
+    }
+    CHECK_NUMBER(requests, number - 1);
+    CHECK(number > 1);
+    refuse(0);
+    CHECK_REPLY(synicboard_take(&board, 0), SYNICBOARD_NONE_TAKEN);
+    synicboard_close(&board);
+}
+
+/* The guest's memory is the caller's, at each page without an overlay. */
+static void test_elsewhere(void)
+{
+    static const uint64_t addresses[] = { 0, 4088, 0x7fff00000, (UINT64_C(1) << 63) + 16, UINT64_MAX - 7 };
+    static const uint8_t bytes[9] = { 1 };
+    synicboard board = SYNICBOARD_CLOSED;
+    const uint8_t *page;
+    CHECK_NUMBER(synicboard_open_sparse(&board, 2, 0), SYNICBOARD_OK);
+    for (size_t at = 0; at < sizeof addresses / sizeof *addresses; at++) {
+        CHECK_REFUSAL(synicboard_load(&board, addresses[at], 8), SYNICBOARD_ELSEWHERE);
+        CHECK_REFUSAL(synicboard_store(&board, addresses[at], bytes, 8), SYNICBOARD_ELSEWHERE);
+        CHECK_REFUSAL(synicboard_load(&board, addresses[at], 0), SYNICBOARD_BAD_LENGTH);
+        CHECK_REFUSAL(synicboard_load(&board, addresses[at], 9), SYNICBOARD_BAD_LENGTH);
+        CHECK_NUMBER(synicboard_owner(&board, addresses[at] / PAGE).kind, SYNICBOARD_OWNER_GUEST);
+    }
+    CHECK_REFUSAL(synicboard_load(&board, 4092, 8), SYNICBOARD_CROSSES_PAGE);
+    CHECK_REFUSAL(synicboard_load(&board, UINT64_MAX, 2), SYNICBOARD_CROSSES_PAGE);
+    CHECK_NUMBER(synicboard_owner(&board, LAST_PAGE).kind, SYNICBOARD_OWNER_GUEST);
+    CHECK_NUMBER(synicboard_owner(&board, LAST_PAGE + 1).kind, SYNICBOARD_OWNER_NOTHING);
+    CHECK(!synicboard_guest_page(&board, 0, &page));
+    synicboard_close(&board);
+}
+
+static void check_overlay(const synicboard *board, uint64_t from, uint64_t page, uint8_t kind, uint8_t vp)
+{
+    synicboard_overlay overlay = synicboard_next_overlay(board, from);
+    CHECK_NUMBER(overlay.owner.kind, kind);
+    CHECK_NUMBER(overlay.owner.vp, vp);
+    CHECK_NUMBER(overlay.page, page);
+    if (kind == SYNICBOARD_OWNER_NOTHING)
+        return;
+    synicboard_page_owner owner = synicboard_owner(board, page);
+    CHECK_NUMBER(owner.kind, kind);
+    CHECK_NUMBER(owner.vp, vp);
+}
+
+/* Four overlays, of which two are at one page: the first in the order of visibility is seen there, the other
+ * one once that has left. The registers have what the guest wrote. */
+static void test_overlays_in_order(void)
+{
+    synicboard board = SYNICBOARD_CLOSED;
+    CHECK_NUMBER(synicboard_open_sparse(&board, 2, 0), SYNICBOARD_OK);
+    check_overlay(&board, 0, 0, SYNICBOARD_OWNER_NOTHING, 0);
+    CHECK_REPLY(synicboard_write(&board, 0, SIMP, at_page(LAST_PAGE)), SYNICBOARD_DONE);
+    CHECK_REPLY(synicboard_write(&board, 0, SIEFP, at_page(0x80000)), SYNICBOARD_DONE);
+    CHECK_REPLY(synicboard_write(&board, 1, SIMP, at_page(0x80000) | 0xffe), SYNICBOARD_DONE);
+    CHECK_REPLY(synicboard_write(&board, 1, SIEFP, at_page(5)), SYNICBOARD_DONE);
+    CHECK_NUMBER(synicboard_read(&board, 1, SIMP).value, at_page(0x80000) | 0xffe);
+    check_overlay(&board, 0, 5, SYNICBOARD_OWNER_FLAGS, 1);
+    check_overlay(&board, 5, 5, SYNICBOARD_OWNER_FLAGS, 1);
+    check_overlay(&board, 6, 0x80000, SYNICBOARD_OWNER_FLAGS, 0);
+    check_overlay(&board, 0x80001, LAST_PAGE, SYNICBOARD_OWNER_MESSAGES, 0);
+    check_overlay(&board, LAST_PAGE + 1, 0, SYNICBOARD_OWNER_NOTHING, 0);
+    CHECK_REPLY(synicboard_write(&board, 0, SIEFP, at_page(0x80000) - 1), SYNICBOARD_DONE);
+    check_overlay(&board, 6, 0x80000, SYNICBOARD_OWNER_MESSAGES, 1);
+    CHECK_REPLY(synicboard_reset(&board, 1), SYNICBOARD_DONE);
+    check_overlay(&board, 0, LAST_PAGE, SYNICBOARD_OWNER_MESSAGES, 0);
+    CHECK_REFUSAL(synicboard_load(&board, 0x80000 * (uint64_t)PAGE, 8), SYNICBOARD_ELSEWHERE);
+    synicboard_close(&board);
+}
+
+/* A message in a page that no board with 64 pages has: the guest reads it, empties the slot, and gets the next. */
+static void test_messages(void)
+{
+    static const uint8_t payload = 0x0a, zeros[4] = { 0 };
+    const uint64_t slot = 0x7fff00000 + 0x200;
+    synicboard board = SYNICBOARD_CLOSED;
+    synicboard_notice notice;
+    const uint8_t *page = NULL;
+    CHECK_NUMBER(synicboard_open_sparse(&board, 1, 0), SYNICBOARD_OK);
+    CHECK_REPLY(synicboard_write(&board, 0, SCONTROL, 1), SYNICBOARD_DONE);
+    CHECK_REPLY(synicboard_write(&board, 0, SIMP, at_page(0x7fff00)), SYNICBOARD_DONE);
+    CHECK_REPLY(synicboard_write(&board, 0, SINT0 + 2, 0x50), SYNICBOARD_DONE);
+    CHECK_REPLY(synicboard_open_message_port(&board, 3, 0, 2, 2), SYNICBOARD_DONE);
+    CHECK_REPLY(synicboard_post(&board, 3, 1, &payload, 1), SYNICBOARD_ACCEPTED);
+    CHECK_REPLY(synicboard_post(&board, 3, 1, &payload, 1), SYNICBOARD_ACCEPTED);
+    CHECK(synicboard_message_page(&board, 0, &page) && page[0x210] == payload);
+    synicboard_reply reply = synicboard_load(&board, slot, 8);
+    CHECK_REPLY(reply, SYNICBOARD_BYTES);
+    CHECK(reply.bytes[0] == 1 && reply.bytes[4] == 1 && reply.bytes[5] == 1);
+    CHECK_REPLY(synicboard_store(&board, slot, zeros, 4), SYNICBOARD_DONE);
+    CHECK_NUMBER(synicboard_notices(&board, &notice, 1), 1);
+    CHECK(notice.kind == SYNICBOARD_NOTICE_CONSUMED && notice.ticket == 0);
+    CHECK_REPLY(synicboard_write(&board, 0, EOM, 0), SYNICBOARD_DONE);
+    CHECK_NUMBER(synicboard_load(&board, slot, 8).bytes[5], 0);
+    CHECK_REFUSAL(synicboard_load(&board, slot - PAGE, 8), SYNICBOARD_ELSEWHERE);
+    synicboard_close(&board);
+}
+
+static const struct test tests[] = {
+    { "opening", test_opening },
+    { "refused memory of an opening", test_refused_memory },
+    { "memory of the caller", test_elsewhere },
+    { "overlays in order", test_overlays_in_order },
+    { "messages at any page", test_messages },
+};
+
+int main(void)
+{
+    return run_tests(tests, sizeof tests / sizeof *tests);
+}
