@@ -25,9 +25,11 @@ abbrev pub model_of : Inside → BoardModel
 model_of b = record { state = state_of b; writes = b.summary.writes }
 
 pub record MachineInvariant (b : Inside) : Type 0 where
+  pub some_processor : 1 ≤ length b.lapics.items
   pub processor_bound : length b.lapics.items ≤ 8
   pub registers : length b.regs.items ≡ length b.lapics.items
   pub page_count : b.page_count ≡ length b.space.pages
+  pub some_page : 1 ≤ b.page_count
   pub page_bound : b.page_count ≤ 64
   -- the space has the overlay registers of the processors, two each
   pub two_overlays : length b.space.registers ≡ 2 * length b.lapics.items

@@ -1,4 +1,4 @@
-use Rattle.std.proofs.Common.{◌≡◌, ap, sym, subst, ◌∙◌}
+use Rattle.std.proofs.Common.{rules, ◌≡◌, ap, sym, subst, ◌∙◌}
 use Rattle.gpa_space.specs.Space.{store_answer, after_store}
 use Rattle.synic_board.specs.State.{BoardModel, State, space_of, with_space}
 use Rattle.synic_board.specs.Stores.{stored_bytes}
@@ -27,3 +27,20 @@ returns-clause-step c =
     stored_is s c.consume_in.new.self.state c.args.address c.args.bytes.now c.self.inside.space c.store_slice.new.self c.in-Ok.owner c.args.notices.now c.consume_in.new.notices
     space (sym c.in-Ok.is ∙ c.store_slice.ensures.answer) c.store_slice.ensures.after c.requires.none c.consume_in.ensures.effect
     ∙ ap (λ (h : BoardModel). stored_bytes h.state c.args.address c.args.bytes.now) c.self.view_is
+
+pub invariant_of-self-2 : goal.invariant_of-self-2
+invariant_of-self-2 c = record {
+  some_processor = c.self.invariant.some_processor;
+  processor_bound = c.self.invariant.processor_bound;
+  registers = c.self.invariant.registers;
+  page_count = search rules;
+  some_page = c.self.invariant.some_page;
+  page_bound = c.self.invariant.page_bound;
+  two_overlays = search rules;
+  overlays = search rules;
+  ports = c.self.invariant.ports;
+  queues = c.self.invariant.queues;
+  slots = c.self.invariant.slots;
+  idle = c.self.invariant.idle;
+  summary = search rules;
+}
