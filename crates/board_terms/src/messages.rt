@@ -1,6 +1,7 @@
 // Messages, and the shapes of ports.
 ghost use Rattle.std.specs.Prelude.{◌≡◌};
 ghost use Rattle.board_terms.specs.Messages.{ticket_of};
+ghost use Rattle.board_terms.specs.Ranges.{AreBytes, HasMessageRanges};
 
 use crate::timer_id::TimerId;
 use crate::{Moment, Ticket};
@@ -46,4 +47,40 @@ impl Message {
             Message::FromPort { ticket, .. } | Message::FromTimer { ticket, .. } => *ticket,
         }
     }
+
+    /// What holds for the numbers in every message. Does nothing.
+    pub fn facts(&self)
+        ensures ranges { HasMessageRanges self.now }
+    {
+        match self {
+            Message::FromPort {
+                ticket,
+                port,
+                kind,
+                payload,
+            } => {
+                let _ticket = *ticket;
+                let _port = *port;
+                let _kind = *kind;
+                are_bytes(payload.as_slice());
+            }
+            Message::FromTimer {
+                ticket,
+                timer,
+                expiration,
+            } => {
+                let _ticket = *ticket;
+                let _processor = timer.vp().number();
+                let _index = timer.index();
+                let _expiration = *expiration;
+            }
+        }
+    }
+}
+
+/// Each element of a slice of bytes is a byte.
+fn are_bytes(bytes: &[u8])
+    ensures { AreBytes bytes.now }
+{
+    let _count = bytes.len();
 }

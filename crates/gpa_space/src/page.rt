@@ -1,5 +1,6 @@
 // A page of 4096 bytes.
 ghost use Rattle.std.specs.Prelude.{◌≡◌, ◌<◌, ◌+◌, ◌≤◌, length, take, drop, replicate, not, IfOk};
+ghost use Rattle.board_terms.specs.Ranges.{AreBytes};
 ghost use Rattle.gpa_space.specs.Page.{zero_page, overwritten, with_slot, message_bytes, is_set, with_bit};
 
 use arrayvec::ArrayVec;
@@ -54,6 +55,13 @@ impl Page {
         ensures len { length result.now ≡ 4096 }
     {
         self.bytes.as_slice()
+    }
+
+    /// What holds for the bytes of every page. Does nothing.
+    pub fn facts(&self)
+        ensures { AreBytes self.now }
+    {
+        are_bytes(self.as_slice());
     }
 
     /// `count` bytes, at most 8, from the offset `at` on. They must be within the page.
@@ -216,4 +224,11 @@ fn fill(place: &mut [u8], bytes: &[u8])
         Some(whole) => assign(place, whole),
         None => place.copy_from_slice(bytes),
     }
+}
+
+/// Each element of a slice of bytes is a byte.
+fn are_bytes(bytes: &[u8])
+    ensures { AreBytes bytes.now }
+{
+    let _count = bytes.len();
 }

@@ -3,6 +3,7 @@ ghost use Rattle.std.specs.Prelude.{[], ◌≡◌, ◌+◌, ◌<◌, ◌≤◌, 
 ghost use Rattle.std.specs.List.{All};
 ghost use Rattle.std.specs.Option.{option_copied, option_map_or};
 ghost use Rattle.board_terms.specs.declared.pages.Kind.TheVariants as kind;
+ghost use Rattle.board_terms.specs.Ranges.{AreBytes};
 ghost use Rattle.gpa_space.specs.Page.{zero_page, overwritten, message_bytes};
 ghost use Rattle.gpa_space.specs.Space.{opened, processors_of, overlay_of, with_register, visible, overlay_owner, is_sparse, page_count, owner_of, IsNextOverlay, refusal_of, loaded, store_answer, after_store, own_page, with_own_page, with_guest_page, after_slot, is_pending, after_pending, is_flag_set, after_flag, after_clearing};
 
@@ -311,10 +312,14 @@ impl Space {
     pub fn facts(&self)
         ensures pages { All (λ page. length page ≡ 4096) self.now.pages }
         ensures own { All (λ page. length page ≡ 4096) self.now.own }
+        ensures page_bytes { All AreBytes self.now.pages }
+        ensures own_bytes { All AreBytes self.now.own }
         ensures each { length self.now.own ≡ length self.now.registers }
     {
         page_lengths(self.pages.as_slice());
         page_lengths(self.own.as_slice());
+        page_bytes(self.pages.as_slice());
+        page_bytes(self.own.as_slice());
     }
 
     /// Replaces bytes of an overlay's own page, visible or not, from offset `at` on.
@@ -386,5 +391,14 @@ fn page_lengths(pages: &[Page])
 {
     for page in pages {
         let _ = page.as_slice();
+    }
+}
+
+/// Each page has bytes only.
+fn page_bytes(pages: &[Page])
+    ensures { All AreBytes pages.now }
+{
+    for page in pages {
+        page.facts();
     }
 }

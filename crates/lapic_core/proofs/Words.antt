@@ -181,6 +181,17 @@ member_below words q h =
     let e : (nat_lt q 256 && holds words q) ≡ true = sym (contains-word_members words q) ∙ h in
     (grind (arith, nat_tests), grind (arith, nat_tests))
 
+-- each member is a vector
+pub members_in_range : (words : List ℕ) (value : Vectors) → word_members words ≡ value → NoneBelow16 words → (q : ℕ) → set.contains value q ≡ true → (16 ≤ q) × (q < 256)
+members_in_range words value is low q h =
+    let e : (nat_lt q 256 && holds words q) ≡ true = sym (contains-word_members words q) ∙ (λ i. set.contains (is i) q) ∙ h in (
+      elim (nat_lt q 16) as (λ b. nat_lt q 16 ≡ b → 16 ≤ q) [
+        | true ↦ λ t. let below : q < 16 = grind (arith, nat_tests) in let f = low q below in let g : holds words q ≡ true = grind (arith, nat_tests) in absurd (cc)
+        | false ↦ λ t. grind (arith, nat_tests)
+      ] refl,
+      grind (arith, nat_tests),
+    )
+
 -- no member is above the top bit of the last word that is not 0
 not_above : (words : List ℕ) (at j q : ℕ) → at < 4 → ZeroFrom words (at + 1) → slice_index_or words at 0 < 2 ^ suc j → set.contains (word_members words) q ≡ true → q ≤ 64 * at + j
 not_above words at j q h zeros below member =

@@ -3,6 +3,7 @@ ghost use Rattle.std.specs.Prelude.{◌≡◌, ◌≤◌, None, not, true, false
 ghost use Rattle.std.specs.FinSet as set;
 ghost use Rattle.lapic_core.specs.Vectors.{Vectors, greatest};
 ghost use Rattle.lapic_core.specs.Apic.{class, empty_apic, next, request, with_task_priority, with_suspension, after_take, after_end};
+ghost use Rattle.lapic_core.specs.Ranges.{IsApic};
 ghost use Rattle.lapic_core.specs.inside.Threshold.{last_of, threshold, to_exceed, above, floor, serving};
 
 use crate::vector_set::VectorSet;
@@ -209,6 +210,15 @@ impl Lapic {
         self.floor = floor_of(suspended, self.task_priority);
         self.threshold = threshold_of(self.highest, self.floor);
         self.next = next_above(&self.requested, self.threshold);
+    }
+
+    /// What holds for the numbers of every local APIC. Does nothing.
+    pub fn facts(&self)
+        ensures ranges { IsApic self.now }
+    {
+        self.requested.facts();
+        self.in_service.facts();
+        let _priority = self.task_priority;
     }
 
     /// Whether the processor is suspended.

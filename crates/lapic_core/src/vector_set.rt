@@ -3,6 +3,7 @@ ghost use Rattle.std.specs.Prelude.{◌≡◌, ◌<◌, None, true};
 ghost use Rattle.std.specs.FinSet as set;
 ghost use Rattle.lapic_core.specs.Vectors.{greatest, word_of};
 ghost use Rattle.lapic_core.specs.Words.{from_words};
+ghost use Rattle.lapic_core.specs.Ranges.{AreVectors};
 
 use board_terms::Vector;
 use std::marker::Model;
@@ -86,6 +87,13 @@ impl VectorSet {
         ensures { result ≡ word_of self.now part }
     {
         self.words[part as usize]
+    }
+
+    /// What holds for the members of every set. Does nothing.
+    pub fn facts(&self)
+        ensures { AreVectors self.now }
+    {
+        let _words = &self.words;
     }
 
     /// The greatest member; `None` if the set is empty.

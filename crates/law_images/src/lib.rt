@@ -1,5 +1,5 @@
-//! What a driver may rely on when it saves and restores boards. Each theorem is a function with an
-//! empty body, whose clause is the theorem.
+//! What a driver may rely on when it saves and restores boards. Each theorem is a function that does
+//! nothing, whose clause is the theorem.
 #![tactic(auto)]
 
 pub mod laws;

@@ -7,3 +7,4 @@ mod Steps
 mod Opening
 mod ImageLemmas
 pub mod WrittenSlots
+mod Ranges

@@ -1,9 +1,11 @@
 // The message queues.
 ghost use Rattle.std.specs.Prelude.{◌≡◌, ◌↔◌, IsTrue, ◌<◌, ◌≤◌, [], length, map, sum_by, IfOk, slice_get};
 ghost use Rattle.std.specs.Option.{option_copied};
+ghost use Rattle.std.specs.List.{All};
 ghost use Rattle.board_terms.specs.Messages.{ticket_of};
 ghost use Rattle.board_terms.specs.declared.messages.Message.TheVariants.{FromPort, FromTimer};
 ghost use Rattle.board_terms.specs.Sources.{source_number};
+ghost use Rattle.board_terms.specs.Ranges.{HasMessageRanges};
 ghost use Rattle.message_queues.specs.Queues.{no_messages, queue_of, with_queue, appended, after_place, after_withdrawal, withdrawn_of, port_used, is_timer_free, HasBuffer};
 
 use crate::chains::{Chain, Neighbours, drop_first, link, message_at, message_in, withdraw};
@@ -279,6 +281,22 @@ impl Queues {
         }
         let messages = self.messages.as_slice();
         Some(message_at(&self.neighbours, messages, chain, index))
+    }
+
+    /// What holds for the numbers in every queued message. Does nothing.
+    pub fn facts(&self)
+        ensures ranges { All (All HasMessageRanges) self.now }
+    {
+        message_ranges(self.messages.as_slice());
+    }
+}
+
+/// The numbers of each message are in range.
+fn message_ranges(messages: &[Message])
+    ensures { All HasMessageRanges messages.now }
+{
+    for message in messages {
+        message.facts();
     }
 }
 

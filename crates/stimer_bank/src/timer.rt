@@ -2,6 +2,7 @@
 ghost use Rattle.std.specs.Prelude.{◌≡◌, ◌↔◌, true, ◌+◌, ◌*◌, ◌^◌, ◌-◌, ◌<◌, ◌≤◌, Option, Some, None, IsSome, IsTrue};
 ghost use Rattle.stimer_bank.specs.Timer.{is_periodic, started, after_config, after_count, is_due, IsSoundTimer, IsRuled, mode_of, expired, once, catching_up, lazily, late, expiry_of, after_expiry};
 ghost use Rattle.stimer_bank.specs.Bank.{idle_timer};
+ghost use Rattle.stimer_bank.specs.Ranges.{IsTimer};
 
 use crate::config::ConfigWord;
 use bitflags::Flags;
@@ -77,6 +78,11 @@ impl Timer {
         };
         word.is_enabled() && self.count > 0 && (!word.is_periodic() || self.count as u128 <= due)
     }
+
+    /// What holds for the numbers of every timer. Does nothing.
+    pub(crate) fn facts(self)
+        ensures { IsTimer self }
+    {}
 
     pub(crate) fn after_config(self, value: u64, moment: Moment) -> Timer
         ensures after { result ≡ after_config self value moment }

@@ -85,6 +85,7 @@ kept-stored b t address bytes h is =
     let pages = ap (λ (x : Space). length x.pages) is ∙ same.0 in
     let registers = ap (λ (x : Space). x.registers) is ∙ same.1 in
     record {
+      some_processor = h.some_processor;
       processor_bound = h.processor_bound;
       registers = h.registers;
       page_count = h.page_count ∙ sym pages;

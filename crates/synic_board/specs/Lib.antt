@@ -19,6 +19,7 @@ pub mod Locations
 pub mod Run
 pub mod History
 pub mod Sound
+pub mod Ranges
 pub mod Buffers
 pub mod Settled
 pub mod Restoring

@@ -95,6 +95,12 @@ pub record AreSizes (processors pages : ℕ) : Type 0 where
   pub some_page : 1 ≤ pages
   pub page_bound : pages ≤ 64
 
+-- the sizes of any board, of which a sparse one holds no pages
+pub record IsWithinLimits (processors pages : ℕ) : Type 0 where
+  pub some_processor : 1 ≤ processors
+  pub processor_bound : processors ≤ 8
+  pub page_bound : pages ≤ 64
+
 -- the state of a newly opened board; with no pages it is sparse
 abbrev pub opened : ℕ → ℕ → Ticket → State
 opened n pages ticket =

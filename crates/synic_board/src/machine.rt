@@ -14,6 +14,7 @@ mod interrupts;
 mod overlays;
 mod pages;
 mod posts;
+mod ranges;
 mod registers;
 mod resetting;
 mod restoring;

@@ -1,3 +1,4 @@
 pub mod Registers
 pub mod Regs
+pub mod Ranges
 pub mod inside

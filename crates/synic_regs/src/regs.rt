@@ -1,7 +1,9 @@
 // The registers of one processor's synthetic interrupt controller.
-ghost use Rattle.std.specs.Prelude.{◌≡◌, IsTrue};
+ghost use Rattle.std.specs.Prelude.{◌≡◌, ◌<◌, ◌^◌, IsTrue, length};
+ghost use Rattle.std.specs.List.{All};
 ghost use Rattle.std.specs.FinSet as set;
 ghost use Rattle.synic_regs.specs.Regs.{reset_regs, stores, outcome_of, after_write, value_of, has, enable, auto_vectors, auto_eoi_of, raised_by};
+ghost use Rattle.synic_regs.specs.Ranges.{AreRegs};
 ghost use Rattle.synic_regs.specs.inside.Legal.{AreLegal};
 
 use crate::register::Register;
@@ -148,6 +150,24 @@ impl SynicRegs {
     {
         SintWord::new(self.sints[sint.number() as usize]).raised()
     }
+
+    /// What holds for the values of all registers. Does nothing.
+    pub fn facts(&self)
+        ensures ranges { AreRegs self.now }
+    {
+        let _control = self.control;
+        let _sief = self.sief;
+        let _sim = self.sim;
+        are_words(&self.sints);
+    }
+}
+
+/// Sixteen values of 64 bits.
+fn are_words(sints: &[u64; 16])
+    ensures count { length sints.now ≡ 16 }
+    ensures words { All (λ word. word < 2 ^ 64) sints.now }
+{
+    let _words = sints.as_slice();
 }
 
 /// The vectors that some of these sources make auto-EOI.

@@ -15,7 +15,8 @@ use Rattle.text_image.specs.declared.piece.Piece.TheVariants as pieces
 use Rattle.text_image.specs.Image.{each_below, changed_line, source_lines, register_lines}
 use Rattle.text_image.specs.Pieces.{piece_fields}
 use Rattle.text_restore.specs.Restoring.{place}
-use Rattle.law_images.specs.States.{IsBoardState, AreRegs}
+use Rattle.synic_regs.specs.Ranges.{AreRegs}
+use Rattle.law_images.specs.States.{IsBoardState}
 use Rattle.law_images.proofs.Fronts.{front, length-front, front-none, front-more, front-start, front-whole}
 use Rattle.law_images.proofs.Tests.{same as same-value, other as other-value}
 use Rattle.law_images.proofs.Walks.{Point, point, Passes, Fits, passes-unless, passes-none, passes-append, passes-each, passes-from, passes-to}

@@ -7,7 +7,8 @@ use Rattle.synic_board.specs.State.{State, processors}
 use Rattle.text_image.specs.declared.piece.Piece.TheVariants as pieces
 use Rattle.text_image.specs.Image.{each_below, timer_lines, timers_lines}
 use Rattle.text_restore.specs.Restoring.{place}
-use Rattle.law_images.specs.States.{IsBoardState, IsTimer}
+use Rattle.stimer_bank.specs.Ranges.{IsTimer}
+use Rattle.law_images.specs.States.{IsBoardState}
 use Rattle.law_images.proofs.Fronts.{front, front-none, front-more, front-still, front-all}
 use Rattle.law_images.proofs.Tests.{same}
 use Rattle.law_images.proofs.Walks.{Point, point, Passes, passes-unless, passes-none, passes-each, passes-from, passes-to}

@@ -25,6 +25,7 @@ abbrev pub model_of : Inside → BoardModel
 model_of b = record { state = state_of b; writes = b.summary.writes }
 
 pub record MachineInvariant (b : Inside) : Type 0 where
+  pub some_processor : 1 ≤ length b.lapics.items
   pub processor_bound : length b.lapics.items ≤ 8
   pub registers : length b.regs.items ≡ length b.lapics.items
   pub page_count : b.page_count ≡ length b.space.pages

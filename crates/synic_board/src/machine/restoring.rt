@@ -10,11 +10,13 @@ ghost use Rattle.event_ports.specs.Ports.{port_at};
 ghost use Rattle.message_queues.specs.Queues.{queue_of};
 ghost use Rattle.stimer_bank.specs.Bank.{idle_timer, timer_in, dues};
 ghost use Rattle.board_terms.specs.Dues.{least, later_than};
-ghost use Rattle.synic_board.specs.State.{processors, apic_of, regs_of, ports_of, bank_of, slot_of, with_slot_ticket};
+ghost use Rattle.synic_board.specs.Ranges.{HasRanges};
+ghost use Rattle.synic_board.specs.State.{IsWithinLimits, processors, apic_of, regs_of, ports_of, bank_of, slot_of, with_slot_ticket};
 ghost use Rattle.synic_board.specs.Timers.{at_moment};
 ghost use Rattle.synic_board.specs.Restoring.{with_processor, with_saved_timer, with_own_bytes, with_guest_bytes, with_message, HasNoTickets};
 
 use crate::machine::Machine;
+use crate::machine::ranges::{lapic_ranges, register_ranges};
 use crate::machine::suspending::mark_timers;
 use crate::summary::Entry;
 use board_terms::{Kind, Message, Moment, Sint, Ticket, TimerId, Vp, source_number};
@@ -127,14 +129,21 @@ impl Machine {
         true
     }
 
-    /// What holds for the timers and pages of every machine.
+    /// What holds for the parts of every machine.
     pub(crate) fn facts(&self)
         ensures timers { length self.now.state.timers ≡ 32 }
         ensures sound { (n : ℕ) → IsSoundTimer (slice_index_or self.now.state.timers n idle_timer) }
         ensures pages { All (λ page. length page ≡ 4096) self.now.state.pages }
+        ensures sizes { IsWithinLimits (processors self.now.state) (length self.now.state.pages) }
+        ensures ranges { HasRanges self.now.state }
     {
-        self.timers.facts();
+        let _moment = self.moment;
+        let _next_ticket = self.next_ticket;
+        lapic_ranges(self.lapics.as_slice());
+        register_ranges(self.regs.as_slice());
         self.space.facts();
+        self.queues.facts();
+        self.timers.facts();
     }
 
     /// The local APIC of a processor.

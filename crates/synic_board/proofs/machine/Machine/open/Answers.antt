@@ -34,6 +34,7 @@ invariant_of-result c =
     let state = state-opened n pages c.args.first_ticket c.in_ok-lapics.lapics.items c.in_ok-regs.regs.items c.in_ok-space.space c.new-ports.result c.in_ok-queues.queues
     c.in_ok-slots.slots.items c.new-timers.result lapics regs space c.new-ports.ensures queues slots c.new-timers.ensures in
     record {
+      some_processor = omega (arith, c.requires.some_processor, ap length lapics, length-replicate n empty_apic);
       processor_bound = omega (arith, c.requires.processor_bound, ap length lapics, length-replicate n empty_apic);
       registers = ap length regs ∙ length-replicate n reset_regs ∙ sym (ap length lapics ∙ length-replicate n empty_apic);
       page_count = sym (ap (λ (s : Space). length s.pages) space ∙ length-replicate pages zero_page);

@@ -18,6 +18,7 @@ invariant_of-self c =
     let sim = ap (λ (r : Regs). r.sim) now in
     let sief = ap (λ (r : Regs). r.sief) now in
     record {
+      some_processor = c.self.invariant.some_processor;
       processor_bound = c.self.invariant.processor_bound;
       registers = length-set rs c.number.result c.write.new.self ∙ c.self.invariant.registers;
       page_count = c.self.invariant.page_count;

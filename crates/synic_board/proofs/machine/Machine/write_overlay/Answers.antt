@@ -33,6 +33,7 @@ invariant_of-self c =
     let tied = overlay-tied c.self.inside.space c.set_overlay.new.self rs c.number.result c.args.value c.args.kind c.index_mut-regs.result.now c.write.new.self within
     c.self.invariant.overlays was now moved in
     record {
+      some_processor = c.self.invariant.some_processor;
       processor_bound = c.self.invariant.processor_bound;
       registers = length-set rs c.number.result c.write.new.self ∙ c.self.invariant.registers;
       page_count = c.self.invariant.page_count ∙ sym (ap (λ (s : Space). length s.pages) c.set_overlay.ensures);

@@ -18,6 +18,7 @@ invariant_of-self-2 c =
     let sim = ap (λ (r : Regs). r.sim) c.write.ensures.after ∙ source-sim c.index_mut-regs.result.now c.args.sint c.args.value ∙ ap (λ (r : Regs). r.sim) was in
     let sief = ap (λ (r : Regs). r.sief) c.write.ensures.after ∙ source-sief c.index_mut-regs.result.now c.args.sint c.args.value ∙ ap (λ (r : Regs). r.sief) was in
     record {
+      some_processor = c.self.invariant.some_processor;
       processor_bound = c.self.invariant.processor_bound;
       registers = length-set rs c.number.result c.write.new.self ∙ c.self.invariant.registers;
       page_count = c.self.invariant.page_count;

@@ -1,0 +1,17 @@
+use Rattle.law_images.specs.States.{IsBoardState}
+use Rattle.law_images.proofs.Accepted.{accepted}
+use Rattle.law_images.proofs.laws.a_board_is_restored_from_its_image.Goals as goal
+
+pub returns : goal.returns
+returns c =
+    let facts = c.facts.ensures in
+    let state : IsBoardState c.args.board.now.state = record {
+      sizes = facts.sizes;
+      sound = facts.sound;
+      buffers = facts.buffers;
+      settled = facts.settled;
+      shape = facts.shape;
+      timers = facts.timers;
+      ranges = facts.ranges;
+    } in
+    record { state = state; image = accepted c.args.board.now.state state }
