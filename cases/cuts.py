@@ -69,18 +69,29 @@ def verdict_of_cut(trace, verdict, size):
     return 3, b"refused %d\n" % line
 
 
+def entries_of(lines, blocks):
+    """The entries of a trace for the events among these lines, all by actor 0."""
+    return [b"0 %s\n%s\n" % (line, block.split(b"\n", 1)[0]) for line, block in zip(lines, blocks) if block.startswith(b"= ")]
+
+
 def trace_of(text, output, number):
     """The trace in format 1 or 2 of a script's events and their replies, all by actor 0, and the
     number of entries. Each accepted message took a ticket."""
-    entries = []
-    for line, block in zip(text.splitlines(), outputs_of_lines(text.splitlines(), output)):
-        if block.startswith(b"= "):
-            entries.append(b"0 %s\n%s\n" % (line, block.split(b"\n", 1)[0]))
+    entries = entries_of(text.splitlines(), outputs_of_lines(text.splitlines(), output))
     board = next(line for line in text.splitlines() if line.startswith(b"board"))
     end = b"end %d" % len(entries)
     if number == 2:
         end += b" %d" % (int(board.split()[3]) + output.count(b"\n. accepted "))
     return b"trace %d\n%s\n%s%s\n" % (number, board, b"".join(entries), end), len(entries)
+
+
+def trace_from(image, lines, blocks):
+    """The trace in format 3 of these lines of a script, with their outputs, on the board of an image, and
+    the number of entries."""
+    entries = entries_of(lines, blocks)
+    board = image.splitlines()[1]
+    ticket = int(board.split()[3]) + b"".join(blocks).count(b"\n. accepted ")
+    return b"trace 3\n%s%send %d %d\n" % (image, b"".join(entries), len(entries), ticket), len(entries)
 
 
 def formats_of(text):

@@ -64,7 +64,7 @@ SCRIPTS = (
 # wrong traces, and their first wrong line
 TRACES_WITH_A_WRONG_LINE = (
     # the title
-    (b"trace 3\nboard 1 1 0\nend 0 0\n", 1),
+    (b"trace 4\nboard 1 1 0\nend 0 0\n", 1),
     (b"trace 01\nboard 1 1 0\nend 0\n", 1),
     (b"trace 1\r\nboard 1 1 0\nend 0\n", 1),
     (b"board 1 1 0\nend 0\n", 1),
@@ -73,6 +73,16 @@ TRACES_WITH_A_WRONG_LINE = (
     (b"trace 1\nboard 9 1 0\nend 0\n", 2),
     (b"trace 1\nboard 1 0 0\nend 0\n", 2),
     (b"trace 1\nend 0\n", 2),
+    # the image of format 3
+    (b"trace 3\nboard 1 1 0\nend 0 0\n", 2),
+    (b"trace 3\n\nimage 1\nboard 1 1 0\n", 2),
+    (b"trace 3\nimage 1\nlapic 0 0 0 0 0 0 0 0 0 0 running\nend\nend 0 0\n", 3),
+    (b"trace 3\nimage 1\nboard 9 1 0\n", 3),
+    (b"trace 3\nimage 1\nboard 1 1 0\nend\nend 0 0\n", 4),
+    (b"trace 3\nimage 1\nboard 1 1 0\nlapic 0 0 0 0 0 0 0 0 0 0 running\nend 0 0\n", 5),
+    (b"trace 3\nimage 1\nboard 1 1 0\nlapic 0 0 0 0 0 0 0 0 0 0 running\nend\nend\nend 0 0\n", 6),
+    (b"trace 3\nimage 1\nboard 1 1 0\nlapic 0 0 0 0 0 0 0 0 0 0 running\nend\nend 0\n", 6),
+    (b"trace 3\nimage 1\nboard 1 1 5\nlapic 0 0 0 0 0 0 0 0 0 0 running\nend\nend 0 0\n", 6),
     # an actor and an event
     (b"trace 1\nboard 1 1 0\n00 take 0\n= taken none\nend 1\n", 3),
     (b"trace 1\nboard 1 1 0\n256 take 0\n= taken none\nend 1\n", 3),
@@ -108,6 +118,8 @@ TRACES = (
     (b"trace 2\nboard 1 1 5\n0 reset 0\n= done\n0 resume 0\n= refused 16\nend 2 5\n", 2),
     (b"trace 2\nboard 1 1 7\n0 write 0 40000080 1\n= done\n0 open 3 message 0 2 1\n= done\n"
      b"1 post 3 1 -\n= accepted 7\n0 reset 0\n= done\nend 4 8\n", 4),
+    (b"trace 3\nimage 1\nboard 1 1 5\nlapic 0 0 0 0 0 0 0 0 0 0 running\nend\nend 0 5\n", 0),
+    (b"trace 3\nimage 1\nboard 1 1 5\nlapic 0 0 100000000 0 0 0 0 0 0 0 running\nend\n7 take 0\n= taken 60\n0 take 0\n= taken none\nend 2 5\n", 2),
 )
 
 # crew scripts with a fault: nothing else is written

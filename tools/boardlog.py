@@ -5,8 +5,12 @@ import subprocess
 
 import boardfaults
 
-# the first line of a trace, in either format
+# the first line of a trace that begins with a board line
 TITLES = (["trace 1"], ["trace 2"])
+
+# the first line of a trace that begins with an image
+TITLE_OF_AN_IMAGE = ["trace 3"]
+NO_IMAGES = "a trace of format 3 begins with an image, which this tool does not read; `synicboard check` does"
 
 
 class Fault(Exception):
@@ -51,6 +55,8 @@ class Step:
 def events_of(text):
     """The board line, and each event with its actor, of a script or of a trace."""
     lines = [line for line in text.splitlines() if line and not line.startswith("#")]
+    if lines[:1] == TITLE_OF_AN_IMAGE:
+        raise Fault(NO_IMAGES)
     if lines[:1] in TITLES:
         numbered = [line.split(" ", 1) for line in lines[2:] if line[0].isdigit()]
         return lines[1], [(event, int(actor)) for actor, event in numbered]

@@ -1,5 +1,5 @@
 //! `synicboard replay` and `synicboard check` in plain Rust. Reads a script from standard input,
-//! performs it on the plain board, and writes the same text; or reads a trace of either format, and
+//! performs it on the plain board, and writes the same text; or reads a trace of format 1 or 2, and
 //! checks whether the plain board gives these replies. Kinds of lines that no workload has (close,
 //! read, absorb) are malformed here.
 

@@ -61,6 +61,8 @@ def of_trace(text):
 def trace(given, reference):
     """tools/conform trace"""
     text = suite.read(given.report)
+    if text.splitlines()[:1] == boardlog.TITLE_OF_AN_IMAGE:
+        raise suite.BadSuite(boardlog.NO_IMAGES)
     events = of_trace(text) if text.splitlines()[:1] in boardlog.TITLES else of_report(text)
     lines = [line for line, _ in events]
     told = answers.answers_of(peers.refuse_faults(given.report, reference, lines), len(lines) - 1)

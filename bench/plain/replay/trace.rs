@@ -1,5 +1,5 @@
-//! A trace of either format, line by line: performs its entries, and compares each reply with that
-//! of the board.
+//! A trace of format 1 or 2, line by line: performs its entries, and compares each reply with that of
+//! the board. The title of format 3 is wrong here.
 
 use super::lines::{Lines, Next};
 use super::open;

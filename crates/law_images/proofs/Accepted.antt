@@ -20,7 +20,7 @@ use Rattle.text_image.proofs.PieceLemmas.{reading-means, piece-means}
 use Rattle.text_restore.specs.Restoring.{Stage, Untitled, Titled, Body, place, place_of, Opens}
 use Rattle.text_restore.specs.Images.{IsImage}
 use Rattle.law_images.specs.States.{IsBoardState}
-use Rattle.law_images.proofs.Short.{piece-written}
+use Rattle.text_restore.proofs.Short.{piece-written}
 use Rattle.law_images.proofs.Walks.{Point, point, Passes, Arrives, Walks, walks-append, walks-lead, walks-whole, passes-append}
 use Rattle.law_images.proofs.passing.Processors.{moment-passed, lapics-passed}
 use Rattle.law_images.proofs.passing.Registers.{regs-passed}

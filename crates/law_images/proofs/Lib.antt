@@ -10,7 +10,6 @@ mod Reading
 mod Unique
 mod Tests
 mod Fronts
-mod Short
 mod Walks
 mod Blends
 mod passing

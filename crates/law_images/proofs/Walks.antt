@@ -12,7 +12,7 @@ use Rattle.text_image.specs.Pieces.{piece_fields, IsPiece}
 use Rattle.text_image.proofs.PieceLemmas.{reading-means, piece-means}
 use Rattle.text_restore.specs.Restoring.{Stage, Body, place_of, lapics_after, IsLater, IsInTurn, Restores, Follows}
 use Rattle.text_restore.specs.Images.{Leads}
-use Rattle.law_images.proofs.Short.{piece-written}
+use Rattle.text_restore.proofs.Short.{piece-written}
 
 -- lines, by their fields, that lead from one stage to another
 abbrev pub Walks : Stage → Lines → Stage → Type 0

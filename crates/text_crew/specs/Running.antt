@@ -10,7 +10,7 @@ use Rattle.board_threads.specs.Crew.{IsCrewHistory, HasEach, logs_of}
 use Rattle.board_threads.specs.Settling.{AreAbsorbed}
 use Rattle.text_lines.specs.Faults.{fault_text}
 use Rattle.text_driver.specs.Driving.{ReadsNear}
-use Rattle.text_trace.specs.Trace.{trace, IsTrace}
+use Rattle.text_trace.specs.Trace.{board_text, trace, IsTrace}
 use Rattle.text_trace.specs.declared.format.Format.TheVariants.{Two}
 use Rattle.text_crew.specs.Crew.{Crew, finished, entries_of}
 use Rattle.text_crew.specs.Reading.{parse_script}
@@ -31,7 +31,7 @@ pub record IsHistory (crew : Crew) (history : List Entry) : Type 0 where
 pub record IsCrewTrace (crew : Crew) (text : List ℕ) : Type 0 where
   pub history : List Entry
   pub is : IsHistory crew history
-  pub written : text ≡ trace Two crew.processors crew.pages crew.first_ticket history
+  pub written : text ≡ trace Two (board_text crew.processors crew.pages crew.first_ticket) (opened crew.processors crew.pages crew.first_ticket) history
   pub legal : IsTrace text (entries_of crew)
 
 -- the script has no fault, and its crew is this one

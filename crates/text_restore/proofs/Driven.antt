@@ -11,7 +11,7 @@ use Rattle.text_restore.specs.Restoring.{Stage, Untitled, IsComplete}
 use Rattle.text_restore.specs.Images.{Leads, IsImage, IsStuck, FirstWrong, Ends}
 use Rattle.text_restore.specs.declared.restoring.RestoreEnd.{RestoreEnd}
 use Rattle.text_restore.specs.declared.restoring.RestoreEnd.TheVariants as results
-use Rattle.text_restore.specs.inside.Stages.{IsGood, IsWrong}
+use Rattle.text_restore.specs.Taking.{IsGood, IsWrong}
 use Rattle.text_restore.specs.inside.Concluding.{Concludes, Finishes}
 
 -- the line at which a drive ended

@@ -1,3 +1,4 @@
 pub mod Restoring
 pub mod Images
+pub mod Taking
 pub mod inside

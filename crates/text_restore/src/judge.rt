@@ -1,5 +1,5 @@
 // The judge for the lines of an image.
-ghost use Rattle.text_restore.specs.inside.Stages.{stage_of, IsGood, IsWrong};
+ghost use Rattle.text_restore.specs.Taking.{stage_of, IsGood, IsWrong};
 
 use crate::stage::{Stage, take_line};
 use std::alloc::Global;

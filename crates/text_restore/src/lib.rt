@@ -8,3 +8,4 @@ mod restoring;
 mod stage;
 
 pub use restoring::{RestoreEnd, restore};
+pub use stage::{Stage, board_of, has_ended, take_line};

@@ -2,12 +2,11 @@
 ghost use Rattle.std.specs.Prelude.{IfSome};
 ghost use Rattle.text_base.specs.Streams.{ReadsUpTo};
 ghost use Rattle.text_restore.specs.Images.{Ends, most_read, StopsNear};
-ghost use Rattle.text_restore.specs.inside.Stages.{stage_of};
+ghost use Rattle.text_restore.specs.Taking.{stage_of};
 ghost use Rattle.text_restore.specs.inside.Concluding.{Concludes, Finishes};
 
 use crate::judge::ImageJudge;
-use crate::order::END;
-use crate::stage::Stage;
+use crate::stage::{Stage, board_of};
 use std::alloc::Global;
 use std::io::{self, Read};
 use synic_board::Board;
@@ -62,8 +61,8 @@ fn conclude(end: End<()>, stage: Stage) -> RestoreEnd
 fn finish(line: u64, stage: Stage) -> RestoreEnd
     ensures { Finishes line (stage_of stage) result }
 {
-    match stage {
-        Stage::Body { draft, last, .. } if last == END => RestoreEnd::Restored(draft.finish()),
-        _ => RestoreEnd::Refused(line),
+    match board_of(stage) {
+        Some(board) => RestoreEnd::Restored(board),
+        None => RestoreEnd::Refused(line),
     }
 }

@@ -1,24 +1,26 @@
-// The stages of a restore: which line of the image comes next.
+// The stages of a restore: which line of the image comes next. A text with an image in it is read
+// with these calls, line by line; `restore` reads a whole input.
 ghost use Rattle.std.specs.Prelude.{◌≡◌, [], IfOk, IfSome, Some, None};
 ghost use Rattle.text_lines.specs.Items.{Opening};
 ghost use Rattle.text_lines.specs.Reading.{item_at};
 ghost use Rattle.text_driver.specs.Judging.{Judges};
 ghost use Rattle.text_restore.specs.Restoring.{Untitled, Titled, Body};
-ghost use Rattle.text_restore.specs.inside.Stages.{stage_of, IsGood, IsWrong, OpensNone, Takes};
+ghost use Rattle.text_restore.specs.Taking.{stage_of, IsGood, IsWrong, has_ended, IsBoardOf};
+ghost use Rattle.text_restore.specs.inside.Stages.{OpensNone, Takes};
 
-use crate::order::{is_in_turn, is_later, lapics_after, place_of};
+use crate::order::{END, is_in_turn, is_later, lapics_after, place_of};
 use crate::parts::restore_piece;
 use board_terms::Ticket;
 use std::alloc::{AllocError, Global};
-use synic_board::{Draft, OpenFault};
+use synic_board::{Board, Draft, OpenFault};
 use text_base::{Fields, is_word};
 use text_driver::Taken;
 use text_image::{Piece, piece_of};
 use text_lines::opening_of;
 
-/// What was read of an image.
+/// What was read of an image. A reader begins with `Untitled`.
 #[derive(Drop)]
-pub(crate) enum Stage {
+pub enum Stage {
     /// Nothing.
     Untitled,
     /// The title.
@@ -28,8 +30,10 @@ pub(crate) enum Stage {
     Body { draft: Draft, last: u64, lapics: u8 },
 }
 
-/// Takes a line, if it may come next.
-pub(crate) fn take_line(alloc: Global, stage: &mut Stage, line: &[u8]) -> Taken<()>
+/// Takes a line of an image, without its line feed: `Good` if it may come next, otherwise `Wrong`, or
+/// `Memory` if an allocation failed; after these two the stage is unspecified. Opens the board at the
+/// board line, and allocates 8 bytes for each message. The caller refuses lines of more than 640 bytes.
+pub fn take_line(alloc: Global, stage: &mut Stage, line: &[u8]) -> Taken<()>
     ensures { Judges IsGood IsWrong result (stage_of stage.old) (stage_of stage.new) line.now [] }
 {
     match stage {
@@ -40,6 +44,26 @@ pub(crate) fn take_line(alloc: Global, stage: &mut Stage, line: &[u8]) -> Taken<
             last,
             lapics,
         } => take_body(draft, last, lapics, line),
+    }
+}
+
+/// Whether the end of the image was read. No line may come after it.
+pub fn has_ended(stage: &Stage) -> bool
+    ensures { result ≡ has_ended (stage_of stage.now) }
+{
+    match stage {
+        Stage::Body { last, .. } => *last == END,
+        Stage::Untitled | Stage::Titled => false,
+    }
+}
+
+/// The board of a complete image. `None` if the end was not read.
+pub fn board_of(stage: Stage) -> Option<Board>
+    ensures { IsBoardOf result (stage_of stage) }
+{
+    match stage {
+        Stage::Body { draft, last, .. } if last == END => Some(draft.finish()),
+        _ => None,
     }
 }
 

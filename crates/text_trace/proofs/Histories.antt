@@ -1,8 +1,9 @@
 -- A text is the trace of at most one history.
-use Rattle.std.proofs.Common.{◌≡◌, ℕ, get_or, arith, List, [], ◌∷◌, ◌++◌, length, Some, refl, sym, ap, subst, ◌∙◌, decimal}
+use Rattle.std.proofs.Common.{◌≡◌, ℕ, get_or, arith, List, [], ◌∷◌, ◌++◌, append_assoc, append-nil, length, Some, refl, sym, ap, subst, ◌∙◌, decimal}
 use Rattle.std.specs.List.{All}
 use Rattle.std.proofs.lemmas.List.{append_cancel_left}
 use Rattle.std.proofs.lemmas.List.Elements.{All-head, All-tail}
+use Rattle.text_base.specs.Lines.{lines_of, joined}
 use Rattle.text_base.specs.Fields.{fields_of, spaced, line_of}
 use Rattle.synic_board.specs.State.{State, opened}
 use Rattle.synic_board.specs.Step.{step}
@@ -17,10 +18,16 @@ use Rattle.text_lines.specs.Reading.{u8_at}
 use Rattle.text_lines.proofs.ReadLemmas.{u8-spelled}
 use Rattle.text_lines.proofs.WrittenLemmas.{board-written}
 use Rattle.text_trace.specs.declared.format.Format.{Format}
-use Rattle.text_trace.specs.declared.format.Format.TheVariants.{One, Two}
-use Rattle.text_trace.specs.Trace.{IsEntry, IsTrace, title_fields, entry_fields, end_fields, history_lines}
+use Rattle.text_trace.specs.declared.format.Format.TheVariants.{One, Two, Three}
+use Rattle.text_trace.specs.Trace.{IsEntry, IsOpening, IsBeginning, IsTrace, title_fields, entry_fields, end_fields, history_lines}
 use Rattle.text_trace.specs.inside.Stages.{entry_at, board_at}
 use Rattle.text_base.proofs.PlainWords.{IsWritten}
+use Rattle.text_base.proofs.LineLemmas.{AreLines, cut}
+use Rattle.text_restore.specs.Restoring as images
+use Rattle.text_restore.specs.Restoring.{IsComplete}
+use Rattle.text_restore.specs.Images.{Leads, IsImage}
+use Rattle.text_restore.proofs.Unique.{one-next}
+use Rattle.text_restore.proofs.Completing.{no-more}
 use Rattle.text_trace.proofs.Written.{entry-written, title-written, end-written, entry-reads, end-no_entry, board-reads}
 use Rattle.text_trace.proofs.StageLemmas.{first_line, text-line}
 
@@ -86,53 +93,93 @@ same-history f s (x ∷ a) (y ∷ b) m n t u fa fb la lb text =
 same-format : (f g : Format) → spaced (title_fields f) ≡ spaced (title_fields g) → f ≡ g
 same-format One One e = refl
 same-format Two Two e = refl
+same-format Three Three e = refl
 same-format One Two e = let digit : 49 ≡ 50 = ap (λ (l : List ℕ). get_or l 6 0) e in absurd (omega (arith, digit))
+same-format One Three e = let digit : 49 ≡ 51 = ap (λ (l : List ℕ). get_or l 6 0) e in absurd (omega (arith, digit))
 same-format Two One e = let digit : 50 ≡ 49 = ap (λ (l : List ℕ). get_or l 6 0) e in absurd (omega (arith, digit))
+same-format Two Three e = let digit : 50 ≡ 51 = ap (λ (l : List ℕ). get_or l 6 0) e in absurd (omega (arith, digit))
+same-format Three One e = let digit : 51 ≡ 49 = ap (λ (l : List ℕ). get_or l 6 0) e in absurd (omega (arith, digit))
+same-format Three Two e = let digit : 51 ≡ 50 = ap (λ (l : List ℕ). get_or l 6 0) e in absurd (omega (arith, digit))
+
+-- texts that begin alike
+abbrev Alike : List ℕ → List ℕ → State → State → List ℕ → List ℕ → Type 0
+Alike x y s t xs ys = (x ≡ y) × (s ≡ t) × (xs ≡ ys)
 
 abbrev Sizes : Type 0
 Sizes = ℕ × ℕ × ℕ
 
-abbrev sizes_of : {text : List ℕ} {n : ℕ} → IsTrace text n → Sizes
-sizes_of a = (a.processors, a.pages, a.ticket)
+same-opening : (x y xs ys : List ℕ) (s t : State) → IsOpening x s → IsOpening y t → x ++ xs ≡ y ++ ys → Alike x y s t xs ys
+same-opening x y xs ys s t h k text =
+    let a = item_fields (Opening h.processors h.pages h.ticket) in
+    let b = item_fields (Opening k.processors k.pages k.ticket) in
+    let parts = first_line (spaced a) xs (spaced b) ys (board-written h.processors h.pages h.ticket).one (board-written k.processors k.pages k.ticket).one
+    (sym (append_assoc (spaced a) (10 ∷ []) xs) ∙ ap (λ (z : List ℕ). z ++ xs) (sym h.line) ∙ text ∙ ap (λ (z : List ℕ). z ++ ys) k.line ∙ append_assoc (spaced b) (10 ∷ []) ys) in
+    let read : Some (h.processors, h.pages, h.ticket) ≡ Some (k.processors, k.pages, k.ticket) = sym (board-reads h.processors h.pages h.ticket h.sizes h.given) ∙ ap board_at parts.0
+    ∙ board-reads k.processors k.pages k.ticket k.sizes k.given in
+    let same : (h.processors, h.pages, h.ticket) ≡ (k.processors, k.pages, k.ticket) = cc in (
+      h.line ∙ ap (λ (z : List ℕ). z ++ 10 ∷ []) parts.0 ∙ sym k.line,
+      h.state ∙ ap (λ (z : Sizes). opened z.0 z.1 z.2) same ∙ sym k.state,
+      parts.1,
+    )
+
+-- lines that complete an image from one stage on
+same-lines : (i : images.Stage) (ls ms : List (List ℕ)) (a b : images.Stage) (s t : State) (xs ys : List ℕ) → AreLines ls → AreLines ms → Leads i ls a → Leads i ms b → IsComplete a s →
+    IsComplete b t → joined ls ++ xs ≡ joined ms ++ ys → Alike (joined ls) (joined ms) s t xs ys
+same-lines i [] [] a b s t xs ys el em la lb ca cb text =
+    let e = sym ca.1 ∙ la ∙ sym lb ∙ cb.1 in
+    let same : s ≡ t = cc in
+    (refl, same, text)
+same-lines i [] (m ∷ ms) a b s t xs ys el em la lb ca cb text = absurd (no-more i s m lb.0 (subst (λ (x : images.Stage). IsComplete x s) la ca) lb.2)
+same-lines i (l ∷ ls) [] a b s t xs ys el em la lb ca cb text = absurd (no-more i t l la.0 (subst (λ (x : images.Stage). IsComplete x t) lb cb) la.2)
+same-lines i (l ∷ ls) (m ∷ ms) a b s t xs ys el em la lb ca cb text =
+    let parts = first_line l (joined ls ++ xs) m (joined ms ++ ys) el.0 em.0 (sym (append_assoc l (10 ∷ joined ls) xs) ∙ text ∙ append_assoc m (10 ∷ joined ms) ys) in
+    let next : la.0 ≡ lb.0 = one-next i m la.0 lb.0 (subst (λ (x : List ℕ). images.Follows i x la.0) parts.0 la.2) lb.2 in
+    let rest = same-lines lb.0 ls ms a b s t xs ys el.1 em.1 (subst (λ (x : images.Stage). Leads x ls a) next la.3) lb.3 ca cb parts.1 in
+    (ap (λ (z : List ℕ). z ++ 10 ∷ joined ls) parts.0 ∙ ap (λ (z : List ℕ). m ++ 10 ∷ z) rest.0, rest.1, rest.2)
+
+whole-lines : (x : List ℕ) (s : State) → IsImage x s → x ≡ joined (lines_of x)
+whole-lines x s h = (cut x).whole ∙ ap (λ (z : List ℕ). joined (lines_of x) ++ z) h.whole ∙ append-nil (joined (lines_of x))
+
+same-image : (x y xs ys : List ℕ) (s t : State) → IsImage x s → IsImage y t → x ++ xs ≡ y ++ ys → Alike x y s t xs ys
+same-image x y xs ys s t h k text =
+    let wx = whole-lines x s h in
+    let wy = whole-lines y t k in
+    let same = same-lines images.Untitled (lines_of x) (lines_of y) h.stage k.stage s t xs ys (cut x).each (cut y).each h.leads k.leads h.complete k.complete
+    (ap (λ (z : List ℕ). z ++ xs) (sym wx) ∙ text ∙ ap (λ (z : List ℕ). z ++ ys) wy) in
+    (wx ∙ same.0 ∙ sym wy, same.1, same.2)
+
+same-beginning : (f : Format) (x y xs ys : List ℕ) (s t : State) → IsBeginning f x s → IsBeginning f y t → x ++ xs ≡ y ++ ys → Alike x y s t xs ys
+same-beginning One x y xs ys s t h k text = same-opening x y xs ys s t h k text
+same-beginning Two x y xs ys s t h k text = same-opening x y xs ys s t h k text
+same-beginning Three x y xs ys s t h k text = same-image x y xs ys s t h k text
 
 abbrev next_of : {text : List ℕ} {n : ℕ} → IsTrace text n → ℕ
-next_of a = (leads_to (opened a.processors a.pages a.ticket) a.history).next_ticket
+next_of a = (leads_to a.state a.history).next_ticket
 
-pub history-once : (text : List ℕ) (m n : ℕ) (a : IsTrace text m) (b : IsTrace text n) →
-    (a.format ≡ b.format) × (a.processors ≡ b.processors) × (a.pages ≡ b.pages) × (a.ticket ≡ b.ticket) × (a.history ≡ b.history)
+pub history-once : (text : List ℕ) (m n : ℕ) (a : IsTrace text m) (b : IsTrace text n) → (a.format ≡ b.format) × (a.beginning ≡ b.beginning) × (a.state ≡ b.state) × (a.history ≡ b.history)
 history-once text m n a b = (
   format,
-  ap (λ (z : Sizes). z.0) sizes,
-  ap (λ (z : Sizes). z.1) sizes,
-  ap (λ (z : Sizes). z.2) sizes,
-  same-history b.format (opened a.processors a.pages a.ticket) a.history b.history (length a.history) (length b.history) (next_of a) (next_of b)
-      (subst (λ (f : Format). All (IsEntry f) a.history) format a.fits) b.fits a.legal (subst (λ (z : Sizes). IsLegal (opened z.0 z.1 z.2) b.history) (sym sizes) b.legal)
-      (ap (λ (f : Format). text_of (closed f a.history (length a.history) (next_of a))) (sym format) ∙ cut.1),
+  parts.0,
+  parts.1,
+  same-history b.format a.state a.history b.history (length a.history) (length b.history) (next_of a) (next_of b)
+      (subst (λ (f : Format). All (IsEntry f) a.history) format a.fits) b.fits a.legal (subst (λ (s : State). IsLegal s b.history) (sym parts.1) b.legal)
+      (ap (λ (f : Format). text_of (closed f a.history (length a.history) (next_of a))) (sym format) ∙ parts.2),
 )
   where
-    board_a : List (List ℕ)
-    board_a = item_fields (Opening a.processors a.pages a.ticket)
+    after_a : List ℕ
+    after_a = text_of (closed a.format a.history (length a.history) (next_of a))
 
-    board_b : List (List ℕ)
-    board_b = item_fields (Opening b.processors b.pages b.ticket)
+    after_b : List ℕ
+    after_b = text_of (closed b.format b.history (length b.history) (next_of b))
 
-    lines_a : Lines
-    lines_a = closed a.format a.history (length a.history) (next_of a)
-
-    lines_b : Lines
-    lines_b = closed b.format b.history (length b.history) (next_of b)
-
-    title : (spaced (title_fields a.format) ≡ spaced (title_fields b.format)) × (text_of (board_a ∷ lines_a) ≡ text_of (board_b ∷ lines_b))
-    title = same-first (title_fields a.format) (title_fields b.format) (board_a ∷ lines_a) (board_b ∷ lines_b) (title-written a.format) (title-written b.format) (sym a.written ∙ b.written)
+    title : (spaced (title_fields a.format) ≡ spaced (title_fields b.format)) × (a.beginning ++ after_a ≡ b.beginning ++ after_b)
+    title = first_line (spaced (title_fields a.format)) (a.beginning ++ after_a) (spaced (title_fields b.format)) (b.beginning ++ after_b)
+        (title-written a.format).one (title-written b.format).one
+        (sym (append_assoc (spaced (title_fields a.format)) (10 ∷ []) (a.beginning ++ after_a)) ∙ sym a.written ∙ b.written
+        ∙ append_assoc (spaced (title_fields b.format)) (10 ∷ []) (b.beginning ++ after_b))
 
     format : a.format ≡ b.format
     format = same-format a.format b.format title.0
 
-    cut : (spaced board_a ≡ spaced board_b) × (text_of lines_a ≡ text_of lines_b)
-    cut = same-first board_a board_b lines_a lines_b (board-written a.processors a.pages a.ticket) (board-written b.processors b.pages b.ticket) title.1
-
-    sizes : sizes_of a ≡ sizes_of b
-    sizes =
-        let read : Some (sizes_of a) ≡ Some (sizes_of b) = sym (board-reads a.processors a.pages a.ticket a.sizes a.given) ∙ ap board_at cut.0
-        ∙ board-reads b.processors b.pages b.ticket b.sizes b.given in
-        cc
+    parts : Alike a.beginning b.beginning a.state b.state after_a after_b
+    parts = same-beginning b.format a.beginning b.beginning after_a after_b a.state b.state (subst (λ (f : Format). IsBeginning f a.beginning a.state) format a.begins) b.begins title.1

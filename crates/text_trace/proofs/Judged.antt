@@ -18,7 +18,7 @@ use Rattle.text_trace.specs.declared.check.Verdict.{Verdict}
 use Rattle.text_trace.specs.declared.check.Verdict.TheVariants as verdicts
 use Rattle.text_trace.specs.declared.check.CheckEnd.{CheckEnd}
 use Rattle.text_trace.specs.declared.check.CheckEnd.TheVariants.{Legal, Refused, Memory, Reading, Writing}
-use Rattle.text_trace.proofs.StageLemmas.{Continues, Fits, first_line, back, forward, move, reached, Starts, starts, alive}
+use Rattle.text_trace.proofs.StageLemmas.{Continues, Fits, first_line, back, forward, one-follow, not-both, reached, Starts, starts, alive}
 
 -- A text that begins with these lines continues a trace from the old stage iff the rest of it does from the new one.
 record Leads (old new : Stage) (lines : List (List ℕ)) : Type 0 where
@@ -47,14 +47,14 @@ module _ {J : Type 0} (seen : J → Stage) where
       }
   leads old new (line ∷ lines) answers fits each h =
       let next = seen h.2 in
-      let w = leads h.2 new lines h.1 (reached (seen old) next line h.4.0).fits each.1 h.5 in
+      let w = leads h.2 new lines h.1 ((reached (seen old) next line h.4.0).fits fits) each.1 h.5 in
       let over : (ys : List ℕ) → joined (line ∷ lines) ++ ys ≡ line ++ 10 ∷ (joined lines ++ ys) = λ ys. append_assoc line (10 ∷ joined lines) ys in
       record {
         fits = w.fits;
         must = λ ys n k.
             let f = back (seen old) line (joined lines ++ ys) n fits each.0 (subst (λ (x : List ℕ). Continues (seen old) x n) (over ys) k) in
-            w.must ys n (move f.next next (joined lines ++ ys) n (sym h.4.0 ∙ f.is) f.on);
-        may = λ ys n k. subst (λ (x : List ℕ). Continues (seen old) x n) (sym (over ys)) (forward (seen old) next line (joined lines ++ ys) n h.4.0 (w.may ys n k));
+            w.must ys n (subst (λ (s : Stage). Continues s (joined lines ++ ys) n) (one-follow (seen old) line f.next next f.is h.4.0) f.on);
+        may = λ ys n k. subst (λ (x : List ℕ). Continues (seen old) x n) (sym (over ys)) (forward (seen old) next line (joined lines ++ ys) n each.0 h.3 h.4.0 (w.may ys n k));
       }
 
 -- The lines lead to a stage from which the rest continues no trace.
@@ -65,7 +65,7 @@ first-wrong text lines left stage split leads wrong none = record {
   before = length lines;
   number = refl;
   there = rw split (omega (arith, length-append lines left));
-  good = rw (split, take-append_seam lines left) (let a = alive stage in record { rest = a.rest; entries = a.entries; whole = leads.may a.rest a.entries a.on });
+  good = rw (split, take-append_seam lines left) (let a = alive stage leads.fits in record { rest = a.rest; entries = a.entries; whole = leads.may a.rest a.entries a.on });
   wrong = rw split (λ within b. by left refl (subst (λ (x : List (List ℕ)). Begins (joined x)) (take-append-add lines left 1) b) (omega (arith, within, length-append lines left)));
   none = λ n t. none n (leads.must (joined left ++ rest_of text) n (subst (λ (x : List ℕ). IsTrace x n) whole t));
 }
@@ -109,7 +109,7 @@ wrong-line text lines (bad ∷ later) stage k fault split leads each h =
     (λ n t. off (joined later ++ rest_of text) n (subst (λ (x : List ℕ). Continues stage x n) (append_assoc bad (10 ∷ joined later) (rest_of text)) t))
   where
     off : (rest : List ℕ) (n : ℕ) → Continues stage (bad ++ 10 ∷ rest) n → ⊥
-    off rest n t = let f = back stage bad rest n leads.fits each.0 t in let none : None ≡ Some f.next = sym h.2 ∙ f.is in cc
+    off rest n t = let f = back stage bad rest n leads.fits each.0 t in not-both stage bad fault f.next h.2 f.is
 
 -- The next line is too long.
 long-line : (text : List ℕ) (lines left : List (List ℕ)) (stage : Stage) → lines_of text ≡ lines ++ left → Leads Title stage lines → AreLines left →

@@ -1,18 +1,18 @@
 -- Lemmas for the theorems about traces.
-use Rattle.std.proofs.Common.{◌≡◌, ◌⊎◌, inl, inr, ℕ, ◌+◌, ◌<◌, ◌≤◌, ◌^◌, List, [], ◌∷◌, ◌++◌, length, length-append, take, drop, append_assoc, refl, sym, ap, subst, ◌∙◌, arith, zero, suc}
+use Rattle.std.proofs.Common.{◌≡◌, ◌⊎◌, inl, inr, ℕ, ◌+◌, ◌<◌, ◌≤◌, List, [], ◌∷◌, ◌++◌, length, length-append, take, drop, append_assoc, refl, sym, ap, subst, ◌∙◌, arith, zero, suc}
 use Rattle.std.specs.List.{All}
 use Rattle.std.proofs.lemmas.Bool.{cases_order}
 use Rattle.std.proofs.lemmas.List.{take-append-drop, take-take}
 use Rattle.text_base.specs.Lines.{lines_of, joined}
 use Rattle.text_base.proofs.LineLemmas.{joined-append}
-use Rattle.synic_board.specs.State.{AreSizes, opened}
+use Rattle.synic_board.specs.State.{State}
 use Rattle.synic_board.specs.History.{IsLegal}
 use Rattle.synic_board.specs.declared.history.Entry.{Entry}
 use Rattle.text_trace.specs.declared.format.Format.{Format}
-use Rattle.text_trace.specs.Trace.{IsEntry, IsTrace, Begins, trace}
+use Rattle.text_trace.specs.Trace.{IsEntry, IsBeginning, IsTrace, Begins, trace}
 use Rattle.text_trace.specs.inside.Stages.{Stage, Title, Over}
 use Rattle.text_trace.specs.Verdicts.{FirstWrong}
-use Rattle.text_trace.proofs.StageLemmas.{Continues, Fits, back, move, reached, Starts, starts}
+use Rattle.text_trace.proofs.StageLemmas.{Continues, Fits, back, one-follow, reached, Starts, starts}
 
 begins-front : (text more : List ℕ) → Begins (text ++ more) → Begins text
 begins-front text more b = record { rest = more ++ b.rest; entries = b.entries; whole = subst (λ (x : List ℕ). IsTrace x b.entries) (append_assoc text more b.rest) b.whole }
@@ -33,16 +33,14 @@ wrong-once text k l a b = by (cases_order a.before b.before)
     by (inr (inl h)) = absurd (not-before text k l a b h)
     by (inr (inr h)) = absurd (not-before text l k b a h)
 
-pub trace-is : (f : Format) (processors pages ticket : ℕ) (history : List Entry) → AreSizes processors pages → ticket < 2 ^ 64 → All (IsEntry f) history →
-    IsLegal (opened processors pages ticket) history → IsTrace (trace f processors pages ticket history) (length history)
-trace-is f processors pages ticket history sizes given fits legal = record {
+pub trace-is : (f : Format) (beginning : List ℕ) (s : State) (history : List Entry) → IsBeginning f beginning s → All (IsEntry f) history → IsLegal s history →
+    IsTrace (trace f beginning s history) (length history)
+trace-is f beginning s history begins fits legal = record {
   format = f;
-  processors = processors;
-  pages = pages;
-  ticket = ticket;
+  beginning = beginning;
+  state = s;
   history = history;
-  sizes = sizes;
-  given = given;
+  begins = begins;
   fits = fits;
   legal = legal;
   counted = refl;
@@ -59,7 +57,8 @@ same-line : (fuel : ℕ) (stage : Stage) (ys : List ℕ) (m n : ℕ) → SameCou
 same-line fuel stage ys m n rest fits small h k s =
     let f = back stage s.line s.rest m fits s.one (subst (λ (x : List ℕ). Continues stage x m) s.text h) in
     let g = back stage s.line s.rest n fits s.one (subst (λ (x : List ℕ). Continues stage x n) s.text k) in
-    rest f.next s.rest m n (reached stage f.next s.line f.is).fits (omega (arith, ap length s.text, length-append s.line (10 ∷ s.rest))) f.on (move g.next f.next s.rest n (sym f.is ∙ g.is) g.on)
+    let same : Continues f.next s.rest n = subst (λ (x : Stage). Continues x s.rest n) (one-follow stage s.line g.next f.next g.is f.is) g.on in
+    rest f.next s.rest m n ((reached stage f.next s.line f.is).fits fits) (omega (arith, ap length s.text, length-append s.line (10 ∷ s.rest))) f.on same
 
 same-count : (fuel : ℕ) → SameCount fuel
 same-count zero stage ys m n fits small h k = by (starts stage ys m fits h) (starts stage ys n fits k)

@@ -1,13 +1,14 @@
 -- How a trace continues from a stage of its check.
-use Rattle.std.proofs.Common.{◌≡◌, ◌⊎◌, inl, inr, ℕ, ◌+◌, ◌<◌, ◌≤◌, ◌^◌, List, [], ◌∷◌, ◌++◌, length, append_assoc, Some, None, refl, sym, ap, subst, ◌∙◌, arith, Bool, true, false}
+use Rattle.std.proofs.Common.{◌≡◌, ◌⊎◌, inl, inr, ℕ, ◌+◌, ◌<◌, ◌≤◌, ◌^◌, List, [], ◌∷◌, ◌++◌, length, append_assoc, append-nil, Some, None, refl, sym, ap, subst, ◌∙◌, arith, cond, Bool, true, false}
 use Rattle.std.specs.Option.{option_map}
 use Rattle.std.specs.List.{All}
 use Rattle.std.specs.Str.{bytes_eq}
 use Rattle.std.proofs.lemmas.Slice.Eq.{bytes_eq-Decides}
 use Rattle.std.proofs.lemmas.List.Elements.{All-nil, All-head, All-tail, All-cons}
-use Rattle.text_base.specs.Lines.{IsOneLine}
+use Rattle.text_base.specs.Lines.{IsOneLine, lines_of, rest_of, joined}
 use Rattle.text_base.specs.Fields.{spaced}
 use Rattle.text_base.proofs.PlainWords.{IsWritten}
+use Rattle.text_base.proofs.LineLemmas.{AreLines, cut, lines_of-joined, rest_of-joined}
 use Rattle.synic_board.specs.State.{State, AreSizes, opened}
 use Rattle.synic_board.specs.Step.{step}
 use Rattle.synic_board.specs.Run.{run_of}
@@ -19,10 +20,16 @@ use Rattle.text_lines.proofs.ReadLemmas.{yes, mapped}
 use Rattle.text_lines.proofs.WrittenLemmas.{board-written}
 use Rattle.synic_board.specs.History.{IsLegal, leads_to}
 use Rattle.synic_board.specs.declared.history.Entry.{Entry}
+use Rattle.text_restore.specs.Restoring as images
+use Rattle.text_restore.specs.Restoring.{IsComplete}
+use Rattle.text_restore.specs.Images.{Leads, IsImage}
+use Rattle.text_restore.specs.Taking.{has_ended}
+use Rattle.text_restore.proofs.Unique.{one-next}
+use Rattle.text_restore.proofs.Completing.{IsOpen, no-more, ended, not-ended, open-next, Ending, can-end}
 use Rattle.text_trace.specs.declared.format.Format.{Format}
-use Rattle.text_trace.specs.declared.format.Format.TheVariants.{One, Two}
-use Rattle.text_trace.specs.Trace.{IsEntry, title_fields, entry_fields, end_fields, history_lines, IsTrace}
-use Rattle.text_trace.specs.inside.Stages.{Stage, Title, Opening, Running, Over, entry_at, board_at, performed, follow, count}
+use Rattle.text_trace.specs.declared.format.Format.TheVariants.{One, Two, Three}
+use Rattle.text_trace.specs.Trace.{IsEntry, title_fields, entry_fields, end_fields, history_lines, trace, board_text, IsOpening, IsBeginning, IsTrace}
+use Rattle.text_trace.specs.inside.Stages.{Stage, Title, Opening, Image, Running, Over, entry_at, board_at, performed, entered, follow, Follows, IsWrong, count}
 use Rattle.synic_board.specs.Replies.{IsReply}
 use Rattle.law_board.proofs.Replies.{step-fits}
 use Rattle.text_trace.proofs.Written.{title-written, entry-written, reply-written, end-written, EntryLine, entry-reads, entry-only, end-no_entry, BoardLine, board-reads, board-only}
@@ -55,18 +62,32 @@ pub record Opens (f : Format) (ys : List ℕ) (n : ℕ) : Type 0 where
   pub text : ys ≡ spaced (item_fields (Board processors pages ticket)) ++ 10 ∷ rest
   pub goes : Goes f (opened processors pages ticket) 0 rest n
 
+-- the lines that are left of an image, and then the history on its board
+pub record Imaged (i : images.Stage) (ys : List ℕ) (n : ℕ) : Type 0 where
+  pub lines : List (List ℕ)
+  pub each : AreLines lines
+  pub last : images.Stage
+  pub leads : Leads i lines last
+  pub state : State
+  pub complete : IsComplete last state
+  pub rest : List ℕ
+  pub text : ys ≡ joined lines ++ rest
+  pub goes : Goes Three state 0 rest n
+
 -- ys is the rest of the trace of a legal history of n entries
 abbrev pub Continues : Stage → List ℕ → ℕ → Type 0
 Continues Title ys n = IsTrace ys n
 Continues (Opening f) ys n = Opens f ys n
+Continues (Image i) ys n = Imaged i ys n
 Continues (Running f s c None) ys n = Goes f s c ys n
 Continues (Running f s c (Some r)) ys n = Due f s c r ys n
 Continues (Over c) ys n = (ys ≡ []) × (n ≡ c)
 
--- a reply that is due has at most 8 bytes
+-- lines of an image lead here, and are not all; a reply that is due has at most 8 bytes
 abbrev pub Fits : Stage → Type 0
 Fits Title = Unit {0}
 Fits (Opening f) = Unit {0}
+Fits (Image i) = IsOpen i × (has_ended i ≡ false)
 Fits (Running f s c None) = Unit {0}
 Fits (Running f s c (Some r)) = IsReply r
 Fits (Over c) = Unit {0}
@@ -88,7 +109,7 @@ text-line fields lines = append_assoc (spaced fields) (10 ∷ []) (text_of lines
 -- the stage after the line, and the rest that continues from there
 pub record Follow (stage : Stage) (line ys : List ℕ) (n : ℕ) : Type 0 where
   pub next : Stage
-  pub is : follow stage line ≡ Some next
+  pub is : Follows stage line next
   pub on : Continues next ys n
 
 tested : (line w : List ℕ) → line ≡ w → bytes_eq line w ≡ true
@@ -101,55 +122,189 @@ tested-no line w e = go (bytes_eq line w) refl
     go true is = absurd (e ((bytes_eq-Decides line w).0 is))
     go false is = refl
 
--- the title determines the format
-title-follow : (f : Format) → follow Title (spaced (title_fields f)) ≡ Some (Opening f)
-title-follow One = refl
-title-follow Two = refl
+-- the title, and what follows it
+title-cut : (f : Format) (line ys more : List ℕ) → IsOneLine line → line ++ 10 ∷ ys ≡ (spaced (title_fields f) ++ 10 ∷ []) ++ more → (line ≡ spaced (title_fields f)) × (ys ≡ more)
+title-cut f line ys more one text = first_line line ys (spaced (title_fields f)) more one (title-written f).one (text ∙ append_assoc (spaced (title_fields f)) (10 ∷ []) more)
 
-back-title : (line ys : List ℕ) (n : ℕ) → IsOneLine line → IsTrace (line ++ 10 ∷ ys) n → Follow Title line ys n
-back-title line ys n one t =
-    let next = (leads_to (opened t.processors t.pages t.ticket) t.history).next_ticket in
-    let rest = left t.format t.history (length t.history) next in
-    let board = item_fields (Board t.processors t.pages t.ticket) in
-    let title = title_fields t.format in
-    let cut = first_line line ys (spaced title) (text_of (board ∷ rest)) one (title-written t.format).one (t.written ∙ text-line title (board ∷ rest)) in
+-- the entries after a beginning
+entries-go : (f : Format) (s : State) (n : ℕ) (history : List Entry) → All (IsEntry f) history → IsLegal s history → length history ≡ n →
+    Goes f s 0 (text_of (left f history (length history) (leads_to s history).next_ticket)) n
+entries-go f s n history fits legal counted = record {
+  history = history;
+  fits = fits;
+  legal = legal;
+  counted = omega (arith, counted);
+  text = ap (λ (k : ℕ). text_of (left f history k (leads_to s history).next_ticket)) counted;
+}
+
+back-board : (f : Format) (line ys : List ℕ) (n : ℕ) (beginning : List ℕ) (s : State) (history : List Entry) → follow Title (spaced (title_fields f)) ≡ Some (Opening f) → IsOneLine line →
+    IsOpening beginning s → All (IsEntry f) history → IsLegal s history → length history ≡ n → line ++ 10 ∷ ys ≡ trace f beginning s history → Follow Title line ys n
+back-board f line ys n beginning s history go one h fits legal counted written =
+    let rest = text_of (left f history (length history) (leads_to s history).next_ticket) in
+    let parts = title-cut f line ys (beginning ++ rest) one written in
+    let board = item_fields (Board h.processors h.pages h.ticket) in
     record {
-      next = Opening t.format;
-      is = ap (follow Title) cut.0 ∙ title-follow t.format;
+      next = Opening f;
+      is = ap (follow Title) parts.0 ∙ go;
       on = record {
-        processors = t.processors;
-        pages = t.pages;
-        ticket = t.ticket;
-        sizes = t.sizes;
-        given = t.given;
-        rest = text_of rest;
-        text = cut.1 ∙ text-line board rest;
-        goes = record { history = t.history; fits = t.fits; legal = t.legal; counted = omega (arith, t.counted); text = ap (λ (k : ℕ). text_of (left t.format t.history k next)) t.counted };
+        processors = h.processors;
+        pages = h.pages;
+        ticket = h.ticket;
+        sizes = h.sizes;
+        given = h.given;
+        rest = rest;
+        text = parts.1 ∙ ap (λ (x : List ℕ). x ++ rest) h.line ∙ append_assoc (spaced board) (10 ∷ []) rest;
+        goes = subst (λ (t : State). Goes f t 0 rest n) h.state (entries-go f s n history fits legal counted);
       };
     }
 
-on-title : (f : Format) (line ys : List ℕ) (n : ℕ) → line ≡ spaced (title_fields f) → Opens f ys n → IsTrace (line ++ 10 ∷ ys) n
-on-title f line ys n is h =
-    let history = h.goes.history in
-    let next = (leads_to (opened h.processors h.pages h.ticket) history).next_ticket in
-    let rest = left f history (length history) next in
-    let board = item_fields (Board h.processors h.pages h.ticket) in
-    let title = title_fields f in
-    let same : length history ≡ n = omega (arith, h.goes.counted) in
-    let tail : h.rest ≡ text_of rest = h.goes.text ∙ ap (λ (k : ℕ). text_of (left f history k next)) (sym same) in
-    let all : ys ≡ text_of (board ∷ rest) = h.text ∙ ap (λ (x : List ℕ). spaced board ++ 10 ∷ x) tail ∙ sym (text-line board rest) in
+back-image : (line ys : List ℕ) (n : ℕ) (beginning : List ℕ) (s : State) (history : List Entry) → IsOneLine line → IsImage beginning s → All (IsEntry Three) history → IsLegal s history →
+    length history ≡ n → line ++ 10 ∷ ys ≡ trace Three beginning s history → Follow Title line ys n
+back-image line ys n beginning s history one h fits legal counted written =
+    let rest = text_of (left Three history (length history) (leads_to s history).next_ticket) in
+    let parts = title-cut Three line ys (beginning ++ rest) one written in
+    let whole : beginning ≡ joined (lines_of beginning) = (cut beginning).whole ∙ ap (λ (x : List ℕ). joined (lines_of beginning) ++ x) h.whole ∙ append-nil (joined (lines_of beginning)) in
+    record {
+      next = Image images.Untitled;
+      is = ap (follow Title) parts.0;
+      on = record {
+        lines = lines_of beginning;
+        each = (cut beginning).each;
+        last = h.stage;
+        leads = h.leads;
+        state = s;
+        complete = h.complete;
+        rest = rest;
+        text = parts.1 ∙ ap (λ (x : List ℕ). x ++ rest) whole;
+        goes = entries-go Three s n history fits legal counted;
+      };
+    }
+
+back-title : (line ys : List ℕ) (n : ℕ) → IsOneLine line → IsTrace (line ++ 10 ∷ ys) n → Follow Title line ys n
+back-title line ys n one t = by t.format t.begins t.fits t.written
+  where
+    by : (f : Format) → IsBeginning f t.beginning t.state → All (IsEntry f) t.history → line ++ 10 ∷ ys ≡ trace f t.beginning t.state t.history → Follow Title line ys n
+    by One begins fits written = back-board One line ys n t.beginning t.state t.history refl one begins fits t.legal t.counted written
+    by Two begins fits written = back-board Two line ys n t.beginning t.state t.history refl one begins fits t.legal t.counted written
+    by Three begins fits written = back-image line ys n t.beginning t.state t.history one begins fits t.legal t.counted written
+
+-- the text of a title, a beginning and entries
+on-beginning : (f : Format) (line ys beginning : List ℕ) (s : State) (n : ℕ) (rest : List ℕ) → IsBeginning f beginning s → line ≡ spaced (title_fields f) → ys ≡ beginning ++ rest →
+    Goes f s 0 rest n → IsTrace (line ++ 10 ∷ ys) n
+on-beginning f line ys beginning s n rest begins is text goes =
+    let history = goes.history in
+    let next = (leads_to s history).next_ticket in
+    let same : length history ≡ n = omega (arith, goes.counted) in
+    let tail : rest ≡ text_of (left f history (length history) next) = goes.text ∙ ap (λ (k : ℕ). text_of (left f history k next)) (sym same) in
     record {
       format = f;
-      processors = h.processors;
-      pages = h.pages;
-      ticket = h.ticket;
+      beginning = beginning;
+      state = s;
       history = history;
-      sizes = h.sizes;
-      given = h.given;
-      fits = h.goes.fits;
-      legal = h.goes.legal;
+      begins = begins;
+      fits = goes.fits;
+      legal = goes.legal;
       counted = same;
-      written = ap (λ (x : List ℕ). x ++ 10 ∷ ys) is ∙ ap (λ (x : List ℕ). spaced title ++ 10 ∷ x) all ∙ sym (text-line title (board ∷ rest));
+      written = ap (λ (x : List ℕ). x ++ 10 ∷ ys) is ∙ ap (λ (x : List ℕ). spaced (title_fields f) ++ 10 ∷ x) (text ∙ ap (λ (x : List ℕ). beginning ++ x) tail)
+          ∙ sym (append_assoc (spaced (title_fields f)) (10 ∷ []) (beginning ++ text_of (left f history (length history) next)));
+    }
+
+opening-is : (f : Format) (ys : List ℕ) (n : ℕ) (h : Opens f ys n) → IsOpening (board_text h.processors h.pages h.ticket) (opened h.processors h.pages h.ticket)
+opening-is f ys n h = record { processors = h.processors; pages = h.pages; ticket = h.ticket; sizes = h.sizes; given = h.given; line = refl; state = refl }
+
+on-title : (f : Format) (line ys : List ℕ) (n : ℕ) → line ≡ spaced (title_fields f) → (h : Opens f ys n) →
+    IsBeginning f (board_text h.processors h.pages h.ticket) (opened h.processors h.pages h.ticket) → IsTrace (line ++ 10 ∷ ys) n
+on-title f line ys n is h begins =
+    on-beginning f line ys (board_text h.processors h.pages h.ticket) (opened h.processors h.pages h.ticket) n h.rest begins is
+    (h.text ∙ sym (append_assoc (spaced (item_fields (Board h.processors h.pages h.ticket))) (10 ∷ []) h.rest)) h.goes
+
+-- the lines of a text of whole lines
+lines-of : (lines : List (List ℕ)) → AreLines lines → lines_of (joined lines) ≡ lines
+lines-of lines each = ap lines_of (sym (append-nil (joined lines))) ∙ lines_of-joined lines [] each ∙ append-nil lines
+
+on-image : (line ys : List ℕ) (n : ℕ) → line ≡ spaced (title_fields Three) → Imaged images.Untitled ys n → IsTrace (line ++ 10 ∷ ys) n
+on-image line ys n is h = on-beginning Three line ys (joined h.lines) h.state n h.rest (record {
+  stage = h.last;
+  leads = subst (λ (ls : List (List ℕ)). Leads images.Untitled ls h.last) (sym (lines-of h.lines h.each)) h.leads;
+  complete = h.complete;
+  whole = ap rest_of (sym (append-nil (joined h.lines))) ∙ rest_of-joined h.lines [] h.each;
+}) is h.text h.goes
+
+-- a stage of an image, or the history on its board
+module _ (ys : List ℕ) (n : ℕ) where
+  at-image : (i : images.Stage) (lines : List (List ℕ)) (last : images.Stage) (state : State) (rest : List ℕ) → AreLines lines → Leads i lines last → IsComplete last state →
+      ys ≡ joined lines ++ rest → Goes Three state 0 rest n → Imaged i ys n
+  at-image i lines last state rest each leads complete text goes = record {
+    lines = lines;
+    each = each;
+    last = last;
+    leads = leads;
+    state = state;
+    complete = complete;
+    rest = rest;
+    text = text;
+    goes = goes;
+  }
+
+  at-end : (s : State) (l k : ℕ) (lines : List (List ℕ)) (last : images.Stage) (state : State) (rest : List ℕ) → has_ended (images.Body s l k) ≡ true → Leads (images.Body s l k) lines last →
+      IsComplete last state → ys ≡ joined lines ++ rest → Goes Three state 0 rest n → Goes Three s 0 ys n
+  at-end s l k [] last state rest is leads complete text goes =
+      let e = sym leads ∙ complete.1 in
+      let same : s ≡ state = cc in
+      subst (λ (x : List ℕ). Goes Three s 0 x n) (sym text) (subst (λ (t : State). Goes Three t 0 rest n) (sym same) goes)
+  at-end s l k (line ∷ lines) last state rest is leads complete text goes = absurd (no-more (images.Body s l k) s line leads.0 (ended s l k is) leads.2)
+
+  enter : (i : images.Stage) (lines : List (List ℕ)) (last : images.Stage) (state : State) (rest : List ℕ) → AreLines lines → Leads i lines last → IsComplete last state →
+      ys ≡ joined lines ++ rest → Goes Three state 0 rest n → Continues (entered i) ys n
+  enter images.Untitled lines last state rest each leads complete text goes = at-image images.Untitled lines last state rest each leads complete text goes
+  enter images.Titled lines last state rest each leads complete text goes = at-image images.Titled lines last state rest each leads complete text goes
+  enter (images.Body s l k) lines last state rest each leads complete text goes = by (has_ended (images.Body s l k)) refl
+    where
+      by : (t : Bool) → has_ended (images.Body s l k) ≡ t → Continues (cond t (Running Three s 0 None) (Image (images.Body s l k))) ys n
+      by true is = at-end s l k lines last state rest is leads complete text goes
+      by false is = at-image (images.Body s l k) lines last state rest each leads complete text goes
+
+  add-line : (i next : images.Stage) (line : List ℕ) → IsOneLine line → length line ≤ 640 → images.Follows i line next → Imaged next ys n → Imaged i (line ++ 10 ∷ ys) n
+  add-line i next line one short follows h = record {
+    lines = line ∷ h.lines;
+    each = (one, h.each);
+    last = h.last;
+    leads = (next, short, follows, h.leads);
+    state = h.state;
+    complete = h.complete;
+    rest = h.rest;
+    text = ap (λ (x : List ℕ). line ++ 10 ∷ x) h.text ∙ sym (append_assoc line (10 ∷ joined h.lines) h.rest);
+    goes = h.goes;
+  }
+
+  on-image-line : (i next : images.Stage) (line : List ℕ) → IsOneLine line → length line ≤ 640 → images.Follows i line next → Continues (entered next) ys n → Imaged i (line ++ 10 ∷ ys) n
+  on-image-line i images.Untitled line one short follows h = add-line i images.Untitled line one short follows h
+  on-image-line i images.Titled line one short follows h = add-line i images.Titled line one short follows h
+  on-image-line i (images.Body s l k) line one short follows h = by (has_ended (images.Body s l k)) refl h
+    where
+      by : (t : Bool) → has_ended (images.Body s l k) ≡ t → Continues (cond t (Running Three s 0 None) (Image (images.Body s l k))) ys n → Imaged i (line ++ 10 ∷ ys) n
+      by true is h = record {
+        lines = line ∷ [];
+        each = (one, tt);
+        last = images.Body s l k;
+        leads = (images.Body s l k, short, follows, refl);
+        state = s;
+        complete = ended s l k is;
+        rest = ys;
+        text = sym (append_assoc line (10 ∷ []) ys);
+        goes = h;
+      }
+      by false is h = add-line i (images.Body s l k) line one short follows h
+
+back-lines : (i : images.Stage) (line ys : List ℕ) (n : ℕ) (lines : List (List ℕ)) (last : images.Stage) (state : State) (rest : List ℕ) → IsOneLine line → has_ended i ≡ false → AreLines lines →
+    Leads i lines last → IsComplete last state → line ++ 10 ∷ ys ≡ joined lines ++ rest → Goes Three state 0 rest n → Follow (Image i) line ys n
+back-lines i line ys n [] last state rest one off each leads complete text goes = absurd (not-ended i state off (subst (λ (x : images.Stage). IsComplete x state) leads complete))
+back-lines i line ys n (l ∷ lines) last state rest one off each leads complete text goes =
+    let parts = first_line line ys l (joined lines ++ rest) one each.0 (text ∙ append_assoc l (10 ∷ joined lines) rest) in
+    record {
+      next = entered leads.0;
+      is = (leads.0, subst (λ (x : List ℕ). images.Follows i x leads.0) (sym parts.0) leads.2, refl);
+      on = enter ys n leads.0 lines last state rest each.1 leads.3 complete parts.1 goes;
     }
 
 back-opening : (f : Format) (line ys : List ℕ) (n : ℕ) → IsOneLine line → Opens f (line ++ 10 ∷ ys) n → Follow (Opening f) line ys n
@@ -229,10 +384,11 @@ no_more : (line ys : List ℕ) → line ++ 10 ∷ ys ≡ [] → ⊥
 no_more [] ys e = cc
 no_more (x ∷ line) ys e = cc
 
--- If a line and a rest continue a trace, `follow` accepts the line.
+-- If a line and a rest continue a trace, the line is allowed.
 pub back : (stage : Stage) (line ys : List ℕ) (n : ℕ) → Fits stage → IsOneLine line → Continues stage (line ++ 10 ∷ ys) n → Follow stage line ys n
 back Title line ys n short one h = back-title line ys n one h
 back (Opening f) line ys n short one h = back-opening f line ys n one h
+back (Image i) line ys n short one h = back-lines i line ys n h.lines h.last h.state h.rest one short.1 h.each h.leads h.complete h.text h.goes
 back (Running f s c None) line ys n short one h = back-entry f s c line ys n h.history one h.fits h.legal h.counted h.text
 back (Running f s c (Some r)) line ys n short one h = back-reply f s c r line ys n one short h
 back (Over c) line ys n short one h = absurd (no_more line ys h.0)
@@ -240,53 +396,86 @@ back (Over c) line ys n short one h = absurd (no_more line ys h.0)
 pub move : (from to : Stage) (ys : List ℕ) (n : ℕ) → Some to ≡ Some from → Continues from ys n → Continues to ys n
 move from to ys n e h = let same : from ≡ to = cc in subst (λ (s : Stage). Continues s ys n) same h
 
--- If `follow` accepts a line, the line and a rest that continues from the next stage continue the trace.
-pub forward : (stage next : Stage) (line ys : List ℕ) (n : ℕ) → follow stage line ≡ Some next → Continues next ys n → Continues stage (line ++ 10 ∷ ys) n
-forward Title next line ys n e h =
+-- a line that is not of an image
+forward-follow : (stage next : Stage) (line ys : List ℕ) (n : ℕ) → follow stage line ≡ Some next → Continues next ys n → Continues stage (line ++ 10 ∷ ys) n
+forward-follow Title next line ys n e h =
     yes (bytes_eq line (spaced (title_fields One))) (Some (Opening One)) _ next _
-    (λ is e. on-title One line ys n ((bytes_eq-Decides line (spaced (title_fields One))).0 is) (move next (Opening One) ys n e h))
-    (yes (bytes_eq line (spaced (title_fields Two))) (Some (Opening Two)) None next _
-    (λ is e. on-title Two line ys n ((bytes_eq-Decides line (spaced (title_fields Two))).0 is) (move next (Opening Two) ys n e h))
-    (λ e. cc)) e
-forward (Opening f) next line ys n e h =
+    (λ is e. let o = move next (Opening One) ys n e h in on-title One line ys n ((bytes_eq-Decides line (spaced (title_fields One))).0 is) o (opening-is One ys n o))
+    (yes (bytes_eq line (spaced (title_fields Two))) (Some (Opening Two)) _ next _
+    (λ is e. let o = move next (Opening Two) ys n e h in on-title Two line ys n ((bytes_eq-Decides line (spaced (title_fields Two))).0 is) o (opening-is Two ys n o))
+    (yes (bytes_eq line (spaced (title_fields Three))) (Some (Image images.Untitled)) None next _
+    (λ is e. on-image line ys n ((bytes_eq-Decides line (spaced (title_fields Three))).0 is) (move next (Image images.Untitled) ys n e h))
+    (λ e. cc))) e
+forward-follow (Opening f) next line ys n e h =
     mapped (λ (p : ℕ × ℕ × ℕ). Running f (opened p.0 p.1 p.2) 0 None) (board_at line) next _
     (λ q is e. on-opening f line ys n q (board-only line q is) (move next (Running f (opened q.0 q.1 q.2) 0 None) ys n (ap (λ (s : Stage). Some s) e) h)) e
-forward (Running f s c None) next line ys n e h =
+forward-follow (Image i) next line ys n e h = cc
+forward-follow (Running f s c None) next line ys n e h =
     yes (bytes_eq line (spaced (end_fields f c s.next_ticket))) (Some (Over c)) (option_map (performed f s c) (entry_at f line)) next _
     (λ is e. on-end f s c line ys n ((bytes_eq-Decides line (spaced (end_fields f c s.next_ticket))).0 is) (move next (Over c) ys n e h))
     (λ e. mapped (performed f s c) (entry_at f line) next _
     (λ event is e. on-entry f s c line ys n event (entry-only f line event is) (move next (performed f s c event) ys n (ap (λ (s : Stage). Some s) e) h)) e) e
-forward (Running f s c (Some r)) next line ys n e h =
+forward-follow (Running f s c (Some r)) next line ys n e h =
     yes (bytes_eq line (spaced (reply_fields r))) (Some (Running f s c None)) None next _
     (λ is e. record { rest = ys; text = ap (λ (x : List ℕ). x ++ 10 ∷ ys) ((bytes_eq-Decides line (spaced (reply_fields r))).0 is); goes = move next (Running f s c None) ys n e h })
     (λ e. cc) e
-forward (Over c) next line ys n e h = cc
+forward-follow (Over c) next line ys n e h = cc
+
+-- If a line is allowed, the line and a rest that continues from the next stage continue the trace.
+pub forward : (stage next : Stage) (line ys : List ℕ) (n : ℕ) → IsOneLine line → length line ≤ 640 → Follows stage line next → Continues next ys n → Continues stage (line ++ 10 ∷ ys) n
+forward (Image i) next line ys n one short e h = on-image-line ys n i e.0 line one short e.1 (subst (λ (x : Stage). Continues x ys n) e.2 h)
+forward stage next line ys n one short e h = forward-follow stage next line ys n e h
+
+-- A line leads to one stage, or to none.
+pub one-follow : (stage : Stage) (line : List ℕ) (a b : Stage) → Follows stage line a → Follows stage line b → a ≡ b
+one-follow (Image i) line a b h k = h.2 ∙ ap entered (one-next i line h.0 k.0 h.1 k.1) ∙ sym k.2
+one-follow stage line a b h k = let e = sym h ∙ k in cc
+
+pub not-both : (stage : Stage) (line : List ℕ) (fault : Unit {0}) (next : Stage) → IsWrong stage line fault → Follows stage line next → ⊥
+not-both (Image i) line fault next h k = h k.0 k.1
+not-both stage line fault next h k = let e = sym h ∙ k in cc
 
 -- at most one more entry, and a short reply
 pub record Reached (stage next : Stage) : Type 0 where
   pub bound : count next ≤ count stage + 1
-  pub fits : Fits next
+  pub fits : Fits stage → Fits next
 
 reached-running : (f : Format) (s : State) (c : ℕ) → Reached (Running f s c None) (Over c)
-reached-running f s c = record { bound = omega arith; fits = tt }
+reached-running f s c = record { bound = omega arith; fits = λ h. tt }
 
-pub reached : (stage next : Stage) (line : List ℕ) → follow stage line ≡ Some next → Reached stage next
-reached Title next line e =
+reached-image : (i next : images.Stage) (line : List ℕ) → images.Follows i line next → Reached (Image i) (entered next)
+reached-image i images.Untitled line e = record { bound = omega arith; fits = λ h. (open-next i line images.Untitled h.0 e refl, refl) }
+reached-image i images.Titled line e = record { bound = omega arith; fits = λ h. (open-next i line images.Titled h.0 e refl, refl) }
+reached-image i (images.Body s l k) line e = by (has_ended (images.Body s l k)) refl
+  where
+    by : (t : Bool) → has_ended (images.Body s l k) ≡ t → Reached (Image i) (cond t (Running Three s 0 None) (Image (images.Body s l k)))
+    by true is = record { bound = omega arith; fits = λ h. tt }
+    by false is = record { bound = omega arith; fits = λ h. (open-next i line (images.Body s l k) h.0 e is, is) }
+
+reached-follow : (stage next : Stage) (line : List ℕ) → follow stage line ≡ Some next → Reached stage next
+reached-follow Title next line e =
     yes (bytes_eq line (spaced (title_fields One))) (Some (Opening One)) _ next (Reached Title next)
-    (λ is e. let same : Opening One ≡ next = cc in subst (Reached Title) same (record { bound = omega arith; fits = tt }))
-    (yes (bytes_eq line (spaced (title_fields Two))) (Some (Opening Two)) None next (Reached Title next)
-    (λ is e. let same : Opening Two ≡ next = cc in subst (Reached Title) same (record { bound = omega arith; fits = tt })) (λ e. cc)) e
-reached (Opening f) next line e = mapped (λ (p : ℕ × ℕ × ℕ). Running f (opened p.0 p.1 p.2) 0 None) (board_at line) next (Reached (Opening f) next)
-    (λ q is e. subst (Reached (Opening f)) e (record { bound = omega arith; fits = tt })) e
-reached (Running f s c None) next line e =
+    (λ is e. let same : Opening One ≡ next = cc in subst (Reached Title) same (record { bound = omega arith; fits = λ h. tt }))
+    (yes (bytes_eq line (spaced (title_fields Two))) (Some (Opening Two)) _ next (Reached Title next)
+    (λ is e. let same : Opening Two ≡ next = cc in subst (Reached Title) same (record { bound = omega arith; fits = λ h. tt }))
+    (yes (bytes_eq line (spaced (title_fields Three))) (Some (Image images.Untitled)) None next (Reached Title next)
+    (λ is e. let same : Image images.Untitled ≡ next = cc in subst (Reached Title) same (record { bound = omega arith; fits = λ h. (tt, refl) })) (λ e. cc))) e
+reached-follow (Opening f) next line e = mapped (λ (p : ℕ × ℕ × ℕ). Running f (opened p.0 p.1 p.2) 0 None) (board_at line) next (Reached (Opening f) next)
+    (λ q is e. subst (Reached (Opening f)) e (record { bound = omega arith; fits = λ h. tt })) e
+reached-follow (Image i) next line e = cc
+reached-follow (Running f s c None) next line e =
     yes (bytes_eq line (spaced (end_fields f c s.next_ticket))) (Some (Over c)) (option_map (performed f s c) (entry_at f line)) next (Reached (Running f s c None) next)
     (λ is e. let same : Over c ≡ next = cc in subst (Reached (Running f s c None)) same (reached-running f s c))
     (λ e. mapped (performed f s c) (entry_at f line) next (Reached (Running f s c None) next)
-    (λ event is e. subst (Reached (Running f s c None)) e (record { bound = omega arith; fits = step-fits s event })) e) e
-reached (Running f s c (Some r)) next line e = yes (bytes_eq line (spaced (reply_fields r))) (Some (Running f s c None)) None next
+    (λ event is e. subst (Reached (Running f s c None)) e (record { bound = omega arith; fits = λ h. step-fits s event })) e) e
+reached-follow (Running f s c (Some r)) next line e = yes (bytes_eq line (spaced (reply_fields r))) (Some (Running f s c None)) None next
     (Reached (Running f s c (Some r)) next)
-    (λ is e. let same : Running f s c None ≡ next = cc in subst (Reached (Running f s c (Some r))) same (record { bound = omega arith; fits = tt })) (λ e. cc) e
-reached (Over c) next line e = cc
+    (λ is e. let same : Running f s c None ≡ next = cc in subst (Reached (Running f s c (Some r))) same (record { bound = omega arith; fits = λ h. tt })) (λ e. cc) e
+reached-follow (Over c) next line e = cc
+
+pub reached : (stage next : Stage) (line : List ℕ) → Follows stage line next → Reached stage next
+reached (Image i) next line e = subst (Reached (Image i)) (sym e.2) (reached-image i e.0 line e.1)
+reached stage next line e = reached-follow stage next line e
 
 -- a whole line that is not too long comes first
 pub record Starts (ys : List ℕ) : Type 0 where
@@ -306,12 +495,24 @@ starts-goes f ys n next (e ∷ history) fits text =
     let rest = reply_fields e.reply ∷ left f history n next in
     start (entry_fields e.actor e.event) ys (text_of rest) (entry-written e.actor e.event h.actor h.event) (text ∙ text-line (entry_fields e.actor e.event) rest)
 
+starts-image : (i : images.Stage) (ys : List ℕ) (lines : List (List ℕ)) (last : images.Stage) (state : State) (rest : List ℕ) → has_ended i ≡ false → AreLines lines → Leads i lines last →
+    IsComplete last state → ys ≡ joined lines ++ rest → Starts ys
+starts-image i ys [] last state rest off each leads complete text = absurd (not-ended i state off (subst (λ (x : images.Stage). IsComplete x state) leads complete))
+starts-image i ys (l ∷ lines) last state rest off each leads complete text = record {
+  line = l;
+  rest = joined lines ++ rest;
+  text = text ∙ append_assoc l (10 ∷ joined lines) rest;
+  one = each.0;
+  short = leads.1;
+}
+
 -- Only a complete trace has no further line.
 pub starts : (stage : Stage) (ys : List ℕ) (n : ℕ) → Fits stage → Continues stage ys n → ((stage ≡ Over n) × (ys ≡ [])) ⊎ Starts ys
 starts Title ys n short h =
-    let rest = item_fields (Board h.processors h.pages h.ticket) ∷ left h.format h.history (length h.history) (leads_to (opened h.processors h.pages h.ticket) h.history).next_ticket in
-    inr (start (title_fields h.format) ys (text_of rest) (title-written h.format) (h.written ∙ text-line (title_fields h.format) rest))
+    let rest = h.beginning ++ text_of (left h.format h.history (length h.history) (leads_to h.state h.history).next_ticket) in
+    inr (start (title_fields h.format) ys rest (title-written h.format) (h.written ∙ append_assoc (spaced (title_fields h.format)) (10 ∷ []) rest))
 starts (Opening f) ys n short h = inr (start (item_fields (Board h.processors h.pages h.ticket)) ys h.rest (board-written h.processors h.pages h.ticket) h.text)
+starts (Image i) ys n short h = inr (starts-image i ys h.lines h.last h.state h.rest short.1 h.each h.leads h.complete h.text)
 starts (Running f s c None) ys n short h = inr (starts-goes f ys n (leads_to s h.history).next_ticket h.history h.fits h.text)
 starts (Running f s c (Some r)) ys n short h = inr (start (reply_fields r) ys h.rest (reply-written r short) h.text)
 starts (Over c) ys n short h = inl (ap Over (sym h.1), h.0)
@@ -338,13 +539,35 @@ opens-end f = record {
   goes = goes-end f (opened 1 1 0) 0;
 }
 
-pub alive : (stage : Stage) → Alive stage
-alive Title = record { rest = _; entries = 0; on = on-title One (spaced (title_fields One)) _ 0 refl (opens-end One) }
-alive (Opening f) = record { rest = _; entries = 0; on = opens-end f }
-alive (Running f s c None) = record { rest = _; entries = c; on = goes-end f s c }
-alive (Running f s c (Some r)) = record {
+alive-image : (i : images.Stage) → Ending i → Alive (Image i)
+alive-image i e = record {
+  rest = joined e.lines ++ text_of (left Three [] 0 e.state.next_ticket);
+  entries = 0;
+  on = record {
+    lines = e.lines;
+    each = e.each;
+    last = e.last;
+    leads = e.leads;
+    state = e.state;
+    complete = e.complete;
+    rest = text_of (left Three [] 0 e.state.next_ticket);
+    text = refl;
+    goes = goes-end Three e.state 0;
+  };
+}
+
+pub alive : (stage : Stage) → Fits stage → Alive stage
+alive Title fits = record {
+  rest = _;
+  entries = 0;
+  on = on-title One (spaced (title_fields One)) (spaced (item_fields (Board 1 1 0)) ++ 10 ∷ text_of (left One [] 0 0)) 0 refl (opens-end One) (opening-is One _ 0 (opens-end One));
+}
+alive (Opening f) fits = record { rest = _; entries = 0; on = opens-end f }
+alive (Image i) fits = alive-image i (can-end i fits.0)
+alive (Running f s c None) fits = record { rest = _; entries = c; on = goes-end f s c }
+alive (Running f s c (Some r)) fits = record {
   rest = spaced (reply_fields r) ++ 10 ∷ text_of (left f [] c s.next_ticket);
   entries = c;
   on = record { rest = text_of (left f [] c s.next_ticket); text = refl; goes = goes-end f s c };
 }
-alive (Over c) = record { rest = []; entries = c; on = (refl, refl) }
+alive (Over c) fits = record { rest = []; entries = c; on = (refl, refl) }

@@ -22,7 +22,7 @@ use Rattle.text_lines.proofs.ReadLemmas.{then-some, then-read, yes, u8-only, u8-
 use Rattle.text_lines.proofs.SizeLemmas.{sizes-are}
 use Rattle.text_lines.proofs.WrittenLemmas.{bytes-plain, bytes-short, event-plain, board-written}
 use Rattle.text_trace.specs.declared.format.Format.{Format}
-use Rattle.text_trace.specs.declared.format.Format.TheVariants.{One, Two}
+use Rattle.text_trace.specs.declared.format.Format.TheVariants.{One, Two, Three}
 use Rattle.text_trace.specs.Trace.{IsEntry, has_line, title_fields, entry_fields, end_fields}
 use Rattle.text_trace.specs.inside.Stages.{with_line, parse_entry, entry_at, within_limits, parse_board, board_at}
 use Rattle.synic_board.specs.Replies.{IsReply}
@@ -44,10 +44,12 @@ entry-written actor event small h = let e = event-plain event h in written (deci
 pub title-written : (f : Format) → IsWritten (title_fields f)
 title-written One = written _ _ (plain_by (codes "trace") refl, (plain_by (codes "1") refl, tt)) (omega arith)
 title-written Two = written _ _ (plain_by (codes "trace") refl, (plain_by (codes "2") refl, tt)) (omega arith)
+title-written Three = written _ _ (plain_by (codes "trace") refl, (plain_by (codes "3") refl, tt)) (omega arith)
 
 pub end-written : (f : Format) (n next : ℕ) → IsWritten (end_fields f n next)
 end-written One n next = written _ _ (plain_by (codes "end") refl, (digits-plain 10 n, tt)) (omega (arith, digits-short 10 n))
 end-written Two n next = written _ _ (plain_by (codes "end") refl, (digits-plain 10 n, (digits-plain 10 next, tt))) (omega (arith, digits-short 10 n, digits-short 10 next))
+end-written Three n next = written _ _ (plain_by (codes "end") refl, (digits-plain 10 n, (digits-plain 10 next, tt))) (omega (arith, digits-short 10 n, digits-short 10 next))
 
 pub reply-written : (reply : Reply) → IsReply reply → IsWritten (reply_fields reply)
 reply-written replies.Done h = written _ _ (plain_by (codes "=") refl, (plain_by (codes "done") refl, tt)) (omega arith)
@@ -106,6 +108,7 @@ entry-only f line event e = entry-says f line (fields_of line) event refl e
 end-first : (f : Format) (n next : ℕ) (fields : Fields) (word : List ℕ) → end_fields f n next ≡ word ∷ fields → codes "end" ≡ word
 end-first One n next fields word e = cc
 end-first Two n next fields word e = cc
+end-first Three n next fields word e = cc
 
 pub end-no_entry : (f : Format) (n next actor : ℕ) (event : Event) → actor < 256 → IsEvent event → spaced (end_fields f n next) ≡ spaced (entry_fields actor event) → ⊥
 end-no_entry f n next actor event small fits e =

@@ -1,16 +1,18 @@
 -- The text form of a history.
 use Rattle.std.specs.Prelude.{◌≡◌, ℕ, ◌<◌, ◌^◌, List, [], ◌∷◌, ◌++◌, length, Bool, true, false, not, codes, decimal}
 use Rattle.std.specs.List.{All}
-use Rattle.synic_board.specs.State.{AreSizes, opened}
+use Rattle.synic_board.specs.State.{State, AreSizes, opened}
 use Rattle.synic_board.specs.History.{IsLegal, leads_to}
 use Rattle.synic_board.specs.declared.event.Event.{Event}
 use Rattle.synic_board.specs.declared.event.Event.TheVariants.{Reset}
 use Rattle.synic_board.specs.declared.history.Entry.{Entry}
+use Rattle.text_base.specs.Fields.{line_of}
 use Rattle.text_lines.specs.Events.{event_fields, IsEvent}
 use Rattle.text_lines.specs.Items.{Opening, item_fields}
 use Rattle.text_lines.specs.Printing.{text_of, reply_fields}
+use Rattle.text_restore.specs.Images.{IsImage}
 use Rattle.text_trace.specs.declared.format.Format.{Format}
-use Rattle.text_trace.specs.declared.format.Format.TheVariants.{One, Two}
+use Rattle.text_trace.specs.declared.format.Format.TheVariants.{One, Two, Three}
 
 abbrev pub is_reset : Event → Bool
 is_reset (Reset vp) = true
@@ -20,6 +22,7 @@ is_reset event = false
 abbrev pub has_line : Format → Event → Bool
 has_line One event = not (is_reset event)
 has_line Two event = true
+has_line Three event = true
 
 -- an entry that has a line, and the ranges of its fields
 pub record IsEntry (f : Format) (e : Entry) : Type 0 where
@@ -30,42 +33,64 @@ pub record IsEntry (f : Format) (e : Entry) : Type 0 where
 abbrev pub title_fields : Format → List (List ℕ)
 title_fields One = codes "trace" ∷ codes "1" ∷ []
 title_fields Two = codes "trace" ∷ codes "2" ∷ []
+title_fields Three = codes "trace" ∷ codes "3" ∷ []
 
 abbrev pub entry_fields : ℕ → Event → List (List ℕ)
 entry_fields actor event = decimal actor ∷ event_fields event
 
--- the number of entries, and in format 2 the next ticket
+-- the number of entries, and in formats 2 and 3 the next ticket
 abbrev pub end_fields : Format → ℕ → ℕ → List (List ℕ)
 end_fields One entries next = codes "end" ∷ decimal entries ∷ []
 end_fields Two entries next = codes "end" ∷ decimal entries ∷ decimal next ∷ []
+end_fields Three entries next = codes "end" ∷ decimal entries ∷ decimal next ∷ []
 
 -- two lines for each entry
 abbrev pub history_lines : List Entry → List (List (List ℕ))
 history_lines [] = []
 history_lines (e ∷ history) = entry_fields e.actor e.event ∷ reply_fields e.reply ∷ history_lines history
 
--- the lines of a trace that ends with this next ticket
-abbrev pub trace_lines : Format → ℕ → ℕ → ℕ → List Entry → ℕ → List (List (List ℕ))
-trace_lines f processors pages ticket history next =
-    title_fields f ∷ item_fields (Opening processors pages ticket) ∷ (history_lines history ++ end_fields f (length history) next ∷ [])
+-- the entries, and the end line with this next ticket
+abbrev pub rest_lines : Format → List Entry → ℕ → List (List (List ℕ))
+rest_lines f history next = history_lines history ++ end_fields f (length history) next ∷ []
 
--- the trace of a history; the next ticket is that of the state to which the history leads
-abbrev pub trace : Format → ℕ → ℕ → ℕ → List Entry → List ℕ
-trace f processors pages ticket history = text_of (trace_lines f processors pages ticket history (leads_to (opened processors pages ticket) history).next_ticket)
+-- a trace: its title, the text with which it begins, the entries, and the end line
+abbrev pub trace_text : Format → List ℕ → List Entry → ℕ → List ℕ
+trace_text f beginning history next = line_of (title_fields f) ++ (beginning ++ text_of (rest_lines f history next))
 
--- The text is the trace of a legal history of that many entries, from a board within the limits.
-pub record IsTrace (text : List ℕ) (entries : ℕ) : Type 0 where
-  pub format : Format
+-- the trace of a history that starts in this state; the next ticket is that of the state to which the history leads
+abbrev pub trace : Format → List ℕ → State → List Entry → List ℕ
+trace f beginning s history = trace_text f beginning history (leads_to s history).next_ticket
+
+abbrev pub board_text : ℕ → ℕ → ℕ → List ℕ
+board_text processors pages ticket = line_of (item_fields (Opening processors pages ticket))
+
+-- the text is a board line within the limits, and opens a board of this state
+pub record IsOpening (text : List ℕ) (s : State) : Type 0 where
   pub processors : ℕ
   pub pages : ℕ
   pub ticket : ℕ
-  pub history : List Entry
   pub sizes : AreSizes processors pages
   pub given : ticket < 2 ^ 64
+  pub line : text ≡ board_text processors pages ticket
+  pub state : s ≡ opened processors pages ticket
+
+-- How a trace begins after its title, and the state in which its history starts: with a board line, or in format 3 with an image.
+abbrev pub IsBeginning : Format → List ℕ → State → Type 0
+IsBeginning One text s = IsOpening text s
+IsBeginning Two text s = IsOpening text s
+IsBeginning Three text s = IsImage text s
+
+-- The text is the trace of a legal history of that many entries.
+pub record IsTrace (text : List ℕ) (entries : ℕ) : Type 0 where
+  pub format : Format
+  pub beginning : List ℕ
+  pub state : State
+  pub history : List Entry
+  pub begins : IsBeginning format beginning state
   pub fits : All (IsEntry format) history
-  pub legal : IsLegal (opened processors pages ticket) history
+  pub legal : IsLegal state history
   pub counted : length history ≡ entries
-  pub written : text ≡ trace format processors pages ticket history
+  pub written : text ≡ trace format beginning state history
 
 -- The text is a prefix of the trace of a legal history.
 pub record Begins (text : List ℕ) : Type 0 where

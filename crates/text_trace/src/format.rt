@@ -4,12 +4,14 @@ ghost use Rattle.text_trace.specs.Trace.{has_line};
 
 use synic_board::Event;
 
-/// The formats of a trace, named by its first line. Format 2 has lines for resets of a processor,
-/// and its last line has the next ticket.
+/// The formats of a trace, named by its first line. Formats 2 and 3 have lines for resets of a
+/// processor, and their last line has the next ticket. Format 3 has an image in place of the board
+/// line.
 #[derive(Clone, Copy, PartialEq, Eq, Debug)]
 pub enum Format {
     One,
     Two,
+    Three,
 }
 
 impl Format {
@@ -19,7 +21,7 @@ impl Format {
     {
         match self {
             Format::One => !matches!(event, Event::Reset { .. }),
-            Format::Two => true,
+            Format::Two | Format::Three => true,
         }
     }
 }

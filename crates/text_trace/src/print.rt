@@ -1,10 +1,9 @@
 // Printing a history.
 ghost use Rattle.std.specs.Prelude.{◌≡◌, ◌++◌, [], ◌∷◌, OnOk};
 ghost use Rattle.std.specs.List.{All};
-ghost use Rattle.text_base.specs.Fields.{spaced, line_of};
-ghost use Rattle.text_lines.specs.Items.{Opening, item_fields};
+ghost use Rattle.text_base.specs.Fields.{spaced};
 ghost use Rattle.text_lines.specs.Printing.{text_of};
-ghost use Rattle.text_trace.specs.Trace.{IsEntry, end_fields, history_lines, trace_lines};
+ghost use Rattle.text_trace.specs.Trace.{IsEntry, end_fields, history_lines, rest_lines, board_text, trace_text};
 
 use crate::format::Format;
 use board_terms::Ticket;
@@ -23,14 +22,28 @@ pub fn put_trace(
     history: &[Entry],
     next_ticket: Ticket,
 ) -> Result<(), AllocError>
-    ensures written { OnOk result (out.new.items ≡ out.old.items ++ text_of (trace_lines Format.Two processors pages first_ticket history.now next_ticket)) }
+    ensures written { OnOk result (out.new.items ≡ out.old.items ++ trace_text Format.Two (board_text processors pages first_ticket) history.now next_ticket) }
     ensures fits { OnOk result (All (IsEntry Format.Two) history.now) }
 {
     out.extend_from_slice(b"trace 2\n")?;
     put_opening(out, processors, pages, first_ticket)?;
-    put_history(out, history)?;
-    put_end(out, Format::Two, history.len() as u64, next_ticket)?;
-    out.extend_from_slice(b"\n")
+    put_rest(out, Format::Two, history, next_ticket)
+}
+
+/// Appends the trace of a history, in format 3, to `out`: for a board whose state before the history
+/// has this image, with the next ticket after the history.
+pub fn put_trace_from_image(
+    out: &mut Vec<u8>,
+    image: &[u8],
+    history: &[Entry],
+    next_ticket: Ticket,
+) -> Result<(), AllocError>
+    ensures written { OnOk result (out.new.items ≡ out.old.items ++ trace_text Format.Three image.now history.now next_ticket) }
+    ensures fits { OnOk result (All (IsEntry Format.Three) history.now) }
+{
+    out.extend_from_slice(b"trace 3\n")?;
+    out.extend_from_slice(image)?;
+    put_rest(out, Format::Three, history, next_ticket)
 }
 
 /// Appends the board line.
@@ -40,7 +53,7 @@ fn put_opening(
     pages: u8,
     first_ticket: Ticket,
 ) -> Result<(), AllocError>
-    ensures { OnOk result (out.new.items ≡ out.old.items ++ line_of (item_fields (Opening processors pages first_ticket))) }
+    ensures { OnOk result (out.new.items ≡ out.old.items ++ board_text processors pages first_ticket) }
 {
     out.extend_from_slice(b"board ")?;
     put_decimal(out, processors)?;
@@ -48,6 +61,21 @@ fn put_opening(
     put_decimal(out, pages)?;
     out.extend_from_slice(b" ")?;
     put_decimal(out, first_ticket)?;
+    out.extend_from_slice(b"\n")
+}
+
+/// Appends the entries and the end line.
+fn put_rest(
+    out: &mut Vec<u8>,
+    format: Format,
+    history: &[Entry],
+    next_ticket: Ticket,
+) -> Result<(), AllocError>
+    ensures written { OnOk result (out.new.items ≡ out.old.items ++ text_of (rest_lines format history.now next_ticket)) }
+    ensures fits { OnOk result (All (IsEntry Format.Two) history.now) }
+{
+    put_history(out, history)?;
+    put_end(out, format, history.len() as u64, next_ticket)?;
     out.extend_from_slice(b"\n")
 }
 
@@ -88,7 +116,7 @@ pub(crate) fn put_end(
     put_decimal(out, entries)?;
     match format {
         Format::One => Ok(()),
-        Format::Two => {
+        Format::Two | Format::Three => {
             out.extend_from_slice(b" ")?;
             put_decimal(out, next)
         }

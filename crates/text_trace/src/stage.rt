@@ -5,16 +5,19 @@ ghost use Rattle.text_base.specs.Fields.{spaced};
 ghost use Rattle.text_lines.specs.Printing.{reply_fields};
 ghost use Rattle.text_trace.specs.Trace.{end_fields};
 ghost use Rattle.text_driver.specs.Judging.{Judges};
-ghost use Rattle.text_trace.specs.inside.Stages.{Title, Opening, Over, entry_at, board_at, stage_of, count, IsGood, IsWrong, Opens, Runs, IsOver};
+ghost use Rattle.text_restore.specs.Taking.{stage_of as image_stage_of};
+ghost use Rattle.text_trace.specs.inside.Stages.{Title, Opening, Over, entry_at, board_at, stage_of, count, IsGood, IsWrong, Opens, Reads, HasImage, started, Runs, IsOver};
 
 use crate::format::Format;
 use crate::print::put_end;
 use board_terms::{Notices, Ticket};
 use std::alloc::{AllocError, Global};
+use std::mem::replace;
 use synic_board::{Board, Event, OpenFault, Reply};
 use text_base::Fields;
 use text_driver::Taken;
 use text_lines::{event_of, opening_of, put_reply, u8_of};
+use text_restore::{Stage as ImageStage, board_of, has_ended, take_line as take_image_line};
 
 /// Which line of a trace comes next.
 #[derive(Drop)]
@@ -23,6 +26,8 @@ pub(crate) enum Stage {
     Title,
     /// The board line.
     Opening(Format),
+    /// A line of the image, of which these were read.
+    Image(ImageStage),
     /// The reply that is due, or else an event or the end line, after that many entries.
     Running {
         format: Format,
@@ -42,7 +47,7 @@ enum Opened {
     Memory,
 }
 
-/// The result of a line after the board line.
+/// The result of a line of an image, or after the beginning of a trace.
 #[derive(Clone, Copy)]
 enum Ran {
     On,
@@ -68,6 +73,15 @@ pub(crate) fn take_line(
             let format = *format;
             take_opening(alloc, stage, format, line)
         }
+        Stage::Image(image) => match read_line(alloc, image, line) {
+            Ran::On => Taken::Good,
+            Ran::End => {
+                start(stage);
+                Taken::Good
+            }
+            Ran::Wrong => Taken::Wrong(()),
+            Ran::Memory => Taken::Memory,
+        },
         Stage::Running {
             format,
             board,
@@ -96,14 +110,15 @@ fn take_title(stage: &mut Stage, line: &[u8]) -> Taken<()>
     requires { stage_of stage.old ≡ Title }
     ensures { Judges IsGood IsWrong result (stage_of stage.old) (stage_of stage.new) line.now [] }
 {
-    let format = if line == b"trace 1".as_slice() {
-        Format::One
+    *stage = if line == b"trace 1".as_slice() {
+        Stage::Opening(Format::One)
     } else if line == b"trace 2".as_slice() {
-        Format::Two
+        Stage::Opening(Format::Two)
+    } else if line == b"trace 3".as_slice() {
+        Stage::Image(ImageStage::Untitled)
     } else {
         return Taken::Wrong(());
     };
-    *stage = Stage::Opening(format);
     Taken::Good
 }
 
@@ -126,6 +141,38 @@ fn take_opening(alloc: Global, stage: &mut Stage, format: Format, line: &[u8]) -
         Opened::Wrong => Taken::Wrong(()),
         Opened::Memory => Taken::Memory,
     }
+}
+
+/// Takes a line of the image, and returns whether it is the end.
+fn read_line(alloc: Global, image: &mut ImageStage, line: &[u8]) -> Ran
+    ensures { Reads result (image_stage_of image.old) (image_stage_of image.new) line.now }
+{
+    match take_image_line(alloc, image, line) {
+        Taken::Good => {}
+        Taken::Wrong(()) => return Ran::Wrong,
+        Taken::Memory => return Ran::Memory,
+    }
+    if has_ended(image) { Ran::End } else { Ran::On }
+}
+
+/// Starts the history, on the board of the image.
+#[inline(never)]
+fn start(stage: &mut Stage)
+    requires whole { HasImage (stage_of stage.old) }
+    ensures { stage_of stage.new ≡ started (stage_of stage.old) }
+{
+    let Stage::Image(image) = replace(stage, Stage::Title) else {
+        unreachable!()
+    };
+    let Some(board) = board_of(image) else {
+        unreachable!()
+    };
+    *stage = Stage::Running {
+        format: Format::Three,
+        board,
+        entries: 0,
+        due: None,
+    };
 }
 
 /// Ends the trace after that many entries.

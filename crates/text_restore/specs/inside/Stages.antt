@@ -1,21 +1,8 @@
--- The stage of a judge, and what it decides about a line.
-use Rattle.std.specs.Prelude.{◌≡◌, ℕ, List, [], Bool, true, false}
+-- What is decided about the parts of a line.
+use Rattle.std.specs.Prelude.{ℕ, List, Bool, true, false}
 use Rattle.synic_board.specs.State.{State}
 use Rattle.text_image.specs.declared.piece.Piece.{Piece}
-use Rattle.text_restore.specs.Restoring.{Stage, Untitled, Titled, Body, Opens, Restores, Continues, Follows}
-use Rattle.text_restore.specs.declared.stage.Stage.{Stage as Held}
-use Rattle.text_restore.specs.declared.stage.Stage.TheVariants as held
-
-abbrev pub stage_of : Held → Stage
-stage_of held.Untitled = Untitled
-stage_of held.Titled = Titled
-stage_of (held.Body draft last lapics) = Body draft last lapics
-
-abbrev pub IsGood : Stage → List ℕ → List ℕ → Stage → Type 0
-IsGood old line answer new = Follows old line new × (answer ≡ [])
-
-abbrev pub IsWrong : Stage → List ℕ → Unit {0} → Type 0
-IsWrong stage line fault = (new : Stage) → Follows stage line new → ⊥
+use Rattle.text_restore.specs.Restoring.{Stage, Body, Opens, Restores, Continues}
 
 -- the line opens no board
 abbrev pub OpensNone : List ℕ → Type 0

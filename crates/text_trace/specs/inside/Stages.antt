@@ -1,5 +1,5 @@
 -- The stages of a trace: which line comes next.
-use Rattle.std.specs.Prelude.{◌≡◌, ℕ, ◌+◌, ◌≤◌, List, [], ◌∷◌, if◌then◌else◌, Option, None, Some, codes}
+use Rattle.std.specs.Prelude.{◌≡◌, ℕ, ◌+◌, ◌≤◌, true, false, List, [], ◌∷◌, if◌then◌else◌, Option, None, Some, codes}
 use Rattle.std.specs.Option.{option_map, option_and_then}
 use Rattle.std.specs.Str.{bytes_eq}
 use Rattle.text_base.specs.Fields.{fields_of, spaced}
@@ -10,9 +10,11 @@ use Rattle.synic_board.specs.declared.event.Reply.{Reply}
 use Rattle.text_lines.specs.Printing.{reply_fields}
 use Rattle.text_lines.specs.Reading.{Fields, take_then, u8_at, parse_event, parse_opening}
 use Rattle.text_lines.specs.Sizes.{are_sizes}
+use Rattle.text_restore.specs.Restoring as images
+use Rattle.text_restore.specs.Taking.{has_ended, stage_of as image_stage_of}
 use Rattle.text_trace.specs.Trace.{has_line, title_fields, end_fields}
 use Rattle.text_trace.specs.declared.format.Format.{Format}
-use Rattle.text_trace.specs.declared.format.Format.TheVariants.{One, Two}
+use Rattle.text_trace.specs.declared.format.Format.TheVariants.{One, Two, Three}
 use Rattle.text_trace.specs.declared.stage.Stage.{Stage as BoardModel}
 use Rattle.text_trace.specs.declared.stage.Stage.TheVariants as held
 use Rattle.text_trace.specs.declared.stage.Opened.{Opened}
@@ -25,6 +27,8 @@ pub data Stage : Type 0 where
   Title : Stage
   -- the board line
   Opening : Format → Stage
+  -- a line of the image, of which these were read
+  Image : images.Stage → Stage
   -- the reply that is due, or else an event or the end line, after that many entries
   Running : Format → State → ℕ → Option Reply → Stage
   -- nothing, after that many entries
@@ -55,23 +59,36 @@ board_at line = parse_board (fields_of line)
 abbrev pub performed : Format → State → ℕ → Event → Stage
 performed f s entries event = Running f (step s event).0 (entries + 1) (Some (step s event).1)
 
--- the stage after a line, if the line is allowed here
+-- after the end of the image its board is there, and the history starts
+abbrev pub entered : images.Stage → Stage
+entered (images.Body s last lapics) = if has_ended (images.Body s last lapics) then Running Three s 0 None else Image (images.Body s last lapics)
+entered stage = Image stage
+
+-- the stage after a line that is not of an image, if the line is allowed here
 abbrev pub follow : Stage → List ℕ → Option Stage
 follow Title line =
     if bytes_eq line (spaced (title_fields One)) then Some (Opening One)
     else if bytes_eq line (spaced (title_fields Two)) then Some (Opening Two)
+    else if bytes_eq line (spaced (title_fields Three)) then Some (Image images.Untitled)
     else None
 follow (Opening f) line = option_map (λ (sizes : ℕ × ℕ × ℕ). Running f (opened sizes.0 sizes.1 sizes.2) 0 None) (board_at line)
+follow (Image image) line = None
 follow (Running f s entries None) line =
     if bytes_eq line (spaced (end_fields f entries s.next_ticket)) then Some (Over entries)
     else option_map (performed f s entries) (entry_at f line)
 follow (Running f s entries (Some due)) line = if bytes_eq line (spaced (reply_fields due)) then Some (Running f s entries None) else None
 follow (Over entries) line = None
 
+-- a line is allowed here and leads to the next stage
+abbrev pub Follows : Stage → List ℕ → Stage → Type 0
+Follows (Image image) line new = (next : images.Stage) × images.Follows image line next × (new ≡ entered next)
+Follows stage line new = follow stage line ≡ Some new
+
 -- the stage of a check, with its board
 abbrev pub stage_of : BoardModel → Stage
 stage_of held.Title = Title
 stage_of (held.Opening format) = Opening format
+stage_of (held.Image image) = Image (image_stage_of image)
 stage_of (held.Running format board entries due) = Running format board.state entries due
 stage_of (held.Over entries) = Over entries
 
@@ -79,15 +96,17 @@ stage_of (held.Over entries) = Over entries
 abbrev pub count : Stage → ℕ
 count Title = 0
 count (Opening f) = 0
+count (Image image) = 0
 count (Running f s entries due) = entries
 count (Over entries) = entries
 
 -- a line is allowed here and leads to the next stage; nothing is written for it
 abbrev pub IsGood : Stage → List ℕ → List ℕ → Stage → Type 0
-IsGood old line answer new = (follow old line ≡ Some new) × (answer ≡ [])
+IsGood old line answer new = Follows old line new × (answer ≡ [])
 
 -- the line is not allowed
 abbrev pub IsWrong : Stage → List ℕ → Unit {0} → Type 0
+IsWrong (Image image) line fault = (next : images.Stage) → images.Follows image line next → ⊥
 IsWrong stage line fault = follow stage line ≡ None
 
 -- at least that many lines led here
@@ -100,7 +119,24 @@ Opens (openings.Board board) f line = follow (Opening f) line ≡ Some (Running 
 Opens openings.Wrong f line = follow (Opening f) line ≡ None
 Opens openings.Memory f line = Unit {0}
 
--- a line after the board line
+-- a line of an image, from one of its stages to another: the image goes on, or this is its end
+abbrev pub Reads : Ran → images.Stage → images.Stage → List ℕ → Type 0
+Reads ran.On old new line = images.Follows old line new × (has_ended new ≡ false)
+Reads ran.End old new line = images.Follows old line new × (has_ended new ≡ true)
+Reads ran.Wrong old new line = (next : images.Stage) → images.Follows old line next → ⊥
+Reads ran.Memory old new line = Unit {0}
+
+-- the whole image was read
+abbrev pub HasImage : Stage → Type 0
+HasImage (Image image) = has_ended image ≡ true
+HasImage stage = ⊥
+
+-- the stage from which a history starts on the board of an image
+abbrev pub started : Stage → Stage
+started (Image image) = entered image
+started stage = stage
+
+-- a line after the board line, or after the image
 abbrev pub Runs : Ran → Format → State → ℕ → Option Reply → State → ℕ → Option Reply → List ℕ → Type 0
 Runs ran.On f s entries due s' entries' due' line = follow (Running f s entries due) line ≡ Some (Running f s' entries' due')
 Runs ran.End f s entries due s' entries' due' line = (entries' ≡ entries) × (follow (Running f s entries due) line ≡ Some (Over entries))

@@ -9,8 +9,7 @@ use Rattle.synic_board.specs.State.{State, AreSizes, opened}
 use Rattle.synic_board.specs.declared.history.Entry.{Entry}
 use Rattle.synic_board.specs.History.{leads_to}
 use Rattle.text_trace.specs.declared.format.Format.TheVariants.{Two}
-use Rattle.text_lines.specs.Printing.{text_of}
-use Rattle.text_trace.specs.Trace.{IsEntry, trace, trace_lines}
+use Rattle.text_trace.specs.Trace.{IsEntry, board_text, trace, trace_text}
 use Rattle.text_crew.specs.Crew.{Crew, finished}
 use Rattle.text_crew.specs.inside.Good.{IsGood}
 use Rattle.text_crew.specs.inside.View.{crew_of}
@@ -38,7 +37,7 @@ outcome_of-requires-clause-step g c =
 -- what was written, or nothing
 told : (outcome : Outcome) (setup : Setup) (ended : Ended) (crew : Crew) (text : List ℕ) → IsTraced outcome setup ended [] text → (setup.first_ticket < 2 ^ 64 →
     All (IsEntry Two) ended.history.items →
-    text ≡ text_of (trace_lines Two setup.processors setup.pages setup.first_ticket ended.history.items ended.board.state.next_ticket) → Report crew Done text) → Prepares outcome crew text
+    text ≡ trace_text Two (board_text setup.processors setup.pages setup.first_ticket) ended.history.items ended.board.state.next_ticket → Report crew Done text) → Prepares outcome crew text
 told outcomes.Done setup ended crew text is report = report is.0 is.1 is.2
 told outcomes.Memory setup ended crew text is report = tt
 told outcomes.Unsettled setup ended crew text is report = tt
@@ -46,19 +45,17 @@ told outcomes.NoThread setup ended crew text is report = tt
 
 -- the printed history is a legal trace
 traced : (crew : Crew) (history : List Entry) (text : List ℕ) → IsHistory crew history → AreSizes crew.processors crew.pages → crew.first_ticket < 2 ^ 64 →
-    All (IsEntry Two) history → text ≡ trace Two crew.processors crew.pages crew.first_ticket history → IsCrewTrace crew text
+    All (IsEntry Two) history → text ≡ trace Two (board_text crew.processors crew.pages crew.first_ticket) (opened crew.processors crew.pages crew.first_ticket) history → IsCrewTrace crew text
 traced crew history text is sizes given fits written = record {
   history = history;
   is = is;
   written = written;
   legal = record {
     format = Two;
-    processors = crew.processors;
-    pages = crew.pages;
-    ticket = crew.first_ticket;
+    beginning = board_text crew.processors crew.pages crew.first_ticket;
+    state = opened crew.processors crew.pages crew.first_ticket;
     history = history;
-    sizes = sizes;
-    given = given;
+    begins = record { processors = crew.processors; pages = crew.pages; ticket = crew.first_ticket; sizes = sizes; given = given; line = refl; state = refl };
     fits = fits;
     legal = is.legal;
     counted = is.crewed.all;
@@ -82,7 +79,7 @@ returns-in-Ok g c =
       each = e.each;
       raises = e.raises;
     } in
-    let lines : ℕ → List ℕ = λ next. text_of (trace_lines Two s.setup.processors s.setup.pages s.setup.first_ticket h next) in
+    let lines : ℕ → List ℕ = λ next. trace_text Two (board_text s.setup.processors s.setup.pages s.setup.first_ticket) h next in
     let next : ended.board.state.next_ticket ≡ (leads_to (opened s.setup.processors s.setup.pages s.setup.first_ticket) h).next_ticket = ap (λ (x : State). x.next_ticket) e.settled.leads in
     let was : IsTraced c.put_ended.result s.setup ended [] out = subst (λ (old : List ℕ). IsTraced c.put_ended.result s.setup ended old out) c.requires.empty c.put_ended.ensures in
     let good : IsGood (crew_of s) = subst IsGood (sym over) c.requires.good in

@@ -1,6 +1,6 @@
 use Rattle.std.proofs.Common.{refl}
 use Rattle.text_restore.specs.Restoring.{Stage}
-use Rattle.text_restore.specs.inside.Stages.{stage_of}
+use Rattle.text_restore.specs.Taking.{stage_of}
 use Rattle.text_restore.specs.declared.judge.ImageJudge.{ImageJudge}
 use Rattle.text_restore.proofs.Driven.{restored}
 use Rattle.text_restore.proofs.Limits.{concluded-within, concluded-near}
