@@ -7,6 +7,7 @@ REFUSALS = {
     10: "the clock can't go back", 11: "no page lies there", 12: "it crosses into another page",
     13: "1 to 8 bytes are moved", 14: "there is no such processor", 15: "it is suspended already",
     16: "it is not suspended",
+    17: "the page is in the memory of the caller",
 }
 
 REGISTERS = {0x40000020: "the reference counter", 0x40000070: "EOI", 0x40000072: "TPR", 0x40000080: "SCONTROL",

@@ -15,7 +15,7 @@ use Rattle.lapic_core.specs.Apic.{empty_apic}
 use Rattle.synic_regs.specs.Regs.{Regs, reset_regs, masked}
 use Rattle.stimer_bank.specs.declared.timer.Timer.{Timer}
 use Rattle.stimer_bank.specs.Bank.{idle_timer}
-use Rattle.synic_board.specs.State.{AreSizes, opened}
+use Rattle.synic_board.specs.State.{IsWithinLimits, opened}
 use Rattle.text_image.specs.declared.piece.Piece.{Piece}
 use Rattle.text_image.specs.declared.piece.Piece.TheVariants as pieces
 use Rattle.text_image.specs.Pieces.{piece_fields}
@@ -58,7 +58,7 @@ own-in : (n p b : ℕ) → p < n → overlay_of p (kind_of b) < 2 * n
 own-in n p zero h = omega arith
 own-in n p (suc b) h = omega arith
 
-pub opened-blank : (n m ticket : ℕ) → AreSizes n m → (σ : Section) (a b c : ℕ) → IsSpot n m σ a b c → printed (opened n m ticket) 0 σ a b c ≡ []
+pub opened-blank : (n m ticket : ℕ) → IsWithinLimits n m → (σ : Section) (a b c : ℕ) → IsSpot n m σ a b c → printed (opened n m ticket) 0 σ a b c ≡ []
 opened-blank n m ticket sizes Time a b c h = refl
 opened-blank n m ticket sizes Lapics p b c h =
     let off : nat_lt p 0 ≡ false = grind (arith, nat_tests) in ap (λ (t : Bool). cond t (lapic_lines (opened n m ticket) p) []) off

@@ -6,7 +6,7 @@ use Rattle.std.proofs.lemmas.List.Splits.{join_with_byte-slice_split}
 use Rattle.text_base.specs.Fields.{fields_of, spaced}
 use Rattle.text_base.specs.Lines.{lines_of, joined}
 use Rattle.text_base.proofs.LineLemmas.{cut}
-use Rattle.synic_board.specs.State.{State, AreSizes, opened}
+use Rattle.synic_board.specs.State.{State, IsWithinLimits, opened}
 use Rattle.text_lines.specs.Items.{Opening, item_fields}
 use Rattle.text_lines.specs.Printing.{text_of}
 use Rattle.text_lines.proofs.ReadLemmas.{reading-means as item-means}
@@ -35,7 +35,7 @@ record IsRead (s : State) (last lapics : ℕ) (lines : Lines) : Type 0 where
   n : ℕ
   m : ℕ
   ticket : ℕ
-  sizes : AreSizes n m
+  sizes : IsWithinLimits n m
   shaped : IsShaped n m ticket s
   blank : IsBlank n m s last lapics
   full : last ≡ place_of pieces.End → lapics ≡ n
@@ -130,7 +130,7 @@ piece-read s last lapics pieces.End new lines fits h k = end-read s last lapics 
 piece-read s last lapics x new lines fits h k = inner-read s last lapics x new lines tt fits h k
 
 -- a newly opened board has a title and a board line alone
-opened-lines : (n m ticket : ℕ) → AreSizes n m → titles n m ticket ≡ so_far n m ticket (opened n m ticket) 0 0
+opened-lines : (n m ticket : ℕ) → IsWithinLimits n m → titles n m ticket ≡ so_far n m ticket (opened n m ticket) 0 0
 opened-lines n m ticket sizes =
     let lines : Lines = all_lines n m (printed (opened n m ticket) 0) in
     ap (λ (x : Lines). titles n m ticket ++ x) (sym (append-nil lines ∙ all-empty n m (printed (opened n m ticket) 0) (opened-blank n m ticket sizes)))

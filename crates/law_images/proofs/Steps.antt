@@ -1,6 +1,6 @@
 -- Each piece of an image that may come next, and is not the last, adds its line.
 use Rattle.std.proofs.Common.{◌≡◌, ℕ, ◌<◌, sym, subst}
-use Rattle.synic_board.specs.State.{State, AreSizes, processors}
+use Rattle.synic_board.specs.State.{State, IsWithinLimits, processors}
 use Rattle.text_image.specs.declared.piece.Piece.{Piece}
 use Rattle.text_image.specs.declared.piece.Piece.TheVariants as pieces
 use Rattle.text_image.specs.Pieces.{IsPiece}
@@ -17,7 +17,7 @@ IsInner pieces.End = ⊥
 IsInner x = Unit {0}
 
 -- a piece that leads to this state
-module _ (n m ticket : ℕ) (s : State) (last lapics : ℕ) (new : State) (sizes : AreSizes n m) (shaped : IsShaped n m ticket s) (blank : IsBlank n m s last lapics) where
+module _ (n m ticket : ℕ) (s : State) (last lapics : ℕ) (new : State) (sizes : IsWithinLimits n m) (shaped : IsShaped n m ticket s) (blank : IsBlank n m s last lapics) where
   on : (p : ℕ) → p < processors s → p < n
   on p h = subst (λ (k : ℕ). p < k) shaped.apics h
 

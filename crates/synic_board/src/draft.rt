@@ -6,7 +6,7 @@ ghost use Rattle.stimer_bank.specs.Timer.{IsSoundTimer};
 ghost use Rattle.synic_regs.specs.Regs.{after_write, with_value};
 ghost use Rattle.synic_regs.specs.declared.register.Register.TheVariants as register;
 ghost use Rattle.synic_board.specs.Registers.{stored};
-ghost use Rattle.synic_board.specs.State.{AreSizes, IsCount, opened, processors, regs_of, with_regs, with_slot_ticket};
+ghost use Rattle.synic_board.specs.State.{IsWithinLimits, opened, processors, regs_of, with_regs, with_slot_ticket};
 ghost use Rattle.synic_board.specs.Posts.{opened_port};
 ghost use Rattle.synic_board.specs.Timers.{at_moment};
 ghost use Rattle.synic_board.specs.Sound.{IsMessage};
@@ -48,43 +48,21 @@ impl Model for Draft {
 }
 
 impl Draft {
-    /// A newly opened board whose next accepted message gets the ticket `next_ticket`. `BadSize` unless
-    /// there are 1 to 8 processors and 1 to 64 pages.
+    /// A newly opened board whose next accepted message gets the ticket `next_ticket`; with 0 pages it is
+    /// sparse. `BadSize` unless there are 1 to 8 processors and at most 64 pages.
     pub fn open(
         alloc: Global,
         processors: u8,
         pages: u8,
         next_ticket: Ticket,
     ) -> Result<Draft, OpenFault>
-        ensures size { IsErrOf result OpenFault.BadSize ↔ (¬ AreSizes processors pages) }
+        ensures size { IsErrOf result OpenFault.BadSize ↔ (¬ IsWithinLimits processors pages) }
         ensures opened { IfOk result (λ d. d ≡ opened processors pages next_ticket) }
     {
-        if processors < 1 || processors > 8 || pages < 1 || pages > 64 {
+        if processors < 1 || processors > 8 || pages > 64 {
             return Err(OpenFault::BadSize);
         }
         match Machine::open(alloc, processors, pages, next_ticket) {
-            Ok(machine) => Ok(Draft {
-                machine,
-                tickets: Vec::new(alloc),
-            }),
-            Err(_) => Err(OpenFault::Memory),
-        }
-    }
-
-    /// A newly opened sparse board whose next accepted message gets the ticket `next_ticket`. `BadSize`
-    /// unless there are 1 to 8 processors.
-    pub fn open_sparse(
-        alloc: Global,
-        processors: u8,
-        next_ticket: Ticket,
-    ) -> Result<Draft, OpenFault>
-        ensures size { IsErrOf result OpenFault.BadSize ↔ (¬ IsCount processors) }
-        ensures opened { IfOk result (λ d. d ≡ opened processors 0 next_ticket) }
-    {
-        if processors < 1 || processors > 8 {
-            return Err(OpenFault::BadSize);
-        }
-        match Machine::open(alloc, processors, 0, next_ticket) {
             Ok(machine) => Ok(Draft {
                 machine,
                 tickets: Vec::new(alloc),

@@ -233,7 +233,7 @@ titled-ends =
       pages = 1;
       ticket = 0;
       item = (item-reading (spaced (item_fields (Opening 1 1 0))) (Opening 1 1 0)).1 (item-means (Opening 1 1 0) (omega arith, omega arith, omega arith));
-      sizes = record { some_processor = omega arith; processor_bound = omega arith; some_page = omega arith; page_bound = omega arith };
+      sizes = record { some_processor = omega arith; processor_bound = omega arith; page_bound = omega arith };
       stage = refl;
     }) (end-body 1 s 0 0 fits (omega (arith, length-replicate 1 empty_apic)))
 

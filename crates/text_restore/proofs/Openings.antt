@@ -3,7 +3,7 @@ use Rattle.std.proofs.Common.{◌≡◌, ℕ, List, [], ◌∷◌, Option, Some,
 use Rattle.std.specs.Option.{IfSome}
 use Rattle.std.specs.Str.{bytes_eq}
 use Rattle.text_base.specs.Fields.{fields_of}
-use Rattle.synic_board.specs.State.{AreSizes}
+use Rattle.synic_board.specs.State.{IsWithinLimits}
 use Rattle.text_lines.specs.Items.{Opening}
 use Rattle.text_lines.specs.Reading.{Fields, parse_item, parse_opening, item_at}
 use Rattle.text_lines.proofs.ReadLemmas.{reading-means, says-opening}
@@ -45,9 +45,9 @@ no-sizes line word fields cut none = λ new h.
     let rest : fields ≡ decimal h.count ∷ decimal h.pages ∷ decimal h.ticket ∷ [] = cc in
     apart (h.count, h.pages, h.ticket) (sym none ∙ ap parse_opening rest ∙ says-opening h.count h.pages h.ticket d.fits)
 
-pub bad-sizes : (line : List ℕ) (n p t : ℕ) → item_at line ≡ Some (Opening n p t) → (AreSizes n p → ⊥) → OpensNone line
+pub bad-sizes : (line : List ℕ) (n p t : ℕ) → item_at line ≡ Some (Opening n p t) → (IsWithinLimits n p → ⊥) → OpensNone line
 bad-sizes line n p t is off = λ new h.
     let both : Some (Opening h.count h.pages h.ticket) ≡ Some (Opening n p t) = sym h.item ∙ is in
     let count : h.count ≡ n = cc in
     let pages : h.pages ≡ p = cc in
-    off (subst (λ (k : ℕ). AreSizes n k) pages (subst (λ (k : ℕ). AreSizes k h.pages) count h.sizes))
+    off (subst (λ (k : ℕ). IsWithinLimits n k) pages (subst (λ (k : ℕ). IsWithinLimits k h.pages) count h.sizes))

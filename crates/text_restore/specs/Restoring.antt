@@ -7,7 +7,7 @@ use Rattle.synic_regs.specs.Regs.{after_write, with_value, masked}
 use Rattle.synic_regs.specs.declared.register.Register.TheVariants as register
 use Rattle.stimer_bank.specs.Timer.{IsSoundTimer}
 use Rattle.synic_board.specs.declared.event.Reply.TheVariants.{Done}
-use Rattle.synic_board.specs.State.{State, AreSizes, opened, processors, regs_of, with_regs, with_slot_ticket}
+use Rattle.synic_board.specs.State.{State, IsWithinLimits, opened, processors, regs_of, with_regs, with_slot_ticket}
 use Rattle.synic_board.specs.Registers.{stored}
 use Rattle.synic_board.specs.Posts.{opened_port}
 use Rattle.synic_board.specs.Timers.{at_moment}
@@ -103,7 +103,7 @@ pub record Opens (line : List ℕ) (new : Stage) : Type 0 where
   pub pages : ℕ
   pub ticket : ℕ
   pub item : item_at line ≡ Some (Opening count pages ticket)
-  pub sizes : AreSizes count pages
+  pub sizes : IsWithinLimits count pages
   pub stage : new ≡ Body (opened count pages ticket) 0 0
 
 -- A line may come next, and leads to a stage.
