@@ -156,7 +156,7 @@ static void test_entries(void)
         CHECK_NUMBER(end.line, is_told ? 0 : 2);
     }
     for (unsigned refusal = 0; refusal <= UINT8_MAX; refusal++) {
-        bool is_told = refusal >= SYNICBOARD_UNKNOWN_PORT && refusal <= SYNICBOARD_NOT_SUSPENDED;
+        bool is_told = refusal >= SYNICBOARD_UNKNOWN_PORT && refusal <= SYNICBOARD_ELSEWHERE;
         char text[60];
         snprintf(text, sizeof text, "9 take 255\n= refused %u\n", refusal);
         CHECK_TOLD(take, REPLY(.kind = SYNICBOARD_REFUSED, .refusal = (uint8_t)refusal), is_told ? 0 : 2, is_told ? text : "");

@@ -76,7 +76,7 @@ module _ {J : Type 0} (seen : J → Machine) (old new : J) (start : seen old ≡
     image-saved line s Done is d f =
         some-map r0 _ _ (λ input k. let b = saved-image line s d.answers input is k in (b.0, subst (Appends w0 w1) (sym b.1) f)) d.whole
     image-saved line s (Script l h) is d f = absurd f
-    image-saved line s Memory is d f = f
+    image-saved line s Memory is d f = absurd f
     image-saved line s Reading is d f = absurd f
     image-saved line s Writing is d f =
         let b = saved-image line s d.answers d.taken is d.read in
@@ -101,7 +101,7 @@ pub saved-within : (end : End ScriptFault) (machine : Machine) (result : ReplayE
     ReadsUpTo (most_of end) r0 r1 → ReadsUpTo (most_read result) r0 r1
 saved-within (ends.Last line) (Some s) Done r0 r1 w0 w1 f h = h
 saved-within (ends.Last line) (Some s) (Script l g) r0 r1 w0 w1 f h = absurd f
-saved-within (ends.Last line) (Some s) Memory r0 r1 w0 w1 f h = h
+saved-within (ends.Last line) (Some s) Memory r0 r1 w0 w1 f h = absurd f
 saved-within (ends.Last line) (Some s) Reading r0 r1 w0 w1 f h = absurd f
 saved-within (ends.Last line) (Some s) Writing r0 r1 w0 w1 f h = h
 saved-within end machine result r0 r1 w0 w1 f h = concluded-within end false result r0 r1 w0 w1 f h

@@ -146,13 +146,12 @@ pub fn save_script<R: Read, W: Write>(alloc: Global, reader: &mut R, writer: &mu
     };
     let mut out = Vec::new(alloc);
     let end = drive(alloc, reader, &mut io::sink(), &mut judge, &mut out);
-    conclude_save(alloc, writer, &mut out, end, &judge.board)
+    conclude_save(writer, &mut out, end, &judge.board)
 }
 
 /// Writes the image of the board, or the fault's line. It is separate from `save_script`, so that one
 /// owner drops everything.
 fn conclude_save<W: Write>(
-    alloc: Global,
     writer: &mut W,
     out: &mut Vec<u8>,
     end: End<ScriptFault>,
@@ -162,7 +161,7 @@ fn conclude_save<W: Write>(
 {
     match end {
         End::Last { .. } => match board {
-            Some(board) => save_board(alloc, writer, board),
+            Some(board) => save_board(writer, board),
             None => conclude(writer, out, end, false),
         },
         _ => conclude(writer, out, end, false),
@@ -170,12 +169,11 @@ fn conclude_save<W: Write>(
 }
 
 /// Writes the image of a board, and flushes.
-fn save_board<W: Write>(alloc: Global, writer: &mut W, board: &Board) -> ReplayEnd
+fn save_board<W: Write>(writer: &mut W, board: &Board) -> ReplayEnd
     ensures { SavesImage result board.now.state (W.contents writer.old) (W.contents writer.new) }
 {
-    match save(alloc, board, writer) {
+    match save(board, writer) {
         SaveEnd::Done => ReplayEnd::Done,
-        SaveEnd::Memory => ReplayEnd::Memory,
         SaveEnd::Writing => ReplayEnd::Writing,
     }
 }

@@ -77,7 +77,7 @@ pub extern "C" fn synicboard_save(alloc: Global, handle: &mut BoardHandle, room:
     let Some(board) = handle.board_mut() else {
         return not_written(4, 0);
     };
-    let mut image = Vec::new(alloc);
+    let mut image: Vec<u8> = Vec::new(alloc);
     if put_image(&mut image, &board.board).is_err() {
         return not_written(2, 0);
     }

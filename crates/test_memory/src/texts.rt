@@ -77,18 +77,17 @@ pub(crate) fn crewed<R: Threads + Wait + Sync>(rt: &R, alloc: Global) -> Result<
     }
 }
 
-/// An allocation failure leaves nothing written, since the image is formatted first.
+/// A save takes no memory, so only the opening of its board can fail.
 pub(crate) fn saved(alloc: Global) -> Result<bool, Stopped> {
     let Ok(board) = Board::open(alloc, 1, 1, 5) else {
         return Err(Stopped::Memory);
     };
     let mut written = nothing();
-    match save(alloc, &board, &mut written) {
+    match save(&board, &mut written) {
         SaveEnd::Done => {
             let image = b"image 1\nboard 1 1 5\nlapic 0 0 0 0 0 0 0 0 0 0 running\nend\n";
             ended(has(&written, image))
         }
-        SaveEnd::Memory => wanted(&written, b""),
         SaveEnd::Writing => Err(Stopped::Otherwise),
     }
 }

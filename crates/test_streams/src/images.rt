@@ -88,7 +88,7 @@ fn an_image_has_each_part_of_a_board(rt: HostRuntime) -> Result<(), AllocError> 
             "{reply:?}"
         );
     }
-    let mut image = Vec::new(alloc);
+    let mut image: Vec<u8> = Vec::new(alloc);
     put_image(&mut image, &board)?;
     let expected = image_of_storm(alloc)?;
     assert!(rt; image.as_slice() == expected.as_slice());
@@ -99,12 +99,12 @@ fn an_image_has_each_part_of_a_board(rt: HostRuntime) -> Result<(), AllocError> 
 const OPENED: &[u8] = b"image 1\nboard 1 1 5\nlapic 0 0 0 0 0 0 0 0 0 0 running\nend\n";
 
 /// Whether a save that fails at this place ends with the image up to there.
-fn is_cut_there(alloc: Global, board: &Board, refuses: Refuses, place: usize) -> bool {
+fn is_cut_there(board: &Board, refuses: Refuses, place: usize) -> bool {
     let held_back = Cell::new(0);
     let mut writer = takes(&held_back);
     writer.refuses = refuses;
     writer.room = place;
-    let end = save(alloc, board, &mut writer);
+    let end = save(board, &mut writer);
     let written = match refuses {
         Refuses::Flushes => OPENED,
         _ => &OPENED[..place.min(OPENED.len())],
@@ -120,19 +120,13 @@ fn a_failing_writer_has_the_beginning_of_an_image(rt: HostRuntime) -> Result<(),
     };
     let held_back = Cell::new(0);
     let mut writer = takes(&held_back);
-    assert_eq!(rt; save(alloc, &board, &mut writer), SaveEnd::Done);
+    assert_eq!(rt; save(&board, &mut writer), SaveEnd::Done);
     assert!(rt; writer.has(OPENED));
     for place in 0..OPENED.len() {
-        assert!(rt;
-            is_cut_there(alloc, &board, Refuses::Writes, place),
-            "{place}"
-        );
-        assert!(rt;
-            is_cut_there(alloc, &board, Refuses::Bytes, place),
-            "{place}"
-        );
+        assert!(rt; is_cut_there(&board, Refuses::Writes, place), "{place}");
+        assert!(rt; is_cut_there(&board, Refuses::Bytes, place), "{place}");
     }
-    assert!(rt; is_cut_there(alloc, &board, Refuses::Flushes, 0));
+    assert!(rt; is_cut_there(&board, Refuses::Flushes, 0));
     Ok(())
 }
 
@@ -152,7 +146,7 @@ fn a_restored_board_has_its_image(rt: HostRuntime) -> Result<(), AllocError> {
     let Some(board) = restored(alloc, image.as_slice()) else {
         return Err(AllocError);
     };
-    let mut again = Vec::new(alloc);
+    let mut again: Vec<u8> = Vec::new(alloc);
     put_image(&mut again, &board)?;
     assert!(rt; again.as_slice() == image.as_slice());
     Ok(())
@@ -181,7 +175,7 @@ fn the_image_of_a_newly_opened_board_is_short(rt: HostRuntime) -> Result<(), All
     let Ok(board) = Board::open(alloc, 1, 1, 5) else {
         return Err(AllocError);
     };
-    let mut image = Vec::new(alloc);
+    let mut image: Vec<u8> = Vec::new(alloc);
     put_image(&mut image, &board)?;
     let expected = b"image 1\nboard 1 1 5\nlapic 0 0 0 0 0 0 0 0 0 0 running\nend\n";
     assert!(rt; image.as_slice() == expected.as_slice());

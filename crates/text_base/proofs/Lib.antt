@@ -5,3 +5,4 @@ pub mod FieldLemmas
 pub mod LineLemmas
 pub mod SourceLemmas
 pub mod PlainWords
+pub mod OutputLemmas

@@ -3,4 +3,5 @@ pub mod Fields
 pub mod Lines
 pub mod Buffered
 pub mod Streams
+pub mod Outputs
 pub mod inside

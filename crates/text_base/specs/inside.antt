@@ -1,3 +1,4 @@
 -- Definitions for private functions and their proofs. Callers do not need them.
 pub mod Filling
 pub mod Parsing
+pub mod Framing

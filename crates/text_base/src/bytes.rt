@@ -4,8 +4,8 @@ ghost use Rattle.std.specs.Bool.{MatchBool};
 ghost use Rattle.text_base.specs.Numbers.{spelled, two_digits, byte_at, AreBytes};
 
 use crate::numbers::{digit_of, glyph_of};
+use crate::sink::Sink;
 use arrayvec::ArrayVec;
-use std::alloc::AllocError;
 
 /// The byte that two digits denote.
 #[inline(always)]
@@ -48,16 +48,16 @@ pub fn bytes_of<const N: usize>(text: &[u8], out: &mut ArrayVec<u8, N>) -> bool
 
 /// Appends a byte to `out` as two digits. An error is an allocation failure.
 #[inline(always)]
-pub fn put_byte(out: &mut Vec<u8>, byte: u8) -> Result<(), AllocError>
-    ensures { OnOk result (out.new.items ≡ out.old.items ++ two_digits byte) }
+pub fn put_byte<S: Sink>(out: &mut S, byte: u8) -> Result<(), S::Error>
+    ensures { OnOk result (S.text out.new ≡ S.text out.old ++ two_digits byte) }
 {
     let digits = [glyph_of(byte / 16), glyph_of(byte % 16)];
-    out.extend_from_slice(&digits)
+    out.put(&digits)
 }
 
 /// Appends bytes to `out`, two digits each. An error is an allocation failure.
-pub fn put_bytes(out: &mut Vec<u8>, bytes: &[u8]) -> Result<(), AllocError>
-    ensures { OnOk result (out.new.items ≡ out.old.items ++ spelled bytes.now) }
+pub fn put_bytes<S: Sink>(out: &mut S, bytes: &[u8]) -> Result<(), S::Error>
+    ensures { OnOk result (S.text out.new ≡ S.text out.old ++ spelled bytes.now) }
 {
     for byte in bytes {
         put_byte(out, *byte)?;

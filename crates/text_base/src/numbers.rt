@@ -4,8 +4,8 @@ ghost use Rattle.std.specs.Fmt.{digits, digit_glyph};
 ghost use Rattle.text_base.specs.Numbers.{hex, decimal_at, hex_at};
 ghost use Rattle.text_base.specs.inside.Parsing.{IsFront};
 
+use crate::sink::Sink;
 use itoa::{Buffer, Integer};
-use std::alloc::AllocError;
 
 /// The number that a decimal text denotes, if it is at most `most`: no leading zero, no sign.
 pub fn decimal_of(text: &[u8], most: u64) -> Option<u64>
@@ -155,20 +155,20 @@ fn positive_of(text: &[u8], base: u64) -> Option<u64>
 
 /// Appends a number to `out` in decimal, with its sign if it is negative. An error is an allocation
 /// failure.
-pub fn put_decimal<I: Integer>(out: &mut Vec<u8>, n: I) -> Result<(), AllocError>
-    ensures { OnOk result (out.new.items ≡ out.old.items ++ I.text n) }
+pub fn put_decimal<S: Sink, I: Integer>(out: &mut S, n: I) -> Result<(), S::Error>
+    ensures { OnOk result (S.text out.new ≡ S.text out.old ++ I.text n) }
 {
     let mut buffer = Buffer::new();
-    out.extend_from_slice(buffer.format(n).as_bytes())
+    out.put(buffer.format(n).as_bytes())
 }
 
 /// Appends a number to `out` in hexadecimal. An error is an allocation failure.
-pub fn put_hex(out: &mut Vec<u8>, n: u64) -> Result<(), AllocError>
-    ensures { OnOk result (out.new.items ≡ out.old.items ++ hex n) }
+pub fn put_hex<S: Sink>(out: &mut S, n: u64) -> Result<(), S::Error>
+    ensures { OnOk result (S.text out.new ≡ S.text out.old ++ hex n) }
 {
     let mut text = [0u8; 16];
     let start = write_hex(n, &mut text);
-    out.extend_from_slice(&text[start..])
+    out.put(&text[start..])
 }
 
 /// Writes the number in hexadecimal at the end of `out`, and returns where it begins.

@@ -17,6 +17,10 @@ pub both : (a b : Lines) (start so_far next : List ℕ) → so_far ≡ start ++ 
 both a b start so_far next before here =
     here ∙ ap (λ (x : List ℕ). x ++ text_of b) before ∙ append_assoc start (text_of a) (text_of b) ∙ ap (λ (x : List ℕ). start ++ x) (sym (text_of-append a b))
 
+-- three texts, one after another
+pub in_turn : (a b c start x0 x1 out : List ℕ) → x0 ≡ start ++ a → x1 ≡ x0 ++ b → out ≡ x1 ++ c → out ≡ start ++ (a ++ (b ++ c))
+in_turn a b c start x0 x1 out h0 h1 h2 = rw (h2, h1, h0) (simp append_assoc)
+
 -- twelve fields in six parts, with a text between two fields and one at the end
 parts : (start space feed head number q0 q1 q2 q3 s0 s1 s2 s3 priority status : List ℕ) →
     (((((start ++ head) ++ (space ++ number)) ++ (space ++ (q0 ++ (space ++ (q1 ++ (space ++ (q2 ++ (space ++ q3)))))))) ++

@@ -13,15 +13,14 @@ use crate::pages::{put_guest_pages, put_own_pages};
 use crate::processors::{put_lapics, put_registers};
 use crate::timers::put_timers;
 use board_terms::{Moment, Ticket};
-use std::alloc::AllocError;
 use synic_board::{Board, Event};
-use text_base::put_decimal;
+use text_base::{Sink, put_decimal};
 use text_lines::put_event;
 
 /// Appends the image of a board to `out`: how its state differs from that of a newly opened board,
 /// as lines. The cached summary, the order of the timers and the count of writes are not in it.
-pub fn put_image(out: &mut Vec<u8>, board: &Board) -> Result<(), AllocError>
-    ensures { OnOk result (out.new.items ≡ out.old.items ++ image board.now.state) }
+pub fn put_image<S: Sink>(out: &mut S, board: &Board) -> Result<(), S::Error>
+    ensures { OnOk result (S.text out.new ≡ S.text out.old ++ image board.now.state) }
 {
     put_head(out, board)?;
     put_lapics(out, board)?;
@@ -32,51 +31,51 @@ pub fn put_image(out: &mut Vec<u8>, board: &Board) -> Result<(), AllocError>
     put_timers(out, board)?;
     put_queues(out, board)?;
     put_slots(out, board)?;
-    out.extend_from_slice(b"end\n")
+    out.put(b"end\n")
 }
 
 /// Appends the title, the board line and the moment.
-fn put_head(out: &mut Vec<u8>, board: &Board) -> Result<(), AllocError>
-    ensures { OnOk result (out.new.items ≡ out.old.items ++ text_of (head_lines board.now.state)) }
+fn put_head<S: Sink>(out: &mut S, board: &Board) -> Result<(), S::Error>
+    ensures { OnOk result (S.text out.new ≡ S.text out.old ++ text_of (head_lines board.now.state)) }
 {
-    out.extend_from_slice(b"image 1\n")?;
+    out.put(b"image 1\n")?;
     put_opening(out, board.processors(), board.pages(), board.next_ticket())?;
     put_moment(out, board.moment())
 }
 
 /// Appends the board line.
-fn put_opening(
-    out: &mut Vec<u8>,
+fn put_opening<S: Sink>(
+    out: &mut S,
     processors: u8,
     pages: u8,
     next_ticket: Ticket,
-) -> Result<(), AllocError>
-    ensures { OnOk result (out.new.items ≡ out.old.items ++ line_of (item_fields (Opening processors pages next_ticket))) }
+) -> Result<(), S::Error>
+    ensures { OnOk result (S.text out.new ≡ S.text out.old ++ line_of (item_fields (Opening processors pages next_ticket))) }
 {
-    out.extend_from_slice(b"board ")?;
+    out.put(b"board ")?;
     put_decimal(out, processors)?;
-    out.extend_from_slice(b" ")?;
+    out.put(b" ")?;
     put_decimal(out, pages)?;
-    out.extend_from_slice(b" ")?;
+    out.put(b" ")?;
     put_decimal(out, next_ticket)?;
-    out.extend_from_slice(b"\n")
+    out.put(b"\n")
 }
 
 /// Appends the present time, unless it is 0.
-fn put_moment(out: &mut Vec<u8>, moment: Moment) -> Result<(), AllocError>
-    ensures { OnOk result (out.new.items ≡ out.old.items ++ text_of (moment_lines moment)) }
+fn put_moment<S: Sink>(out: &mut S, moment: Moment) -> Result<(), S::Error>
+    ensures { OnOk result (S.text out.new ≡ S.text out.old ++ text_of (moment_lines moment)) }
 {
     if moment == 0 {
         return Ok(());
     }
-    out.extend_from_slice(b"moment ")?;
+    out.put(b"moment ")?;
     put_decimal(out, moment)?;
-    out.extend_from_slice(b"\n")
+    out.put(b"\n")
 }
 
 /// Appends the open ports.
-fn put_ports(out: &mut Vec<u8>, board: &Board) -> Result<(), AllocError>
-    ensures { OnOk result (out.new.items ≡ out.old.items ++ text_of (each_below 16 (port_lines board.now.state))) }
+fn put_ports<S: Sink>(out: &mut S, board: &Board) -> Result<(), S::Error>
+    ensures { OnOk result (S.text out.new ≡ S.text out.old ++ text_of (each_below 16 (port_lines board.now.state))) }
 {
     for number in 0..16 {
         put_port(out, board, number)?;
@@ -85,8 +84,8 @@ fn put_ports(out: &mut Vec<u8>, board: &Board) -> Result<(), AllocError>
 }
 
 /// Appends a port, if it is open.
-fn put_port(out: &mut Vec<u8>, board: &Board, number: u8) -> Result<(), AllocError>
-    ensures { OnOk result (out.new.items ≡ out.old.items ++ text_of (port_lines board.now.state number)) }
+fn put_port<S: Sink>(out: &mut S, board: &Board, number: u8) -> Result<(), S::Error>
+    ensures { OnOk result (S.text out.new ≡ S.text out.old ++ text_of (port_lines board.now.state number)) }
 {
     let Some(port) = board.port(number) else {
         return Ok(());
@@ -98,5 +97,5 @@ fn put_port(out: &mut Vec<u8>, board: &Board, number: u8) -> Result<(), AllocErr
         shape: port.shape,
     };
     put_event(out, &event)?;
-    out.extend_from_slice(b"\n")
+    out.put(b"\n")
 }

@@ -7,13 +7,13 @@ ghost use Rattle.text_image.specs.Image.{each_below, queues_lines, queue_lines, 
 
 use crate::numbers::{sint_of, vp_of};
 use board_terms::{Message, Moment, PayloadBytes, Sint, TimerId, Vp};
-use std::alloc::AllocError;
 use synic_board::Board;
+use text_base::Sink;
 use text_lines::{put_data, put_decimal_field, put_hex_field};
 
 /// Appends the queues of each processor.
-pub(crate) fn put_queues(out: &mut Vec<u8>, board: &Board) -> Result<(), AllocError>
-    ensures { OnOk result (out.new.items ≡ out.old.items ++ text_of (each_below (processors board.now.state) (queues_lines board.now.state))) }
+pub(crate) fn put_queues<S: Sink>(out: &mut S, board: &Board) -> Result<(), S::Error>
+    ensures { OnOk result (S.text out.new ≡ S.text out.old ++ text_of (each_below (processors board.now.state) (queues_lines board.now.state))) }
 {
     for number in 0..board.processors() {
         let vp = vp_of(number);
@@ -23,9 +23,9 @@ pub(crate) fn put_queues(out: &mut Vec<u8>, board: &Board) -> Result<(), AllocEr
 }
 
 /// Appends the queues of a processor.
-fn put_queues_of(out: &mut Vec<u8>, board: &Board, vp: Vp) -> Result<(), AllocError>
+fn put_queues_of<S: Sink>(out: &mut S, board: &Board, vp: Vp) -> Result<(), S::Error>
     requires { vp < processors board.now.state }
-    ensures { OnOk result (out.new.items ≡ out.old.items ++ text_of (queues_lines board.now.state vp)) }
+    ensures { OnOk result (S.text out.new ≡ S.text out.old ++ text_of (queues_lines board.now.state vp)) }
 {
     for number in 0..16 {
         let sint = sint_of(number);
@@ -35,9 +35,9 @@ fn put_queues_of(out: &mut Vec<u8>, board: &Board, vp: Vp) -> Result<(), AllocEr
 }
 
 /// Appends the messages of a queue, front first.
-fn put_queue(out: &mut Vec<u8>, board: &Board, vp: Vp, sint: Sint) -> Result<(), AllocError>
+fn put_queue<S: Sink>(out: &mut S, board: &Board, vp: Vp, sint: Sint) -> Result<(), S::Error>
     requires { vp < processors board.now.state }
-    ensures { OnOk result (out.new.items ≡ out.old.items ++ text_of (queue_lines board.now.state vp sint)) }
+    ensures { OnOk result (S.text out.new ≡ S.text out.old ++ text_of (queue_lines board.now.state vp sint)) }
 {
     for index in 0..board.summary().queued(vp, sint) {
         put_queued(out, board, vp, sint, index)?;
@@ -46,15 +46,15 @@ fn put_queue(out: &mut Vec<u8>, board: &Board, vp: Vp, sint: Sint) -> Result<(),
 }
 
 /// Appends the message at an index of a queue.
-fn put_queued(
-    out: &mut Vec<u8>,
+fn put_queued<S: Sink>(
+    out: &mut S,
     board: &Board,
     vp: Vp,
     sint: Sint,
     index: u16,
-) -> Result<(), AllocError>
+) -> Result<(), S::Error>
     requires { vp < processors board.now.state }
-    ensures { OnOk result (out.new.items ≡ out.old.items ++ text_of (queued_lines board.now.state vp sint index)) }
+    ensures { OnOk result (S.text out.new ≡ S.text out.old ++ text_of (queued_lines board.now.state vp sint index)) }
 {
     match board.message(vp, sint, index) {
         Some(message) => put_message(out, vp, sint, message),
@@ -63,20 +63,20 @@ fn put_queued(
 }
 
 /// Appends a queued message.
-fn put_message(out: &mut Vec<u8>, vp: Vp, sint: Sint, message: &Message) -> Result<(), AllocError>
-    ensures { OnOk result (out.new.items ≡ out.old.items ++ line_of (message_fields vp sint message.now)) }
+fn put_message<S: Sink>(out: &mut S, vp: Vp, sint: Sint, message: &Message) -> Result<(), S::Error>
+    ensures { OnOk result (S.text out.new ≡ S.text out.old ++ line_of (message_fields vp sint message.now)) }
 {
-    out.extend_from_slice(b"message")?;
+    out.put(b"message")?;
     put_decimal_field(out, u64::from(vp.number()))?;
     put_decimal_field(out, u64::from(sint.number()))?;
     put_decimal_field(out, message.ticket())?;
     put_origin(out, message)?;
-    out.extend_from_slice(b"\n")
+    out.put(b"\n")
 }
 
 /// Appends where a message is from, and what it holds.
-fn put_origin(out: &mut Vec<u8>, message: &Message) -> Result<(), AllocError>
-    ensures { OnOk result (out.new.items ≡ out.old.items ++ 32 ∷ spaced (origin_fields message.now)) }
+fn put_origin<S: Sink>(out: &mut S, message: &Message) -> Result<(), S::Error>
+    ensures { OnOk result (S.text out.new ≡ S.text out.old ++ 32 ∷ spaced (origin_fields message.now)) }
 {
     match message {
         Message::FromPort {
@@ -93,33 +93,33 @@ fn put_origin(out: &mut Vec<u8>, message: &Message) -> Result<(), AllocError>
     }
 }
 
-fn put_posted(
-    out: &mut Vec<u8>,
+fn put_posted<S: Sink>(
+    out: &mut S,
     port: u8,
     kind: u32,
     payload: &PayloadBytes,
-) -> Result<(), AllocError>
-    ensures { OnOk result (out.new.items ≡ out.old.items ++ 32 ∷ spaced (posted_fields port kind payload.now.items)) }
+) -> Result<(), S::Error>
+    ensures { OnOk result (S.text out.new ≡ S.text out.old ++ 32 ∷ spaced (posted_fields port kind payload.now.items)) }
 {
-    out.extend_from_slice(b" port")?;
+    out.put(b" port")?;
     put_decimal_field(out, u64::from(port))?;
     put_hex_field(out, u64::from(kind))?;
-    out.extend_from_slice(b" ")?;
+    out.put(b" ")?;
     put_data(out, payload.as_slice())
 }
 
-fn put_expired(out: &mut Vec<u8>, timer: TimerId, expiration: Moment) -> Result<(), AllocError>
-    ensures { OnOk result (out.new.items ≡ out.old.items ++ 32 ∷ spaced (expired_fields timer expiration)) }
+fn put_expired<S: Sink>(out: &mut S, timer: TimerId, expiration: Moment) -> Result<(), S::Error>
+    ensures { OnOk result (S.text out.new ≡ S.text out.old ++ 32 ∷ spaced (expired_fields timer expiration)) }
 {
-    out.extend_from_slice(b" timer")?;
+    out.put(b" timer")?;
     put_decimal_field(out, u64::from(timer.vp().number()))?;
     put_decimal_field(out, u64::from(timer.index()))?;
     put_decimal_field(out, expiration)
 }
 
 /// Appends the tickets in the slots of each processor.
-pub(crate) fn put_slots(out: &mut Vec<u8>, board: &Board) -> Result<(), AllocError>
-    ensures { OnOk result (out.new.items ≡ out.old.items ++ text_of (each_below (processors board.now.state) (slots_lines board.now.state))) }
+pub(crate) fn put_slots<S: Sink>(out: &mut S, board: &Board) -> Result<(), S::Error>
+    ensures { OnOk result (S.text out.new ≡ S.text out.old ++ text_of (each_below (processors board.now.state) (slots_lines board.now.state))) }
 {
     for number in 0..board.processors() {
         let vp = vp_of(number);
@@ -129,9 +129,9 @@ pub(crate) fn put_slots(out: &mut Vec<u8>, board: &Board) -> Result<(), AllocErr
 }
 
 /// Appends the tickets in the slots of a processor.
-fn put_slots_of(out: &mut Vec<u8>, board: &Board, vp: Vp) -> Result<(), AllocError>
+fn put_slots_of<S: Sink>(out: &mut S, board: &Board, vp: Vp) -> Result<(), S::Error>
     requires { vp < processors board.now.state }
-    ensures { OnOk result (out.new.items ≡ out.old.items ++ text_of (slots_lines board.now.state vp)) }
+    ensures { OnOk result (S.text out.new ≡ S.text out.old ++ text_of (slots_lines board.now.state vp)) }
 {
     for number in 0..16 {
         let sint = sint_of(number);
@@ -141,16 +141,16 @@ fn put_slots_of(out: &mut Vec<u8>, board: &Board, vp: Vp) -> Result<(), AllocErr
 }
 
 /// Appends the ticket in a slot, if it holds one.
-fn put_slot(out: &mut Vec<u8>, board: &Board, vp: Vp, sint: Sint) -> Result<(), AllocError>
+fn put_slot<S: Sink>(out: &mut S, board: &Board, vp: Vp, sint: Sint) -> Result<(), S::Error>
     requires { vp < processors board.now.state }
-    ensures { OnOk result (out.new.items ≡ out.old.items ++ text_of (slot_lines board.now.state vp sint)) }
+    ensures { OnOk result (S.text out.new ≡ S.text out.old ++ text_of (slot_lines board.now.state vp sint)) }
 {
     let Some(ticket) = board.slot_ticket(vp, sint) else {
         return Ok(());
     };
-    out.extend_from_slice(b"slot")?;
+    out.put(b"slot")?;
     put_decimal_field(out, u64::from(vp.number()))?;
     put_decimal_field(out, u64::from(sint.number()))?;
     put_decimal_field(out, ticket)?;
-    out.extend_from_slice(b"\n")
+    out.put(b"\n")
 }

@@ -10,9 +10,8 @@ ghost use Rattle.text_image.specs.Image.{each_below, name_fields, kind_word, blo
 
 use crate::numbers::vp_of;
 use board_terms::{Kind, Vp};
-use std::alloc::AllocError;
 use synic_board::Board;
-use text_base::{put_bytes, put_decimal};
+use text_base::{Sink, put_bytes, put_decimal};
 use text_lines::{put_decimal_field, put_hex_field};
 
 /// The number of bytes of a line, and of lines of a page.
@@ -30,8 +29,8 @@ pub(crate) enum PageName {
 }
 
 /// Appends the guest pages.
-pub(crate) fn put_guest_pages(out: &mut Vec<u8>, board: &Board) -> Result<(), AllocError>
-    ensures { OnOk result (out.new.items ≡ out.old.items ++ text_of (each_below (length board.now.state.pages) (guest_lines board.now.state))) }
+pub(crate) fn put_guest_pages<S: Sink>(out: &mut S, board: &Board) -> Result<(), S::Error>
+    ensures { OnOk result (S.text out.new ≡ S.text out.old ++ text_of (each_below (length board.now.state.pages) (guest_lines board.now.state))) }
 {
     for number in 0..board.pages() {
         put_guest_page(out, board, number)?;
@@ -40,9 +39,9 @@ pub(crate) fn put_guest_pages(out: &mut Vec<u8>, board: &Board) -> Result<(), Al
 }
 
 /// Appends a guest page.
-fn put_guest_page(out: &mut Vec<u8>, board: &Board, number: u8) -> Result<(), AllocError>
+fn put_guest_page<S: Sink>(out: &mut S, board: &Board, number: u8) -> Result<(), S::Error>
     requires { number < length board.now.state.pages }
-    ensures { OnOk result (out.new.items ≡ out.old.items ++ text_of (guest_lines board.now.state number)) }
+    ensures { OnOk result (S.text out.new ≡ S.text out.old ++ text_of (guest_lines board.now.state number)) }
 {
     match board.guest_page(u64::from(number)) {
         Some(page) => put_page(out, &PageName::Guest(number), page),
@@ -51,8 +50,8 @@ fn put_guest_page(out: &mut Vec<u8>, board: &Board, number: u8) -> Result<(), Al
 }
 
 /// Appends the pages of the processors.
-pub(crate) fn put_own_pages(out: &mut Vec<u8>, board: &Board) -> Result<(), AllocError>
-    ensures { OnOk result (out.new.items ≡ out.old.items ++ text_of (each_below (processors board.now.state) (own_lines board.now.state))) }
+pub(crate) fn put_own_pages<S: Sink>(out: &mut S, board: &Board) -> Result<(), S::Error>
+    ensures { OnOk result (S.text out.new ≡ S.text out.old ++ text_of (each_below (processors board.now.state) (own_lines board.now.state))) }
 {
     for number in 0..board.processors() {
         let vp = vp_of(number);
@@ -62,9 +61,9 @@ pub(crate) fn put_own_pages(out: &mut Vec<u8>, board: &Board) -> Result<(), Allo
 }
 
 /// Appends both pages of a processor.
-fn put_own_pages_of(out: &mut Vec<u8>, board: &Board, vp: Vp) -> Result<(), AllocError>
+fn put_own_pages_of<S: Sink>(out: &mut S, board: &Board, vp: Vp) -> Result<(), S::Error>
     requires { vp < processors board.now.state }
-    ensures { OnOk result (out.new.items ≡ out.old.items ++ text_of (own_lines board.now.state vp)) }
+    ensures { OnOk result (S.text out.new ≡ S.text out.old ++ text_of (own_lines board.now.state vp)) }
 {
     board.facts();
     put_own_page(out, board, vp, Kind::Sim)?;
@@ -72,9 +71,9 @@ fn put_own_pages_of(out: &mut Vec<u8>, board: &Board, vp: Vp) -> Result<(), Allo
 }
 
 /// Appends a page of a processor.
-fn put_own_page(out: &mut Vec<u8>, board: &Board, vp: Vp, kind: Kind) -> Result<(), AllocError>
+fn put_own_page<S: Sink>(out: &mut S, board: &Board, vp: Vp, kind: Kind) -> Result<(), S::Error>
     requires { overlay_of vp kind < length board.now.state.own }
-    ensures { OnOk result (out.new.items ≡ out.old.items ++ text_of (own_page_lines board.now.state vp kind)) }
+    ensures { OnOk result (S.text out.new ≡ S.text out.old ++ text_of (own_page_lines board.now.state vp kind)) }
 {
     match board.own_page(vp, kind) {
         Some(page) => put_page(out, &PageName::Own(vp, kind), page),
@@ -83,9 +82,9 @@ fn put_own_page(out: &mut Vec<u8>, board: &Board, vp: Vp, kind: Kind) -> Result<
 }
 
 /// Appends the blocks of a page that are not zeros.
-fn put_page(out: &mut Vec<u8>, name: &PageName, page: &[u8]) -> Result<(), AllocError>
+fn put_page<S: Sink>(out: &mut S, name: &PageName, page: &[u8]) -> Result<(), S::Error>
     requires { length page.now ≡ 4096 }
-    ensures { OnOk result (out.new.items ≡ out.old.items ++ text_of (page_lines name.now page.now)) }
+    ensures { OnOk result (S.text out.new ≡ S.text out.old ++ text_of (page_lines name.now page.now)) }
 {
     for block in 0..BLOCKS {
         let at = BLOCK * block;
@@ -95,8 +94,8 @@ fn put_page(out: &mut Vec<u8>, name: &PageName, page: &[u8]) -> Result<(), Alloc
 }
 
 /// Appends a block of a page, unless it is zeros.
-fn put_block(out: &mut Vec<u8>, name: &PageName, at: usize, bytes: &[u8]) -> Result<(), AllocError>
-    ensures { OnOk result (out.new.items ≡ out.old.items ++ text_of (block_line name.now at bytes.now)) }
+fn put_block<S: Sink>(out: &mut S, name: &PageName, at: usize, bytes: &[u8]) -> Result<(), S::Error>
+    ensures { OnOk result (S.text out.new ≡ S.text out.old ++ text_of (block_line name.now at bytes.now)) }
 {
     if bytes == ZEROS.as_slice() {
         return Ok(());
@@ -105,32 +104,32 @@ fn put_block(out: &mut Vec<u8>, name: &PageName, at: usize, bytes: &[u8]) -> Res
 }
 
 /// Appends a block of a page.
-fn put_block_line(
-    out: &mut Vec<u8>,
+fn put_block_line<S: Sink>(
+    out: &mut S,
     name: &PageName,
     at: usize,
     bytes: &[u8],
-) -> Result<(), AllocError>
-    ensures { OnOk result (out.new.items ≡ out.old.items ++ line_of (name_fields name.now ++ (hex at ∷ spelled bytes.now ∷ []))) }
+) -> Result<(), S::Error>
+    ensures { OnOk result (S.text out.new ≡ S.text out.old ++ line_of (name_fields name.now ++ (hex at ∷ spelled bytes.now ∷ []))) }
 {
     put_name(out, name)?;
     put_hex_field(out, at as u64)?;
-    out.extend_from_slice(b" ")?;
+    out.put(b" ")?;
     put_bytes(out, bytes)?;
-    out.extend_from_slice(b"\n")
+    out.put(b"\n")
 }
 
 /// Appends the name of a page.
-fn put_name(out: &mut Vec<u8>, name: &PageName) -> Result<(), AllocError>
-    ensures { OnOk result (out.new.items ≡ out.old.items ++ spaced (name_fields name.now)) }
+fn put_name<S: Sink>(out: &mut S, name: &PageName) -> Result<(), S::Error>
+    ensures { OnOk result (S.text out.new ≡ S.text out.old ++ spaced (name_fields name.now)) }
 {
     match name {
         PageName::Guest(number) => {
-            out.extend_from_slice(b"page")?;
+            out.put(b"page")?;
             put_decimal_field(out, u64::from(*number))
         }
         PageName::Own(vp, kind) => {
-            out.extend_from_slice(b"own")?;
+            out.put(b"own")?;
             put_decimal_field(out, u64::from(vp.number()))?;
             put_kind(out, *kind)
         }
@@ -138,11 +137,11 @@ fn put_name(out: &mut Vec<u8>, name: &PageName) -> Result<(), AllocError>
 }
 
 /// Appends which page of a processor it is.
-fn put_kind(out: &mut Vec<u8>, kind: Kind) -> Result<(), AllocError>
-    ensures { OnOk result (out.new.items ≡ out.old.items ++ 32 ∷ kind_word kind) }
+fn put_kind<S: Sink>(out: &mut S, kind: Kind) -> Result<(), S::Error>
+    ensures { OnOk result (S.text out.new ≡ S.text out.old ++ 32 ∷ kind_word kind) }
 {
     match kind {
-        Kind::Sim => out.extend_from_slice(b" sim"),
-        Kind::Sief => out.extend_from_slice(b" sief"),
+        Kind::Sim => out.put(b" sim"),
+        Kind::Sief => out.put(b" sief"),
     }
 }

@@ -11,18 +11,17 @@ ghost use Rattle.text_image.specs.Image.{each_below, lapic_lines, lapic_line, wo
 use crate::numbers::{sint_of, vp_of};
 use board_terms::{Sint, Vp};
 use lapic_core::VectorSet;
-use std::alloc::AllocError;
 use synic_board::Board;
 use synic_regs::Register;
-use text_base::put_decimal;
+use text_base::{Sink, put_decimal};
 use text_lines::{put_decimal_field, put_hex_field};
 
 /// A source that was not written since its processor was reset is masked.
 const MASKED: u64 = 0x10000;
 
 /// Appends the local APIC of each processor.
-pub(crate) fn put_lapics(out: &mut Vec<u8>, board: &Board) -> Result<(), AllocError>
-    ensures { OnOk result (out.new.items ≡ out.old.items ++ text_of (each_below (processors board.now.state) (lapic_lines board.now.state))) }
+pub(crate) fn put_lapics<S: Sink>(out: &mut S, board: &Board) -> Result<(), S::Error>
+    ensures { OnOk result (S.text out.new ≡ S.text out.old ++ text_of (each_below (processors board.now.state) (lapic_lines board.now.state))) }
 {
     for number in 0..board.processors() {
         let vp = vp_of(number);
@@ -32,12 +31,12 @@ pub(crate) fn put_lapics(out: &mut Vec<u8>, board: &Board) -> Result<(), AllocEr
 }
 
 /// Appends a local APIC.
-fn put_lapic(out: &mut Vec<u8>, board: &Board, vp: Vp) -> Result<(), AllocError>
+fn put_lapic<S: Sink>(out: &mut S, board: &Board, vp: Vp) -> Result<(), S::Error>
     requires { vp < processors board.now.state }
-    ensures { OnOk result (out.new.items ≡ out.old.items ++ text_of (lapic_lines board.now.state vp)) }
+    ensures { OnOk result (S.text out.new ≡ S.text out.old ++ text_of (lapic_lines board.now.state vp)) }
 {
     let lapic = board.lapic(vp);
-    out.extend_from_slice(b"lapic")?;
+    out.put(b"lapic")?;
     put_decimal_field(out, u64::from(vp.number()))?;
     put_vectors(out, lapic.requested())?;
     put_vectors(out, lapic.in_service())?;
@@ -46,8 +45,8 @@ fn put_lapic(out: &mut Vec<u8>, board: &Board, vp: Vp) -> Result<(), AllocError>
 }
 
 /// Appends four fields: the words of a set of vectors.
-fn put_vectors(out: &mut Vec<u8>, vectors: &VectorSet) -> Result<(), AllocError>
-    ensures { OnOk result (out.new.items ≡ out.old.items ++ 32 ∷ spaced (words vectors.now)) }
+fn put_vectors<S: Sink>(out: &mut S, vectors: &VectorSet) -> Result<(), S::Error>
+    ensures { OnOk result (S.text out.new ≡ S.text out.old ++ 32 ∷ spaced (words vectors.now)) }
 {
     put_hex_field(out, vectors.word(0))?;
     put_hex_field(out, vectors.word(1))?;
@@ -56,19 +55,19 @@ fn put_vectors(out: &mut Vec<u8>, vectors: &VectorSet) -> Result<(), AllocError>
 }
 
 /// Appends the last field of a local APIC, and a line feed.
-fn put_status(out: &mut Vec<u8>, is_suspended: bool) -> Result<(), AllocError>
-    ensures { OnOk result (out.new.items ≡ out.old.items ++ 32 ∷ (status_word is_suspended ++ 10 ∷ [])) }
+fn put_status<S: Sink>(out: &mut S, is_suspended: bool) -> Result<(), S::Error>
+    ensures { OnOk result (S.text out.new ≡ S.text out.old ++ 32 ∷ (status_word is_suspended ++ 10 ∷ [])) }
 {
     if is_suspended {
-        out.extend_from_slice(b" suspended\n")
+        out.put(b" suspended\n")
     } else {
-        out.extend_from_slice(b" running\n")
+        out.put(b" running\n")
     }
 }
 
 /// Appends the SynIC registers of each processor.
-pub(crate) fn put_registers(out: &mut Vec<u8>, board: &Board) -> Result<(), AllocError>
-    ensures { OnOk result (out.new.items ≡ out.old.items ++ text_of (each_below (processors board.now.state) (register_lines board.now.state))) }
+pub(crate) fn put_registers<S: Sink>(out: &mut S, board: &Board) -> Result<(), S::Error>
+    ensures { OnOk result (S.text out.new ≡ S.text out.old ++ text_of (each_below (processors board.now.state) (register_lines board.now.state))) }
 {
     for number in 0..board.processors() {
         let vp = vp_of(number);
@@ -78,9 +77,9 @@ pub(crate) fn put_registers(out: &mut Vec<u8>, board: &Board) -> Result<(), Allo
 }
 
 /// Appends the SynIC registers of a processor.
-fn put_registers_of(out: &mut Vec<u8>, board: &Board, vp: Vp) -> Result<(), AllocError>
+fn put_registers_of<S: Sink>(out: &mut S, board: &Board, vp: Vp) -> Result<(), S::Error>
     requires { vp < processors board.now.state }
-    ensures { OnOk result (out.new.items ≡ out.old.items ++ text_of (register_lines board.now.state vp)) }
+    ensures { OnOk result (S.text out.new ≡ S.text out.old ++ text_of (register_lines board.now.state vp)) }
 {
     let control = board.register(vp, Register::Control);
     put_register(out, vp, b"scontrol", control)?;
@@ -92,24 +91,24 @@ fn put_registers_of(out: &mut Vec<u8>, board: &Board, vp: Vp) -> Result<(), Allo
 }
 
 /// Appends a register, unless it is 0.
-fn put_register(out: &mut Vec<u8>, vp: Vp, name: &[u8], value: u64) -> Result<(), AllocError>
-    ensures { OnOk result (out.new.items ≡ out.old.items ++ text_of (changed_line vp name.now value 0)) }
+fn put_register<S: Sink>(out: &mut S, vp: Vp, name: &[u8], value: u64) -> Result<(), S::Error>
+    ensures { OnOk result (S.text out.new ≡ S.text out.old ++ text_of (changed_line vp name.now value 0)) }
 {
     if value == 0 {
         return Ok(());
     }
-    out.extend_from_slice(b"register")?;
+    out.put(b"register")?;
     put_decimal_field(out, u64::from(vp.number()))?;
-    out.extend_from_slice(b" ")?;
-    out.extend_from_slice(name)?;
+    out.put(b" ")?;
+    out.put(name)?;
     put_hex_field(out, value)?;
-    out.extend_from_slice(b"\n")
+    out.put(b"\n")
 }
 
 /// Appends the sources of a processor.
-fn put_sources(out: &mut Vec<u8>, board: &Board, vp: Vp) -> Result<(), AllocError>
+fn put_sources<S: Sink>(out: &mut S, board: &Board, vp: Vp) -> Result<(), S::Error>
     requires { vp < processors board.now.state }
-    ensures { OnOk result (out.new.items ≡ out.old.items ++ text_of (each_below 16 (source_lines board.now.state vp))) }
+    ensures { OnOk result (S.text out.new ≡ S.text out.old ++ text_of (each_below 16 (source_lines board.now.state vp))) }
 {
     for number in 0..16 {
         let sint = sint_of(number);
@@ -119,18 +118,18 @@ fn put_sources(out: &mut Vec<u8>, board: &Board, vp: Vp) -> Result<(), AllocErro
 }
 
 /// Appends a source, unless it is as after a reset.
-fn put_source(out: &mut Vec<u8>, board: &Board, vp: Vp, sint: Sint) -> Result<(), AllocError>
+fn put_source<S: Sink>(out: &mut S, board: &Board, vp: Vp, sint: Sint) -> Result<(), S::Error>
     requires { vp < processors board.now.state }
-    ensures { OnOk result (out.new.items ≡ out.old.items ++ text_of (source_lines board.now.state vp sint)) }
+    ensures { OnOk result (S.text out.new ≡ S.text out.old ++ text_of (source_lines board.now.state vp sint)) }
 {
     let value = board.register(vp, Register::Source(sint));
     if value == MASKED {
         return Ok(());
     }
-    out.extend_from_slice(b"register")?;
+    out.put(b"register")?;
     put_decimal_field(out, u64::from(vp.number()))?;
-    out.extend_from_slice(b" sint")?;
+    out.put(b" sint")?;
     put_decimal(out, sint.number())?;
     put_hex_field(out, value)?;
-    out.extend_from_slice(b"\n")
+    out.put(b"\n")
 }

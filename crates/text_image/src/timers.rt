@@ -7,16 +7,16 @@ ghost use Rattle.text_image.specs.Image.{each_below, timers_lines, timer_lines, 
 
 use crate::numbers::{timer_of, vp_of};
 use board_terms::Vp;
-use std::alloc::AllocError;
 use synic_board::Board;
+use text_base::Sink;
 use text_lines::{put_decimal_field, put_hex_field};
 
 /// One more than the greatest 64-bit word.
 const WORD: u128 = 1 << 64;
 
 /// Appends the timers of each processor.
-pub(crate) fn put_timers(out: &mut Vec<u8>, board: &Board) -> Result<(), AllocError>
-    ensures { OnOk result (out.new.items ≡ out.old.items ++ text_of (each_below (processors board.now.state) (timers_lines board.now.state))) }
+pub(crate) fn put_timers<S: Sink>(out: &mut S, board: &Board) -> Result<(), S::Error>
+    ensures { OnOk result (S.text out.new ≡ S.text out.old ++ text_of (each_below (processors board.now.state) (timers_lines board.now.state))) }
 {
     for number in 0..board.processors() {
         let vp = vp_of(number);
@@ -26,8 +26,8 @@ pub(crate) fn put_timers(out: &mut Vec<u8>, board: &Board) -> Result<(), AllocEr
 }
 
 /// Appends the timers of a processor.
-fn put_timers_of(out: &mut Vec<u8>, board: &Board, vp: Vp) -> Result<(), AllocError>
-    ensures { OnOk result (out.new.items ≡ out.old.items ++ text_of (timers_lines board.now.state vp)) }
+fn put_timers_of<S: Sink>(out: &mut S, board: &Board, vp: Vp) -> Result<(), S::Error>
+    ensures { OnOk result (S.text out.new ≡ S.text out.old ++ text_of (timers_lines board.now.state vp)) }
 {
     for index in 0..4 {
         put_timer(out, board, vp, index)?;
@@ -36,9 +36,9 @@ fn put_timers_of(out: &mut Vec<u8>, board: &Board, vp: Vp) -> Result<(), AllocEr
 }
 
 /// Appends a timer, unless it is idle.
-fn put_timer(out: &mut Vec<u8>, board: &Board, vp: Vp, index: u8) -> Result<(), AllocError>
+fn put_timer<S: Sink>(out: &mut S, board: &Board, vp: Vp, index: u8) -> Result<(), S::Error>
     requires { index < 4 }
-    ensures { OnOk result (out.new.items ≡ out.old.items ++ text_of (timer_lines board.now.state vp index)) }
+    ensures { OnOk result (S.text out.new ≡ S.text out.old ++ text_of (timer_lines board.now.state vp index)) }
 {
     let (config, count, due) = board.timer(timer_of(vp, index));
     if config == 0 && count == 0 && due.is_none() {
@@ -48,33 +48,33 @@ fn put_timer(out: &mut Vec<u8>, board: &Board, vp: Vp, index: u8) -> Result<(), 
 }
 
 /// Appends a timer.
-fn put_timer_line(
-    out: &mut Vec<u8>,
+fn put_timer_line<S: Sink>(
+    out: &mut S,
     vp: Vp,
     index: u8,
     config: u64,
     count: u64,
     due: Option<u128>,
-) -> Result<(), AllocError>
-    ensures { OnOk result (out.new.items ≡ out.old.items ++ line_of (timer_fields (vp, index) config count due)) }
+) -> Result<(), S::Error>
+    ensures { OnOk result (S.text out.new ≡ S.text out.old ++ line_of (timer_fields (vp, index) config count due)) }
 {
-    out.extend_from_slice(b"timer")?;
+    out.put(b"timer")?;
     put_decimal_field(out, u64::from(vp.number()))?;
     put_decimal_field(out, u64::from(index))?;
     put_hex_field(out, config)?;
     put_hex_field(out, count)?;
     put_due(out, due)?;
-    out.extend_from_slice(b"\n")
+    out.put(b"\n")
 }
 
 /// Appends the fields of a deadline: its high and its low 64 bits.
-fn put_due(out: &mut Vec<u8>, due: Option<u128>) -> Result<(), AllocError>
-    ensures { OnOk result (out.new.items ≡ out.old.items ++ 32 ∷ spaced (due_fields due)) }
+fn put_due<S: Sink>(out: &mut S, due: Option<u128>) -> Result<(), S::Error>
+    ensures { OnOk result (S.text out.new ≡ S.text out.old ++ 32 ∷ spaced (due_fields due)) }
 {
     let Some(due) = due else {
-        return out.extend_from_slice(b" stopped");
+        return out.put(b" stopped");
     };
-    out.extend_from_slice(b" due")?;
+    out.put(b" due")?;
     put_hex_field(out, (due / WORD) as u64)?;
     put_hex_field(out, (due % WORD) as u64)
 }

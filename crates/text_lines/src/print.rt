@@ -1,4 +1,4 @@
-// Printing. Each function appends to `out`; an error is an allocation failure.
+// Printing. Each function appends to `out`, and fails if `out` does.
 mod event;
 mod notice;
 mod reply;
@@ -15,19 +15,19 @@ pub use notice::put_notices;
 pub use reply::put_reply;
 use std::alloc::AllocError;
 pub use summary::put_summary;
-use text_base::{put_byte, put_bytes};
+use text_base::{Sink, put_byte, put_bytes};
 
 /// Appends a text.
 #[inline(always)]
-fn put(out: &mut Vec<u8>, text: &[u8]) -> Result<(), AllocError>
-    ensures { OnOk result (out.new.items ≡ out.old.items ++ text.now) }
+fn put<S: Sink>(out: &mut S, text: &[u8]) -> Result<(), S::Error>
+    ensures { OnOk result (S.text out.new ≡ S.text out.old ++ text.now) }
 {
-    out.extend_from_slice(text)
+    out.put(text)
 }
 
 /// Appends bytes as two digits each, or `-` for none.
-pub fn put_data(out: &mut Vec<u8>, bytes: &[u8]) -> Result<(), AllocError>
-    ensures written { OnOk result (out.new.items ≡ out.old.items ++ bytes_text bytes.now) }
+pub fn put_data<S: Sink>(out: &mut S, bytes: &[u8]) -> Result<(), S::Error>
+    ensures written { OnOk result (S.text out.new ≡ S.text out.old ++ bytes_text bytes.now) }
     ensures fits { AreBytes bytes.now }
 {
     if bytes.is_empty() {

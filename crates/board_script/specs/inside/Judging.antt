@@ -39,11 +39,11 @@ abbrev pub Concludes : Result (Option (ℕ × ScriptFault)) ReplayEnd → Replay
 Concludes (Ok fault) result w0 w1 = Finishes result fault w0 w1
 Concludes (Err end) result w0 w1 = (result ≡ end) × (w1 ≡ w0)
 
--- the image of a state was written, or a part of it, or nothing for lack of memory
+-- the image of a state was written, or a prefix of it
 abbrev pub SavesImage : ReplayEnd → State → Option (List ℕ) → Option (List ℕ) → Type 0
 SavesImage Done s w0 w1 = Appends w0 w1 (image s)
 SavesImage (Script l f) s w0 w1 = ⊥
-SavesImage Memory s w0 w1 = Appends w0 w1 []
+SavesImage Memory s w0 w1 = ⊥
 SavesImage Reading s w0 w1 = ⊥
 SavesImage Writing s w0 w1 = (sent rest : List ℕ) × Appends w0 w1 sent × (image s ≡ sent ++ rest)
 

@@ -7,13 +7,12 @@ ghost use Rattle.text_lines.specs.Events.{event_fields, IsEvent, AtMostBytes};
 
 use crate::print::{put, put_data};
 use board_terms::{Bytes8, PayloadBytes, PortShape};
-use std::alloc::AllocError;
 use synic_board::Event;
-use text_base::{put_byte, put_decimal, put_hex};
+use text_base::{Sink, put_byte, put_decimal, put_hex};
 
 /// Appends an event to `out`, without a line feed.
-pub fn put_event(out: &mut Vec<u8>, event: &Event) -> Result<(), AllocError>
-    ensures written { OnOk result (out.new.items ≡ out.old.items ++ spaced (event_fields event.now)) }
+pub fn put_event<S: Sink>(out: &mut S, event: &Event) -> Result<(), S::Error>
+    ensures written { OnOk result (S.text out.new ≡ S.text out.old ++ spaced (event_fields event.now)) }
     ensures fits { IsEvent event.now }
 {
     match event {
@@ -49,38 +48,38 @@ pub fn put_event(out: &mut Vec<u8>, event: &Event) -> Result<(), AllocError>
 }
 
 /// Appends a field: a decimal number.
-pub fn put_decimal_field(out: &mut Vec<u8>, number: u64) -> Result<(), AllocError>
-    ensures { OnOk result (out.new.items ≡ out.old.items ++ 32 ∷ decimal number) }
+pub fn put_decimal_field<S: Sink>(out: &mut S, number: u64) -> Result<(), S::Error>
+    ensures { OnOk result (S.text out.new ≡ S.text out.old ++ 32 ∷ decimal number) }
 {
     put(out, b" ")?;
     put_decimal(out, number)
 }
 
 /// Appends a field: a hexadecimal number.
-pub fn put_hex_field(out: &mut Vec<u8>, number: u64) -> Result<(), AllocError>
-    ensures { OnOk result (out.new.items ≡ out.old.items ++ 32 ∷ hex number) }
+pub fn put_hex_field<S: Sink>(out: &mut S, number: u64) -> Result<(), S::Error>
+    ensures { OnOk result (S.text out.new ≡ S.text out.old ++ 32 ∷ hex number) }
 {
     put(out, b" ")?;
     put_hex(out, number)
 }
 
 /// Appends a word and a number.
-fn put_named(out: &mut Vec<u8>, word: &[u8], number: u64) -> Result<(), AllocError>
-    ensures { OnOk result (out.new.items ≡ out.old.items ++ spaced (word.now ∷ decimal number ∷ [])) }
+fn put_named<S: Sink>(out: &mut S, word: &[u8], number: u64) -> Result<(), S::Error>
+    ensures { OnOk result (S.text out.new ≡ S.text out.old ++ spaced (word.now ∷ decimal number ∷ [])) }
 {
     put(out, word)?;
     put_decimal_field(out, number)
 }
 
 /// Appends the opening of a port.
-fn put_open(
-    out: &mut Vec<u8>,
+fn put_open<S: Sink>(
+    out: &mut S,
     port: u8,
     vp: u8,
     sint: u8,
     shape: PortShape,
-) -> Result<(), AllocError>
-    ensures written { OnOk result (out.new.items ≡ out.old.items ++ spaced (event_fields (OpenPort port vp sint shape))) }
+) -> Result<(), S::Error>
+    ensures written { OnOk result (S.text out.new ≡ S.text out.old ++ spaced (event_fields (OpenPort port vp sint shape))) }
     ensures fits { IsEvent (OpenPort port vp sint shape) }
 {
     put_named(out, b"open", u64::from(port))?;
@@ -100,16 +99,16 @@ fn put_open(
 }
 
 /// Appends two fields: a processor and a source.
-fn put_place(out: &mut Vec<u8>, vp: u8, sint: u8) -> Result<(), AllocError>
-    ensures { OnOk result (out.new.items ≡ out.old.items ++ 32 ∷ spaced (decimal vp ∷ decimal sint ∷ [])) }
+fn put_place<S: Sink>(out: &mut S, vp: u8, sint: u8) -> Result<(), S::Error>
+    ensures { OnOk result (S.text out.new ≡ S.text out.old ++ 32 ∷ spaced (decimal vp ∷ decimal sint ∷ [])) }
 {
     put_decimal_field(out, u64::from(vp))?;
     put_decimal_field(out, u64::from(sint))
 }
 
 /// Appends a register write.
-fn put_write(out: &mut Vec<u8>, vp: u8, register: u32, value: u64) -> Result<(), AllocError>
-    ensures { OnOk result (out.new.items ≡ out.old.items ++ spaced (event_fields (Write vp register value))) }
+fn put_write<S: Sink>(out: &mut S, vp: u8, register: u32, value: u64) -> Result<(), S::Error>
+    ensures { OnOk result (S.text out.new ≡ S.text out.old ++ spaced (event_fields (Write vp register value))) }
 {
     put_named(out, b"write", u64::from(vp))?;
     put_hex_field(out, u64::from(register))?;
@@ -117,21 +116,21 @@ fn put_write(out: &mut Vec<u8>, vp: u8, register: u32, value: u64) -> Result<(),
 }
 
 /// Appends a register read.
-fn put_read(out: &mut Vec<u8>, vp: u8, register: u32) -> Result<(), AllocError>
-    ensures { OnOk result (out.new.items ≡ out.old.items ++ spaced (event_fields (Read vp register))) }
+fn put_read<S: Sink>(out: &mut S, vp: u8, register: u32) -> Result<(), S::Error>
+    ensures { OnOk result (S.text out.new ≡ S.text out.old ++ spaced (event_fields (Read vp register))) }
 {
     put_named(out, b"read", u64::from(vp))?;
     put_hex_field(out, u64::from(register))
 }
 
 /// Appends a post.
-fn put_post(
-    out: &mut Vec<u8>,
+fn put_post<S: Sink>(
+    out: &mut S,
     port: u8,
     kind: u32,
     payload: &PayloadBytes,
-) -> Result<(), AllocError>
-    ensures written { OnOk result (out.new.items ≡ out.old.items ++ spaced (event_fields (Post port kind payload.now))) }
+) -> Result<(), S::Error>
+    ensures written { OnOk result (S.text out.new ≡ S.text out.old ++ spaced (event_fields (Post port kind payload.now))) }
     ensures fits { AtMostBytes 240 payload.now.items }
 {
     let bytes = payload.as_slice();
@@ -142,16 +141,16 @@ fn put_post(
 }
 
 /// Appends a signal.
-fn put_signal(out: &mut Vec<u8>, port: u8, flag: u16) -> Result<(), AllocError>
-    ensures { OnOk result (out.new.items ≡ out.old.items ++ spaced (event_fields (Signal port flag))) }
+fn put_signal<S: Sink>(out: &mut S, port: u8, flag: u16) -> Result<(), S::Error>
+    ensures { OnOk result (S.text out.new ≡ S.text out.old ++ spaced (event_fields (Signal port flag))) }
 {
     put_named(out, b"signal", u64::from(port))?;
     put_decimal_field(out, u64::from(flag))
 }
 
 /// Appends an assert.
-fn put_assert(out: &mut Vec<u8>, vp: u8, vector: u8) -> Result<(), AllocError>
-    ensures { OnOk result (out.new.items ≡ out.old.items ++ spaced (event_fields (Assert vp vector))) }
+fn put_assert<S: Sink>(out: &mut S, vp: u8, vector: u8) -> Result<(), S::Error>
+    ensures { OnOk result (S.text out.new ≡ S.text out.old ++ spaced (event_fields (Assert vp vector))) }
 {
     put_named(out, b"assert", u64::from(vp))?;
     put(out, b" ")?;
@@ -159,8 +158,8 @@ fn put_assert(out: &mut Vec<u8>, vp: u8, vector: u8) -> Result<(), AllocError>
 }
 
 /// Appends an absorb.
-fn put_absorb(out: &mut Vec<u8>, vp: u8, part: u8, bits: u64) -> Result<(), AllocError>
-    ensures { OnOk result (out.new.items ≡ out.old.items ++ spaced (event_fields (Absorb vp part bits))) }
+fn put_absorb<S: Sink>(out: &mut S, vp: u8, part: u8, bits: u64) -> Result<(), S::Error>
+    ensures { OnOk result (S.text out.new ≡ S.text out.old ++ spaced (event_fields (Absorb vp part bits))) }
 {
     put_named(out, b"absorb", u64::from(vp))?;
     put_decimal_field(out, u64::from(part))?;
@@ -168,8 +167,8 @@ fn put_absorb(out: &mut Vec<u8>, vp: u8, part: u8, bits: u64) -> Result<(), Allo
 }
 
 /// Appends a store.
-fn put_store(out: &mut Vec<u8>, address: u64, bytes: &Bytes8) -> Result<(), AllocError>
-    ensures written { OnOk result (out.new.items ≡ out.old.items ++ spaced (event_fields (Store address bytes.now))) }
+fn put_store<S: Sink>(out: &mut S, address: u64, bytes: &Bytes8) -> Result<(), S::Error>
+    ensures written { OnOk result (S.text out.new ≡ S.text out.old ++ spaced (event_fields (Store address bytes.now))) }
     ensures fits { AtMostBytes 8 bytes.now.items }
 {
     let bytes = bytes.as_slice();
@@ -180,8 +179,8 @@ fn put_store(out: &mut Vec<u8>, address: u64, bytes: &Bytes8) -> Result<(), Allo
 }
 
 /// Appends a load.
-fn put_load(out: &mut Vec<u8>, address: u64, length: u8) -> Result<(), AllocError>
-    ensures { OnOk result (out.new.items ≡ out.old.items ++ spaced (event_fields (Load address length))) }
+fn put_load<S: Sink>(out: &mut S, address: u64, length: u8) -> Result<(), S::Error>
+    ensures { OnOk result (S.text out.new ≡ S.text out.old ++ spaced (event_fields (Load address length))) }
 {
     put(out, b"load")?;
     put_hex_field(out, address)?;

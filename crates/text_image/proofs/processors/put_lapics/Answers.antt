@@ -3,8 +3,8 @@ use Rattle.text_image.proofs.Each.{each-none, each-step}
 use Rattle.text_image.proofs.processors.put_lapics.Goals as goal
 
 pub loop-number-init : goal.loop-number-init
-loop-number-init c = each-none (lapic_lines c.args.board.now.state) c.args.out.now.items
+loop-number-init g c = each-none (lapic_lines c.args.board.now.state) (g.S.Sink.text c.args.out.now)
 
 pub loop-number-preserved : goal.loop-number-preserved
-loop-number-preserved c = each-step (lapic_lines c.args.board.now.state) c.loop-number.number c.vp_of-vp.result c.args.out.now.items c.loop-number.out.items
-    c.put_lapic.new.out.items c.loop-number.invariant c.vp_of-vp.ensures c.in_ok-put_lapic.ensures
+loop-number-preserved g c = each-step (lapic_lines c.args.board.now.state) c.loop-number.number c.vp_of-vp.result (g.S.Sink.text c.args.out.now) (g.S.Sink.text c.loop-number.out)
+    (g.S.Sink.text c.put_lapic.new.out) c.loop-number.invariant c.vp_of-vp.ensures c.in_ok-put_lapic.ensures

@@ -4,8 +4,8 @@ use Rattle.text_image.proofs.Each.{each-none, each-step}
 use Rattle.text_image.proofs.timers.put_timers_of.Goals as goal
 
 pub loop-index-init : goal.loop-index-init
-loop-index-init c = each-none (timer_lines c.args.board.now.state c.args.vp) c.args.out.now.items
+loop-index-init g c = each-none (timer_lines c.args.board.now.state c.args.vp) (g.S.Sink.text c.args.out.now)
 
 pub loop-index-preserved : goal.loop-index-preserved
-loop-index-preserved c = each-step (timer_lines c.args.board.now.state c.args.vp) c.loop-index.index c.loop-index.index c.args.out.now.items c.loop-index.out.items
-    c.put_timer.new.out.items c.loop-index.invariant refl c.in_ok-put_timer.ensures
+loop-index-preserved g c = each-step (timer_lines c.args.board.now.state c.args.vp) c.loop-index.index c.loop-index.index (g.S.Sink.text c.args.out.now) (g.S.Sink.text c.loop-index.out)
+    (g.S.Sink.text c.put_timer.new.out) c.loop-index.invariant refl c.in_ok-put_timer.ensures
