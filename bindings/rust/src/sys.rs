@@ -578,6 +578,8 @@ extern "C" {
     pub fn synicboard_next_overlay(board: *const synicboard, from: u64) -> synicboard_overlay;
     /// The timer with the earliest deadline.
     pub fn synicboard_earliest(board: *const synicboard) -> synicboard_due;
+    /// The timer with the earliest deadline that is later than `moment`.
+    pub fn synicboard_earliest_after(board: *const synicboard, moment: u64) -> synicboard_due;
     /// Moves the clock, and stores the earliest deadline afterwards.
     pub fn synicboard_tick_due(
         board: *mut synicboard,
@@ -586,8 +588,6 @@ extern "C" {
     ) -> synicboard_reply;
     /// Updates a view, and returns a bit for each value that differs.
     pub fn synicboard_update(board: *const synicboard, view: *mut synicboard_view) -> u64;
-    /// The timer with the earliest deadline that is later than `moment`.
-    pub fn synicboard_earliest_after(board: *const synicboard, moment: u64) -> synicboard_due;
     /// Updates the owners, and returns a bit for each page whose owner differs.
     pub fn synicboard_update_owners(board: *const synicboard, owners: *mut synicboard_owners) -> u64;
 

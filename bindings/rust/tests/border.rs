@@ -42,6 +42,39 @@ fn a_board_has_1_to_8_processors_and_1_to_64_pages() {
 }
 
 #[test]
+fn a_sparse_board_has_1_to_8_processors_and_no_page() {
+    for processors in [0, 9, 255] {
+        assert_eq!(Board::open_sparse(processors, 0).unwrap_err(), OpenFault::BadSize);
+    }
+    let mut board = Board::open_sparse(8, 7).unwrap();
+    assert_eq!((board.processors(), board.pages(), board.next_ticket()), (8, 0, 7));
+    assert_eq!(board.next_overlay(0), None);
+    let last = (1 << 52) - 1;
+    assert_eq!(board.write(7, SIEFP, last << 12 | 1), Reply::Done);
+    assert_eq!(board.write(0, SIMP, 0x5001), Reply::Done);
+    assert_eq!(board.next_overlay(0), Some((5, Owner::Sim(Vp::new(0).unwrap()))));
+    assert_eq!(board.next_overlay(6), Some((last, Owner::Sief(Vp::new(7).unwrap()))));
+    assert_eq!(board.next_overlay(last + 1), None);
+    assert_eq!((board.owner(6), board.owner(last + 1)), (Owner::Guest, Owner::Nothing));
+    assert!(board.guest_page(0).is_none());
+    let mut room = [0; 2048];
+    let length = board.save(&mut room).unwrap();
+    let restored = Board::restore(&room[..length]).unwrap();
+    assert_eq!((restored.processors(), restored.pages(), restored.next_overlay(6)), (8, 0, board.next_overlay(6)));
+}
+
+#[test]
+fn the_earliest_after_a_time_is_later() {
+    let mut board = Board::open(1, 1, 0).unwrap();
+    assert_eq!(board.earliest_after(0), None);
+    assert_eq!(board.write(0, STIMER0_COUNT, 5), Reply::Done);
+    assert_eq!(board.write(0, STIMER0_CONFIG, 0x2_0001), Reply::Done);
+    assert_eq!(board.tick(9), Reply::Done);
+    assert_eq!(board.earliest_after(4), board.earliest());
+    assert_eq!(board.earliest_after(5), None);
+}
+
+#[test]
 fn a_number_outside_its_range_is_none() {
     for number in 0..=u8::MAX {
         assert_eq!(Vp::new(number).map(Vp::number), (number < 8).then_some(number));
@@ -92,11 +125,12 @@ fn each_refusal_comes_and_has_its_number() {
         board.take(2),
         board.suspend(1),
         board.resume(0),
+        Board::open_sparse(1, 0).unwrap().load(0, 1),
     ];
     let refusals = Refusal::ALL.map(Reply::Refused);
     assert_eq!(refused, refusals);
     let numbers = refused.map(|reply| reply.refusal().unwrap().number());
-    assert_eq!(numbers.to_vec(), (1..=16).collect::<Vec<u8>>());
+    assert_eq!(numbers.to_vec(), (1..=17).collect::<Vec<u8>>());
 }
 
 fn spent() -> Reply {
@@ -112,7 +146,7 @@ fn a_refusal_is_an_error_with_words() {
     let mut words = Refusal::ALL.map(|refusal| refusal.to_string()).to_vec();
     words.sort();
     words.dedup();
-    assert_eq!(words.len(), 16);
+    assert_eq!(words.len(), 17);
     assert_eq!(Reply::GeneralProtection.refusal(), None);
 }
 
