@@ -21,6 +21,7 @@
 #include <string.h>
 
 #include "by_call.h"
+#include "by_sparse.h"
 #include "synicboard.h"
 
 enum { LONGEST_LINE = 640, MOST_STORED = 8, SOURCES = 16, FIRST_VECTOR = 16 };
@@ -420,35 +421,16 @@ static void print_queue(synicboard *board, uint8_t vp, uint8_t sint)
 
 enum { PAGE = 4096, MOST_PAGES = 64 };
 
-/* The guest's memory, for a sparse board. */
+/* The guest's memory. */
 static uint8_t memory[MOST_PAGES * PAGE];
-static size_t memory_size;
+static uint64_t memory_pages;
 
-/* Performs a load or a store that the board refused, in the guest's memory. */
-static void access_memory(const synicboard_event *event, synicboard_reply *reply)
-{
-    *reply = (synicboard_reply){ .kind = SYNICBOARD_DONE };
-    if (event->kind == SYNICBOARD_STORE) {
-        memcpy(memory + event->address, event->bytes, event->length);
-        return;
-    }
-    reply->kind = SYNICBOARD_BYTES;
-    reply->length = (uint8_t)event->length;
-    memcpy(reply->bytes, memory + event->address, event->length);
-}
-
-/* The guest has only the pages of the script, so the host refuses the others itself. The board's order of
- * refusals is kept: it refuses an access without bytes first. */
+/* The board stays the script's: it is moved to the memory and back. */
 static synicboard_reply perform_sparse(synicboard *board, const synicboard_event *event)
 {
-    bool is_access = event->kind == SYNICBOARD_STORE || event->kind == SYNICBOARD_LOAD;
-    bool is_outside = is_access && event->length >= 1 && event->length <= MOST_STORED && event->address / PAGE >= memory_size / PAGE;
-    synicboard_event nothing = { .kind = SYNICBOARD_LOAD };
-    synicboard_reply reply = synicboard_perform(board, is_outside ? &nothing : event);
-    if (is_outside)
-        reply.refusal = SYNICBOARD_OUTSIDE_SPACE;
-    else if (reply.kind == SYNICBOARD_REFUSED && reply.refusal == SYNICBOARD_ELSEWHERE)
-        access_memory(event, &reply);
+    struct sparse sparse = { *board, memory, memory_pages };
+    synicboard_reply reply = perform_on_sparse(&sparse, event);
+    *board = sparse.board;
     return reply;
 }
 
@@ -553,7 +535,7 @@ static uint8_t open_sized(struct script *script, uint64_t ticket)
         return synicboard_open(&script->board, script->processors, script->pages, ticket);
     if (script->pages < 1 || script->pages > MOST_PAGES)
         return SYNICBOARD_BAD_SIZE;
-    memory_size = (size_t)script->pages * PAGE;
+    memory_pages = script->pages;
     return synicboard_open_sparse(&script->board, script->processors, ticket);
 }
 

@@ -2,6 +2,7 @@
 #include <inttypes.h>
 
 #include "../c/by_call.h"
+#include "../c/by_sparse.h"
 #include "target.h"
 
 enum { MOST_ENTRY = 535, PAGE = 4096, SOURCES = 16, FILLER = 0xee, GUARD = 64 };
@@ -68,6 +69,10 @@ struct fuzz *fuzz_open(uint8_t processors, uint8_t pages, uint64_t ticket, bool 
     DEMAND(synicboard_open(&fuzz->by_struct, processors, pages, ticket) == SYNICBOARD_OK);
     DEMAND(synicboard_open(&fuzz->by_call, processors, pages, ticket) == SYNICBOARD_OK);
     DEMAND(synicboard_open(&fuzz->by_call, processors, pages, ticket) == SYNICBOARD_IS_OPEN);
+    DEMAND(synicboard_open_sparse(&fuzz->sparse.board, processors, ticket) == SYNICBOARD_OK);
+    fuzz->sparse.pages = pages;
+    fuzz->sparse.memory = allocate((size_t)pages * PAGE);
+    memset(fuzz->sparse.memory, 0, (size_t)pages * PAGE);
     if (is_shared)
         DEMAND(synicboard_open_shared(&fuzz->shared, processors, pages, ticket) == SYNICBOARD_OK);
     DEMAND(synicboard_open_line(&fuzz->lines[0], processors) == SYNICBOARD_OK);
@@ -171,6 +176,8 @@ void fuzz_close(struct fuzz *fuzz)
         synicboard_close_line(&fuzz->lines[at]);
     synicboard_close(&fuzz->by_struct);
     synicboard_close(&fuzz->by_call);
+    synicboard_close(&fuzz->sparse.board);
+    free(fuzz->sparse.memory);
     DEMAND(!fuzz->by_struct.is_open && synicboard_next(&fuzz->by_struct, 0) == 0);
     free(fuzz->trace);
     free(fuzz);
@@ -240,6 +247,20 @@ static void compare_shared(struct fuzz *fuzz, const synicboard_event *event, con
         compare_notices(&notices[at], &others[at]);
 }
 
+/* Performs the event on the sparse board, with the guest's memory. */
+static void compare_sparse(struct fuzz *fuzz, const synicboard_event *event, const synicboard_reply *reply,
+                           const synicboard_notice *notices)
+{
+    static synicboard_notice others[SYNICBOARD_MOST_NOTICES];
+    synicboard_reply other = perform_on_sparse(&fuzz->sparse, event);
+    compare_replies(reply, &other);
+    if (reply->kind == SYNICBOARD_NOT_PERFORMED)
+        return;
+    DEMAND(synicboard_notices(&fuzz->sparse.board, others, SYNICBOARD_MOST_NOTICES) == reply->notices);
+    for (unsigned at = 0; at < reply->notices; at++)
+        compare_notices(&notices[at], &others[at]);
+}
+
 /* Compares the reply of `by_struct` and its notices with those of the other boards. */
 static void compare(struct fuzz *fuzz, const synicboard_event *event, const synicboard_reply *reply,
                     const synicboard_notice *notices)
@@ -249,6 +270,7 @@ static void compare(struct fuzz *fuzz, const synicboard_event *event, const syni
     check_form(reply);
     compare_replies(reply, &other);
     compare_shared(fuzz, event, reply, notices);
+    compare_sparse(fuzz, event, reply, notices);
     if (reply->kind == SYNICBOARD_NOT_PERFORMED)
         return;
     DEMAND(synicboard_notices(&fuzz->by_call, others, SYNICBOARD_MOST_NOTICES) == reply->notices);
@@ -376,8 +398,41 @@ static void compare_processor(struct fuzz *fuzz, uint8_t vp)
         DEMAND(synicboard_queued(&fuzz->by_struct, vp, sint) == synicboard_queued(&fuzz->by_call, vp, sint));
 }
 
+/* The overlays that the guest of the sparse board sees are those of the owners, in ascending order. */
+static void compare_overlays(struct fuzz *fuzz)
+{
+    uint64_t from = 0;
+    for (uint64_t page = 0; page < fuzz->pages; page++) {
+        synicboard_page_owner owner = synicboard_owner(&fuzz->by_struct, page), same = synicboard_owner(&fuzz->sparse.board, page);
+        DEMAND(owner.kind == same.kind && owner.vp == same.vp);
+        if (owner.kind == SYNICBOARD_OWNER_GUEST)
+            continue;
+        synicboard_overlay next = synicboard_next_overlay(&fuzz->sparse.board, from);
+        DEMAND(next.owner.kind == owner.kind && next.owner.vp == owner.vp && next.page == page);
+        from = page + 1;
+    }
+    synicboard_overlay next = synicboard_next_overlay(&fuzz->sparse.board, from);
+    DEMAND(next.owner.kind == SYNICBOARD_OWNER_NOTHING || next.page >= fuzz->pages);
+}
+
+/* The earliest deadline after a time is later than it, and that after one less than the earliest is the earliest. */
+static void compare_deadlines(struct fuzz *fuzz)
+{
+    synicboard_due first = synicboard_earliest(&fuzz->by_struct), same = synicboard_earliest(&fuzz->sparse.board);
+    DEMAND(first.is_due == same.is_due && first.vp == same.vp && first.timer == same.timer && first.low == same.low);
+    if (first.is_due && first.high == 0 && first.low > 0) {
+        same = synicboard_earliest_after(&fuzz->by_struct, first.low - 1);
+        DEMAND(same.is_due && same.vp == first.vp && same.timer == first.timer && same.low == first.low);
+    }
+    uint64_t now = synicboard_moment(&fuzz->by_struct);
+    synicboard_due next = synicboard_earliest_after(&fuzz->by_struct, now);
+    DEMAND(!next.is_due || next.high > 0 || next.low > now);
+    DEMAND(next.is_due || !first.is_due || (first.high == 0 && first.low <= now));
+}
+
 void fuzz_compare_queries(struct fuzz *fuzz)
 {
+    compare_deadlines(fuzz);
     synicboard_due one = synicboard_earliest(&fuzz->by_struct), other = synicboard_earliest(&fuzz->by_call);
     DEMAND(one.is_due == other.is_due && one.vp == other.vp && one.timer == other.timer);
     DEMAND(one.low == other.low && one.high == other.high);
@@ -391,6 +446,7 @@ void fuzz_compare_queries(struct fuzz *fuzz)
         DEMAND(owner.kind == same.kind && owner.vp == same.vp);
         DEMAND((owner.kind == SYNICBOARD_OWNER_NOTHING) == (page == fuzz->pages));
     }
+    compare_overlays(fuzz);
 }
 
 /* As many notices are copied as fit, and no more. */

@@ -10,6 +10,7 @@
 #include <stdlib.h>
 #include <string.h>
 
+#include "../c/by_sparse.h"
 #include "synicboard.h"
 
 enum { LINES = 4 };
@@ -17,6 +18,7 @@ enum { LINES = 4 };
 /* Boards with the same history, the posted words of one of them, and the trace of all. */
 struct fuzz {
     synicboard by_struct, by_call;
+    struct sparse sparse;       /* with the guest's memory */
     synicboard_shared shared;   /* open if the input asks for it */
     uint8_t processors, pages;
     synicboard_line lines[LINES];
