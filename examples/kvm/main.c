@@ -16,6 +16,7 @@ static const char usage[] =
     "  --load N      the devices of the flat guest raise N interrupts, and send a tenth as many messages (10000)\n"
     "  --cpus N      1 to 8 processors (2; the flat guest needs 2)\n"
     "  --memory N    64 to 2048 MB (512)\n"
+    "  --restore-every N  each N milliseconds, save the board, and go on with the one restored from its image (never)\n"
     "  --report      print at the end what was counted\n";
 
 struct options {
@@ -63,6 +64,7 @@ static void report(void)
     for (unsigned number = 0; number < vm.vps; number++)
         print_exits(&vm.vp[number]);
     board_report();
+    image_report();
     fprintf(stderr, "vmm: %.3f seconds, %lu changes of the memory slots, %lu instructions emulated here\n",
             (double)clock_now() / 1e7, vm.slot_changes, vm.emulated);
 }
@@ -72,7 +74,8 @@ static bool parse(int count, char **words, struct options *options)
 {
     static const struct option known[] = {
         { "flat", 1, NULL, 'f' }, { "load", 1, NULL, 'n' }, { "linux", 1, NULL, 'l' }, { "initrd", 1, NULL, 'i' },
-        { "append", 1, NULL, 'a' }, { "cpus", 1, NULL, 'c' }, { "memory", 1, NULL, 'm' }, { "report", 0, NULL, 'r' }, { 0 },
+        { "append", 1, NULL, 'a' }, { "cpus", 1, NULL, 'c' }, { "memory", 1, NULL, 'm' }, { "restore-every", 1, NULL, 's' },
+        { "report", 0, NULL, 'r' }, { 0 },
     };
     for (int option; (option = getopt_long(count, words, "", known, NULL)) != -1;)
         switch (option) {
@@ -83,6 +86,7 @@ static bool parse(int count, char **words, struct options *options)
         case 'a': options->command_line = optarg; break;
         case 'c': vm.vps = (unsigned)strtoul(optarg, NULL, 10); break;
         case 'm': vm.ram_size = strtoull(optarg, NULL, 10) << 20; break;
+        case 's': vm.restore_every = (uint32_t)strtoul(optarg, NULL, 10); break;
         case 'r': options->reports = true; break;
         default: return false;
         }
@@ -107,6 +111,7 @@ int main(int count, char **words)
     pthread_mutex_lock(&lock);          /* until every thread that may be kicked has been started */
     for (unsigned number = 0; number < vm.vps; number++)
         vp_start(&vm.vp[number]);
+    image_start();
     pthread_mutex_unlock(&lock);
     for (unsigned number = 0; number < vm.vps; number++)
         pthread_join(vm.vp[number].thread, NULL);

@@ -59,7 +59,7 @@ static unsigned cut_memory(struct piece *all)
 
 /* Slots must not overlap at any time, so all from the first difference on are removed before the
  * new ones are set. */
-static void set_slots(void)
+void overlay_set(void)
 {
     struct piece all[MOST_SLOTS];
     unsigned made = cut_memory(all), same = 0;
@@ -83,6 +83,6 @@ void overlay_map(void)
     if (made == used && memcmp(pieces, all, made * sizeof all[0]) == 0)
         return;
     vp_pause_others();
-    set_slots();
+    overlay_set();
     vp_resume_others();
 }

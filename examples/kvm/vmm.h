@@ -46,6 +46,7 @@ struct vm {
     bool is_stopping;
     int status;                 /* the exit status of the program */
     uint32_t load;              /* how many interrupts the flat guest asks of its devices */
+    uint32_t restore_every;     /* milliseconds from one replacement of the board to the next; 0 for none */
     uint64_t tsc_hz;
     uint64_t slot_changes, emulated;
 };
@@ -108,6 +109,11 @@ extern uint64_t board_absorbed;             /* bits that were absorbed */
 
 /* overlay.c */
 void overlay_map(void);                     /* maps the overlays that the board shows now */
+void overlay_set(void);                     /* the same, while no processor is in the guest */
+
+/* image.c */
+void image_start(void);                     /* starts the thread that replaces the board, if that was asked for */
+void image_report(void);
 
 /* hyperv.c */
 enum { HYPERCALL_PORT = 0xe8 };
