@@ -1,6 +1,5 @@
-/* Moves the guest to another board while it runs: saves the board, restores it from its image, and
- * goes on. The processors, the guest's memory, and what devices have raised and nobody has absorbed
- * stay where they are. */
+/* Replaces the board while the guest runs: saves it, and restores it from its image. The processors,
+ * the guest's memory, and what devices have raised and no processor has absorbed stay in place. */
 #define _GNU_SOURCE
 #include <errno.h>
 #include <stdio.h>

@@ -16,7 +16,7 @@ static const char usage[] =
     "  --load N      the devices of the flat guest raise N interrupts, and send a tenth as many messages (10000)\n"
     "  --cpus N      1 to 8 processors (2; the flat guest needs 2)\n"
     "  --memory N    64 to 2048 MB (512)\n"
-    "  --restore-every N  each N milliseconds, save the board, and go on with the one restored from its image (never)\n"
+    "  --restore-every N  each N milliseconds, replace the board by the one restored from its image (never)\n"
     "  --report      print at the end what was counted\n";
 
 struct options {
