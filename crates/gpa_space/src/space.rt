@@ -1,5 +1,5 @@
 // Guest pages, and the overlay pages that may obscure them.
-ghost use Rattle.std.specs.Prelude.{[], ◌≡◌, ◌+◌, ◌<◌, ◌≤◌, ◌*◌, ◌/◌, length, slice_index_or, not, IfOk, IfSome, Ok, Err, replicate, slice_get};
+ghost use Rattle.std.specs.Prelude.{[], ◌≡◌, ◌+◌, ◌<◌, ◌≤◌, ◌*◌, ◌/◌, length, slice_index_or, not, IfOk, IfErr, OnOk, IfSome, None, Some, Ok, Err, replicate, slice_get};
 ghost use Rattle.std.specs.List.{All};
 ghost use Rattle.std.specs.Option.{option_copied, option_map_or};
 ghost use Rattle.board_terms.specs.declared.pages.Kind.TheVariants as kind;
@@ -132,10 +132,25 @@ impl Space {
     pub fn owner(&self, page: u64) -> Owner
         ensures { result ≡ owner_of self.now page }
     {
+        if page >= self.pages.len() as u64 {
+            return self.owner_elsewhere(page);
+        }
+        match self.visible(page) {
+            None => Owner::Guest,
+            Some(overlay) => overlay_owner(overlay),
+        }
+    }
+
+    /// The same for a page that the space does not hold.
+    #[inline(never)]
+    fn owner_elsewhere(&self, page: u64) -> Owner
+        requires { length self.now.pages ≤ page }
+        ensures { result ≡ owner_of self.now page }
+    {
         if page >= self.page_count() {
             return Owner::Nothing;
         }
-        match self.visible(page) {
+        match self.search(page) {
             None => Owner::Guest,
             Some(overlay) => overlay_owner(overlay),
         }
@@ -159,22 +174,42 @@ impl Space {
         ensures { result ≡ option_map_or (λ r. Err r) (refusal_of self.now address length) (Ok (visible self.now (address / 4096))) }
     {
         let page = address / SIZE as u64;
-        // If the page is in the space, nothing that concerns a sparse one is tested.
-        let is_here = page < self.pages.len() as u64;
         if length == 0 || length > 8 {
             return Err(Refusal::BadLength);
         }
-        if !is_here && !self.is_sparse() {
-            return Err(Refusal::OutsideSpace);
+        if page >= self.pages.len() as u64 {
+            return match self.overlay_elsewhere(address, length) {
+                Err(refusal) => Err(refusal),
+                Ok(overlay) => Ok(Some(overlay as usize)),
+            };
         }
         if (address % SIZE as u64) as usize + length > SIZE {
             return Err(Refusal::CrossesPage);
         }
-        let overlay = self.visible(page);
-        if !is_here && overlay.is_none() {
-            return Err(Refusal::Elsewhere);
+        Ok(self.visible(page))
+    }
+
+    /// The same for a page that the space does not hold. Out of line, so that an access of any other
+    /// page does not pay for it; its answer fits into a register.
+    #[inline(never)]
+    fn overlay_elsewhere(&self, address: u64, count: usize) -> Result<u8, Refusal>
+        requires some { 1 ≤ count }
+        requires bound { count ≤ 8 }
+        requires elsewhere { length self.now.pages ≤ address / 4096 }
+        ensures refused { IfErr result (λ r. refusal_of self.now address count ≡ Some r) }
+        ensures done { OnOk result (refusal_of self.now address count ≡ None) }
+        ensures overlay { IfOk result (λ overlay. visible self.now (address / 4096) ≡ Some overlay) }
+    {
+        if !self.is_sparse() {
+            return Err(Refusal::OutsideSpace);
         }
-        Ok(overlay)
+        if (address % SIZE as u64) as usize + count > SIZE {
+            return Err(Refusal::CrossesPage);
+        }
+        match self.search(address / SIZE as u64) {
+            Some(overlay) => Ok(overlay as u8),
+            None => Err(Refusal::Elsewhere),
+        }
     }
 
     /// The bytes that a guest sees at an address. Refused, in this order: `BadLength` unless there
