@@ -9,6 +9,7 @@ use Rattle.std.proofs.lemmas.Bool.{cases_lt}
 use Rattle.std.proofs.lemmas.Bool.Decides.{nat_tests}
 use Rattle.std.proofs.lemmas.Nat.Bits.{bit_at-zero, bit_at-lt, bit_at_cat_low, same_from_bits_below}
 use Rattle.lapic_core.specs.Vectors.{Vectors, numbers_where, word_of}
+use Rattle.lapic_core.specs.Ranges.{AreVectors}
 use Rattle.lapic_core.specs.Words.{from_words}
 use Rattle.lapic_core.specs.inside.Words.{word_members, holds, NoneBelow16}
 use Rattle.lapic_core.proofs.Members.{contains-numbers_where}
@@ -42,10 +43,6 @@ divides-low n clear =
   where
     split : n ≡ n / 65536 * 2 ^ 16 + n % 65536
     split = omega arith
-
--- the members are vectors
-abbrev pub AreVectors : Vectors → Type 0
-AreVectors s = (v : ℕ) → set.contains s v ≡ true → (16 ≤ v) × (v < 256)
 
 no-member : (s : Vectors) → AreVectors s → (v : ℕ) → (v < 16) ⊎ (256 ≤ v) → set.contains s v ≡ false
 no-member s h v out = go (set.contains s v) refl

@@ -8,11 +8,13 @@ use Rattle.std.proofs.lemmas.List.{take-append-drop}
 use Rattle.text_base.specs.Numbers.{hex, decimal_at}
 use Rattle.text_base.proofs.NumberLemmas.{decimal_at-only, hex_at-only}
 use Rattle.board_terms.specs.Messages.{ticket_of}
+use Rattle.board_terms.specs.Ranges.{HasMessageRanges}
 use Rattle.board_terms.specs.declared.messages.Message.{Message}
 use Rattle.board_terms.specs.declared.messages.Message.TheVariants.{FromPort, FromTimer}
 use Rattle.board_terms.specs.declared.pages.Kind.{Kind}
 use Rattle.board_terms.specs.declared.pages.Kind.TheVariants as kinds
 use Rattle.lapic_core.specs.Vectors.{Vectors}
+use Rattle.lapic_core.specs.Ranges.{AreVectors}
 use Rattle.lapic_core.specs.Words.{from_words}
 use Rattle.lapic_core.proofs.FromWords.{from_words-only}
 use Rattle.synic_board.specs.declared.event.Event.{Event}
@@ -23,7 +25,7 @@ use Rattle.text_lines.proofs.ReadLemmas.{then-some, ended-some, yes, mapped, wor
 use Rattle.text_image.specs.Image.{words, status_word, source_name, kind_word, due_fields, origin_fields}
 use Rattle.text_image.specs.declared.piece.Piece.{Piece}
 use Rattle.text_image.specs.declared.piece.Piece.TheVariants as pieces
-use Rattle.text_image.specs.Pieces.{overlay_name, piece_fields, AreVectors, IsMessage, IsPiece}
+use Rattle.text_image.specs.Pieces.{overlay_name, piece_fields, IsPiece}
 use Rattle.text_image.specs.Parsing.{read_then, hex_u8_at, status_at, read_vectors, source_at, offset_at, kind_at, block_at, port_piece, read_timer, parse_moment, parse_lapic, parse_control, parse_overlay, parse_source, parse_named, parse_register, parse_guest, parse_own, parse_port, parse_deadline, parse_due, parse_timer, parse_posted, parse_expired, parse_origin, parse_message, parse_slot, parse_end, parse_piece}
 use Rattle.text_image.proofs.BlockLemmas.{block-only}
 
@@ -218,7 +220,7 @@ timer-says fs piece =
 record SaysOrigin (ticket : ℕ) (fields : Fields) (message : Message) : Type 0 where
   same : fields ≡ origin_fields message
   of : ticket ≡ ticket_of message
-  fits : IsMessage message
+  fits : HasMessageRanges message
 
 posted-says : (ticket : ℕ) → ticket < 2 ^ 64 → (fs : Fields) (message : Message) → parse_posted ticket fs ≡ Some message → SaysOrigin ticket (codes "port" ∷ fs) message
 posted-says ticket in_range fs message =
@@ -227,7 +229,7 @@ posted-says ticket in_range fs message =
     then-some (bytes_at 240) _ more' message (SaysOrigin ticket (codes "port" ∷ fs) message) (λ c payload more'' at'' read''.
     ended-some (FromPort ticket port kind (record { items = payload })) more'' message (SaysOrigin ticket (codes "port" ∷ fs) message) (λ none is.
     let h = u8-only a port read in let h' = hex_u32-only b kind read' in let h'' = bytes_at-only 240 c payload read'' in
-    rw (at, at', at'', none, h.1, h'.1, h''.same, ← is) (record { same = refl; of = refl; fits = (in_range, h.0, h'.0, h''.bound) })))))
+    rw (at, at', at'', none, h.1, h'.1, h''.same, ← is) (record { same = refl; of = refl; fits = (in_range, h.0, h'.0, h''.bound.0, h''.bound.1) })))))
 
 record HasTimer (fields : Fields) (timer : ℕ × ℕ) (rest : Fields) : Type 0 where
   same : fields ≡ decimal timer.0 ∷ decimal timer.1 ∷ rest

@@ -5,6 +5,7 @@ use Rattle.std.specs.Option.{option_map, option_and_then}
 use Rattle.text_base.specs.Numbers.{hex, spelled, decimal_at}
 use Rattle.text_base.proofs.NumberLemmas.{decimal_at-spelled, hex_at-spelled}
 use Rattle.board_terms.specs.Messages.{ticket_of}
+use Rattle.board_terms.specs.Ranges.{HasMessageRanges}
 use Rattle.board_terms.specs.declared.messages.Message.{Message}
 use Rattle.board_terms.specs.declared.messages.Message.TheVariants.{FromPort, FromTimer}
 use Rattle.board_terms.specs.declared.messages.PortShape.TheVariants.{Messages, Flags}
@@ -12,6 +13,7 @@ use Rattle.board_terms.specs.declared.pages.Kind.{Kind}
 use Rattle.board_terms.specs.declared.pages.Kind.TheVariants as kinds
 use Rattle.lapic_core.specs.Vectors.{Vectors, word_of}
 use Rattle.lapic_core.specs.Apic.{Apic}
+use Rattle.lapic_core.specs.Ranges.{AreVectors, IsApic}
 use Rattle.lapic_core.proofs.Bits.{bits_where-lt}
 use Rattle.lapic_core.proofs.FromWords.{from-words_of}
 use Rattle.synic_board.specs.declared.event.Event.TheVariants.{OpenPort}
@@ -22,7 +24,7 @@ use Rattle.text_lines.proofs.ReadLemmas.{then-read, u8-spelled, u64-spelled, hex
 use Rattle.text_image.specs.Image.{words, status_word, source_name, kind_word, due_fields, origin_fields}
 use Rattle.text_image.specs.declared.piece.Piece.{Piece}
 use Rattle.text_image.specs.declared.piece.Piece.TheVariants as pieces
-use Rattle.text_image.specs.Pieces.{overlay_name, piece_fields, AreVectors, IsApic, IsMessage, IsPiece}
+use Rattle.text_image.specs.Pieces.{overlay_name, piece_fields, IsPiece}
 use Rattle.text_image.specs.Parsing.{read_then, read_vectors, hex_u8_at, status_at, source_at, offset_at, kind_at, block_at, port_piece, read_timer, parse_named, parse_due, parse_origin, parse_piece}
 use Rattle.text_image.proofs.BlockLemmas.{block-spelled}
 
@@ -89,15 +91,15 @@ timer-spelled timer rest vp index =
     then-read (decimal_at 7) _ (decimal timer.0) timer.0 _ (decimal_at-spelled 7 timer.0 (omega arith) (omega arith))
     ∙ then-read (decimal_at 3) _ (decimal timer.1) timer.1 rest (decimal_at-spelled 3 timer.1 (omega arith) (omega arith))
 
-origin-spelled : (message : Message) → IsMessage message → parse_origin (ticket_of message) (origin_fields message) ≡ Some message
+origin-spelled : (message : Message) → HasMessageRanges message → parse_origin (ticket_of message) (origin_fields message) ≡ Some message
 origin-spelled (FromPort ticket port kind payload) h =
     then-read u8_at _ (decimal port) port _ (u8-spelled port h.1) ∙ then-read hex_u32_at _ (hex kind) kind _ (hex_u32-spelled kind h.2)
-    ∙ then-read (bytes_at 240) _ (bytes_text payload.items) payload.items [] (bytes_at-spelled 240 payload.items h.3)
+    ∙ then-read (bytes_at 240) _ (bytes_text payload.items) payload.items [] (bytes_at-spelled 240 payload.items (h.3, h.4))
 origin-spelled (FromTimer ticket timer expiration) h =
     then-parsed read_timer _ (decimal timer.0 ∷ decimal timer.1 ∷ decimal expiration ∷ []) timer (decimal expiration ∷ []) (timer-spelled timer (decimal expiration ∷ []) h.1 h.2)
     ∙ then-read u64_at _ (decimal expiration) expiration [] (u64-spelled expiration h.3)
 
-ticket-fits : (message : Message) → IsMessage message → ticket_of message < 2 ^ 64
+ticket-fits : (message : Message) → HasMessageRanges message → ticket_of message < 2 ^ 64
 ticket-fits (FromPort ticket port kind payload) h = h.0
 ticket-fits (FromTimer ticket timer expiration) h = h.0
 

@@ -1,16 +1,13 @@
 -- What the lines of an image denote: a line denotes a piece iff its fields, separated by single spaces, are the piece's, as an image has them.
-use Rattle.std.specs.Prelude.{◌≡◌, ℕ, ◌<◌, ◌^◌, List, true, length, IfSome, codes}
-use Rattle.std.specs.FinSet as set
+use Rattle.std.specs.Prelude.{◌≡◌, ℕ, ◌<◌, ◌^◌, List, length, IfSome, codes}
 use Rattle.text_base.specs.Numbers.{AreBytes}
 use Rattle.text_base.specs.Fields.{fields_of}
-use Rattle.board_terms.specs.declared.messages.Message.{Message}
-use Rattle.board_terms.specs.declared.messages.Message.TheVariants.{FromPort, FromTimer}
+use Rattle.board_terms.specs.Ranges.{HasMessageRanges}
 use Rattle.board_terms.specs.declared.pages.Kind.{Kind}
 use Rattle.board_terms.specs.declared.pages.Kind.TheVariants as kinds
-use Rattle.lapic_core.specs.Vectors.{Vectors}
-use Rattle.lapic_core.specs.Apic.{Apic}
+use Rattle.lapic_core.specs.Ranges.{IsApic}
 use Rattle.synic_board.specs.declared.event.Event.TheVariants.{OpenPort}
-use Rattle.text_lines.specs.Events.{event_fields, IsVector, AtMostBytes, IsShape}
+use Rattle.text_lines.specs.Events.{event_fields, IsShape}
 use Rattle.text_image.specs.declared.pages.PageName.TheVariants as names
 use Rattle.text_image.specs.declared.piece.Piece.{Piece}
 use Rattle.text_image.specs.declared.piece.Piece.TheVariants as pieces
@@ -34,19 +31,8 @@ piece_fields (pieces.Queued vp sint message) = message_fields vp sint message
 piece_fields (pieces.Slot vp sint ticket) = slot_fields vp sint ticket
 piece_fields pieces.End = end_fields
 
--- the members are vectors
-abbrev pub AreVectors : Vectors → Type 0
-AreVectors vectors = (v : ℕ) → set.contains vectors v ≡ true → IsVector v
-
-abbrev pub IsApic : Apic → Type 0
-IsApic a = AreVectors a.requested × AreVectors a.in_service × (a.task_priority < 256)
-
 abbrev pub IsBlock : ℕ → List ℕ → Type 0
 IsBlock at bytes = (at < 4096) × AreBytes bytes × (length bytes ≡ 256)
-
-abbrev pub IsMessage : Message → Type 0
-IsMessage (FromPort ticket port kind payload) = (ticket < 2 ^ 64) × (port < 256) × (kind < 2 ^ 32) × AtMostBytes 240 payload.items
-IsMessage (FromTimer ticket timer expiration) = (ticket < 2 ^ 64) × (timer.0 < 8) × (timer.1 < 4) × (expiration < 2 ^ 64)
 
 -- the ranges of a piece's fields
 abbrev pub IsPiece : Piece → Type 0
@@ -59,7 +45,7 @@ IsPiece (pieces.Guest page at bytes) = (page < 256) × IsBlock at bytes.items
 IsPiece (pieces.Own vp kind at bytes) = (vp < 256) × IsBlock at bytes.items
 IsPiece (pieces.Port port vp sint shape) = (port < 256) × (vp < 256) × (sint < 256) × IsShape shape
 IsPiece (pieces.Timer vp index config count due) = (vp < 256) × (index < 256) × (config < 2 ^ 64) × (count < 2 ^ 64) × IfSome due (λ d. d < 2 ^ 128)
-IsPiece (pieces.Queued vp sint message) = (vp < 256) × (sint < 256) × IsMessage message
+IsPiece (pieces.Queued vp sint message) = (vp < 256) × (sint < 256) × HasMessageRanges message
 IsPiece (pieces.Slot vp sint ticket) = (vp < 256) × (sint < 256) × (ticket < 2 ^ 64)
 IsPiece pieces.End = Unit {0}
 

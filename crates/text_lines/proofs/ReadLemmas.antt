@@ -9,8 +9,9 @@ use Rattle.text_base.specs.Fields.{fields_of, spaced}
 use Rattle.text_base.proofs.NumberLemmas.{decimal_at-spelled, decimal_at-only, hex_at-spelled, hex_at-only, byte_at-spelled, byte_at-only}
 use Rattle.synic_board.specs.declared.event.Event.{Event}
 use Rattle.synic_board.specs.declared.event.Event.TheVariants.{OpenPort, ClosePort, Write, Read, Post, Signal, Assert, Absorb, Store, Load, Tick, Take, Suspend, Resume, Reset}
+use Rattle.board_terms.specs.Ranges.{IsVector}
 use Rattle.board_terms.specs.declared.messages.PortShape.TheVariants.{Messages, Flags}
-use Rattle.text_lines.specs.Events.{event_fields, bytes_text, IsVector, IsEvent}
+use Rattle.text_lines.specs.Events.{event_fields, bytes_text, IsEvent}
 use Rattle.text_lines.specs.Items.{Item, Opening, Performs, Summary, item_fields, IsItem, Denotes}
 use Rattle.text_lines.specs.Reading.{Fields, take_then, none_left, u8_at, u16_at, bytes_at, u64_at, hex_u32_at, hex_u64_at, from_16, vector_at, parse_messages, parse_flags, parse_shape, parse_open, parse_close, parse_write, parse_read, parse_post, parse_signal, parse_assert, parse_absorb, parse_store, parse_load, parse_tick, parse_processor, parse_take, parse_suspend, parse_resume, parse_reset, parse_opening, parse_event, parse_item, item_at}
 use Rattle.text_lines.proofs.ByteFields.{bytes_at-only, bytes_at-spelled}

@@ -1,6 +1,7 @@
 -- The text form of events: the fields of each.
 use Rattle.std.specs.Prelude.{ℕ, ◌<◌, ◌≤◌, ◌^◌, List, [], ◌∷◌, length, codes, decimal}
 use Rattle.text_base.specs.Numbers.{hex, two_digits, spelled, AreBytes}
+use Rattle.board_terms.specs.Ranges.{IsVector}
 use Rattle.board_terms.specs.declared.messages.PortShape.{PortShape}
 use Rattle.board_terms.specs.declared.messages.PortShape.TheVariants.{Messages, Flags}
 use Rattle.synic_board.specs.declared.event.Event.{Event}
@@ -28,9 +29,6 @@ event_fields (Take vp) = codes "take" ∷ decimal vp ∷ []
 event_fields (Suspend vp) = codes "suspend" ∷ decimal vp ∷ []
 event_fields (Resume vp) = codes "resume" ∷ decimal vp ∷ []
 event_fields (Reset vp) = codes "reset" ∷ decimal vp ∷ []
-
-abbrev pub IsVector : ℕ → Type 0
-IsVector v = (16 ≤ v) × (v < 256)
 
 -- at most that many bytes
 abbrev pub AtMostBytes : ℕ → List ℕ → Type 0

@@ -11,6 +11,7 @@ use Rattle.board_terms.specs.declared.pages.Kind.{Kind}
 use Rattle.board_terms.specs.declared.pages.Kind.TheVariants as kinds
 use Rattle.board_terms.specs.declared.refusal.Refusal.{Refusal}
 use Rattle.lapic_core.specs.Apic.{empty_apic}
+use Rattle.lapic_core.specs.Ranges.{AreVectors, IsApic}
 use Rattle.synic_regs.specs.Regs.{is_refused}
 use Rattle.synic_regs.specs.declared.register.Register.TheVariants as register
 use Rattle.synic_board.specs.State.{State, processors, opened}
@@ -21,7 +22,7 @@ use Rattle.text_lines.proofs.ReadLemmas.{reading-means as item-reading}
 use Rattle.text_lines.proofs.WrittenLemmas.{board-written, item-means}
 use Rattle.text_image.specs.declared.piece.Piece.{Piece}
 use Rattle.text_image.specs.declared.piece.Piece.TheVariants as pieces
-use Rattle.text_image.specs.Pieces.{piece_fields, IsPiece, IsApic, AreVectors}
+use Rattle.text_image.specs.Pieces.{piece_fields, IsPiece}
 use Rattle.text_image.specs.Parsing.{piece_at}
 use Rattle.text_image.proofs.PieceLemmas.{reading-means, piece-means}
 use Rattle.text_restore.specs.Restoring.{Stage, Untitled, Titled, Body, place, place_of, page_place, overlay_place, lapics_after, IsInTurn, IsLater, Restores, Follows, IsComplete}
@@ -98,7 +99,7 @@ pub has-board : (stage : Stage) → has_ended stage ≡ true → ((s : State) �
 has-board (Body s last lapics) is none = none s (ended s last lapics is)
 has-board stage is none = cc
 
--- A piece leaves the number of processors as it is.
+-- A piece leaves the number of processors unchanged.
 either-kept : (n : ℕ) (b : Bool) (x y : Outcome) → processors x.0 ≡ n → processors y.0 ≡ n → processors (cond b x y).0 ≡ n
 either-kept n true x y h k = h
 either-kept n false x y h k = k

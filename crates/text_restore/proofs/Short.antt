@@ -59,7 +59,7 @@ queued-written p i (FromPort ticket port kind payload) h = written _ _ (
     ),
   ),
 )
-    (omega (arith, byte-short p h.0, byte-short i h.1, byte-short port h.2.1, digits-short 10 ticket, digits-short 16 kind, bytes-short payload.items, h.2.3.1))
+    (omega (arith, byte-short p h.0, byte-short i h.1, byte-short port h.2.1, digits-short 10 ticket, digits-short 16 kind, bytes-short payload.items, h.2.4))
 queued-written p i (FromTimer ticket timer expiration) h = written _ _ (
   plain_by (codes "message") refl,
   (

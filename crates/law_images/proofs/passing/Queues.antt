@@ -19,17 +19,11 @@ use Rattle.synic_board.specs.Restoring.{MayJoin}
 use Rattle.synic_board.proofs.keeping.Counts.{one, in_queue, in_queues, in_slots, in_queue-cons, times-locations}
 use Rattle.text_image.specs.declared.piece.Piece.TheVariants as pieces
 use Rattle.text_image.specs.Image.{each_below, message_fields, queue_lines, queues_lines, queued_lines}
-use Rattle.text_image.specs.Pieces.{IsMessage as InRange}
 use Rattle.text_restore.specs.Restoring.{place}
 use Rattle.law_images.specs.States.{IsBoardState}
 use Rattle.law_images.proofs.Fronts.{front, length-front, front-none, front-more, front-start, front-whole, front-sum-room}
 use Rattle.law_images.proofs.Tests.{test-same}
 use Rattle.law_images.proofs.Walks.{Point, point, Passes, passes-one, passes-each, passes-from, passes-to}
-
--- the numbers of a message of a board have the ranges that its line needs
-in-range : (m : Message) → HasMessageRanges m → InRange m
-in-range (FromPort ticket port kind payload) h = (h.0, h.1, h.2, (h.3, h.4))
-in-range (FromTimer ticket timer expiration) h = h
 
 -- an element of a list
 record Got (q : List Message) (k : ℕ) (m : Message) : Type 0 where
@@ -167,7 +161,7 @@ module _ (s : State) (h : IsBoardState s) (t : State) (full : processors t ≡ p
             let new : set old j (take (suc k) q) ≡ set (set old j (take k q)) j (get_or (set old j (take k q)) j [] ++ m ∷ []) =
             sym (set-set old j (take k q) (take (suc k) q)) ∙ ap (set (set old j (take k q)) j) (g.more ∙ ap (λ (y : List Message). y ++ m ∷ []) (sym now)) in
             passes-one (queue-at k) (pieces.Queued p i m) (queue-at (suc k)) (record {
-              fits = (omega (arith, h.settled.bound, below), omega (arith, low), in-range m (subst HasMessageRanges (g.is m) (h.ranges.queues j [] inside k m g.within)));
+              fits = (omega (arith, h.settled.bound, below), omega (arith, low), subst HasMessageRanges (g.is m) (h.ranges.queues j [] inside k m g.within));
               later = λ last before. omega (arith, before);
               turn = sym full;
               restores = (omega (arith, full, below), low, joins p i k m low inside g, ap with_queues new);

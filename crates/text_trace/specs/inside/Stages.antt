@@ -119,7 +119,7 @@ Opens (openings.Board board) f line = follow (Opening f) line ≡ Some (Running 
 Opens openings.Wrong f line = follow (Opening f) line ≡ None
 Opens openings.Memory f line = Unit {0}
 
--- a line of an image, from one of its stages to another: the image goes on, or this is its end
+-- a line of an image, from one of its stages to another: the image continues, or this is its end
 abbrev pub Reads : Ran → images.Stage → images.Stage → List ℕ → Type 0
 Reads ran.On old new line = images.Follows old line new × (has_ended new ≡ false)
 Reads ran.End old new line = images.Follows old line new × (has_ended new ≡ true)
