@@ -1,5 +1,5 @@
 -- The results of the lines' raises equal what the history absorbed plus the bits that are set.
-use Rattle.std.proofs.Common.{◌≡◌, ℕ, zero, suc, ◌+◌, ◌<◌, true, false, List, [], ◌∷◌, ◌++◌, length, All, map, refl, sym, ap, ◌∙◌, subst, arith, reverse}
+use Rattle.std.proofs.Common.{◌≡◌, ℕ, ◌+◌, true, false, List, [], ◌∷◌, ◌++◌, length, All, map, refl, sym, ap, ◌∙◌, subst, arith, reverse}
 use Rattle.std.specs.Prelude.{if◌then◌else◌}
 use Rattle.std.specs.List.{flat_map, sum_by}
 use mathlib.Core.List.{map-append}

@@ -1,4 +1,5 @@
 pub mod Runs
+pub mod Replies
 pub mod Sweeping
 pub mod Numbering
 pub mod Taking
@@ -9,3 +10,4 @@ pub mod Following
 pub mod Started
 pub mod Placing
 pub mod Crewing
+pub mod Ending

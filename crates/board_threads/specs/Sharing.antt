@@ -6,7 +6,7 @@ use Rattle.posted_words.specs.Words.{Words, AreWordSizes}
 use Rattle.synic_board.specs.State.{State, opened, AreSizes as AreBoardSizes}
 use Rattle.board_threads.specs.History.{Call}
 
--- the posted words, and the other arguments of the opening
+-- the posted words, and the other arguments of the opening; of a board that was given, its pages and its next ticket when it was shared
 pub record Sharing : Type 0 where
   pub words : Words
   pub pages : ℕ

@@ -1,5 +1,6 @@
 // Why the work of a crew stopped.
 use crate::actor::CallFault;
+use crate::crew::CrewFault;
 use crate::settling::SettleFault;
 use std::alloc::AllocError;
 
@@ -52,6 +53,21 @@ impl From<SettleFault> for WorkFault {
         match fault {
             SettleFault::Memory => WorkFault::Memory,
             SettleFault::Mismatch => WorkFault::Unsettled,
+        }
+    }
+}
+
+impl From<WorkFault> for CrewFault {
+    ghost use Rattle.std.specs.Prelude.{◌≡◌};
+    ghost use Rattle.board_threads.specs.inside.Ending.{fault_of_work};
+
+    ghost from_gives = { λ cause fault. fault ≡ fault_of_work cause };
+
+    fn from(fault: WorkFault) -> CrewFault {
+        match fault {
+            WorkFault::Memory => CrewFault::Memory,
+            WorkFault::Unsettled => CrewFault::Unsettled,
+            WorkFault::NoThread => CrewFault::NoThread,
         }
     }
 }

@@ -1,18 +1,20 @@
 // The state under the lock.
 ghost use base.Stored.{Coded-set};
+ghost use mathlib.Core.HLevel.{Π_prop};
 ghost use Rattle.std.specs.Prelude.{◌≡◌, ◌↔◌, ◌≤◌, length, true, false, [], ◌∷◌, ◌++◌, IfOk, OnOk, OnErr, IsErrOf, if◌then◌else◌, nat_lt, nat_le, ◌&&◌};
 ghost use Rattle.posted_words.specs.Words.{token, sweep_of};
 ghost use Rattle.synic_board.specs.declared.event.Event.TheVariants.{Absorb};
 ghost use Rattle.board_threads.specs.Sweeps.{is_refusal, sweep_in};
-ghost use Rattle.synic_board.specs.State.{AreSizes, opened};
+ghost use Rattle.synic_board.specs.State.{AreSizes, opened, processors};
 ghost use Rattle.synic_board.specs.inside.Codes.{state_code};
 ghost use Rattle.synic_board.specs.Step.{step};
 ghost use Rattle.synic_board.specs.History.{IsLegal, leads_to};
 ghost use Rattle.entry_log.specs.Log.{entry};
-ghost use Rattle.board_threads.specs.Settling.{AreAllOf};
+ghost use Rattle.board_threads.specs.Settling.{AreAllOf, IsSettled};
 ghost use Rattle.board_threads.specs.inside.Ending.{IsEnd};
 
 use crate::actor::CallFault;
+use crate::replaying::follow;
 use crate::settling::{ActorCalls, Ended, SettleFault, are_all_of};
 use board_terms::{Notices, Ticket, Vp};
 use entry_log::EntryLog;
@@ -23,24 +25,27 @@ use synic_board::{Board, Entry, Event, Reply};
 /// The greatest number of entries of a history.
 pub(crate) const MOST: usize = 65_536;
 
-/// The arguments of opening a board.
+/// The arguments of opening a board; of a board that was given, its processors, its pages and its
+/// next ticket then.
 #[derive(Clone, Copy, PartialEq, Eq, Debug)]
 pub(crate) struct Opening {
     pub(crate) processors: u8,
     pub(crate) pages: u8,
     pub(crate) first_ticket: Ticket,
+    /// Whether the board was given, in any state.
+    pub(crate) is_given: bool,
 }
 
-/// A board with its history. Invariant: the history is legal from the opening, and leads to the
-/// state of the board.
+/// A board with its history. Invariant: unless the board was given, the history is legal from the
+/// opening, and leads to the state of the board.
 #[derive(Drop)]
 pub(crate) struct Recorded {
     pub(crate) opening: Opening,
     pub(crate) board: Board,
     pub(crate) history: EntryLog,
     notices: Notices,
-    ghost legal: { IsLegal (opened opening.processors opening.pages opening.first_ticket) history.entries },
-    ghost leads: { board.state ≡ leads_to (opened opening.processors opening.pages opening.first_ticket) history.entries } by { Coded-set state_code _ _ },
+    ghost legal: { opening.is_given ≡ false → IsLegal (opened opening.processors opening.pages opening.first_ticket) history.entries },
+    ghost leads: { opening.is_given ≡ false → board.state ≡ leads_to (opened opening.processors opening.pages opening.first_ticket) history.entries } by { Π_prop λ _. Coded-set state_code _ _ },
 }
 
 impl Recorded {
@@ -57,6 +62,30 @@ impl Recorded {
             opening.first_ticket,
         ) else {
             return Err(AllocError);
+        };
+        let notices = Notices::open(alloc)?;
+        Ok(Recorded {
+            opening,
+            board,
+            history: EntryLog::new(alloc),
+            notices,
+        })
+    }
+
+    /// A board that is given, with an empty history.
+    pub(crate) fn given(alloc: Global, board: Board) -> Result<Recorded, AllocError>
+        ensures processors { IfOk result (λ r. r.opening.processors ≡ processors board.state) }
+        ensures pages { IfOk result (λ r. r.opening.pages ≡ length board.state.pages) }
+        ensures ticket { IfOk result (λ r. r.opening.first_ticket ≡ board.state.next_ticket) }
+        ensures given { IfOk result (λ r. r.opening.is_given ≡ true) }
+        ensures board { IfOk result (λ r. r.board ≡ board) }
+        ensures history { IfOk result (λ r. r.history.entries ≡ []) }
+    {
+        let opening = Opening {
+            processors: board.processors(),
+            pages: board.pages(),
+            first_ticket: board.next_ticket(),
+            is_given: true,
         };
         let notices = Notices::open(alloc)?;
         Ok(Recorded {
@@ -128,7 +157,10 @@ impl Recorded {
         ensures opening { OnOk result (self.opening ≡ opening) }
         ensures ended { IfOk result (IsEnd self.board self.history.entries actors.items standing) }
     {
-        let history = self.history_of(alloc, opening, actors.as_slice())?;
+        if self.opening != opening {
+            return Err(SettleFault::Mismatch);
+        }
+        let history = self.history_of(alloc, actors.as_slice())?;
         let Recorded { board, .. } = self;
         Ok(Ended {
             board,
@@ -138,20 +170,36 @@ impl Recorded {
         })
     }
 
-    /// The entries of that history.
-    fn history_of(
-        &self,
+    /// The result of settling with another board, on which the history is performed once more, if its
+    /// replies are the same and the history is exactly the calls of these actors.
+    pub(crate) fn end_on(
+        self,
         alloc: Global,
-        opening: Opening,
-        actors: &[ActorCalls],
-    ) -> Result<Vec<Entry>, SettleFault>
-        ensures opening { OnOk result (self.now.opening ≡ opening) }
+        mut start: Board,
+        actors: Vec<ActorCalls>,
+        standing: Standing,
+    ) -> Result<Ended, SettleFault>
+        ensures ended { IfOk result (λ e. IsEnd e.board self.history.entries actors.items standing e) }
+        ensures settled { IfOk result (IsSettled start.state) }
+    {
+        let history = self.history_of(alloc, actors.as_slice())?;
+        let Recorded { mut notices, .. } = self;
+        if !follow(&mut start, &mut notices, history.as_slice()) {
+            return Err(SettleFault::Mismatch);
+        }
+        Ok(Ended {
+            board: start,
+            history,
+            actors,
+            standing,
+        })
+    }
+
+    /// The entries of the history, if it is exactly the calls of these actors.
+    fn history_of(&self, alloc: Global, actors: &[ActorCalls]) -> Result<Vec<Entry>, SettleFault>
         ensures history { IfOk result (λ v. v.items ≡ self.now.history.entries) }
         ensures all { IfOk result (λ v. AreAllOf v.items actors.now) }
     {
-        if self.opening != opening {
-            return Err(SettleFault::Mismatch);
-        }
         let history = self.history.to_entries(alloc)?;
         if !are_all_of(history.as_slice(), actors) {
             return Err(SettleFault::Mismatch);

@@ -2,7 +2,7 @@
 ghost use Rattle.std.specs.Prelude.{◌≡◌, ◌↔◌, ◌≤◌, IsTrue, vec_len};
 ghost use Rattle.std.specs.List.{list_any, sum_by};
 ghost use Rattle.board_threads.specs.Sweeps.{is_absorb};
-ghost use Rattle.board_threads.specs.Judging.{IsSized, is_bad_step, is_bad_script, is_bad_raise, is_bad_line, has_bad_step};
+ghost use Rattle.board_threads.specs.Judging.{IsSized, IsSizedOn, AreScriptSizes, is_bad_step, is_bad_script, is_bad_raise, is_bad_line, has_bad_step};
 
 use crate::recorded::MOST;
 use board_terms::{Ticket, Vector, Vp};
@@ -18,7 +18,7 @@ pub enum Step {
 }
 
 /// How the board of a crew is opened, and the events that actor 0 performs before any thread
-/// starts.
+/// starts. Of a crew on a board that is given, only the processors and the events count.
 #[derive(Drop)]
 pub struct Setup {
     pub processors: u8,
@@ -34,18 +34,29 @@ pub struct Scripts {
     pub lines: Vec<Vec<(Vp, Vector)>>,
 }
 
-/// Whether the sizes are within the limits.
+/// Whether the sizes are within the limits, for a crew on a board of its own.
 pub(crate) fn is_sized(setup: &Setup, scripts: &Scripts) -> bool
     ensures { IsTrue result ↔ IsSized setup.now scripts.now }
 {
     let processors = setup.processors;
-    if processors < 1 || processors > 8 || setup.pages < 1 || setup.pages > 64 {
-        return false;
-    }
+    let is_board = 1 <= processors && processors <= 8 && 1 <= setup.pages && setup.pages <= 64;
+    is_board && are_script_sizes(setup, scripts)
+}
+
+/// Whether the sizes are within the limits, for a crew on a board with that many processors.
+pub(crate) fn is_sized_on(processors: u8, setup: &Setup, scripts: &Scripts) -> bool
+    ensures { IsTrue result ↔ IsSizedOn processors setup.now scripts.now }
+{
+    setup.processors == processors && are_script_sizes(setup, scripts)
+}
+
+fn are_script_sizes(setup: &Setup, scripts: &Scripts) -> bool
+    ensures { IsTrue result ↔ AreScriptSizes setup.now scripts.now }
+{
     if scripts.actors.len() > 15 || scripts.lines.len() > 16 {
         return false;
     }
-    let room = MOST - 4 * usize::from(processors);
+    let room = MOST - 4 * usize::from(setup.processors);
     setup.events.len() <= room && fit(scripts.actors.as_slice(), room - setup.events.len())
 }
 

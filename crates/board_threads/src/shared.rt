@@ -1,27 +1,29 @@
 // The shared board.
-ghost use Rattle.std.specs.Prelude.{◌≡◌, ◌↔◌, ℕ, ◌*◌, ◌<◌, true, [], ◌∷◌, ◌++◌, IsTrue, IfOk, OnErr, IsErrOf, map, All, replicate};
+ghost use Rattle.std.specs.Prelude.{◌≡◌, ◌↔◌, ℕ, ◌*◌, ◌<◌, true, List, [], ◌∷◌, ◌++◌, IfOk, OnErr, IsErrOf, map, All, replicate, length};
 ghost use Rattle.std.specs.List.{range_with_len};
-ghost use Rattle.atomic_table.specs.Seated.{TableId};
+ghost use Rattle.synic_board.specs.State.{processors};
 ghost use Rattle.synic_board.specs.declared.event.Event.TheVariants.{Absorb};
-ghost use Rattle.posted_words.specs.Words.{shared_words, token, with_last_step, raise_of, actions_of};
+ghost use Rattle.synic_board.specs.declared.history.Entry.{Entry};
+ghost use Rattle.posted_words.specs.Words.{AreWordSizes, shared_words, token, with_last_step, raise_of, actions_of};
 ghost use Rattle.posted_words.specs.Answers.{is_fresh};
 ghost use Rattle.board_threads.specs.Sharing.{AreSharedSizes, sharing, start, acting, new_actor};
 ghost use Rattle.board_threads.specs.Sweeps.{is_absorb, is_refusal, sweep_in};
-ghost use Rattle.board_threads.specs.Settling.{IsSettled, AreAbsorbed, only_raises, calls_held, calls_given};
+ghost use Rattle.board_threads.specs.Settling.{IsSettled, AreAllOf, AreAbsorbed, only_raises, calls_held, calls_given};
 
 use crate::actor::{Actor, CallFault};
+use crate::opening::{are_sizes, are_word_sizes, number_all};
 use crate::recorded::{Opening, Recorded};
-use crate::settling::{Ended, SettleFault, split_all};
+use crate::settling::{ActorCalls, Ended, SettleFault, split_all};
 use board_terms::{Ticket, Vector, Vp};
-use posted_words::{Line, PostedWords, Raised, Sweeper};
-use std::alloc::{AllocError, Global};
+use posted_words::{Line, PostedWords, Raised, Standing};
+use std::alloc::Global;
 use std::marker::Model;
 use std::sync::{Mutex, Wait};
-use synic_board::{Event, OpenFault, Reply};
+use synic_board::{Board, Event, OpenFault, Reply};
 
 /// A board that threads share by reference. Events are performed under a lock, one at a time;
 /// vectors are raised without the lock. Its contract shows the posted words and the arguments of
-/// the opening.
+/// the opening; for a board that was given, its pages and its next ticket then.
 #[derive(Drop)]
 pub struct SharedBoard {
     alloc: Global,
@@ -39,33 +41,6 @@ impl Model for SharedBoard {
     ghost view = { λ s. sharing s.words s.opening.pages s.opening.first_ticket };
 
     ghost invariant = { λ s. s.words.processors ≡ s.opening.processors };
-}
-
-fn are_sizes(processors: u8, pages: u8, actors: u8, lines: u8) -> bool
-    ensures { IsTrue result ↔ AreSharedSizes processors pages actors lines }
-{
-    let is_board = 1 <= processors && processors <= 8 && 1 <= pages && pages <= 64;
-    is_board && 1 <= actors && actors <= 16 && lines <= 16
-}
-
-/// An actor for each sweeper, numbered from 0.
-fn number_all(
-    alloc: Global,
-    count: u8,
-    mut sweepers: Vec<Sweeper>,
-) -> Result<Vec<Actor>, AllocError>
-    requires { (t : TableId) × (sweepers.items ≡ replicate count (token t [])) }
-    ensures { IfOk result (λ v. (t : TableId) → sweepers.items ≡ replicate count (token t []) → v.items ≡ map (new_actor t) (range_with_len 0 count)) }
-{
-    let mut actors = Vec::new(alloc);
-    for number in 0..count {
-        actors.reserve(1)?;
-        let Some(sweeper) = sweepers.pop() else {
-            unreachable!()
-        };
-        actors.push_reserved(Actor::new(alloc, number, sweeper));
-    }
-    Ok(actors)
 }
 
 impl SharedBoard {
@@ -88,19 +63,62 @@ impl SharedBoard {
         if !are_sizes(processors, pages, actors, lines) {
             return Err(OpenFault::BadSize);
         }
-        let Ok((words, sweepers, lines)) = PostedWords::open(alloc, processors, actors, lines)
-        else {
-            return Err(OpenFault::Memory);
-        };
-        let Ok(actors) = number_all(alloc, actors, sweepers) else {
-            return Err(OpenFault::Memory);
-        };
         let opening = Opening {
             processors,
             pages,
             first_ticket,
+            is_given: false,
         };
         let Ok(recorded) = Recorded::open(alloc, opening) else {
+            return Err(OpenFault::Memory);
+        };
+        SharedBoard::around(alloc, recorded, actors, lines)
+    }
+
+    /// Shares a board in the state that it is in, with its actors, numbered from 0, and its lines.
+    /// `BadSize` unless there are 1 to 16 actors and at most 16 lines. `settle_on` ends it.
+    pub fn share(
+        alloc: Global,
+        board: Board,
+        actors: u8,
+        lines: u8,
+    ) -> Result<(SharedBoard, Vec<Actor>, Vec<Line>), OpenFault>
+        ensures size { IsErrOf result OpenFault.BadSize ↔ (¬ AreWordSizes (processors board.state) actors lines) }
+        ensures board { IfOk result (λ r. r.0 ≡ sharing (shared_words r.0.words.name (processors board.state) actors lines) (length board.state.pages) board.state.next_ticket) }
+        ensures actors { IfOk result (λ r. r.1.items ≡ map (new_actor r.0.words.name) (range_with_len 0 actors)) }
+        ensures lines { IfOk result (λ r. r.2.items ≡ replicate lines (token r.0.words.name [])) }
+    {
+        if !are_word_sizes(board.processors(), actors, lines) {
+            return Err(OpenFault::BadSize);
+        }
+        let Ok(recorded) = Recorded::given(alloc, board) else {
+            return Err(OpenFault::Memory);
+        };
+        SharedBoard::around(alloc, recorded, actors, lines)
+    }
+
+    /// Puts a board under a lock, next to its posted words.
+    fn around(
+        alloc: Global,
+        recorded: Recorded,
+        actors: u8,
+        lines: u8,
+    ) -> Result<(SharedBoard, Vec<Actor>, Vec<Line>), OpenFault>
+        ensures size { ¬ (IsErrOf result OpenFault.BadSize) }
+        ensures board { IfOk result (λ r. r.0 ≡ sharing (shared_words r.0.words.name recorded.opening.processors actors lines) recorded.opening.pages recorded.opening.first_ticket) }
+        ensures actors { IfOk result (λ r. r.1.items ≡ map (new_actor r.0.words.name) (range_with_len 0 actors)) }
+        ensures lines { IfOk result (λ r. r.2.items ≡ replicate lines (token r.0.words.name [])) }
+    {
+        let opening = recorded.opening;
+        let Ok((words, sweepers, lines)) = PostedWords::open(
+            alloc,
+            opening.processors,
+            actors,
+            lines,
+        ) else {
+            return Err(OpenFault::Memory);
+        };
+        let Ok(actors) = number_all(alloc, actors, sweepers) else {
             return Err(OpenFault::Memory);
         };
         let recorded = Mutex::new(recorded);
@@ -178,7 +196,8 @@ impl SharedBoard {
     /// Ends the board, and returns a run of one thread: each actor's calls are in its history, in
     /// order, and each `Fresh` raise was absorbed once or its bit is set. `Mismatch` if an actor or
     /// a line is missing, or if the history is not exactly the calls of these actors; then
-    /// everything is dropped. Requires actors and lines of this board.
+    /// everything is dropped. Always `Mismatch` for a board that was given to `share`, which
+    /// `settle_on` settles. Requires actors and lines of this board.
     pub fn settle(self, actors: Vec<Actor>, lines: Vec<Line>) -> Result<Ended, SettleFault>
         requires actors { All (λ a. a.of ≡ self.words.name) actors.items }
         requires lines { All (λ l. l.of ≡ self.words.name) lines.items }
@@ -187,14 +206,58 @@ impl SharedBoard {
         ensures actors { IfOk result (λ e. map calls_given e.actors.items ≡ map calls_held actors.items) }
         ensures raises { IfOk result (λ e. AreAbsorbed (4 * self.words.processors) (map actions_of lines.items) e.history.items e.standing) }
     {
+        let (alloc, opening) = (self.alloc, self.opening);
+        // A lock keeps no fact from its creation, so the state that was given is not known any more.
+        if opening.is_given {
+            return Err(SettleFault::Mismatch);
+        }
+        let (recorded, actors, standing) = self.gather(actors, lines)?;
+        recorded.end(alloc, opening, actors, standing)
+    }
+
+    /// Ends the board as `settle` does, also one that was given to `share`. `start` is another board,
+    /// in the state in which this one was opened or given. The whole history is performed once more
+    /// on `start`, which becomes the board of the result. `Mismatch` also if a reply differs then.
+    /// Requires actors and lines of this board.
+    pub fn settle_on(
+        self,
+        start: Board,
+        actors: Vec<Actor>,
+        lines: Vec<Line>,
+    ) -> Result<Ended, SettleFault>
+        requires actors { All (λ a. a.of ≡ self.words.name) actors.items }
+        requires lines { All (λ l. l.of ≡ self.words.name) lines.items }
+        requires raises { All (λ l. only_raises l.actions ≡ true) lines.items }
+        ensures settled { IfOk result (IsSettled start.state) }
+        ensures actors { IfOk result (λ e. map calls_given e.actors.items ≡ map calls_held actors.items) }
+        ensures raises { IfOk result (λ e. AreAbsorbed (4 * self.words.processors) (map actions_of lines.items) e.history.items e.standing) }
+    {
+        let alloc = self.alloc;
+        let (recorded, actors, standing) = self.gather(actors, lines)?;
+        recorded.end_on(alloc, start, actors, standing)
+    }
+
+    /// What was under the lock, the actors' calls, and what the lines raised and no sweep took. It is
+    /// in accordance with each history that is exactly these calls.
+    fn gather(
+        self,
+        actors: Vec<Actor>,
+        lines: Vec<Line>,
+    ) -> Result<(Recorded, Vec<ActorCalls>, Standing), SettleFault>
+        requires actors { All (λ a. a.of ≡ self.words.name) actors.items }
+        requires lines { All (λ l. l.of ≡ self.words.name) lines.items }
+        requires raises { All (λ l. only_raises l.actions ≡ true) lines.items }
+        ensures actors { IfOk result (λ r. map calls_given r.1.items ≡ map calls_held actors.items) }
+        ensures raises { IfOk result (λ r. (history : List Entry) → AreAllOf history r.1.items → AreAbsorbed (4 * self.words.processors) (map actions_of lines.items) history r.2) }
+    {
         let SharedBoard {
             alloc,
-            opening,
             words,
             recorded,
+            ..
         } = self;
         let (sweepers, actors) = split_all(alloc, actors)?;
         let standing = words.gather(sweepers, lines)?;
-        recorded.into_inner().end(alloc, opening, actors, standing)
+        Ok((recorded.into_inner(), actors, standing))
     }
 }

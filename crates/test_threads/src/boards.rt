@@ -1,10 +1,12 @@
 // Shared boards with their actors and lines.
 ghost use Rattle.std.specs.Prelude.{◌≡◌, true, All, IfSome};
+ghost use Rattle.synic_board.specs.State.{processors};
 ghost use Rattle.posted_words.specs.Words.{IsOf};
 ghost use Rattle.board_threads.specs.Settling.{only_raises};
 
 use board_threads::{Actor, Line, SharedBoard};
 use std::alloc::Global;
+use synic_board::Board;
 
 /// A board with one page and first ticket 0, its actors and its lines.
 pub(crate) fn opened(
@@ -20,6 +22,24 @@ pub(crate) fn opened(
 {
     match SharedBoard::open(alloc, processors, 1, 0, actors, lines) {
         Ok(opened) => Some(opened),
+        Err(_) => None,
+    }
+}
+
+/// A board that is given, its actors and its lines.
+pub(crate) fn shared(
+    alloc: Global,
+    board: Board,
+    actors: u8,
+    lines: u8,
+) -> Option<(SharedBoard, Vec<Actor>, Vec<Line>)>
+    ensures processors { IfSome result (λ r. r.0.words.processors ≡ processors board.state) }
+    ensures actors { IfSome result (λ r. All (λ a. a.of ≡ r.0.words.name) r.1.items) }
+    ensures lines { IfSome result (λ r. All (IsOf r.0.words.name) r.2.items) }
+    ensures raises { IfSome result (λ r. All (λ l. only_raises l.actions ≡ true) r.2.items) }
+{
+    match SharedBoard::share(alloc, board, actors, lines) {
+        Ok(shared) => Some(shared),
         Err(_) => None,
     }
 }

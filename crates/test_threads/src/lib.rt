@@ -10,6 +10,8 @@ mod ends;
 #[cfg(test)]
 mod gates;
 #[cfg(test)]
+mod given;
+#[cfg(test)]
 mod leaving;
 #[cfg(test)]
 mod scenes;

@@ -1,13 +1,15 @@
 // A shared board that owns two actors and a line, so that a scene has no precondition.
-ghost use Rattle.std.specs.Prelude.{◌≡◌, true, IfOk, length};
+ghost use Rattle.std.specs.Prelude.{◌≡◌, true, IfOk, All, length};
+ghost use Rattle.posted_words.specs.Words.{IsOf};
+ghost use Rattle.synic_board.specs.State.{processors};
 ghost use Rattle.board_threads.specs.Settling.{only_raises};
 
-use crate::boards::{opened, take_actor, take_line};
+use crate::boards::{opened, shared, take_actor, take_line};
 use board_terms::{Refusal, Vector, Vp};
 use board_threads::{Actor, CallFault, Ended, Line, Raised, SettleFault, SharedBoard};
 use std::alloc::Global;
 use std::sync::Wait;
-use synic_board::{Event, Reply};
+use synic_board::{Board, Event, Reply};
 
 /// A board with one processor, one page and first ticket 0.
 #[derive(Drop)]
@@ -73,7 +75,24 @@ pub(crate) const ALL: Back = Back {
 impl Scene {
     /// `None` if an allocation fails.
     pub(crate) fn open(alloc: Global) -> Option<Scene> {
-        let (board, mut actors, mut lines) = opened(alloc, 1, 2, 1)?;
+        let (board, actors, lines) = opened(alloc, 1, 2, 1)?;
+        Scene::of(board, actors, lines)
+    }
+
+    /// A scene of a board that is given. `None` if an allocation fails.
+    pub(crate) fn share(alloc: Global, board: Board) -> Option<Scene>
+        requires { processors board.state ≡ 1 }
+    {
+        let (board, actors, lines) = shared(alloc, board, 2, 1)?;
+        Scene::of(board, actors, lines)
+    }
+
+    fn of(board: SharedBoard, mut actors: Vec<Actor>, mut lines: Vec<Line>) -> Option<Scene>
+        requires processor { board.words.processors ≡ 1 }
+        requires actors { All (λ a. a.of ≡ board.words.name) actors.items }
+        requires lines { All (IsOf board.words.name) lines.items }
+        requires raises { All (λ l. only_raises l.actions ≡ true) lines.items }
+    {
         match (
             take_actor(&board, &mut actors),
             take_actor(&board, &mut actors),
@@ -175,6 +194,32 @@ impl Scene {
         lines.truncate(back.lines);
         board.settle(actors, lines)
         // README board_threads: end
+    }
+
+    /// Returns the remaining actors and lines, and settles the board on another one.
+    pub(crate) fn settle_on(
+        self,
+        alloc: Global,
+        start: Board,
+        back: Back,
+    ) -> Result<Ended, SettleFault>
+        ensures { IfOk result (λ e. length e.standing ≡ 4) }
+    {
+        let Scene {
+            board,
+            actor,
+            other,
+            line,
+        } = self;
+        let Ok(mut actors) = Vec::from_array(alloc, [actor, other]) else {
+            return Err(SettleFault::Memory);
+        };
+        let Ok(mut lines) = Vec::from_array(alloc, [line]) else {
+            return Err(SettleFault::Memory);
+        };
+        actors.truncate(back.actors);
+        lines.truncate(back.lines);
+        board.settle_on(start, actors, lines)
     }
 }
 

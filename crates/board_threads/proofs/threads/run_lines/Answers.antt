@@ -1,4 +1,4 @@
-use Rattle.std.proofs.Common.{rules, ◌≡◌, List, ◌∷◌, ℕ, Vec, Global, Ok, Err, length, take, drop, ◌-◌, subst}
+use Rattle.std.proofs.Common.{◌≡◌, List, ◌∷◌, ℕ, Vec, Global, length, take, drop, ◌-◌, subst}
 use Rattle.std.specs.Result.{IfOk}
 use Rattle.std.specs.List.{AllZip}
 use Rattle.posted_words.specs.Words.{Token}

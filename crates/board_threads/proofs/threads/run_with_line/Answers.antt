@@ -1,4 +1,4 @@
-use Rattle.std.proofs.Common.{rules, ◌≡◌, ◌+◌, suc, List, [], ◌∷◌, ◌++◌, All, length, drop, sym, subst, ◌∙◌, arith}
+use Rattle.std.proofs.Common.{All, length, drop, sym, subst, ◌∙◌, arith}
 use Rattle.std.proofs.lemmas.List.Elements.{All-head, All-tail}
 use Rattle.board_threads.specs.inside.Work.{IsNewLine}
 use Rattle.board_threads.proofs.Crewing.{split-first}

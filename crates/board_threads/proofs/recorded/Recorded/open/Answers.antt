@@ -7,4 +7,4 @@ pub invariant_of-result : goal.invariant_of-result
 invariant_of-result c =
     let o = c.args.opening in
     let start = opened o.processors o.pages o.first_ticket in
-    record { legal = legal-none start _ c.new.ensures; leads = c.in-Ok.ensures.opened ∙ leads-none start _ c.new.ensures }
+    record { legal = λ _. legal-none start _ c.new.ensures; leads = λ _. c.in-Ok.ensures.opened ∙ leads-none start _ c.new.ensures }

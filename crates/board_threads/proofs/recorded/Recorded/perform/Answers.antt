@@ -11,7 +11,8 @@ invariant_of-self c =
     let is = c.perform-reply.ensures.performs.step in
     let now = c.push.ensures in
     record {
-      legal = legal-push start s.board.state s.history.entries c.push.new.self.entries c.args.actor c.args.event.now c.perform-reply.result s.legal s.leads now (ap (λ (o : Outcome). o.1) is);
-      leads = leads-push start s.board.state c.perform-reply.new.self.state s.history.entries c.push.new.self.entries c.args.actor c.args.event.now c.perform-reply.result s.leads now
+      legal = λ own. legal-push start s.board.state s.history.entries c.push.new.self.entries c.args.actor c.args.event.now c.perform-reply.result (s.legal own) (s.leads own) now
+          (ap (λ (o : Outcome). o.1) is);
+      leads = λ own. leads-push start s.board.state c.perform-reply.new.self.state s.history.entries c.push.new.self.entries c.args.actor c.args.event.now c.perform-reply.result (s.leads own) now
           (ap (λ (o : Outcome). o.0) is);
     }

@@ -3,7 +3,7 @@ use Rattle.std.proofs.lemmas.List.FromFn.{map-range_with_len_more}
 use Rattle.posted_words.specs.Words.{Token, token}
 use Rattle.board_threads.specs.Sharing.{acting, new_actor}
 use Rattle.board_threads.proofs.Numbering.{popped}
-use Rattle.board_threads.proofs.shared.number_all.Goals as goal
+use Rattle.board_threads.proofs.opening.number_all.Goals as goal
 
 pub loop-number-preserved : goal.loop-number-preserved
 loop-number-preserved c = λ t all.

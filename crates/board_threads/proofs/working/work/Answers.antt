@@ -6,7 +6,7 @@ use Rattle.board_threads.specs.Sharing.{Acting, new_actor}
 use Rattle.board_threads.specs.Crew.{AreSteps, last_steps}
 use Rattle.board_threads.specs.inside.Work.{IsNewActor, IsThere}
 use Rattle.board_threads.proofs.Crewing.{all-new, all-there, new-numbers, cut, single}
-use Rattle.board_threads.proofs.crew.work.Goals as goal
+use Rattle.board_threads.proofs.working.work.Goals as goal
 
 pub run_all-requires-clause-new_actors : goal.run_all-requires-clause-new_actors
 run_all-requires-clause-new_actors g c κs within =

@@ -1,17 +1,11 @@
 use Rattle.std.proofs.Common.{ap, arith}
 use Rattle.std.specs.Prelude.{vec_len}
 use Rattle.std.specs.List.{sum_by}
-use Rattle.board_threads.proofs.script.is_sized.Goals as goal
+use Rattle.board_threads.proofs.script.are_script_sizes.Goals as goal
 
 pub returns-then-len-room : goal.returns-then-len-room
 returns-then-len-room c = (
   λ yes. record {
-    board = record {
-      some_processor = omega (arith, c.if-processors-lt1.false);
-      processor_bound = omega (arith, c.if-processors-gt8.false);
-      some_page = omega (arith, c.if-setup-lt1.false);
-      page_bound = omega (arith, c.if-setup-gt64.false);
-    };
     actors = omega (arith, c.if-len-gt15.false, c.len.ensures);
     lines = omega (arith, c.if-len-gt16.false, c.len-else-len-gt15.ensures);
     entries = let fits = c.fit.ensures.0 yes in omega

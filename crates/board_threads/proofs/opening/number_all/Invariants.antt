@@ -3,7 +3,7 @@ use Rattle.std.specs.List.{range_with_len}
 use Rattle.atomic_table.specs.Seated.{TableId}
 use Rattle.posted_words.specs.Words.{token}
 use Rattle.board_threads.specs.Sharing.{new_actor}
-use Rattle.board_threads.proofs.shared.number_all.Given as goal
+use Rattle.board_threads.proofs.opening.number_all.Given as goal
 
 abbrev pub invariant-loop-number : goal.invariant-loop-number
 invariant-loop-number l = (t : TableId) → l.fn.sweepers.items ≡ replicate l.count (token t []) →
