@@ -10,15 +10,21 @@ ACTORS, LINES = 15, 16
 
 
 class Script:
-    """The sections of a crew script without faults."""
+    """The sections of a crew script without faults, which has a board line, or else the image of its
+    board. `beginning` is how its trace begins."""
 
-    def __init__(self, text):
+    def __init__(self, text, image=None):
         lines = [line for line in text.decode().splitlines() if line and not line.startswith("#")]
-        self.board = lines[0]
-        self.processors, self.first_ticket = int(self.board.split()[1]), int(self.board.split()[3])
+        if image is None:
+            board = lines.pop(0)
+            self.beginning = "trace 2\n%s\n" % board
+        else:
+            board = image.decode().splitlines()[1]
+            self.beginning = "trace 3\n" + image.decode()
+        self.processors, self.first_ticket = int(board.split()[1]), int(board.split()[3])
         self.setup, self.actors, self.lines = [], [], []
         section = self.setup
-        for line in lines[1:]:
+        for line in lines:
             if line == "actor":
                 section = []
                 self.actors.append(section)
@@ -43,12 +49,11 @@ class Script:
 
 
 class Trace:
-    """The entries of a trace: the actor, the event and the reply of each."""
+    """The entries of a trace after its beginning: the actor, the event and the reply of each."""
 
-    def __init__(self, text):
-        lines = text.decode().splitlines()
-        self.title, self.board, self.end = lines[0], lines[1], lines[-1]
-        body = lines[2:-1]
+    def __init__(self, text, beginning):
+        self.begun = text.decode()[:len(beginning)]
+        *body, self.end = text.decode()[len(beginning):].splitlines()
         self.entries = [(*event.split(" ", 1), reply) for event, reply in zip(body[::2], body[1::2])]
 
     def of(self, actor):
@@ -87,8 +92,8 @@ def is_script(steps, entries):
 def complaints_of(script, trace):
     found = []
     last = ["absorb %d %d" % (vp, part) for vp in range(script.processors) for part in range(4)]
-    if trace.title != "trace 2" or trace.board != script.board:
-        found.append("it begins %r, %r" % (trace.title, trace.board))
+    if trace.begun != script.beginning:
+        found.append("it begins %r, and not %r" % (trace.begun[:400], script.beginning[:400]))
     if trace.end != "end %d %d" % (len(trace.entries), script.first_ticket + trace.accepted()):
         found.append("it ends %r" % trace.end)
     begun = trace.entries[:len(script.setup)]
@@ -113,6 +118,13 @@ def complaints_of(script, trace):
     found += ["vector %r was absorbed and never raised" % (vector,)
               for vector in absorbed if vector not in raised]
     return found
+
+
+def split(script):
+    """The board line and the setup of a crew script, and its sections."""
+    lines = script.splitlines(True)
+    at = next((at for at, line in enumerate(lines) if line in (b"actor\n", b"line\n")), len(lines))
+    return b"".join(lines[:at]), b"".join(lines[at:])
 
 
 def crowd(seed, steps):

@@ -7,6 +7,6 @@ mod respond;
 mod stream;
 
 pub use stream::{ReplayEnd, replay, replay_on, save_script};
-pub use text_crew::{CrewRun, Gate, OpenGate, Worker, crew};
+pub use text_crew::{CrewRun, Gate, OpenGate, Worker, crew, crew_on};
 pub use text_lines::ScriptFault;
 pub use text_trace::{CheckEnd, check_trace};

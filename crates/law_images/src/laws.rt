@@ -23,10 +23,12 @@ pub fn an_image_restores_its_board()
     ensures { (s : State) → IsBoardState s → IsImage (image s) s }
 {}
 
-/// The image of a board is an image of its state, whatever board it is. Does nothing.
+/// The image of a board is an image of its state and of no other, whatever board it is. So a crew on
+/// a board (`crew_on`), whose trace begins with its image, starts in its state. Does nothing.
 pub fn a_board_is_restored_from_its_image(board: &Board)
     ensures state { IsBoardState board.now.state }
     ensures image { IsImage (image board.now.state) board.now.state }
+    ensures only { (s : State) → IsImage (image board.now.state) s → s ≡ board.now.state }
 {
     board.facts();
 }

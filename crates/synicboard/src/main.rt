@@ -4,7 +4,8 @@
 #![tactic(auto)]
 
 use board_script::{
-    CheckEnd, CrewRun, OpenGate, ReplayEnd, check_trace, crew, replay, replay_on, save_script,
+    CheckEnd, CrewRun, OpenGate, ReplayEnd, check_trace, crew, crew_on, replay, replay_on,
+    save_script,
 };
 use clap::error::ErrorKind;
 use clap::{Arg, ArgMatches, Command, Error};
@@ -31,11 +32,11 @@ const STREAM_FAULT: u8 = 5;
 /// The result of reading the command line.
 #[derive(Drop)]
 enum Asked {
-    Replay,
-    /// A replay on the board of the image in that file.
-    ReplayFrom(String),
+    /// A replay, on the board of the image in a file if one is named.
+    Replay(Option<String>),
     Save,
-    Crew,
+    /// A crew, on the board of the image in a file if one is named.
+    Crew(Option<String>),
     Check,
     /// Nothing to do: help or an error message was printed.
     Nothing(ExitCode),
@@ -45,10 +46,11 @@ enum Asked {
 
 fn main(rt: HostRuntime) -> ExitCode {
     match judge_command_line(&rt) {
-        Asked::Replay => replay_input(&rt),
-        Asked::ReplayFrom(path) => replay_from(&rt, path.as_str()),
+        Asked::Replay(None) => replay_input(&rt),
+        Asked::Replay(Some(path)) => replay_from(&rt, path.as_str()),
         Asked::Save => save_input(&rt),
-        Asked::Crew => crew_input(&rt, &rt),
+        Asked::Crew(None) => crew_input(&rt, &rt),
+        Asked::Crew(Some(path)) => crew_from(&rt, &rt, path.as_str()),
         Asked::Check => check_input(&rt),
         Asked::Nothing(code) => code,
         Asked::Memory => fail(&rt, "out of memory", NO_MEMORY),
@@ -57,18 +59,17 @@ fn main(rt: HostRuntime) -> ExitCode {
 
 /// The command line of the program.
 fn command<'a>(alloc: Global) -> Result<Command<'a>, AllocError> {
-    let from = Arg::new(alloc, "from").long("from").value_name("FILE").help(
-        "Starts on the board of this image; then the script has no board line",
-    );
     let replay = Command::new(alloc, "replay")
         .about("Performs the script on standard input, and writes each reply, notice and summary")
-        .arg(from)?;
+        .arg(from(alloc))?;
     let save = Command::new(alloc, "save").about(
         "Performs the script on standard input, and writes the image of the board at its end",
     );
-    let crew = Command::new(alloc, "crew").about(
-        "Runs the actors and lines of the script on standard input, each in a thread, and writes the trace",
-    );
+    let crew = Command::new(alloc, "crew")
+        .about(
+            "Runs the actors and lines of the script on standard input, each in a thread, and writes the trace",
+        )
+        .arg(from(alloc))?;
     let check = Command::new(alloc, "check").about(
         "Reads a trace on standard input, and says whether it is legal, or the first line that is wrong",
     );
@@ -80,6 +81,13 @@ fn command<'a>(alloc: Global) -> Result<Command<'a>, AllocError> {
         .subcommand(save)?
         .subcommand(crew)?
         .subcommand(check)
+}
+
+/// The option that names an image.
+fn from<'a>(alloc: Global) -> Arg<'a> {
+    Arg::new(alloc, "from").long("from").value_name("FILE").help(
+        "Starts on the board of this image; then the script has no board line",
+    )
 }
 
 const EXAMPLE: &str =
@@ -100,26 +108,34 @@ fn judge_command_line(rt: &HostRuntime) -> Asked {
     match command.try_get_matches_from(words.as_slice()) {
         Ok(matches) => match matches.subcommand_name() {
             Some("save") => Asked::Save,
-            Some("crew") => Asked::Crew,
             Some("check") => Asked::Check,
-            _ => asked_replay(rt, &matches),
+            Some("crew") => match path_of_image(rt, &matches, "crew") {
+                Ok(path) => Asked::Crew(path),
+                Err(_) => Asked::Memory,
+            },
+            _ => match path_of_image(rt, &matches, "replay") {
+                Ok(path) => Asked::Replay(path),
+                Err(_) => Asked::Memory,
+            },
         },
         Err(error) => show(rt, error),
     }
 }
 
-/// A replay, on the board of an image if the command line names one.
-fn asked_replay(rt: &HostRuntime, matches: &ArgMatches<'_>) -> Asked {
-    let Some(replay) = matches.subcommand_matches("replay") else {
-        return Asked::Replay;
+/// The file of the image that the arguments of a subcommand name, if they name one.
+fn path_of_image(
+    rt: &HostRuntime,
+    matches: &ArgMatches<'_>,
+    subcommand: &str,
+) -> Result<Option<String>, AllocError> {
+    let Some(words) = matches.subcommand_matches(subcommand) else {
+        return Ok(None);
     };
-    let Some(path) = replay.get_str("from") else {
-        return Asked::Replay;
+    let Some(path) = words.get_str("from") else {
+        return Ok(None);
     };
-    match format!(in rt.alloc(); "{path}") {
-        Ok(path) => Asked::ReplayFrom(path),
-        Err(_) => Asked::Memory,
-    }
+    let path = format!(in rt.alloc(); "{path}")?;
+    Ok(Some(path))
 }
 
 /// Reports why the arguments could not be read.
@@ -161,12 +177,19 @@ fn replay_input(rt: &HostRuntime) -> ExitCode {
 fn replay_from(rt: &HostRuntime, path: &str) -> ExitCode {
     match restore_file(rt, path) {
         RestoreEnd::Restored(board) => replay_input_on(rt, board),
+        fault => restore_fault(rt, &fault),
+    }
+}
+
+/// The status if no board was restored, with its message.
+fn restore_fault(rt: &HostRuntime, fault: &RestoreEnd) -> ExitCode {
+    match fault {
         RestoreEnd::Refused(line) => {
             let _ = eprintln!(rt; "synicboard: line {line} of the image is wrong");
             ExitCode::from(REFUSED)
         }
         RestoreEnd::Memory => fail(rt, "out of memory", NO_MEMORY),
-        RestoreEnd::Reading => fail(rt, "read failed", STREAM_FAULT),
+        RestoreEnd::Restored(_) | RestoreEnd::Reading => fail(rt, "read failed", STREAM_FAULT),
     }
 }
 
@@ -216,7 +239,34 @@ fn crew_input<T: Threads + Wait + Sync>(threads: &T, rt: &HostRuntime) -> ExitCo
     let Ok(mut writer) = BufWriter::new(rt.alloc(), io::writer(rt)) else {
         return fail(rt, "out of memory", NO_MEMORY);
     };
-    match crew(threads, rt.alloc(), &mut reader, &mut writer, &OpenGate) {
+    let end = crew(threads, rt.alloc(), &mut reader, &mut writer, &OpenGate);
+    crew_status(rt, end)
+}
+
+/// Restores the board of an image, and runs the crew on standard input on it.
+fn crew_from<T: Threads + Wait + Sync>(threads: &T, rt: &HostRuntime, path: &str) -> ExitCode {
+    let board = match restore_file(rt, path) {
+        RestoreEnd::Restored(board) => board,
+        fault => return restore_fault(rt, &fault),
+    };
+    let mut reader = rt.reader();
+    let Ok(mut writer) = BufWriter::new(rt.alloc(), io::writer(rt)) else {
+        return fail(rt, "out of memory", NO_MEMORY);
+    };
+    let end = crew_on(
+        threads,
+        rt.alloc(),
+        board,
+        &mut reader,
+        &mut writer,
+        &OpenGate,
+    );
+    crew_status(rt, end)
+}
+
+/// The status of a crew, with its message.
+fn crew_status(rt: &HostRuntime, end: CrewRun) -> ExitCode {
+    match end {
         CrewRun::Done => ExitCode::SUCCESS,
         CrewRun::Script { .. } => ExitCode::from(SCRIPT_FAULT),
         CrewRun::Unsettled => ExitCode::from(REFUSED),

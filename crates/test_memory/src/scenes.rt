@@ -24,10 +24,11 @@ enum Scene {
     Script,
     Trace,
     CrewScript,
+    CrewOnBoard,
     Image,
 }
 
-const SCENES: [Scene; 17] = [
+const SCENES: [Scene; 18] = [
     Scene::Space,
     Scene::Queues,
     Scene::Board,
@@ -44,6 +45,7 @@ const SCENES: [Scene; 17] = [
     Scene::Script,
     Scene::Trace,
     Scene::CrewScript,
+    Scene::CrewOnBoard,
     Scene::Image,
 ];
 
@@ -67,6 +69,7 @@ fn play<R: Threads + Wait + Sync>(rt: &R, alloc: Global, scene: Scene) -> Result
         Scene::Script => texts::replayed(alloc),
         Scene::Trace => texts::checked(alloc),
         Scene::CrewScript => texts::crewed(rt, alloc),
+        Scene::CrewOnBoard => texts::crewed_on(rt, alloc),
         Scene::Image => texts::saved(alloc),
     }
 }

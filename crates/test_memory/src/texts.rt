@@ -1,6 +1,6 @@
 // A script, a crew script, a trace and an image, with a reader and a writer that do not allocate.
 use crate::stopped::{Stopped, ended};
-use board_script::{CheckEnd, CrewRun, ReplayEnd, check_trace, crew, replay};
+use board_script::{CheckEnd, CrewRun, ReplayEnd, check_trace, crew, crew_on, replay};
 use board_threads::OpenGate;
 use std::alloc::Global;
 use std::io::Cursor;
@@ -73,6 +73,27 @@ pub(crate) fn crewed<R: Threads + Wait + Sync>(rt: &R, alloc: Global) -> Result<
     match crew(rt, alloc, &mut script, &mut written, &OpenGate) {
         CrewRun::Done => ended(has(&written, TRACE.as_bytes())),
         CrewRun::Memory | CrewRun::NoThread => wanted(&written, TRACE.as_bytes()),
+        _ => Err(Stopped::Otherwise),
+    }
+}
+
+/// The only trace of its sections on the board of an image.
+const TRACE_FROM_IMAGE: &str = concat!(
+    "trace 3\nimage 1\nboard 1 1 5\nlapic 0 0 0 0 0 0 0 0 0 0 running\nend\n",
+    "0 assert 0 60\n= done\n1 take 0\n= taken 60\n",
+    "0 absorb 0 0 0\n= done\n0 absorb 0 1 0\n= done\n",
+    "0 absorb 0 2 0\n= done\n0 absorb 0 3 0\n= done\nend 6 5\n"
+);
+
+pub(crate) fn crewed_on<R: Threads + Wait + Sync>(rt: &R, alloc: Global) -> Result<bool, Stopped> {
+    let Ok(board) = Board::open(alloc, 1, 1, 5) else {
+        return Err(Stopped::Memory);
+    };
+    let mut script = b"assert 0 60\nactor\ntake 0\nline\n".as_slice();
+    let mut written = nothing();
+    match crew_on(rt, alloc, board, &mut script, &mut written, &OpenGate) {
+        CrewRun::Done => ended(has(&written, TRACE_FROM_IMAGE.as_bytes())),
+        CrewRun::Memory | CrewRun::NoThread => wanted(&written, b""),
         _ => Err(Stopped::Otherwise),
     }
 }

@@ -88,7 +88,7 @@ fn first_other<H: Threads + Wait + Sync>(
 
 #[test]
 fn each_job_ends_where_a_stream_fails(rt: HostRuntime) {
-    for job in [Job::Replay, Job::Check, Job::Crew] {
+    for job in [Job::Replay, Job::Check, Job::Crew, Job::CrewOnBoard] {
         assert_eq!(rt; first_other(&rt, rt.alloc(), job), None, "{job:?}");
     }
 }

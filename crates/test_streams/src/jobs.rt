@@ -1,11 +1,12 @@
 // Jobs that read a text and write another, with a worked text for each.
 use crate::peers::{Text, append};
-use board_script::{CrewRun, ReplayEnd, crew, replay};
+use board_script::{CrewRun, ReplayEnd, crew, crew_on, replay};
 use board_threads::OpenGate;
 use std::alloc::Global;
 use std::io::{Read, Write};
 use std::sync::Wait;
 use std::thread::Threads;
+use synic_board::Board;
 use text_trace::{CheckEnd, check_trace};
 
 #[derive(Clone, Copy, PartialEq, Debug)]
@@ -13,6 +14,7 @@ pub(crate) enum Job {
     Replay,
     Check,
     Crew,
+    CrewOnBoard,
 }
 
 /// The result of a job.
@@ -52,6 +54,17 @@ const TAKEN: &str = concat!(
     "0 absorb 0 2 0\n= done\n0 absorb 0 3 0\n= done\nend 6 0\n"
 );
 
+/// The same without its board line.
+const TAKE_ON_BOARD: &[u8] = b"assert 0 60\nactor\ntake 0\nline\n";
+
+/// The only trace of that crew script on a new board, whose first ticket would be 5.
+const TAKEN_ON_BOARD: &str = concat!(
+    "trace 3\nimage 1\nboard 1 1 5\nlapic 0 0 0 0 0 0 0 0 0 0 running\nend\n",
+    "0 assert 0 60\n= done\n1 take 0\n= taken 60\n",
+    "0 absorb 0 0 0\n= done\n0 absorb 0 1 0\n= done\n",
+    "0 absorb 0 2 0\n= done\n0 absorb 0 3 0\n= done\nend 6 5\n"
+);
+
 /// A text of these bytes.
 fn text(bytes: &[u8]) -> Text {
     let mut text = Text::new();
@@ -71,6 +84,7 @@ pub(crate) fn read_by(job: Job) -> Text {
         }
         Job::Check => text(TRACE),
         Job::Crew => text(TAKE),
+        Job::CrewOnBoard => text(TAKE_ON_BOARD),
     }
 }
 
@@ -92,7 +106,8 @@ pub(crate) fn written_by(job: Job, bytes: usize) -> Text {
         }
         Job::Check if bytes > TRACE.len() => text(b"legal 2\n"),
         Job::Crew if bytes > TAKE.len() => text(TAKEN.as_bytes()),
-        Job::Check | Job::Crew => Text::new(),
+        Job::CrewOnBoard if bytes > TAKE_ON_BOARD.len() => text(TAKEN_ON_BOARD.as_bytes()),
+        Job::Check | Job::Crew | Job::CrewOnBoard => Text::new(),
     }
 }
 
@@ -116,11 +131,19 @@ pub(crate) fn run<H: Threads + Wait + Sync, R: Read, W: Write>(
             CheckEnd::Writing => End::Writing,
             _ => End::Otherwise,
         },
-        Job::Crew => match crew(rt, alloc, reader, writer, &OpenGate) {
-            CrewRun::Done => End::Done,
-            CrewRun::Reading => End::Reading,
-            CrewRun::Writing => End::Writing,
-            _ => End::Otherwise,
+        Job::Crew => end_of(crew(rt, alloc, reader, writer, &OpenGate)),
+        Job::CrewOnBoard => match Board::open(alloc, 1, 1, 5) {
+            Ok(board) => end_of(crew_on(rt, alloc, board, reader, writer, &OpenGate)),
+            Err(_) => End::Otherwise,
         },
+    }
+}
+
+fn end_of(run: CrewRun) -> End {
+    match run {
+        CrewRun::Done => End::Done,
+        CrewRun::Reading => End::Reading,
+        CrewRun::Writing => End::Writing,
+        _ => End::Otherwise,
     }
 }

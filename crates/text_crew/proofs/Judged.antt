@@ -1,11 +1,12 @@
 -- A valid script satisfies the preconditions of a crew.
-use Rattle.std.proofs.Common.{◌≡◌, List, [], ◌∷◌, length, Vec, Global, refl, ap, ◌∙◌, arith, Bool, false, ◌||◌}
+use Rattle.std.proofs.Common.{◌≡◌, List, [], ◌∷◌, length, Vec, Global, refl, ap, ◌∙◌, arith, Bool, false, ◌||◌, Option, None}
 use Rattle.std.specs.List.{list_any}
 use Rattle.std.proofs.lemmas.Bool.{or_from}
+use Rattle.synic_board.specs.State.{State}
 use Rattle.board_threads.specs.Crew.{lists}
-use Rattle.board_threads.specs.Judging.{IsSized, is_bad_step, is_bad_script, is_bad_raise, is_bad_line, has_bad_step}
+use Rattle.board_threads.specs.Judging.{AreScriptSizes, IsSized, is_bad_step, is_bad_script, is_bad_raise, is_bad_line, has_bad_step}
 use Rattle.board_threads.specs.Sweeps.{is_absorb}
-use Rattle.text_crew.specs.inside.Good.{IsGood}
+use Rattle.text_crew.specs.inside.Good.{IsGoodOn}
 use Rattle.text_crew.specs.inside.View.{crew_of}
 use Rattle.text_crew.specs.declared.held.CrewScript.{CrewScript}
 use Rattle.text_crew.proofs.Counting.{lengths}
@@ -18,16 +19,18 @@ any-in : {A : Type 0} (bad : List A → Bool) (scripts : List (Vec A Global)) �
 any-in bad [] = refl
 any-in bad (s ∷ scripts) = ap (λ (b : Bool). bad s.items || b) (any-in bad scripts)
 
-pub sized : (c : CrewScript) → IsGood (crew_of c) → IsSized c.setup c.scripts
-sized c g = record {
-  board = g.board;
+pub script-sized : (board : Option State) (c : CrewScript) → IsGoodOn board (crew_of c) → AreScriptSizes c.setup c.scripts
+script-sized board c g = record {
   actors = omega (arith, g.few_actors, as-many c.scripts.actors.items, c.scripts.actors.ok.0);
   lines = omega (arith, g.few_lines, as-many c.scripts.lines.items, c.scripts.lines.ok.0);
   entries = omega (arith, g.few_entries, lengths c.scripts.actors.items, c.setup.events.ok.0);
 }
 
-pub none-bad : (c : CrewScript) → IsGood (crew_of c) → has_bad_step c.setup c.scripts ≡ false
-none-bad c g =
+pub sized : (c : CrewScript) → IsGoodOn None (crew_of c) → IsSized c.setup c.scripts
+sized c g = record { board = g.board; sizes = script-sized None c g }
+
+pub none-bad : (board : Option State) (c : CrewScript) → IsGoodOn board (crew_of c) → has_bad_step c.setup c.scripts ≡ false
+none-bad board c g =
     let steps = any-in (list_any is_bad_step) c.scripts.actors.items ∙ g.no_bad_step in
     let raises = any-in (list_any (is_bad_raise c.setup.processors)) c.scripts.lines.items ∙ g.no_bad_raise in
     let acts = or_from (list_any is_absorb c.setup.events.items) (list_any is_bad_script c.scripts.actors.items) g.no_bad_event steps in

@@ -1,6 +1,7 @@
 -- The greatest number of bytes read.
 use Rattle.std.proofs.Common.{◌≡◌, ℕ, List, Option, refl, sym, subst}
 use Rattle.text_base.specs.Streams.{ReadsUpTo}
+use Rattle.synic_board.specs.State.{State}
 use Rattle.text_driver.specs.Driving.{ReadsNear}
 use Rattle.text_lines.specs.declared.fault.ScriptFault.{ScriptFault}
 use Rattle.text_crew.specs.Crew.{Crew}
@@ -25,9 +26,9 @@ pub within : (result : CrewRun) (tells : CrewRun → List ℕ → Type 0) (r0 r1
 within result tells r0 r1 w0 w1 never says = subst (λ n. ReadsUpTo n r0 r1) (sym (said-within result tells w0 w1 never says))
 
 -- No line is reported if a crew is run.
-pub run-near : (result : CrewRun) (crew : Crew) (r0 r1 w0 w1 : Option (List ℕ)) → Runs result crew w0 w1 → StopsNear result r0 r1
-run-near (Script line fault) crew r0 r1 w0 w1 runs = absurd runs.1
-run-near result crew r0 r1 w0 w1 runs = tt
+pub run-near : (board : Option State) (result : CrewRun) (crew : Crew) (r0 r1 w0 w1 : Option (List ℕ)) → Runs board result crew w0 w1 → StopsNear result r0 r1
+run-near board (Script line fault) crew r0 r1 w0 w1 runs = absurd runs.1
+run-near board result crew r0 r1 w0 w1 runs = tt
 
 -- The reported line is the one near which reading stopped.
 pub fault-near : (result : CrewRun) (line : ℕ) (fault : ScriptFault) (r0 r1 w0 w1 : Option (List ℕ)) → Refuses result line fault w0 w1 → ReadsNear line r0 r1 → StopsNear result r0 r1

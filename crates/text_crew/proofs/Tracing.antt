@@ -2,10 +2,10 @@
 use Rattle.std.proofs.Common.{◌≡◌, ℕ, List, [], ◌∷◌, ◌++◌, refl, Option, None, Some, Ok, Err, IfSome}
 use Rattle.std.specs.Io.KnownBytes.{Appends}
 use Rattle.std.proofs.KnownBytes.{Appends-trans}
+use Rattle.synic_board.specs.State.{State}
 use Rattle.text_lines.specs.declared.fault.ScriptFault.{ScriptFault}
 use Rattle.text_crew.specs.Crew.{Crew, finished}
-use Rattle.text_crew.specs.Reading.{parse_script}
-use Rattle.text_crew.specs.Running.{IsOutput, Writes, Crews}
+use Rattle.text_crew.specs.Running.{IsOutput, Writes, CrewsOn, parse_on}
 use Rattle.text_crew.specs.inside.Reporting.{Refusal, Report}
 use Rattle.text_crew.specs.declared.running.CrewRun.{CrewRun}
 use Rattle.text_crew.specs.declared.running.CrewRun.TheVariants.{Done, Script, Unsettled, Memory, NoThread, Reading, Writing}
@@ -15,37 +15,37 @@ known None P Q step h = tt
 known (Some input) P Q step h = step input h
 
 -- A report that nothing precedes is the whole output.
-module _ (tells : CrewRun → List ℕ → Type 0) (r0 w0 w w1 : Option (List ℕ)) (P : List ℕ → Type 0)
-    (step : (input : List ℕ) → P input → (end : CrewRun) (text : List ℕ) → tells end text → IsOutput input end text) (read : IfSome r0 P) (first : Appends w0 w []) where
-  plain : (end : CrewRun) → (text : List ℕ) × tells end text × Appends w w1 text → (text : List ℕ) × IfSome r0 (λ input. IsOutput input end text) × Appends w0 w1 text
-  plain end h = (h.0, known r0 P (λ input. IsOutput input end h.0) (λ input p. step input p end h.0 h.1) read, Appends-trans w0 w w1 [] h.0 first h.2)
+module _ (board : Option State) (tells : CrewRun → List ℕ → Type 0) (r0 w0 w w1 : Option (List ℕ)) (P : List ℕ → Type 0)
+    (step : (input : List ℕ) → P input → (end : CrewRun) (text : List ℕ) → tells end text → IsOutput board input end text) (read : IfSome r0 P) (first : Appends w0 w []) where
+  plain : (end : CrewRun) → (text : List ℕ) × tells end text × Appends w w1 text → (text : List ℕ) × IfSome r0 (λ input. IsOutput board input end text) × Appends w0 w1 text
+  plain end h = (h.0, known r0 P (λ input. IsOutput board input end h.0) (λ input p. step input p end h.0 h.1) read, Appends-trans w0 w w1 [] h.0 first h.2)
 
-  pub spoken : (end : CrewRun) → Writes tells end w w1 → Crews end r0 w0 w1
+  pub spoken : (end : CrewRun) → Writes tells end w w1 → CrewsOn board end r0 w0 w1
   spoken Done h = plain Done h
   spoken (Script line fault) h = plain (Script line fault) h
   spoken Unsettled h = plain Unsettled h
   spoken Memory h = plain Memory h
   spoken NoThread h = plain NoThread h
   spoken Reading h = plain Reading h
-  spoken Writing h = (h.0, h.1, h.2, known r0 P (λ input. IsOutput input h.0 (h.1 ++ h.2)) (λ input p. step input p h.0 (h.1 ++ h.2) h.3) read, Appends-trans w0 w w1 [] h.1 first h.4)
+  spoken Writing h = (h.0, h.1, h.2, known r0 P (λ input. IsOutput board input h.0 (h.1 ++ h.2)) (λ input p. step input p h.0 (h.1 ++ h.2) h.3) read, Appends-trans w0 w w1 [] h.1 first h.4)
 
-pub tells-refusal : (line : ℕ) (fault : ScriptFault) (input : List ℕ) → parse_script input ≡ Err (line, fault) → (end : CrewRun) (text : List ℕ) → Refusal line fault end text → IsOutput input end text
-tells-refusal line fault input is Done text h = absurd h
-tells-refusal line fault input is (Script l f) text h = rw (h.0, h.1) (is, h.2)
-tells-refusal line fault input is Unsettled text h = absurd h
-tells-refusal line fault input is Memory text h = h
-tells-refusal line fault input is NoThread text h = absurd h
-tells-refusal line fault input is Reading text h = absurd h
-tells-refusal line fault input is Writing text h = absurd h
+pub tells-refusal : (board : Option State) (line : ℕ) (fault : ScriptFault) (input : List ℕ) → parse_on board input ≡ Err (line, fault) → (end : CrewRun) (text : List ℕ) → Refusal line fault end text → IsOutput board input end text
+tells-refusal board line fault input is Done text h = absurd h
+tells-refusal board line fault input is (Script l f) text h = rw (h.0, h.1) (is, h.2)
+tells-refusal board line fault input is Unsettled text h = absurd h
+tells-refusal board line fault input is Memory text h = h
+tells-refusal board line fault input is NoThread text h = absurd h
+tells-refusal board line fault input is Reading text h = absurd h
+tells-refusal board line fault input is Writing text h = absurd h
 
-pub tells-report : (last : Crew) (input : List ℕ) → parse_script input ≡ Ok (Some last) → (end : CrewRun) (text : List ℕ) → Report (finished last) end text → IsOutput input end text
-tells-report last input is Done text h = (finished last, (last, is, refl), h)
-tells-report last input is (Script l f) text h = absurd h
-tells-report last input is Unsettled text h = (finished last, (last, is, refl), h)
-tells-report last input is Memory text h = h
-tells-report last input is NoThread text h = (finished last, (last, is, refl), h)
-tells-report last input is Reading text h = absurd h
-tells-report last input is Writing text h = absurd h
+pub tells-report : (board : Option State) (last : Crew) (input : List ℕ) → parse_on board input ≡ Ok (Some last) → (end : CrewRun) (text : List ℕ) → Report board (finished last) end text → IsOutput board input end text
+tells-report board last input is Done text h = (finished last, (last, is, refl), h)
+tells-report board last input is (Script l f) text h = absurd h
+tells-report board last input is Unsettled text h = (finished last, (last, is, refl), h)
+tells-report board last input is Memory text h = h
+tells-report board last input is NoThread text h = (finished last, (last, is, refl), h)
+tells-report board last input is Reading text h = absurd h
+tells-report board last input is Writing text h = absurd h
 
 pub none-sent : (sent unsent : List ℕ) → sent ++ unsent ≡ [] → sent ≡ []
 none-sent [] unsent is = refl

@@ -121,6 +121,6 @@ abbrev pub parse_lines : ℕ → Option Crew → List (List ℕ) → List ℕ �
 parse_lines k crew [] rest = at_rest k crew (rest_fault (is_open crew) rest)
 parse_lines k crew (line ∷ lines) rest = continue_with k (parse_line crew line) (λ (next : Option Crew). parse_lines (k + 1) next lines rest)
 
--- the crew of a whole script, or its first fault
-unfoldable pub parse_script : List ℕ → Result (Option Crew) (ℕ × ScriptFault)
-parse_script input = parse_lines 1 None (lines_of input) (rest_of input)
+-- the crew of a whole script, which begins with this crew, or its first fault
+unfoldable pub parse_from : Option Crew → List ℕ → Result (Option Crew) (ℕ × ScriptFault)
+parse_from first input = parse_lines 1 first (lines_of input) (rest_of input)

@@ -1,23 +1,23 @@
 // Running a crew script from a reader, and writing the trace of its crew.
+ghost use Rattle.std.specs.Prelude.{◌≡◌, [], Some};
 ghost use Rattle.text_base.specs.Streams.{ReadsUpTo};
-ghost use Rattle.text_crew.specs.inside.View.{crew_of};
 ghost use Rattle.text_crew.specs.Crew.{finished};
-ghost use Rattle.text_crew.specs.inside.Good.{IsGood};
-ghost use Rattle.text_crew.specs.Running.{Crews, most_read, StopsNear};
+ghost use Rattle.text_crew.specs.Running.{Crews, CrewsOn, most_read, StopsNear};
+ghost use Rattle.text_crew.specs.inside.Good.{IsGoodOn};
 ghost use Rattle.text_crew.specs.inside.Reporting.{Refuses, Runs, Prepares};
-ghost use Rattle.text_crew.specs.inside.Tracing.{IsTraced};
-ghost use Rattle.std.specs.Prelude.{◌≡◌, ◌≢◌, []};
+ghost use Rattle.text_crew.specs.inside.View.{crew_of, state_in};
 
 use crate::held::CrewScript;
 use crate::judge::CrewJudge;
-use board_threads::{CrewFault, Ended, Gate, Setup, run_crew};
+use crate::outcome::{Outcome, run_given, run_opened};
+use board_threads::Gate;
 use std::alloc::Global;
 use std::io::{Read, Write};
 use std::sync::Wait;
 use std::thread::Threads;
+use synic_board::Board;
 use text_driver::{End, close, drive};
 use text_lines::{ScriptFault, put_fault};
-use text_trace::put_trace;
 
 /// The result of a crew script.
 #[derive(Clone, Copy, PartialEq, Eq, Debug)]
@@ -54,14 +54,48 @@ pub fn crew<T: Threads + Wait + Sync, R: Read, W: Write, G: Gate + Sync>(
     ensures limit { ReadsUpTo (most_read result) (R.remaining reader.old) (R.remaining reader.new) }
     ensures near { StopsNear result (R.remaining reader.old) (R.remaining reader.new) }
 {
+    run_script(rt, alloc, None, reader, writer, gate)
+}
+
+/// Runs a crew on a board that is open, such as one that was restored. The script has no board line,
+/// and the trace, of format 3, begins with the image of the board. Otherwise the same as `crew`. It
+/// also allocates that image, and a second board, on which the history is performed once more.
+pub fn crew_on<T: Threads + Wait + Sync, R: Read, W: Write, G: Gate + Sync>(
+    rt: &T,
+    alloc: Global,
+    board: Board,
+    reader: &mut R,
+    writer: &mut W,
+    gate: &G,
+) -> CrewRun
+    ensures text { CrewsOn (Some board.state) result (R.remaining reader.old) (W.contents writer.old) (W.contents writer.new) }
+    ensures limit { ReadsUpTo (most_read result) (R.remaining reader.old) (R.remaining reader.new) }
+    ensures near { StopsNear result (R.remaining reader.old) (R.remaining reader.new) }
+{
+    run_script(rt, alloc, Some(board), reader, writer, gate)
+}
+
+/// Runs the crew of a script on this board, or on the one that its first line opens.
+fn run_script<T: Threads + Wait + Sync, R: Read, W: Write, G: Gate + Sync>(
+    rt: &T,
+    alloc: Global,
+    board: Option<Board>,
+    reader: &mut R,
+    writer: &mut W,
+    gate: &G,
+) -> CrewRun
+    ensures text { CrewsOn (state_in board) result (R.remaining reader.old) (W.contents writer.old) (W.contents writer.new) }
+    ensures limit { ReadsUpTo (most_read result) (R.remaining reader.old) (R.remaining reader.new) }
+    ensures near { StopsNear result (R.remaining reader.old) (R.remaining reader.new) }
+{
     let mut judge = CrewJudge {
         alloc,
-        script: None,
+        script: CrewScript::on(alloc, &board),
     };
     let mut out = Vec::new(alloc);
     match drive(alloc, reader, writer, &mut judge, &mut out) {
         End::Last { line } => match judge.script {
-            Some(script) => run(rt, alloc, script, writer, gate),
+            Some(script) => run(rt, alloc, board, script, writer, gate),
             None => refuse(alloc, writer, line, ScriptFault::First),
         },
         End::Wrong { line, fault } => refuse(alloc, writer, line, fault),
@@ -92,15 +126,16 @@ fn refuse<W: Write>(alloc: Global, writer: &mut W, line: u64, fault: ScriptFault
 fn run<T: Threads + Wait + Sync, W: Write, G: Gate + Sync>(
     rt: &T,
     alloc: Global,
+    board: Option<Board>,
     mut script: CrewScript,
     writer: &mut W,
     gate: &G,
 ) -> CrewRun
-    requires good { IsGood (finished (crew_of script)) }
-    ensures { Runs result (crew_of script) (W.contents writer.old) (W.contents writer.new) }
+    requires good { IsGoodOn (state_in board) (finished (crew_of script)) }
+    ensures { Runs (state_in board) result (crew_of script) (W.contents writer.old) (W.contents writer.new) }
 {
     let mut out = Vec::new(alloc);
-    match prepare(rt, alloc, &mut script, gate, &mut out) {
+    match prepare(rt, alloc, board, &mut script, gate, &mut out) {
         Outcome::Memory => CrewRun::Memory,
         Outcome::NoThread => CrewRun::NoThread,
         Outcome::Unsettled => {
@@ -118,67 +153,24 @@ fn run<T: Threads + Wait + Sync, W: Write, G: Gate + Sync>(
     }
 }
 
-/// The result of running a crew.
-#[derive(Clone, Copy)]
-enum Outcome {
-    Done,
-    Unsettled,
-    Memory,
-    NoThread,
-}
-
 /// Runs the crew of a script, and appends its trace to `out`.
 fn prepare<T: Threads + Wait + Sync, G: Gate + Sync>(
     rt: &T,
     alloc: Global,
+    board: Option<Board>,
     script: &mut CrewScript,
     gate: &G,
     out: &mut Vec<u8>,
 ) -> Outcome
     requires empty { out.old.items ≡ [] }
-    requires good { IsGood (finished (crew_of script.old)) }
-    ensures { Prepares result (finished (crew_of script.old)) out.new.items }
+    requires good { IsGoodOn (state_in board) (finished (crew_of script.old)) }
+    ensures { Prepares (state_in board) result (finished (crew_of script.old)) out.new.items }
 {
     if script.close().is_err() {
         return Outcome::Memory;
     }
-    match run_crew(rt, alloc, &script.setup, &script.scripts, gate) {
-        Ok(end) => put_ended(&script.setup, &end.ended, out),
-        Err(fault) => outcome_of(fault),
-    }
-}
-
-/// Appends the trace of a crew that has ended to `out`. It is separate from `prepare`, so that one
-/// owner drops the crew.
-fn put_ended(setup: &Setup, ended: &Ended, out: &mut Vec<u8>) -> Outcome
-    ensures { IsTraced result setup.now ended.now out.old.items out.new.items }
-{
-    match put_trace(
-        out,
-        setup.processors,
-        setup.pages,
-        setup.first_ticket,
-        ended.history.as_slice(),
-        ended.board.next_ticket(),
-    ) {
-        Ok(()) => Outcome::Done,
-        Err(_) => Outcome::Memory,
-    }
-}
-
-/// The outcome for a fault of a crew. Its sizes and steps were validated line by line.
-fn outcome_of(fault: CrewFault) -> Outcome
-    requires size { fault ≢ CrewFault.BadSize }
-    requires step { fault ≢ CrewFault.BadStep }
-    ensures memory { fault ≡ CrewFault.Memory → result ≡ Outcome.Memory }
-    ensures unsettled { fault ≡ CrewFault.Unsettled → result ≡ Outcome.Unsettled }
-    ensures thread { fault ≡ CrewFault.NoThread → result ≡ Outcome.NoThread }
-    ensures never_done { result ≢ Outcome.Done }
-{
-    match fault {
-        CrewFault::BadSize | CrewFault::BadStep => unreachable!(),
-        CrewFault::Memory => Outcome::Memory,
-        CrewFault::NoThread => Outcome::NoThread,
-        CrewFault::Unsettled => Outcome::Unsettled,
+    match board {
+        None => run_opened(rt, alloc, script, gate, out),
+        Some(board) => run_given(rt, alloc, board, script, gate, out),
     }
 }

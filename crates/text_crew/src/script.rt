@@ -1,16 +1,19 @@
 // Parsing a crew script.
-ghost use Rattle.std.specs.Prelude.{◌≡◌, ◌≤◌, ◌<◌, ◌↔◌, ◌∷◌, length, vec_len, nat_lt, IsTrue, OnOk, Some};
+ghost use Rattle.std.specs.Prelude.{◌≡◌, ◌≤◌, ◌<◌, ◌↔◌, ◌∷◌, length, vec_len, nat_lt, IsTrue, OnOk, IfSome, Some};
 ghost use Rattle.std.specs.List.{sum_by};
-ghost use Rattle.text_crew.specs.Crew.{finished, entries};
+ghost use Rattle.std.specs.Option.{option_map};
+ghost use Rattle.synic_board.specs.State.{processors};
+ghost use Rattle.text_crew.specs.Crew.{new_crew, finished, entries};
+ghost use Rattle.text_crew.specs.Running.{crew_on};
 ghost use Rattle.text_crew.specs.Reading.{parse_act, parse_step, parse_line_step, parse_sweep, parse_section_line, parse_first, with_actor, with_line, section_line, parse_line};
-ghost use Rattle.text_crew.specs.inside.View.{section_of, crew_of, optional_crew, IsLineResult, Appends};
+ghost use Rattle.text_crew.specs.inside.View.{section_of, crew_of, optional_crew, state_in, IsLineResult, Appends};
 
 use crate::held::{CrewScript, Section};
-use board_terms::{Vector, Vp};
+use board_terms::{Ticket, Vector, Vp};
 use board_threads::{Scripts, Setup, Step};
 use std::alloc::{AllocError, Global};
 use std::mem;
-use synic_board::Event;
+use synic_board::{Board, Event};
 use text_base::Fields;
 use text_driver::Taken;
 use text_lines::{ScriptFault, event_of, opening_of, skips, u8_of, vector_of};
@@ -58,23 +61,46 @@ fn open(
     if processors < 1 || processors > 8 || pages < 1 || pages > 64 {
         return Taken::Wrong(ScriptFault::Size);
     }
-    *script = Some(CrewScript {
-        setup: Setup {
-            processors,
-            pages,
-            first_ticket,
-            events: Vec::new(alloc),
-        },
-        scripts: Scripts {
-            actors: Vec::new(alloc),
-            lines: Vec::new(alloc),
-        },
-        section: Section::Setup,
-    });
+    *script = Some(CrewScript::new(alloc, processors, pages, first_ticket));
     Taken::Good
 }
 
 impl CrewScript {
+    /// The script of a crew whose board line was read, without steps.
+    fn new(alloc: Global, processors: u8, pages: u8, first_ticket: Ticket) -> CrewScript
+        requires { processors ≤ 8 }
+        ensures { crew_of result ≡ new_crew processors pages first_ticket }
+    {
+        CrewScript {
+            setup: Setup {
+                processors,
+                pages,
+                first_ticket,
+                events: Vec::new(alloc),
+            },
+            scripts: Scripts {
+                actors: Vec::new(alloc),
+                lines: Vec::new(alloc),
+            },
+            section: Section::Setup,
+        }
+    }
+
+    /// What is read of a script before its first line: a crew of a board that is given, or nothing.
+    pub(crate) fn on(alloc: Global, board: &Option<Board>) -> Option<CrewScript>
+        ensures value { optional_crew result ≡ option_map crew_on (state_in board.now) }
+        ensures bound { IfSome (state_in board.now) (λ s. processors s ≤ 8) }
+    {
+        let board = board.as_ref()?;
+        let script = CrewScript::new(
+            alloc,
+            board.processors(),
+            board.pages(),
+            board.next_ticket(),
+        );
+        Some(script)
+    }
+
     /// Takes a line after the board line.
     fn take_line(
         &mut self,

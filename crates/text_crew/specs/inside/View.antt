@@ -1,17 +1,18 @@
 -- The abstract view of the fields.
 use Rattle.std.specs.Prelude.{◌≡◌, List, [], ◌∷◌, ◌++◌, Option, Ok, Err}
 use Rattle.std.specs.Option.{option_map}
+use Rattle.synic_board.specs.State.{State, BoardModel}
 use Rattle.text_driver.specs.declared.judge.Taken.{Taken}
 use Rattle.text_driver.specs.declared.judge.Taken.TheVariants as taken
 use Rattle.text_lines.specs.declared.fault.ScriptFault.{ScriptFault}
 use Rattle.board_threads.specs.Crew.{lists}
 use Rattle.text_crew.specs.Crew.{Section, InSetup, InActor, InLine, Crew}
 use Rattle.text_crew.specs.Reading.{Read}
-use Rattle.text_crew.specs.declared.held.Section.{Section as BoardModel}
+use Rattle.text_crew.specs.declared.held.Section.{Section as HeldSection}
 use Rattle.text_crew.specs.declared.held.Section.TheVariants as held
 use Rattle.text_crew.specs.declared.held.CrewScript.{CrewScript}
 
-abbrev pub section_of : BoardModel → Section
+abbrev pub section_of : HeldSection → Section
 section_of held.Setup = InSetup
 section_of (held.Actor steps) = InActor steps.items
 section_of (held.Line raises) = InLine raises.items
@@ -26,6 +27,10 @@ crew_of s = record {
   lines = lists s.scripts.lines.items;
   section = section_of s.section;
 }
+
+-- the state of a board that is given
+abbrev pub state_in : Option BoardModel → Option State
+state_in board = option_map (λ (b : BoardModel). b.state) board
 
 abbrev pub optional_crew : Option CrewScript → Option Crew
 optional_crew script = option_map crew_of script

@@ -1,5 +1,6 @@
 use Rattle.law_images.specs.States.{IsBoardState}
 use Rattle.law_images.proofs.Accepted.{accepted}
+use Rattle.law_images.proofs.Unique.{one-state}
 use Rattle.law_images.proofs.laws.a_board_is_restored_from_its_image.Goals as goal
 
 pub returns : goal.returns
@@ -14,4 +15,5 @@ returns c =
       timers = facts.timers;
       ranges = facts.ranges;
     } in
-    record { state = state; image = accepted c.args.board.now.state state }
+    let whole = accepted c.args.board.now.state state in
+    record { state = state; image = whole; only = λ s is. one-state _ s c.args.board.now.state is whole }

@@ -1,6 +1,6 @@
 use Rattle.std.proofs.Common.{rules, ◌≡◌, ◌++◌, sym, subst}
 use Rattle.text_crew.specs.Crew.{finished}
-use Rattle.text_crew.specs.inside.View.{crew_of}
+use Rattle.text_crew.specs.inside.View.{crew_of, state_in}
 use Rattle.text_crew.specs.inside.Reporting.{Report}
 use Rattle.text_crew.specs.declared.running.CrewRun.TheVariants.{Done, Unsettled}
 use Rattle.text_crew.proofs.running.run.Goals as goal
@@ -13,6 +13,6 @@ returns-then-not-close g c =
 pub returns-then-not-close-2 : goal.returns-then-not-close-2
 returns-then-not-close-2 g c =
     let s = c.close-in-Done.ensures in
-    let ready : Report (finished (crew_of c.args.script)) Done c.prepare.new.out.items = search rules in
+    let ready : Report (state_in c.args.board) (finished (crew_of c.args.script)) Done c.prepare.new.out.items = search rules in
     let whole : c.prepare.new.out.items ≡ s.0 ++ s.1 = search rules in
-    (Done, s.0, s.1, subst (Report (finished (crew_of c.args.script)) Done) whole ready, s.2)
+    (Done, s.0, s.1, subst (Report (state_in c.args.board) (finished (crew_of c.args.script)) Done) whole ready, s.2)

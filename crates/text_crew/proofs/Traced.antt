@@ -1,0 +1,47 @@
+-- The trace of a history that was written to memory.
+use Rattle.std.proofs.Common.{◌≡◌, ℕ, List, [], ap, ◌∙◌}
+use Rattle.std.specs.Prelude.{Option}
+use Rattle.std.specs.List.{All}
+use Rattle.synic_board.specs.State.{State}
+use Rattle.synic_board.specs.declared.history.Entry.{Entry}
+use Rattle.synic_board.specs.History.{leads_to}
+use Rattle.board_threads.specs.declared.settling.Ended.{Ended}
+use Rattle.text_trace.specs.declared.format.Format.{Format}
+use Rattle.text_trace.specs.Trace.{IsBeginning, IsEntry, trace, trace_text}
+use Rattle.text_crew.specs.Crew.{Crew}
+use Rattle.text_crew.specs.Running.{IsHistory, IsCrewTrace, IsTraceOn}
+use Rattle.text_crew.specs.inside.Tracing.{IsTraced}
+use Rattle.text_crew.specs.inside.Reporting.{Prepares}
+use Rattle.text_crew.specs.declared.outcome.Outcome.{Outcome}
+use Rattle.text_crew.specs.declared.outcome.Outcome.TheVariants as outcomes
+
+-- the printed history is a legal trace
+traced : (format : Format) (beginning : List ℕ) (start : State) (crew : Crew) (history : List Entry) (text : List ℕ) → IsHistory crew start history →
+    IsBeginning format beginning start → All (IsEntry format) history → text ≡ trace format beginning start history → IsCrewTrace format beginning start crew text
+traced format beginning start crew history text is begins fits written = record {
+  history = history;
+  is = is;
+  written = written;
+  legal = record {
+    format = format;
+    beginning = beginning;
+    state = start;
+    history = history;
+    begins = begins;
+    fits = fits;
+    legal = is.legal;
+    counted = is.crewed.all;
+    written = written;
+  };
+}
+
+-- what was written is the trace, if the board has the state to which its history leads
+pub prepared : (board : Option State) (format : Format) (beginning : List ℕ) (start : State) (crew : Crew) (outcome : Outcome) (ended : Ended) (text : List ℕ) →
+    IsHistory crew start ended.history.items → IsBeginning format beginning start → ended.board.state ≡ leads_to start ended.history.items → IsTraced format beginning outcome ended [] text →
+    (IsCrewTrace format beginning start crew text → IsTraceOn board crew text) → Prepares board outcome crew text
+prepared board format beginning start crew outcomes.Done ended text is begins leads written on =
+    let next = ap (λ (s : State). trace_text format beginning ended.history.items s.next_ticket) leads in
+    on (traced format beginning start crew ended.history.items text is begins written.0 (written.1 ∙ next))
+prepared board format beginning start crew outcomes.Memory ended text is begins leads written on = tt
+prepared board format beginning start crew outcomes.Unsettled ended text is begins leads written on = tt
+prepared board format beginning start crew outcomes.NoThread ended text is begins leads written on = tt
