@@ -65,6 +65,11 @@ void apic_write(struct vp *vp, uint32_t offset, uint32_t value)
     }
 }
 
+void apic_transfer(void)
+{
+    saved_transfer(registers, sizeof registers);
+}
+
 uint64_t apic_icr(struct vp *vp)
 {
     return (uint64_t)*stored(vp, ICR_HIGH) << 32 | *stored(vp, ICR_LOW);

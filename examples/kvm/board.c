@@ -165,6 +165,11 @@ void board_wait_for_buffer(void)
     pthread_cond_wait(&has_buffer, &lock);
 }
 
+void board_end_waiting(void)
+{
+    pthread_cond_broadcast(&has_buffer);
+}
+
 /* If the bit was set already, whoever set it makes the processor absorb it. The part is marked
  * after the raise, and the processor clears the mark before it sweeps, so a marked part is swept
  * after its raise. */
@@ -188,6 +193,15 @@ void board_absorb(struct vp *vp)
         synicboard_reply reply = answer(synicboard_absorb_line(&board, &vp->line, vp->number, part));
         board_absorbed += (uint64_t)__builtin_popcountll(reply.value);
     }
+}
+
+/* What the flat guest compares at its end. The board is in its image. */
+void board_transfer(void)
+{
+    uint32_t fresh = board_fresh;
+    saved_transfer(&fresh, sizeof fresh);
+    saved_transfer(&board_absorbed, sizeof board_absorbed);
+    board_fresh = fresh;
 }
 
 void board_report(void)

@@ -8,7 +8,10 @@
 #include "vmm.h"
 
 static uint64_t scale;          /* time units per TSC tick, times 2^64 */
-static uint64_t start;          /* TSC at time 0 */
+static uint64_t tsc_offset;     /* the guest's TSC minus that of the host */
+static uint64_t time_offset;    /* by which the time is ahead of the guest's TSC */
+static uint32_t sequence = 1;   /* of the reference TSC page */
+static uint64_t stopped_tsc, stopped_time;      /* of the guest, when it was stopped to be saved */
 static int timer = -1;
 static uint64_t armed = UINT64_MAX;
 
@@ -18,20 +21,60 @@ static uint64_t scaled(uint64_t tsc)
 }
 
 /* TLFS, "Partition Reference Time Enlightenment": ReferenceTime = ((VirtualTsc * TscScale) >>
- * 64) + TscOffset. The guest's TSC is the host's, so the board's time and what a guest computes
- * from the page are the same. */
+ * 64) + TscOffset. So the board's time and what a guest computes from the page are the same. */
 uint64_t clock_now(void)
 {
-    return scaled(__rdtsc()) - scaled(start);
+    return scaled(__rdtsc() + tsc_offset) + time_offset;
 }
 
 void clock_fill_page(void *page)
 {
     struct { uint32_t sequence, reserved; uint64_t scale, offset; } *reference = page;
     reference->scale = scale;
-    reference->offset = -scaled(start);
-    reference->sequence = 1;
+    reference->offset = time_offset;
+    reference->sequence = sequence;
 }
+
+/* ---- While the guest is saved, its time stops ---- */
+
+void clock_stop(void)
+{
+    stopped_tsc = __rdtsc() + tsc_offset;
+    stopped_time = scaled(stopped_tsc) + time_offset;
+}
+
+/* If KVM supports it, the guest's TSC continues at the saved one. Otherwise the TSC remains the host's, and
+ * TscOffset changes. */
+void clock_continue(void)
+{
+    uint64_t tsc = __rdtsc();
+    tsc_offset = state_set_tsc_offset(&vm.vp[0], stopped_tsc - tsc);
+    time_offset = stopped_time - scaled(tsc + tsc_offset);
+    sequence++;
+}
+
+uint64_t clock_stopped(void)
+{
+    return stopped_time;
+}
+
+uint64_t clock_tsc_offset(void)
+{
+    return tsc_offset;
+}
+
+void clock_transfer(void)
+{
+    uint64_t hz = vm.tsc_hz;
+    saved_transfer(&hz, sizeof hz);
+    if (hz != vm.tsc_hz)
+        saved_refuse("saved where the TSC has another frequency");
+    saved_transfer(&stopped_tsc, sizeof stopped_tsc);
+    saved_transfer(&stopped_time, sizeof stopped_time);
+    saved_transfer(&sequence, sizeof sequence);
+}
+
+/* ---- The host's timer ---- */
 
 /* Another thread may have moved the deadline, so the timer's thread only looks: the board says
  * what is due. */
@@ -56,7 +99,7 @@ void clock_open(void)
         fail("KVM_GET_TSC_KHZ");
     vm.tsc_hz = (uint64_t)khz * 1000;
     scale = (uint64_t)(((unsigned __int128)10000000 << 64) / vm.tsc_hz);
-    start = __rdtsc();
+    time_offset = -scaled(__rdtsc());
     if ((timer = timerfd_create(CLOCK_MONOTONIC, TFD_CLOEXEC)) < 0)
         fail("timerfd_create");
     if ((errno = pthread_create(&thread, NULL, run_timer, NULL)) != 0)

@@ -35,6 +35,11 @@ void port_write(struct vp *vp, uint16_t port, uint32_t value)
     }
 }
 
+void devices_transfer(void)
+{
+    saved_transfer(&has_divisor, sizeof has_divisor);
+}
+
 uint32_t port_read(uint16_t port)
 {
     switch (port) {

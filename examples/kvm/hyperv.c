@@ -111,6 +111,19 @@ bool hyperv_write_msr(struct vp *vp, uint32_t msr, uint64_t value)
     }
 }
 
+void hyperv_transfer(void)
+{
+    saved_transfer(&guest_os_id, sizeof guest_os_id);
+    saved_transfer(&hypercall, sizeof hypercall);
+    saved_transfer(&reference_tsc, sizeof reference_tsc);
+    saved_transfer(vp_assist, sizeof vp_assist);
+}
+
+void hyperv_continue(void)
+{
+    write_reference_tsc(reference_tsc);
+}
+
 /* ---- Hypercalls ---- */
 
 /* TLFS, "Hypercall Interface" and "HvCallSetVpRegisters". */

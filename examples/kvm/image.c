@@ -1,5 +1,6 @@
-/* Replaces the board while the guest runs: saves it, and restores it from its image. The processors,
- * the guest's memory, and what devices have raised and no processor has absorbed stay in place. */
+/* The board saved as an image, and restored from it: in the file of a saved guest, or to replace the board
+ * while the guest runs. In the latter case the processors, the guest's memory, and what devices have raised and
+ * no processor has absorbed stay in place. */
 #define _GNU_SOURCE
 #include <errno.h>
 #include <stdio.h>
@@ -8,34 +9,57 @@
 
 #include "vmm.h"
 
+enum { MOST_LENGTH = 1 << 20 };         /* docs/EMBEDDING.md: the largest image has some 810,000 bytes */
+
 static uint8_t *image;
-static size_t room, longest;
+static size_t length, room, longest;
 static uint64_t restored;
 
-/* Returns the length of the image. */
-static size_t save(void)
+static void reserve(size_t needed)
 {
-    for (;;) {
+    if (needed <= room)
+        return;
+    room = 2 * needed;
+    if ((image = realloc(image, room)) == NULL)
+        fail("the image of the board");
+}
+
+void image_save(void)
+{
+    do {
+        reserve(length);
         synicboard_end end = synicboard_save(&board, image, room);
         if (end.kind != SYNICBOARD_OK)
             fail("synicboard_save");
-        if (end.length <= room)
-            return end.length;
-        room = 2 * end.length;
-        if ((image = realloc(image, room)) == NULL)
-            fail("the image of the board");
-    }
+        length = end.length;
+    } while (length > room);
 }
 
-/* The overlays are mapped again, since the pages of the new board lie elsewhere. */
+/* The overlays are mapped again, since the pages of the new board are at other addresses. */
+bool image_restore(void)
+{
+    synicboard_close(&board);
+    if (synicboard_restore(&board, image, length).kind != SYNICBOARD_OK)
+        return false;
+    overlay_set();
+    return true;
+}
+
+void image_transfer(void)
+{
+    saved_transfer(&length, sizeof length);
+    if (length > MOST_LENGTH)
+        saved_refuse("the board of the saved guest is too large");
+    reserve(length);
+    saved_transfer(image, length);
+}
+
 static void replace_board(void)
 {
     vp_pause_others();
-    size_t length = save();
-    synicboard_close(&board);
-    if (synicboard_restore(&board, image, length).kind != SYNICBOARD_OK)
+    image_save();
+    if (!image_restore())
         fail("synicboard_restore");
-    overlay_set();
     vp_resume_others();
     restored++;
     longest = length > longest ? length : longest;

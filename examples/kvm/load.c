@@ -18,6 +18,9 @@ struct raiser {
 
 static struct mailbox *mailbox;
 static struct raiser raisers[RAISERS];
+static pthread_t threads[RAISERS + 1];
+static atomic_bool is_stopped;
+static uint64_t sent;           /* steps that the messenger has made */
 
 static void wait_a_little(void)
 {
@@ -49,7 +52,7 @@ static bool is_done(const struct raiser *raiser)
 static void *run_raiser(void *argument)
 {
     struct raiser *raiser = argument;
-    while (!is_done(raiser)) {
+    while (!is_stopped && !is_done(raiser)) {
         bool has_raised = false;
         for (unsigned vp = 0; vp < LOAD_VPS; vp++)
             for (unsigned at = 0; at < RAISER_VECTORS; at++)
@@ -70,18 +73,19 @@ static void open_ports(void)
     }
 }
 
-/* "Insufficient buffers" is no error: the host posts again when a message has been placed. */
-static void post(uint8_t vp, uint64_t number)
+/* "Insufficient buffers" is no error: the host posts again when a message has been placed. Returns whether a
+ * buffer was free. */
+static bool post(uint8_t vp, uint64_t number)
 {
     struct letter letter = { number, ~number };
-    uint8_t port = FIRST_MESSAGE_PORT + vp;
-    synicboard_reply reply;
-    while ((reply = board_post(port, MESSAGE_TYPE, &letter, sizeof letter)).refusal == SYNICBOARD_NO_BUFFERS) {
+    synicboard_reply reply = board_post(FIRST_MESSAGE_PORT + vp, MESSAGE_TYPE, &letter, sizeof letter);
+    if (reply.refusal == SYNICBOARD_NO_BUFFERS) {
         mailbox->refused++;
-        board_wait_for_buffer();
+        return false;
     }
     if (reply.kind != SYNICBOARD_ACCEPTED)
         fprintf(stderr, "vmm: a message to processor %u is refused: %u\n", vp, reply.refusal);
+    return true;
 }
 
 /* The guest clears a flag before it looks at the counter, so a signal that finds the flag set
@@ -92,27 +96,42 @@ static void signal_flag(uint8_t vp, unsigned flag)
     board_signal(FIRST_FLAG_PORT + vp, (uint16_t)(flag * FLAG_STRIDE));
 }
 
+/* The steps are, for each number, a message and a signal to each processor. Returns whether this one was made. */
+static bool make_step(uint64_t step)
+{
+    uint32_t number = (uint32_t)(step / 2 / LOAD_VPS);
+    uint8_t vp = step / 2 % LOAD_VPS;
+    if (step % 2 == 0)
+        return number >= mailbox->messages || post(vp, number + 1);
+    if (number < mailbox->signals)
+        signal_flag(vp, number % FLAGS);
+    return true;
+}
+
 static void *run_messenger(void *unused)
 {
+    uint64_t most = mailbox->messages > mailbox->signals ? mailbox->messages : mailbox->signals;
     (void)unused;
-    for (uint32_t at = 0; at < mailbox->messages || at < mailbox->signals; at++)
-        for (uint8_t vp = 0; vp < LOAD_VPS; vp++) {
-            pthread_mutex_lock(&lock);
-            if (at < mailbox->messages)
-                post(vp, at + 1);
-            if (at < mailbox->signals)
-                signal_flag(vp, at % FLAGS);
-            pthread_mutex_unlock(&lock);
+    pthread_mutex_lock(&lock);
+    while (!is_stopped && sent < 2 * LOAD_VPS * most) {
+        if (!make_step(sent)) {
+            board_wait_for_buffer();
+            continue;
         }
+        sent++;
+        pthread_mutex_unlock(&lock);
+        pthread_mutex_lock(&lock);
+    }
+    pthread_mutex_unlock(&lock);
     return NULL;
 }
 
-static void start(void *(*run)(void *), void *argument)
+/* ---- Starting, stopping, continuing ---- */
+
+static void start(pthread_t *thread, void *(*run)(void *), void *argument)
 {
-    pthread_t thread;
-    if ((errno = pthread_create(&thread, NULL, run, argument)) != 0)
+    if ((errno = pthread_create(thread, NULL, run, argument)) != 0)
         fail("the thread of a device");
-    pthread_detach(thread);
 }
 
 void load_start(uint64_t address)
@@ -122,10 +141,36 @@ void load_start(uint64_t address)
     if ((mailbox = (struct mailbox *)vm_memory(address, sizeof *mailbox)) == NULL)
         return;
     open_ports();
+    load_continue();
+}
+
+void load_continue(void)
+{
+    if (mailbox == NULL)
+        return;
     for (unsigned number = 0; number < RAISERS; number++) {
         raisers[number].number = number;
         board_split_line(&raisers[number].line);
-        start(run_raiser, &raisers[number]);
+        start(&threads[number], run_raiser, &raisers[number]);
     }
-    start(run_messenger, NULL);
+    start(&threads[RAISERS], run_messenger, NULL);
+}
+
+void load_stop(void)
+{
+    pthread_mutex_lock(&lock);
+    is_stopped = true;
+    board_end_waiting();
+    pthread_mutex_unlock(&lock);
+    for (unsigned number = 0; mailbox != NULL && number <= RAISERS; number++)
+        pthread_join(threads[number], NULL);
+}
+
+/* How far the raisers are is in the mailbox. */
+void load_transfer(void)
+{
+    uint64_t address = mailbox != NULL ? (uint64_t)((uint8_t *)mailbox - vm.ram) : UINT64_MAX;
+    saved_transfer(&address, sizeof address);
+    saved_transfer(&sent, sizeof sent);
+    mailbox = (struct mailbox *)vm_memory(address, sizeof *mailbox);
 }

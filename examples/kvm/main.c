@@ -13,15 +13,18 @@ struct vm vm = { .vps = 2, .ram_size = 512 << 20, .load = 10000 };
 static const char usage[] =
     "usage: vmm --flat IMAGE [--load N] [OPTION ..]\n"
     "       vmm --linux VMLINUX [--initrd FILE] [--append LINE] [OPTION ..]\n"
+    "       vmm --continue FILE [OPTION ..]\n"
     "  --load N      the devices of the flat guest raise N interrupts, and send a tenth as many messages (10000)\n"
     "  --cpus N      1 to 8 processors (2; the flat guest needs 2)\n"
     "  --memory N    64 to 2048 MB (512)\n"
     "  --restore-every N  each N milliseconds, replace the board by the one restored from its image (never)\n"
-    "  --report      print at the end what was counted\n";
+    "  --save-after MS --save-to FILE  after MS milliseconds, save the flat guest to FILE and end\n"
+    "  --report      print at the end what was counted\n"
+    "A saved guest that is continued has its own load, processors and memory.\n";
 
 struct options {
-    const char *flat, *kernel, *initrd, *command_line;
-    bool reports;
+    const char *flat, *kernel, *initrd, *command_line, *saved;
+    bool reports, has_save_time;
 };
 
 void fail(const char *what)
@@ -30,11 +33,13 @@ void fail(const char *what)
     exit(1);
 }
 
+/* A guest that ends while it is being stopped is not saved. */
 void vm_stop(int status)
 {
-    if (!vm.is_stopping)
+    if (!vm.is_stopping || vm.is_saving)
         vm.status = status;
     vm.is_stopping = true;
+    vm.is_saving = false;
     for (unsigned number = 0; number < vm.vps; number++)
         vp_kick(&vm.vp[number]);
 }
@@ -75,6 +80,7 @@ static bool parse(int count, char **words, struct options *options)
     static const struct option known[] = {
         { "flat", 1, NULL, 'f' }, { "load", 1, NULL, 'n' }, { "linux", 1, NULL, 'l' }, { "initrd", 1, NULL, 'i' },
         { "append", 1, NULL, 'a' }, { "cpus", 1, NULL, 'c' }, { "memory", 1, NULL, 'm' }, { "restore-every", 1, NULL, 's' },
+        { "continue", 1, NULL, 'g' }, { "save-after", 1, NULL, 't' }, { "save-to", 1, NULL, 'o' },
         { "report", 0, NULL, 'r' }, { 0 },
     };
     for (int option; (option = getopt_long(count, words, "", known, NULL)) != -1;)
@@ -87,11 +93,18 @@ static bool parse(int count, char **words, struct options *options)
         case 'c': vm.vps = (unsigned)strtoul(optarg, NULL, 10); break;
         case 'm': vm.ram_size = strtoull(optarg, NULL, 10) << 20; break;
         case 's': vm.restore_every = (uint32_t)strtoul(optarg, NULL, 10); break;
+        case 'g': options->saved = optarg; break;
+        case 't':
+            vm.save_after = (uint32_t)strtoul(optarg, NULL, 10);
+            options->has_save_time = true;
+            break;
+        case 'o': vm.save_to = optarg; break;
         case 'r': options->reports = true; break;
         default: return false;
         }
-    return optind == count && (options->flat == NULL) != (options->kernel == NULL) && vm.vps >= 1 && vm.vps <= MOST_VPS
-        && vm.ram_size >= 64 << 20 && vm.ram_size <= 2048UL << 20;
+    return optind == count && (options->flat != NULL) + (options->kernel != NULL) + (options->saved != NULL) == 1
+        && options->has_save_time == (vm.save_to != NULL) && (vm.save_to == NULL || options->kernel == NULL)
+        && vm_has_valid_size();
 }
 
 int main(int count, char **words)
@@ -103,19 +116,26 @@ int main(int count, char **words)
         return 2;
     }
     sigaction(SIGUSR1, &action, NULL);
+    if (options.saved != NULL)
+        saved_open(options.saved);
     vm_open();
-    if (options.flat != NULL)
+    if (options.saved != NULL)
+        saved_read();
+    else if (options.flat != NULL)
         boot_flat(options.flat);
     else
         boot_linux(options.kernel, options.initrd, options.command_line);
     pthread_mutex_lock(&lock);          /* until every thread that may be kicked has been started */
     for (unsigned number = 0; number < vm.vps; number++)
         vp_start(&vm.vp[number]);
+    load_continue();
     image_start();
+    saved_start();
     pthread_mutex_unlock(&lock);
     for (unsigned number = 0; number < vm.vps; number++)
         pthread_join(vm.vp[number].thread, NULL);
     fflush(stdout);
+    saved_write();
     if (options.reports)
         report();
     return vm.status;

@@ -12,6 +12,12 @@ uint8_t *vm_memory(uint64_t address, uint64_t length)
     return address < vm.ram_size && length <= vm.ram_size - address ? vm.ram + address : NULL;
 }
 
+bool vm_has_valid_size(void)
+{
+    return vm.vps >= 1 && vm.vps <= MOST_VPS && vm.ram_size >= 64 << 20 && vm.ram_size <= 2048UL << 20
+        && vm.ram_size % PAGE == 0;
+}
+
 /* TLFS, "Virtual Processor Register Definitions": the synthetic registers are 40000000 and up.
  * All of them exit, and all others stay KVM's. */
 static void filter_msrs(void)

@@ -44,9 +44,12 @@ struct vm {
     unsigned vps;
     struct vp vp[MOST_VPS];
     bool is_stopping;
+    bool is_saving;             /* it is stopping to be saved */
     int status;                 /* the exit status of the program */
     uint32_t load;              /* how many interrupts the flat guest asks of its devices */
     uint32_t restore_every;     /* milliseconds from one replacement of the board to the next; 0 for none */
+    uint32_t save_after;        /* milliseconds until the guest is saved, if save_to is not null */
+    const char *save_to;
     uint64_t tsc_hz;
     uint64_t slot_changes, emulated;
 };
@@ -64,6 +67,7 @@ void vm_stop(int status);
 /* vm.c: before the threads start, without the lock */
 void vm_open(void);
 uint8_t *vm_memory(uint64_t address, uint64_t length);  /* null outside the guest's memory */
+bool vm_has_valid_size(void);               /* of its processors and its memory */
 
 /* vp.c */
 void vp_open(unsigned number);
@@ -73,6 +77,30 @@ void vp_send_init(struct vp *vp);
 void vp_send_sipi(struct vp *vp, uint8_t page);
 void vp_pause_others(void);                 /* returns when no processor is in the guest */
 void vp_resume_others(void);
+void vp_complete(struct vp *vp);            /* completes the instruction of its last exit; its thread has ended */
+
+/* saved.c. Without the lock: saved_open before vm_open, saved_read before the threads start, saved_write after
+ * those of the processors have ended. The functions X_transfer write a state to the file, or read it from there. */
+void saved_open(const char *path);          /* reads what vm_open needs */
+void saved_read(void);
+void saved_start(void);                     /* starts the thread that stops the guest, if it is to be saved */
+void saved_write(void);                     /* saves it, if it was stopped for that */
+void saved_transfer(void *bytes, size_t length);
+_Noreturn void saved_refuse(const char *why);   /* ends the program, because of what it has read */
+void vp_transfer(struct vp *vp);
+void state_transfer(struct vp *vp);
+void board_transfer(void);
+void image_transfer(void);
+void clock_transfer(void);
+void apic_transfer(void);
+void hyperv_transfer(void);
+void devices_transfer(void);
+void load_transfer(void);
+
+/* state.c */
+void state_get(struct vp *vp);
+void state_set(struct vp *vp);
+uint64_t state_set_tsc_offset(struct vp *vp, uint64_t offset);      /* returns the offset that KVM uses then */
 
 /* cpuid.c: before the threads start, without the lock */
 void cpuid_set(struct vp *vp);
@@ -85,6 +113,10 @@ void clock_open(void);
 uint64_t clock_now(void);                   /* the time, in units of 100 ns; needs no lock */
 void clock_arm(uint64_t time);              /* arms the host's timer; UINT64_MAX for none */
 void clock_fill_page(void *page);           /* the reference TSC page */
+void clock_stop(void);                      /* time stops until another run has called clock_continue */
+void clock_continue(void);
+uint64_t clock_stopped(void);               /* the time at which it was stopped */
+uint64_t clock_tsc_offset(void);            /* the guest's TSC minus that of the host */
 
 /* board.c */
 void board_open(void);
@@ -100,7 +132,8 @@ void board_resume(struct vp *vp);
 void board_reset(struct vp *vp);
 synicboard_reply board_post(uint8_t port, uint32_t type, const void *payload, size_t length);
 synicboard_reply board_signal(uint8_t port, uint16_t flag);
-void board_wait_for_buffer(void);           /* waits until a message leaves a queue */
+void board_wait_for_buffer(void);           /* waits until a message leaves a queue, or board_end_waiting */
+void board_end_waiting(void);
 void board_split_line(synicboard_line *line);
 void board_raise(synicboard_line *line, struct vp *vp, uint8_t vector);  /* without the lock */
 void board_report(void);
@@ -112,6 +145,8 @@ void overlay_map(void);                     /* maps the overlays that the board 
 void overlay_set(void);                     /* the same, while no processor is in the guest */
 
 /* image.c */
+void image_save(void);                      /* saves the board as an image */
+bool image_restore(void);                   /* replaces the board by that of the image; false if there is none */
 void image_start(void);                     /* starts the thread that replaces the board, if that was asked for */
 void image_report(void);
 
@@ -121,6 +156,7 @@ unsigned hyperv_add_cpuid(struct kvm_cpuid_entry2 *entries, unsigned count);
 bool hyperv_read_msr(struct vp *vp, uint32_t msr, uint64_t *value);     /* false for #GP */
 bool hyperv_write_msr(struct vp *vp, uint32_t msr, uint64_t value);
 void hyperv_call(struct vp *vp);
+void hyperv_continue(void);                 /* fills the reference TSC page again */
 
 /* apic.c */
 enum { APIC_BASE = 0xfee00000, APIC_HZ = 1000000000 };
@@ -136,6 +172,8 @@ uint32_t port_read(uint16_t port);
 
 /* load.c: the devices of the flat guest */
 void load_start(uint64_t address);
+void load_continue(void);                   /* starts their threads, if the guest has started the devices */
+void load_stop(void);                       /* without the lock: ends their threads, between two calls of the board */
 
 /* boot.c, linux.c: before the threads start, without the lock */
 void boot_at(uint64_t rip, uint64_t rsi);

@@ -116,6 +116,24 @@ static void handle_exit(struct vp *vp)
     }
 }
 
+/* KVM completes the instruction of the last exit when the processor is entered again (Documentation of
+ * KVM_RUN: "userspace must re-enter the guest"). It runs no other one here. Returns whether the instruction
+ * exits once more. */
+static bool exits_again(struct vp *vp)
+{
+    vp->run->cr8 = vp->tpr >> 4;
+    vp->run->immediate_exit = 1;
+    int result = ioctl(vp->fd, KVM_RUN, 0);
+    vp->run->immediate_exit = 0;
+    return result == 0;
+}
+
+void vp_complete(struct vp *vp)
+{
+    while (exits_again(vp))
+        handle_exit(vp);
+}
+
 /* ---- INIT and SIPI ---- */
 
 void vp_send_init(struct vp *vp)
@@ -148,14 +166,11 @@ static void set_state(struct vp *vp, const struct kvm_sregs *sregs, const struct
 
 /* A reset of the board's processor covers its local APIC, SynIC and timers. Until SIPI the
  * processor is suspended, so that none of its timers is the earliest. KVM first completes the
- * instruction of the last exit (Documentation of KVM_RUN: "userspace must re-enter the guest");
- * otherwise it would complete it on the new state. */
+ * instruction of the last exit; otherwise it would complete it on the new state. */
 static void accept_init(struct vp *vp)
 {
     vp->has_init = false;
-    vp->run->immediate_exit = 1;
-    ioctl(vp->fd, KVM_RUN, 0);
-    vp->run->immediate_exit = 0;
+    exits_again(vp);
     set_state(vp, &vp->reset_sregs, &vp->reset_regs);
     vp->run->ready_for_interrupt_injection = 0;
     vp->is_halted = vp->is_suspended = false;
@@ -254,16 +269,6 @@ static void *run_vp(void *argument)
 
 /* ---- Opening ---- */
 
-static void set_tsc_offset(struct vp *vp)
-{
-    uint64_t offset = 0;
-    struct kvm_device_attr attribute = {
-        .group = KVM_VCPU_TSC_CTRL, .attr = KVM_VCPU_TSC_OFFSET, .addr = (uintptr_t)&offset,
-    };
-    if (ioctl(vp->fd, KVM_SET_DEVICE_ATTR, &attribute) != 0)
-        fail("KVM_VCPU_TSC_OFFSET");
-}
-
 static void get_reset_state(struct vp *vp)
 {
     if (ioctl(vp->fd, KVM_GET_REGS, &vp->reset_regs) != 0)
@@ -289,7 +294,7 @@ void vp_open(unsigned number)
     if (vp->run == MAP_FAILED)
         fail("the page of a processor");
     cpuid_set(vp);
-    set_tsc_offset(vp);
+    state_set_tsc_offset(vp, 0);
     get_reset_state(vp);
     apic_reset(vp);
     vp->waits_for_sipi = number != 0;
@@ -301,4 +306,15 @@ void vp_start(struct vp *vp)
 {
     if ((errno = pthread_create(&vp->thread, NULL, run_vp, vp)) != 0)
         fail("the thread of a processor");
+}
+
+void vp_transfer(struct vp *vp)
+{
+    saved_transfer(&vp->is_halted, sizeof vp->is_halted);
+    saved_transfer(&vp->is_suspended, sizeof vp->is_suspended);
+    saved_transfer(&vp->waits_for_sipi, sizeof vp->waits_for_sipi);
+    saved_transfer(&vp->has_init, sizeof vp->has_init);
+    saved_transfer(&vp->has_sipi, sizeof vp->has_sipi);
+    saved_transfer(&vp->sipi_page, sizeof vp->sipi_page);
+    saved_transfer(&vp->tpr, sizeof vp->tpr);
 }

@@ -244,11 +244,15 @@ static void check_time(void)
 {
     static volatile struct { uint32_t sequence, reserved; uint64_t scale, offset; } page __attribute__((aligned(4096)));
     write_msr(REFERENCE_TSC, (uintptr_t)&page | 1);
-    uint64_t before = read_msr(COUNTER);
-    uint64_t computed = (uint64_t)((unsigned __int128)read_tsc() * page.scale >> 64) + page.offset;
+    uint64_t before = read_msr(COUNTER), computed;
+    uint32_t sequence;
+    do {                /* TLFS, "Partition Reference TSC Mechanism": again if the page has changed meanwhile */
+        sequence = page.sequence;
+        computed = (uint64_t)((unsigned __int128)read_tsc() * page.scale >> 64) + page.offset;
+    } while (page.sequence != sequence);
     uint64_t after = read_msr(COUNTER);
     check(before < after, "the reference counter advances");
-    check(page.sequence != 0 && before <= computed && computed <= after, "the reference TSC page agrees with it");
+    check(sequence != 0 && before <= computed && computed <= after, "the reference TSC page agrees with it");
     write_msr(REFERENCE_TSC, 0);
 }
 
