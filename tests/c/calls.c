@@ -1,5 +1,5 @@
 /* The C calls beyond what scripts show: closed handles, openings that fail, numbers that encode no
- * event, buffers that are too small, several boards, moved handles, pages, and refused memory. */
+ * event, buffers that are too small, several boards, moved handles, and refused memory. */
 #include <pthread.h>
 #include <stdbool.h>
 #include <stddef.h>
@@ -8,124 +8,16 @@
 #include <stdlib.h>
 #include <string.h>
 
+#include "busy.h"
 #include "by_call.h"
 #include "checks.h"
 #include "synicboard.h"
-
-enum { SLOT = 256 };
 
 static struct text before, after;
 
 static bool is_blank(const synicboard *board)
 {
     return board->at == NULL && !board->is_open;
-}
-
-/* ---- Boards and events ---- */
-
-enum { MESSAGE_PORT = 3, FLAG_PORT = 4, SOURCE = 2 };
-
-/* Enables the SynIC of a processor: message page at page 2, event flags page at page 3, vector 50
- * for SOURCE, a port of each shape, and a periodic timer in direct mode with vector 40. */
-static void set_up(synicboard *board, uint8_t vp)
-{
-    CHECK_REPLY(synicboard_write(board, vp, SCONTROL, 1), SYNICBOARD_DONE);
-    CHECK_REPLY(synicboard_write(board, vp, SIMP, 2 * PAGE + 1), SYNICBOARD_DONE);
-    CHECK_REPLY(synicboard_write(board, vp, SIEFP, 3 * PAGE + 1), SYNICBOARD_DONE);
-    CHECK_REPLY(synicboard_write(board, vp, SINT0 + SOURCE, 0x50), SYNICBOARD_DONE);
-    CHECK_REPLY(synicboard_open_message_port(board, MESSAGE_PORT, vp, SOURCE, 2), SYNICBOARD_DONE);
-    CHECK_REPLY(synicboard_open_event_port(board, FLAG_PORT, vp, SOURCE, 8, 64), SYNICBOARD_DONE);
-    CHECK_REPLY(synicboard_write(board, vp, STIMER0_COUNT, 10), SYNICBOARD_DONE);
-    CHECK_REPLY(synicboard_write(board, vp, STIMER0_CONFIG, 0x1403), SYNICBOARD_DONE);
-}
-
-/* A set-up board of two processors and four pages; its last event emitted three notices. */
-static void open_busy(synicboard *board, uint64_t first_ticket)
-{
-    static const uint8_t payload[] = { 0x0a, 0x0b, 0x0c };
-    CHECK_NUMBER(synicboard_open(board, 2, 4, first_ticket), SYNICBOARD_OK);
-    set_up(board, 1);
-    CHECK_REPLY(synicboard_tick(board, 7), SYNICBOARD_DONE);
-    CHECK_REPLY(synicboard_signal(board, FLAG_PORT, 5), SYNICBOARD_FLAG_WAS_CLEAR);
-    CHECK_REPLY(synicboard_take(board, 1), SYNICBOARD_TAKEN);
-    synicboard_reply reply = synicboard_post(board, MESSAGE_PORT, 0x01020304, payload, sizeof payload);
-    CHECK_REPLY(reply, SYNICBOARD_ACCEPTED);
-    CHECK_NUMBER(reply.ticket, first_ticket);
-    synicboard_notice notice;
-    CHECK_NUMBER(synicboard_notices(board, &notice, 1), 3);
-    CHECK_NUMBER(notice.kind, SYNICBOARD_NOTICE_ACCEPTED);
-}
-
-static uint64_t random_below(uint64_t *state, uint64_t limit)
-{
-    *state ^= *state << 13;
-    *state ^= *state >> 7;
-    *state ^= *state << 17;
-    return *state % limit;
-}
-
-/* Any kind of event; ports, suspensions and resets are rare. */
-static uint8_t random_kind(uint64_t *state)
-{
-    static const uint8_t often[] = {
-        SYNICBOARD_WRITE, SYNICBOARD_READ, SYNICBOARD_POST, SYNICBOARD_SIGNAL, SYNICBOARD_ASSERT,
-        SYNICBOARD_ABSORB, SYNICBOARD_STORE, SYNICBOARD_LOAD, SYNICBOARD_TICK, SYNICBOARD_TAKE
-    };
-    if (random_below(state, 8) == 0)
-        return (uint8_t)(1 + random_below(state, SYNICBOARD_RESET));
-    return often[random_below(state, sizeof often)];
-}
-
-static uint32_t random_register(uint64_t *state)
-{
-    static const uint32_t registers[] = {
-        EOI, EOI, SCONTROL, SCONTROL, SIEFP, SIMP, EOM,
-        SINT0 + SOURCE, STIMER0_CONFIG, STIMER0_COUNT, REFERENCE_COUNTER
-    };
-    return registers[random_below(state, sizeof registers / sizeof *registers)];
-}
-
-static uint64_t random_value(uint64_t *state)
-{
-    static const uint64_t values[] = { 0, 1, 2 * PAGE + 1, PAGE + 1, 0x50, 0x20051, 0x1403, 0x20003, 10 };
-    return values[random_below(state, sizeof values / sizeof *values)];
-}
-
-/* An event with random numbers, of which most are valid for a set-up board. */
-static synicboard_event random_event(synicboard *board, uint64_t *state)
-{
-    synicboard_event event = { .kind = random_kind(state) };
-    event.vp = (uint8_t)(random_below(state, 16) % 3);
-    event.sint = SOURCE;
-    event.port = (uint8_t)(MESSAGE_PORT + random_below(state, 2));
-    event.buffers = (uint8_t)random_below(state, 4);
-    event.vector = (uint8_t)(16 + random_below(state, 240));
-    event.part = (uint8_t)random_below(state, 5);
-    event.length = (uint8_t)random_below(state, 9);
-    event.flag = (uint16_t)random_below(state, 6);
-    event.count = (uint16_t)random_below(state, 8);
-    event.msr = random_register(state);
-    event.message_type = (uint32_t)random_below(state, 4);
-    event.value = random_value(state);
-    event.address = PAGE * random_below(state, 5) + SLOT * random_below(state, 4);
-    event.moment = synicboard_moment(board) + random_below(state, 40) - (synicboard_moment(board) > 0);
-    for (size_t at = 0; at < event.length; at++)
-        event.bytes[at] = (uint8_t)random_below(state, 2);
-    return event;
-}
-
-static synicboard_reply perform_random(synicboard *board, uint64_t *state)
-{
-    synicboard_event event = random_event(board, state);
-    if (random_below(state, 2) == 0)
-        return synicboard_perform(board, &event);
-    return perform_by_call(board, &event);
-}
-
-static void perform_many(synicboard *board, uint64_t seed, unsigned events)
-{
-    for (unsigned number = 0; number < events; number++)
-        perform_random(board, &seed);
 }
 
 /* ---- Tests ---- */
@@ -563,7 +455,7 @@ static void test_reopening(void)
     CHECK_NUMBER(blocks_out, 0);
 }
 
-enum { RANDOM_EVENTS = 1000, MANY_EVENTS = 50000 };
+enum { MANY_EVENTS = 50000 };
 
 /* Describes a lone board after this many random events. */
 static void describe_alone(uint64_t seed, unsigned events, uint64_t first_ticket, struct text *text)
@@ -680,168 +572,6 @@ static void test_moved_handle(void)
     CHECK(is_blank(last));
 }
 
-static bool is_zero(const uint8_t *bytes, size_t from, size_t to)
-{
-    for (size_t at = from; at < to; at++)
-        if (bytes[at] != 0)
-            return false;
-    return true;
-}
-
-/* The page has these bytes in the slot of SOURCE, and zeros elsewhere. */
-static bool has_slot(const uint8_t *page, const uint8_t *bytes, size_t length)
-{
-    size_t place = SOURCE * SLOT;
-    return memcmp(page + place, bytes, length) == 0 && is_zero(page, 0, place) && is_zero(page, place + length, PAGE);
-}
-
-static void test_message_page(void)
-{
-    uint8_t first[] = { 4, 3, 2, 1, 3, 0, 0, 0, MESSAGE_PORT, 0, 0, 0, 0, 0, 0, 0, 0x0a, 0x0b, 0x0c };
-    const uint8_t second[] = { 5, 0, 0, 0, 2, 0, 0, 0, MESSAGE_PORT, 0, 0, 0, 0, 0, 0, 0, 0xfe, 0xff };
-    const uint8_t zeros[4] = { 0 };
-    const uint8_t *page = NULL, *same = NULL;
-    synicboard board = SYNICBOARD_CLOSED;
-    open_busy(&board, 0);
-    CHECK(synicboard_message_page(&board, 1, &page));
-    CHECK(has_slot(page, first, sizeof first));
-    CHECK_REPLY(synicboard_post(&board, MESSAGE_PORT, 5, second + 16, 2), SYNICBOARD_ACCEPTED);
-    first[5] = 1;
-    CHECK(has_slot(page, first, sizeof first));
-    synicboard_reply loaded = synicboard_load(&board, 2 * PAGE + SOURCE * SLOT, 8);
-    CHECK(memcmp(loaded.bytes, first, 8) == 0);
-    CHECK_REPLY(synicboard_store(&board, 2 * PAGE + SOURCE * SLOT, zeros, 4), SYNICBOARD_DONE);
-    memset(first, 0, 4);
-    CHECK(has_slot(page, first, sizeof first));
-    CHECK_REPLY(synicboard_write(&board, 1, EOM, 0), SYNICBOARD_DONE);
-    CHECK(has_slot(page, second, sizeof second));
-    CHECK_REPLY(synicboard_write(&board, 1, SIMP, 0), SYNICBOARD_DONE);
-    CHECK(has_slot(page, second, sizeof second));
-    CHECK_REPLY(synicboard_reset(&board, 1), SYNICBOARD_DONE);
-    CHECK(is_zero(page, 0, PAGE));
-    CHECK(synicboard_message_page(&board, 1, &same) && same == page);
-    synicboard_close(&board);
-}
-
-/* A message of the greatest length, a timer message, and the page of the other processor. */
-static void test_message_images(void)
-{
-    uint8_t image[SLOT] = { 1, 0, 0, 0, 240, 0, 0, 0, MESSAGE_PORT };
-    const uint8_t timer[] = { 0x10, 0, 0, 0x80, 24, 0, 0, 0, 0, 0, 0, 0, 0, 0, 0, 0,
-                              3, 0, 0, 0, 0, 0, 0, 0, 20, 0, 0, 0, 0, 0, 0, 0, 30 };
-    const uint8_t *page = NULL, *other = NULL;
-    synicboard board = SYNICBOARD_CLOSED;
-    CHECK_NUMBER(synicboard_open(&board, 2, 4, 0), SYNICBOARD_OK);
-    set_up(&board, 1);
-    for (size_t at = 16; at < SLOT; at++)
-        image[at] = (uint8_t)at;
-    CHECK(synicboard_message_page(&board, 1, &page));
-    CHECK(synicboard_message_page(&board, 0, &other) && is_zero(page, 0, PAGE));
-    CHECK_REPLY(synicboard_post(&board, MESSAGE_PORT, 1, image + 16, 240), SYNICBOARD_ACCEPTED);
-    CHECK(has_slot(page, image, SLOT));
-    CHECK_REPLY(synicboard_reset(&board, 1), SYNICBOARD_DONE);
-    CHECK_REPLY(synicboard_close_port(&board, MESSAGE_PORT), SYNICBOARD_DONE);
-    CHECK_REPLY(synicboard_close_port(&board, FLAG_PORT), SYNICBOARD_DONE);
-    set_up(&board, 0);
-    CHECK_REPLY(synicboard_write(&board, 0, STIMER0_COUNT + 6, 20), SYNICBOARD_DONE);
-    CHECK_REPLY(synicboard_write(&board, 0, STIMER0_CONFIG + 6, SOURCE << 16 | 1), SYNICBOARD_DONE);
-    CHECK_REPLY(synicboard_tick(&board, 30), SYNICBOARD_DONE);
-    CHECK(is_zero(page, 0, PAGE));
-    CHECK(has_slot(other, timer, sizeof timer));
-    synicboard_close(&board);
-}
-
-/* The port's flags begin at 8, so flag 5 is bit 5 of the second byte; the slot has 256 bytes, as one of a
- * message. */
-static void test_flag_page(void)
-{
-    const uint8_t first[] = { 0, 0x20 }, both[] = { 0, 0x20, 0, 0, 0, 0, 0, 0, 0x80 }, zeros[8] = { 0 };
-    const uint8_t *page = NULL, *same = NULL;
-    synicboard board = SYNICBOARD_CLOSED;
-    open_busy(&board, 0);
-    CHECK(synicboard_flag_page(&board, 1, &page));
-    CHECK(has_slot(page, first, sizeof first));
-    CHECK_REPLY(synicboard_signal(&board, FLAG_PORT, 63), SYNICBOARD_FLAG_WAS_CLEAR);
-    CHECK(has_slot(page, both, sizeof both));
-    CHECK_REPLY(synicboard_store(&board, 3 * PAGE + SOURCE * SLOT + 8, zeros, 8), SYNICBOARD_DONE);
-    CHECK(has_slot(page, first, sizeof first));
-    CHECK_REPLY(synicboard_write(&board, 1, SIEFP, PAGE + 1), SYNICBOARD_DONE);
-    CHECK(synicboard_flag_page(&board, 1, &same) && same == page);
-    CHECK_REPLY(synicboard_reset(&board, 1), SYNICBOARD_DONE);
-    CHECK(is_zero(page, 0, PAGE));
-    CHECK(synicboard_flag_page(&board, 1, &same) && same == page);
-    synicboard_close(&board);
-}
-
-/* A guest page is the page below the overlays. */
-static void test_guest_page(void)
-{
-    const uint8_t bytes[] = { 1, 2, 3, 4, 5, 6, 7, 8 };
-    const uint8_t *seen = NULL, *hidden = NULL, *same = NULL;
-    synicboard board = SYNICBOARD_CLOSED;
-    open_busy(&board, 0);
-    CHECK(synicboard_guest_page(&board, 1, &seen));
-    CHECK(synicboard_guest_page(&board, 2, &hidden));
-    CHECK_REPLY(synicboard_store(&board, PAGE + SOURCE * SLOT, bytes, 8), SYNICBOARD_DONE);
-    CHECK_REPLY(synicboard_store(&board, 2 * PAGE + SOURCE * SLOT, bytes, 8), SYNICBOARD_DONE);
-    CHECK(has_slot(seen, bytes, 8));
-    CHECK(is_zero(hidden, 0, PAGE));
-    CHECK_REPLY(synicboard_write(&board, 1, SIMP, PAGE + 1), SYNICBOARD_DONE);
-    CHECK_REPLY(synicboard_store(&board, 2 * PAGE + SOURCE * SLOT, bytes, 3), SYNICBOARD_DONE);
-    CHECK(has_slot(hidden, bytes, 3));
-    CHECK(has_slot(seen, bytes, 8));
-    CHECK_REPLY(synicboard_reset(&board, 1), SYNICBOARD_DONE);
-    CHECK(has_slot(seen, bytes, 8) && has_slot(hidden, bytes, 3));
-    CHECK(synicboard_guest_page(&board, 1, &same) && same == seen);
-    CHECK(synicboard_guest_page(&board, 2, &same) && same == hidden);
-    synicboard_close(&board);
-}
-
-static void test_no_such_page(void)
-{
-    const uint8_t byte = 0, *page = &byte;
-    synicboard board = SYNICBOARD_CLOSED;
-    CHECK_NUMBER(synicboard_open(&board, 2, 4, 0), SYNICBOARD_OK);
-    for (unsigned vp = 2; vp < 256; vp++) {
-        CHECK(!synicboard_message_page(&board, (uint8_t)vp, &page));
-        CHECK(!synicboard_flag_page(&board, (uint8_t)vp, &page));
-    }
-    for (uint64_t number = 4; number < 300; number++)
-        CHECK(!synicboard_guest_page(&board, number, &page));
-    CHECK(!synicboard_guest_page(&board, UINT64_MAX, &page));
-    CHECK(!synicboard_guest_page(&board, UINT64_C(1) << 32, &page));
-    CHECK(page == &byte);
-    synicboard_close(&board);
-}
-
-/* Each page of the greatest board is distinct, and its address does not change. */
-static void test_all_pages(void)
-{
-    enum { ALL = 2 * PROCESSORS + PAGES };
-    const uint8_t *pages[ALL], *again[ALL];
-    synicboard board = SYNICBOARD_CLOSED;
-    CHECK_NUMBER(synicboard_open(&board, PROCESSORS, PAGES, 0), SYNICBOARD_OK);
-    set_up(&board, 1);
-    for (int turn = 0; turn < 2; turn++) {
-        const uint8_t **place = turn == 0 ? pages : again;
-        for (uint8_t vp = 0; vp < PROCESSORS; vp++) {
-            CHECK(synicboard_message_page(&board, vp, place++));
-            CHECK(synicboard_flag_page(&board, vp, place++));
-        }
-        for (uint64_t number = 0; number < PAGES; number++)
-            CHECK(synicboard_guest_page(&board, number, place++));
-        perform_many(&board, 4, RANDOM_EVENTS);
-    }
-    for (size_t one = 0; one < ALL; one++) {
-        CHECK(pages[one] == again[one]);
-        for (size_t other = 0; other < one; other++) {
-            uintptr_t first = (uintptr_t)pages[one], second = (uintptr_t)pages[other];
-            CHECK((first > second ? first - second : second - first) >= PAGE);
-        }
-    }
-    synicboard_close(&board);
-}
-
 /* ---- Refused memory ---- */
 
 /* Refuses one allocation after another, until an opening succeeds. */
@@ -912,12 +642,6 @@ static const struct test tests[] = {
     { "two boards in two threads", test_two_threads },
     { "structs and calls", test_structs_and_calls },
     { "a handle that moves", test_moved_handle },
-    { "the page of messages", test_message_page },
-    { "images of messages", test_message_images },
-    { "the page of flags", test_flag_page },
-    { "guest pages", test_guest_page },
-    { "no such page", test_no_such_page },
-    { "all pages of the greatest board", test_all_pages },
     { "refused memory of an opening", test_refused_opening },
     { "events take no memory", test_events_take_no_memory },
 };

@@ -1,5 +1,5 @@
-/* What calls.c, lines.c, batches.c, shared.c, nulls.c, views.c, texts.c, images.c and sparse.c share: counted checks,
- * memory that can be refused, and a text of everything that can be queried of a board. */
+/* What the programs of this folder except script.c share: counted checks, memory that can be refused, and a
+ * text of everything that can be queried of a board. */
 #ifndef CHECKS_H
 #define CHECKS_H
 
