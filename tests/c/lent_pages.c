@@ -1,4 +1,4 @@
-/* The pages that a board lends: what is in them, and that they stay where they are. */
+/* The pages that a board returns: their bytes, and that their addresses do not change. */
 #include <stdbool.h>
 #include <stddef.h>
 #include <stdint.h>
