@@ -3,6 +3,7 @@
  * so what is written and what is read cannot differ. */
 #define _GNU_SOURCE
 #include <errno.h>
+#include <limits.h>
 #include <stdio.h>
 #include <stdlib.h>
 #include <string.h>
@@ -137,22 +138,28 @@ void saved_start(void)
     pthread_detach(thread);
 }
 
-/* An image does not contain the posted words, so they are absorbed first. */
+/* An image does not contain the posted words, so they are absorbed first. The file gets its name when it is
+ * whole: it may be the one from which this guest continued. */
 static void write_file(void)
 {
+    static char part[PATH_MAX];
+    if (snprintf(part, sizeof part, "%s.part", vm.save_to) >= (int)sizeof part) {
+        errno = ENAMETOOLONG;
+        fail(vm.save_to);
+    }
     clock_stop();
     for (unsigned number = 0; number < vm.vps; number++) {
         board_absorb(&vm.vp[number]);
         state_get(&vm.vp[number]);
     }
     image_save();
-    open_file(vm.save_to, false);
+    open_file(part, false);
     transfer_header();
     transfer_all();
     long length = ftell(file);
-    if (fclose(file) != 0)
+    if (fclose(file) != 0 || rename(part, vm.save_to) != 0)
         fail(path);
-    fprintf(stderr, "vmm: saved at %.3f seconds, in %ld bytes: %s\n", (double)clock_stopped() / 1e7, length, path);
+    fprintf(stderr, "vmm: saved at %.3f seconds, in %ld bytes: %s\n", (double)clock_stopped() / 1e7, length, vm.save_to);
 }
 
 /* The completed instruction of a processor may start the devices or end the guest. */
