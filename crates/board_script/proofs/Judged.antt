@@ -95,7 +95,8 @@ module _ {J : Type 0} (seen : J → Machine) (old new : J) (machine : Machine) (
       rw h.split (a.output, a.fault)
 
   known-by : (end : End ScriptFault) (answers text : List ℕ) (fault : Option (ℕ × ScriptFault)) (h : Ended end answers text) →
-      (output_from (seen h.state) h.left ≡ []) × (first_fault (length h.lines + 1) (is_some (seen h.state)) h.left (rest_of text) ≡ fault) → (output_on machine text ≡ answers) × (fault_on (is_some machine) text ≡ fault)
+      (output_from (seen h.state) h.left ≡ []) × (first_fault (length h.lines + 1) (is_some (seen h.state)) h.left (rest_of text) ≡ fault) → (output_on machine text ≡ answers) ×
+      (fault_on (is_some machine) text ≡ fault)
   known-by end answers text fault h left = let on = on-text end answers text h in (on.0 ∙ ap (λ (x : List ℕ). answers ++ x) left.0 ∙ append-nil answers, on.1 ∙ left.1)
 
   -- The answers that were sent are all there are, and the fault is the first.

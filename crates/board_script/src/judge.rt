@@ -4,7 +4,7 @@ ghost use Rattle.board_script.specs.inside.Judging.{IsAnswered, IsFaulty, machin
 use crate::respond::respond;
 use board_terms::Notices;
 use std::alloc::Global;
-use synic_board::{Board, Event};
+use synic_board::Board;
 use text_driver::{Judge, Taken};
 use text_lines::ScriptFault;
 
@@ -13,7 +13,6 @@ use text_lines::ScriptFault;
 pub(crate) struct ScriptJudge {
     pub(crate) alloc: Global,
     pub(crate) board: Option<Board>,
-    pub(crate) event: Event,
     pub(crate) notices: Notices,
 }
 
@@ -26,14 +25,7 @@ impl Judge for ScriptJudge {
     ghost wrong = { λ judge line fault. IsFaulty (machine_of judge.board) line fault };
 
     fn take(&mut self, line: &[u8], out: &mut Vec<u8>) -> Taken<ScriptFault> {
-        respond(
-            self.alloc,
-            &mut self.board,
-            line,
-            &mut self.event,
-            &mut self.notices,
-            out,
-        )
+        respond(self.alloc, &mut self.board, line, &mut self.notices, out)
     }
 }
 // README text_driver: end

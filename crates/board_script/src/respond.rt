@@ -1,25 +1,25 @@
 // Performing a line, and its answer.
 ghost use Rattle.std.specs.Prelude.{◌≡◌, ◌≤◌, [], ◌∷◌, ◌++◌, length, OnOk, None, Some};
-ghost use Rattle.synic_board.specs.Step.{step};
+ghost use Rattle.synic_board.specs.State.{State};
 ghost use Rattle.text_lines.specs.Reading.{opening_item, parse_item};
 ghost use Rattle.board_script.specs.Output.{outcome_text};
 ghost use Rattle.board_script.specs.inside.Judging.{IsAnswered, IsFaulty, AnswersItem, machine_of};
 ghost use Rattle.text_driver.specs.Judging.{Judges};
 
-use board_terms::Notices;
+use board_terms::{Notice, Notices};
 use std::alloc::{AllocError, Global};
-use synic_board::{Board, Event, OpenFault};
+use synic_board::{Board, OpenFault, Reply};
 use text_base::{Fields, is_word};
 use text_driver::Taken;
-use text_lines::{ScriptFault, opening_of, put_notices, put_reply, put_summary, read_event, skips};
+use text_lines::{
+    ScriptFault, opening_of, perform_event, put_notices, put_reply, put_summary, skips,
+};
 
-/// Validates a line, performs it, and writes the answer to `out`. `event` is scratch space: nothing
-/// in it is used by the next line.
+/// Validates a line, performs it, and writes the answer to `out`.
 pub(crate) fn respond(
     alloc: Global,
     board: &mut Option<Board>,
     line: &[u8],
-    event: &mut Event,
     notices: &mut Notices,
     out: &mut Vec<u8>,
 ) -> Taken<ScriptFault>
@@ -35,7 +35,7 @@ pub(crate) fn respond(
         return Taken::Wrong(ScriptFault::Form);
     };
     match board {
-        Some(board) => take_line(board, word, &mut fields, event, notices, out),
+        Some(board) => take_line(board, word, &mut fields, notices, out),
         None => open(alloc, board, word, &mut fields),
     }
 }
@@ -83,7 +83,6 @@ fn take_line(
     board: &mut Board,
     word: &[u8],
     fields: &mut Fields<'_>,
-    event: &mut Event,
     notices: &mut Notices,
     out: &mut Vec<u8>,
 ) -> Taken<ScriptFault>
@@ -99,29 +98,22 @@ fn take_line(
             Err(_) => Taken::Memory,
         };
     }
-    if !read_event(word, fields, event) {
+    // README text_lines: begin
+    let Some(reply) = perform_event(word, fields, board, notices) else {
         return Taken::Wrong(ScriptFault::Form);
-    }
-    match perform(board, event, notices, out) {
+    };
+    // README text_lines: end
+    match put_outcome(out, &reply, notices.as_slice()) {
         Ok(()) => Taken::Good,
         Err(_) => Taken::Memory,
     }
 }
 
-/// Performs an event, and appends its reply and its notices to `out`.
-fn perform(
-    board: &mut Board,
-    event: &Event,
-    notices: &mut Notices,
-    out: &mut Vec<u8>,
-) -> Result<(), AllocError>
-    ensures state { board.new.state ≡ (step board.old.state event.now).0 }
-    ensures written { OnOk result (out.new.items ≡ out.old.items ++ outcome_text (step board.old.state event.now)) }
+/// Appends a reply, and a line for each notice, to `out`.
+fn put_outcome(out: &mut Vec<u8>, reply: &Reply, notices: &[Notice]) -> Result<(), AllocError>
+    ensures { OnOk result ((s : State) → out.new.items ≡ out.old.items ++ outcome_text (s, reply.now, notices.now)) }
 {
-    // README text_lines: begin
-    let reply = board.perform(event, notices);
-    put_reply(out, &reply)?;
+    put_reply(out, reply)?;
     out.push(b'\n')?;
-    put_notices(out, notices.as_slice())
-    // README text_lines: end
+    put_notices(out, notices)
 }

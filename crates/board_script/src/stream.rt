@@ -8,7 +8,7 @@ use crate::judge::ScriptJudge;
 use board_terms::Notices;
 use std::alloc::Global;
 use std::io::{self, Read, Write};
-use synic_board::{Board, Event};
+use synic_board::Board;
 use text_driver::{End, close, drive};
 use text_image::{SaveEnd, save};
 use text_lines::{ScriptFault, put_fault};
@@ -72,7 +72,6 @@ fn perform_script<R: Read, W: Write>(
     let mut judge = ScriptJudge {
         alloc,
         board,
-        event: Event::Take { vp: 0 },
         notices,
     };
     // README text_driver: begin
@@ -141,7 +140,6 @@ pub fn save_script<R: Read, W: Write>(alloc: Global, reader: &mut R, writer: &mu
     let mut judge = ScriptJudge {
         alloc,
         board: None,
-        event: Event::Take { vp: 0 },
         notices,
     };
     let mut out = Vec::new(alloc);

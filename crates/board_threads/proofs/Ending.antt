@@ -10,10 +10,10 @@ use Rattle.posted_words.specs.Words.{Token, actions_of}
 use Rattle.board_threads.specs.History.{calls_by}
 use Rattle.board_threads.specs.Sharing.{Acting}
 use Rattle.board_threads.specs.Settling.{IsSettled, AreAbsorbed, calls_held, calls_given}
-use Rattle.board_threads.specs.Crew.{EachFollows, IsCrewHistory, HasEach, lists, logs_of}
+use Rattle.board_threads.specs.Crew.{EachFollows, IsCrewHistory, HasEach, IsCrewEnd, lists, logs_of}
 use Rattle.board_threads.specs.inside.Work.{InPlace, HaveWorked}
-use Rattle.board_threads.specs.inside.Ending.{IsCrewEnd}
 use Rattle.board_threads.specs.declared.crew.CrewEnd.{CrewEnd}
+use Rattle.board_threads.specs.declared.fault.WorkFault.{WorkFault}
 use Rattle.board_threads.specs.declared.script.Step.{Step}
 use Rattle.board_threads.specs.declared.script.Setup.{Setup}
 use Rattle.board_threads.specs.declared.script.Scripts.{Scripts}
@@ -23,7 +23,7 @@ use Rattle.board_threads.proofs.Placing.{crewed, stand, each-stands, numbers-are
 use Rattle.board_threads.proofs.Crewing.{logs-are, each-answered}
 
 -- a consequence of three facts about a value, if there is one
-pub of-three : {A F : Type 0} (P Q R S : A → Type 0) → ((a : A) → P a → Q a → R a → S a) → (r : Result A F) → IfOk r P → IfOk r Q → IfOk r R → IfOk r S
+of-three : {A F : Type 0} (P Q R S : A → Type 0) → ((a : A) → P a → Q a → R a → S a) → (r : Result A F) → IfOk r P → IfOk r Q → IfOk r R → IfOk r S
 of-three P Q R S f (Ok a) p q r = f a p q r
 of-three P Q R S f (Err e) p q r = tt
 
@@ -44,7 +44,7 @@ module _ (begun : State) (name : TableId) (setup : Setup) (scripts : Scripts) (a
       (arith, settled.actors.all, together, steps-add-up name scripts.actors.items w.others w.acted) in
       crewed name setup.processors setup.events.items (lists scripts.actors.items) h w.main place w.served main others many
 
-  pub crew-ends : (n : ℕ) → n ≡ setup.processors → AreAbsorbed (4 * n) (map actions_of lines) e.history.items e.standing → (c : CrewEnd) → c.ended ≡ e → c.raised ≡ raised →
+  crew-ends : (n : ℕ) → n ≡ setup.processors → AreAbsorbed (4 * n) (map actions_of lines) e.history.items e.standing → (c : CrewEnd) → c.ended ≡ e → c.raised ≡ raised →
       IsCrewEnd begun setup scripts c
   crew-ends n same absorbed c is answers =
       let many : suc (length scripts.actors.items) ≡ vec_len scripts.actors + 1 = omega (arith, scripts.actors.ok.0) in
@@ -60,3 +60,13 @@ module _ (begun : State) (name : TableId) (setup : Setup) (scripts : Scripts) (a
             (subst (λ l. AreAbsorbed (4 * setup.processors) l e.history.items e.standing) (logs-are _ _ _ _ _ _ w)
             (subst (λ m. AreAbsorbed (4 * m) (map actions_of lines) e.history.items e.standing) same absorbed)));
       }
+
+-- the same of a result whose calls are in place
+pub finishes : (begun : State) (name : TableId) (setup : Setup) (scripts : Scripts) (actors : List Acting) (lines : List Token) (raised : Vec (Vec Raised Global) Global) →
+    HaveWorked name setup scripts actors lines raised.items → (e : Ended) → IsSettled begun e → map calls_given e.actors.items ≡ map calls_held actors →
+    (n : ℕ) → n ≡ setup.processors → AreAbsorbed (4 * n) (map actions_of lines) e.history.items e.standing → (r : Result CrewEnd WorkFault) →
+    IfOk r (λ c. c.ended ≡ e) → IfOk r (λ c. c.raised ≡ raised) → IfOk r (λ _. InPlace (length setup.events.items) (4 * setup.processors) e.history.items) →
+    IfOk r (IsCrewEnd begun setup scripts)
+finishes begun name setup scripts actors lines raised w e settled given n same absorbed =
+    of-three (λ c. c.ended ≡ e) (λ c. c.raised ≡ raised) (λ _. InPlace (length setup.events.items) (4 * setup.processors) e.history.items) (IsCrewEnd begun setup scripts)
+    (λ c is answers place. crew-ends begun name setup scripts actors lines raised w e settled given place n same absorbed c is answers)

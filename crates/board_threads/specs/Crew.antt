@@ -1,7 +1,8 @@
 -- The history of a crew.
-use Rattle.std.specs.Prelude.{◌≡◌, ℕ, ◌+◌, ◌*◌, ◌/◌, ◌%◌, List, [], ◌∷◌, ◌++◌, All, length, map, reverse, Vec}
+use Rattle.std.specs.Prelude.{◌≡◌, ℕ, ◌+◌, ◌*◌, ◌/◌, ◌%◌, List, [], ◌∷◌, ◌++◌, All, length, map, reverse, Vec, vec_len}
 use Rattle.std.specs.Global.{Global}
 use Rattle.std.specs.List.{AllZip, range_with_len, sum_by}
+use Rattle.synic_board.specs.State.{State}
 use Rattle.synic_board.specs.declared.event.Event.{Event}
 use Rattle.synic_board.specs.declared.event.Event.TheVariants.{Absorb}
 use Rattle.synic_board.specs.declared.history.Entry.{Entry}
@@ -10,8 +11,13 @@ use Rattle.posted_words.specs.declared.line.Raised.{Raised}
 use Rattle.posted_words.specs.Answers.{is_fresh}
 use Rattle.posted_words.specs.Words.{raise_of}
 use Rattle.board_threads.specs.History.{Call, call_of, calls_by}
+use Rattle.board_threads.specs.Settling.{AreAbsorbed, IsSettled}
+use Rattle.board_threads.specs.declared.crew.CrewEnd.{CrewEnd}
+use Rattle.board_threads.specs.declared.script.Scripts.{Scripts}
+use Rattle.board_threads.specs.declared.script.Setup.{Setup}
 use Rattle.board_threads.specs.declared.script.Step.{Step}
 use Rattle.board_threads.specs.declared.script.Step.TheVariants.{Act, Sweep}
+use Rattle.board_threads.specs.declared.settling.ActorCalls.{ActorCalls}
 
 -- a call performs a step of a script: a sweep appears as the absorb of the bits that it took
 abbrev pub IsStep : Step → Call → Type 0
@@ -78,3 +84,12 @@ pub record IsCrewHistory (processors : ℕ) (setup : List Event) (scripts : List
   pub others : EachFollows 1 scripts between
   -- and no other actor has an entry
   pub all : length history ≡ length setup + sum_by (λ (s : List Step). length s) scripts + 4 * processors
+
+-- the result of a crew whose board was in a state when it began: the board is settled, the numbers of its actors are 0, 1, ..,
+-- its history is one of the crew, each raise has a result, and each fresh one was absorbed once or stands
+pub record IsCrewEnd (begun : State) (setup : Setup) (scripts : Scripts) (c : CrewEnd) : Type 0 where
+  pub settled : IsSettled begun c.ended
+  pub numbers : map (λ (a : ActorCalls). a.number) c.ended.actors.items ≡ range_with_len 0 (vec_len scripts.actors + 1)
+  pub crewed : IsCrewHistory setup.processors setup.events.items (lists scripts.actors.items) c.ended.history.items
+  pub each : AllZip HasEach (lists scripts.lines.items) (lists c.raised.items)
+  pub raises : AreAbsorbed (4 * setup.processors) (logs_of (lists scripts.lines.items) (lists c.raised.items)) c.ended.history.items c.ended.standing

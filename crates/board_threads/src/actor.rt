@@ -7,7 +7,6 @@ ghost use Rattle.board_threads.specs.Sharing.{acting};
 
 use crate::recorded::Recorded;
 use crate::settling::ActorCalls;
-use board_terms::Vp;
 use posted_words::{PostedWords, Sweeper};
 use std::alloc::Global;
 use std::marker::Model;
@@ -133,7 +132,8 @@ impl Actor {
         part: u8,
     ) -> Result<Reply, CallFault>
         requires { self.old.of ≡ words.now.name }
-        ensures ok { IfOk result (λ r. (bits : ℕ) × (self.new ≡ acting self.old.of self.old.number (self.old.calls ++ (Absorb vp part bits, r) ∷ []) (sweep_in (Absorb vp part bits) r ++ self.old.actions))) }
+        ensures ok { IfOk result (λ r. (bits : ℕ)
+            × (self.new ≡ acting self.old.of self.old.number (self.old.calls ++ (Absorb vp part bits, r) ∷ []) (sweep_in (Absorb vp part bits) r ++ self.old.actions))) }
         ensures refused { IfOk result (λ r. is_refusal r ≡ true → self.new.calls ≡ self.old.calls ++ (Absorb vp part 0, r) ∷ []) }
         ensures fault { OnErr result (self.new ≡ self.old) }
         ensures event { ¬ (IsErrOf result CallFault.AbsorbEvent) }

@@ -1,11 +1,8 @@
 // A crew of actors and lines on one board.
-ghost use Rattle.std.specs.Prelude.{◌≡◌, ◌↔◌, ◌≤◌, ◌+◌, ◌*◌, true, false, IfOk, OnOk, IsErrOf, map, vec_len};
-ghost use Rattle.std.specs.List.{AllZip, range_with_len};
+ghost use Rattle.std.specs.Prelude.{◌≡◌, ◌↔◌, ◌≤◌, true, false, IfOk, OnOk, IsErrOf};
 ghost use Rattle.synic_board.specs.State.{opened, processors};
-ghost use Rattle.board_threads.specs.Settling.{IsSettled, AreAbsorbed};
 ghost use Rattle.board_threads.specs.Judging.{IsSized, IsSizedOn, has_bad_step};
-ghost use Rattle.board_threads.specs.Crew.{IsCrewHistory, HasEach, lists, logs_of};
-ghost use Rattle.board_threads.specs.inside.Ending.{IsCrewEnd};
+ghost use Rattle.board_threads.specs.Crew.{IsCrewEnd};
 
 use crate::fault::WorkFault;
 use crate::gate::Gate;
@@ -63,11 +60,7 @@ pub fn run_crew<R: Threads + Wait + Sync, G: Gate + Sync>(
 ) -> Result<CrewEnd, CrewFault>
     ensures size { IsErrOf result CrewFault.BadSize ↔ (¬ IsSized setup.now scripts.now) }
     ensures step { IsErrOf result CrewFault.BadStep ↔ IsSized setup.now scripts.now × (has_bad_step setup.now scripts.now ≡ true) }
-    ensures settled { IfOk result (λ c. IsSettled (opened setup.now.processors setup.now.pages setup.now.first_ticket) c.ended) }
-    ensures numbers { IfOk result (λ c. map (λ a. a.number) c.ended.actors.items ≡ range_with_len 0 (vec_len scripts.now.actors + 1)) }
-    ensures crewed { IfOk result (λ c. IsCrewHistory setup.now.processors setup.now.events.items (lists scripts.now.actors.items) c.ended.history.items) }
-    ensures each { IfOk result (λ c. AllZip HasEach (lists scripts.now.lines.items) (lists c.raised.items)) }
-    ensures raises { IfOk result (λ c. AreAbsorbed (4 * setup.now.processors) (logs_of (lists scripts.now.lines.items) (lists c.raised.items)) c.ended.history.items c.ended.standing) }
+    ensures ended { IfOk result (IsCrewEnd (opened setup.now.processors setup.now.pages setup.now.first_ticket) setup.now scripts.now) }
 {
     let fits = is_sized(setup, scripts);
     judge(fits, setup, scripts)?;
@@ -89,11 +82,7 @@ pub fn run_crew_on<R: Threads + Wait + Sync, G: Gate + Sync>(
 ) -> Result<CrewEnd, CrewFault>
     ensures size { IsErrOf result CrewFault.BadSize ↔ (¬ IsSizedOn (processors board.state) setup.now scripts.now) }
     ensures step { IsErrOf result CrewFault.BadStep ↔ IsSizedOn (processors board.state) setup.now scripts.now × (has_bad_step setup.now scripts.now ≡ true) }
-    ensures settled { IfOk result (λ c. IsSettled start.state c.ended) }
-    ensures numbers { IfOk result (λ c. map (λ a. a.number) c.ended.actors.items ≡ range_with_len 0 (vec_len scripts.now.actors + 1)) }
-    ensures crewed { IfOk result (λ c. IsCrewHistory setup.now.processors setup.now.events.items (lists scripts.now.actors.items) c.ended.history.items) }
-    ensures each { IfOk result (λ c. AllZip HasEach (lists scripts.now.lines.items) (lists c.raised.items)) }
-    ensures raises { IfOk result (λ c. AreAbsorbed (4 * setup.now.processors) (logs_of (lists scripts.now.lines.items) (lists c.raised.items)) c.ended.history.items c.ended.standing) }
+    ensures ended { IfOk result (IsCrewEnd start.state setup.now scripts.now) }
 {
     let fits = is_sized_on(board.processors(), setup, scripts);
     judge(fits, setup, scripts)?;

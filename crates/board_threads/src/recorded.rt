@@ -63,13 +63,7 @@ impl Recorded {
         ) else {
             return Err(AllocError);
         };
-        let notices = Notices::open(alloc)?;
-        Ok(Recorded {
-            opening,
-            board,
-            history: EntryLog::new(alloc),
-            notices,
-        })
+        Recorded::around(alloc, opening, board)
     }
 
     /// A board that is given, with an empty history.
@@ -87,6 +81,16 @@ impl Recorded {
             first_ticket: board.next_ticket(),
             is_given: true,
         };
+        Recorded::around(alloc, opening, board)
+    }
+
+    /// A board with an empty history.
+    fn around(alloc: Global, opening: Opening, board: Board) -> Result<Recorded, AllocError>
+        requires { opening.is_given ≡ false → board.state ≡ opened opening.processors opening.pages opening.first_ticket }
+        ensures opening { IfOk result (λ r. r.opening ≡ opening) }
+        ensures board { IfOk result (λ r. r.board ≡ board) }
+        ensures history { IfOk result (λ r. r.history.entries ≡ []) }
+    {
         let notices = Notices::open(alloc)?;
         Ok(Recorded {
             opening,

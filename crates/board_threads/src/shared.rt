@@ -174,7 +174,8 @@ impl SharedBoard {
         part: u8,
     ) -> Result<Reply, CallFault>
         requires own { actor.old.of ≡ self.now.words.name }
-        ensures ok { IfOk result (λ r. (bits : ℕ) × (actor.new ≡ acting actor.old.of actor.old.number (actor.old.calls ++ (Absorb vp part bits, r) ∷ []) (sweep_in (Absorb vp part bits) r ++ actor.old.actions))) }
+        ensures ok { IfOk result (λ r. (bits : ℕ)
+            × (actor.new ≡ acting actor.old.of actor.old.number (actor.old.calls ++ (Absorb vp part bits, r) ∷ []) (sweep_in (Absorb vp part bits) r ++ actor.old.actions))) }
         ensures refused { IfOk result (λ r. is_refusal r ≡ true → actor.new.calls ≡ actor.old.calls ++ (Absorb vp part 0, r) ∷ []) }
         ensures fault { OnErr result (actor.new ≡ actor.old) }
         ensures event { ¬ (IsErrOf result CallFault.AbsorbEvent) }

@@ -148,7 +148,8 @@ fn start_actors<'s, E, R: Threads + Wait + Sync, G: Gate + Sync>(
     requires new { All (IsNewActor board.now.words.name) actors.items }
     requires each { vec_len actors ≡ length scripts.now }
     ensures numbers { IfOk result (λ v. map (λ h. h.promise.number) v.items ≡ map (λ a. a.number) actors.items) }
-    ensures scripts { IfOk result (λ v. map {B = TableId × List Step} (λ h. (h.promise.board.now.words.name, h.promise.script.now)) v.items ≡ map {B = TableId × List Step} (λ s. (board.now.words.name, s.items)) scripts.now) }
+    ensures scripts { IfOk result (λ v. map {B = TableId × List Step} (λ h. (h.promise.board.now.words.name, h.promise.script.now)) v.items
+        ≡ map {B = TableId × List Step} (λ s. (board.now.words.name, s.items)) scripts.now) }
 {
     let mut threads = Vec::new(alloc);
     let mut index = 0;
@@ -179,7 +180,8 @@ fn start_lines<'s, E, R: Threads + Wait + Sync, G: Gate + Sync>(
     requires each { vec_len lines ≡ length scripts.now }
     requires bound { first + length scripts.now ≤ 16 }
     requires there { All (λ (s : Vec (ℕ × ℕ) Global). IsThere board.now.words.processors s.items) scripts.now }
-    ensures scripts { IfOk result (λ v. map {B = TableId × List (ℕ × ℕ)} (λ h. (h.promise.board.now.words.name, h.promise.script.now)) v.items ≡ map {B = TableId × List (ℕ × ℕ)} (λ s. (board.now.words.name, s.items)) scripts.now) }
+    ensures scripts { IfOk result (λ v. map {B = TableId × List (ℕ × ℕ)} (λ h. (h.promise.board.now.words.name, h.promise.script.now)) v.items
+        ≡ map {B = TableId × List (ℕ × ℕ)} (λ s. (board.now.words.name, s.items)) scripts.now) }
 {
     let mut threads = Vec::new(alloc);
     let mut index = 0u8;

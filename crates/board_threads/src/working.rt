@@ -8,7 +8,7 @@ ghost use Rattle.posted_words.specs.declared.line.Raised.{Raised};
 ghost use Rattle.board_threads.specs.Sharing.{start, new_actor};
 ghost use Rattle.board_threads.specs.Judging.{AreScriptSizes, has_bad_step};
 ghost use Rattle.board_threads.specs.inside.Work.{IsNewLine, HaveWorked, InPlace};
-ghost use Rattle.board_threads.specs.inside.Ending.{IsCrewEnd};
+ghost use Rattle.board_threads.specs.Crew.{IsCrewEnd};
 
 use crate::actor::Actor;
 use crate::crew::CrewEnd;

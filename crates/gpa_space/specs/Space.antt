@@ -11,7 +11,8 @@ use Rattle.board_terms.specs.declared.pages.Owner.{Owner}
 use Rattle.board_terms.specs.declared.pages.Owner.TheVariants.{Guest, Sim, Sief, Nothing}
 use Rattle.gpa_space.specs.Page.{zero_page, overwritten, with_slot, is_set, with_bit, pending_place, flag_place}
 
--- the guest pages that the space holds, all or none; the overlays' registers and their own pages, both in the order of visibility: processor 0 SIM, processor 0 SIEF, processor 1 SIM, and so on (profile)
+-- the guest pages that the space holds, all or none; the overlays' registers and their own pages, both in the order of
+-- visibility: processor 0 SIM, processor 0 SIEF, processor 1 SIM, and so on (profile)
 pub record Space : Type 0 where
   pub pages : List (List ℕ)
   pub registers : List ℕ

@@ -27,7 +27,8 @@ unfolding word_members
 members-are words = refl
 
 pub made : (words : List ℕ) → slice_index_or words 0 0 % 65536 ≡ 0 → Some (word_members words) ≡ from_words words
-made words h = let test : (slice_index_or words 0 0 % 65536 == 0) ≡ true = ap (λ n. n == 0) h in ap Some (members-are words) ∙ ap (λ (b : Bool). cond b (Some (numbers_where (holds words) 256)) None) (sym test)
+made words h = let test : (slice_index_or words 0 0 % 65536 == 0) ≡ true = ap (λ n. n == 0) h in ap Some (members-are words) ∙
+    ap (λ (b : Bool). cond b (Some (numbers_where (holds words) 256)) None) (sym test)
 
 pub none-low : (words : List ℕ) → slice_index_or words 0 0 % 65536 ≡ 0 → NoneBelow16 words
 none-low words h v low =
@@ -39,7 +40,8 @@ none-low words h v low =
 divides-low : (n : ℕ) → ((i : ℕ) → i < 16 → (bit_at n i == 1) ≡ false) → n % 65536 ≡ 0
 divides-low n clear =
     same_from_bits_below 16 (n % 65536) 0 (omega arith) (omega arith) (λ i low.
-    sym (ap (λ m. bit_at m i) (split) ∙ bit_at_cat_low (n / 65536) 16 (n % 65536) i low) ∙ same_digit (bit_at n i) (bit_at 0 i) (bit_at-lt n i) (bit_at-lt 0 i) (clear i low ∙ sym (ap (λ m. m == 1) (bit_at-zero i))))
+    sym (ap (λ m. bit_at m i) (split) ∙ bit_at_cat_low (n / 65536) 16 (n % 65536) i low) ∙
+        same_digit (bit_at n i) (bit_at 0 i) (bit_at-lt n i) (bit_at-lt 0 i) (clear i low ∙ sym (ap (λ m. m == 1) (bit_at-zero i))))
   where
     split : n ≡ n / 65536 * 2 ^ 16 + n % 65536
     split = omega arith

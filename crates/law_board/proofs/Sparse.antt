@@ -255,7 +255,8 @@ blind-reset : (p : ℕ) → IsBlind (λ s. reset s p)
 blind-reset p = blind-answered Done (λ s. after (emptied s p) (cleared (emptied s p).0 p, [])) (blind-after (λ s. emptied s p) (λ s. (cleared s p, [])) (blind-emptied p 16) (λ s m. refl))
 
 blind-absorb : (p part bits : ℕ) → IsBlind (λ s. absorbed s p part bits)
-blind-absorb p part bits s m = blind-cases s m (nat_le part 3) (λ x. answered Done (absorbed_below x p part bits 64)) (λ x. refused x BadTarget) (ap (answered Done) (blind-absorbed p part bits 64 s m)) refl
+blind-absorb p part bits s m = blind-cases s m (nat_le part 3) (λ x. answered Done (absorbed_below x p part bits 64)) (λ x. refused x BadTarget)
+    (ap (answered Done) (blind-absorbed p part bits 64 s m)) refl
 
 blind-suspended : (p : ℕ) → IsBlind (λ s. suspended s p)
 blind-suspended p s m = blind-cases s m (is_suspended s p) (λ x. refused x AlreadySuspended) (λ x. unchanged (with_suspension x p true) Done) refl refl
@@ -293,7 +294,8 @@ bytes_by x address bytes o = overwritten (option_map_or (λ overlay. get_or x.ow
 
 abbrev space_by : State → ℕ → List ℕ → Option ℕ → Space
 space_by x address bytes o =
-    option_map_or (λ overlay. record (space_of x) { own = set x.own overlay (bytes_by x address bytes o) }) o (record (space_of x) { pages = set x.pages (address / 4096) (bytes_by x address bytes o) })
+    option_map_or (λ overlay. record (space_of x) { own = set x.own overlay (bytes_by x address bytes o) }) o
+        (record (space_of x) { pages = set x.pages (address / 4096) (bytes_by x address bytes o) })
 
 abbrev store_by : State → ℕ → List ℕ → Bool → Bool → Bool → Option ℕ → Bool → Outcome
 store_by x address bytes bad within crosses o sparse =

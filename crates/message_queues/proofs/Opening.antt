@@ -42,7 +42,8 @@ pub opened-queues : (new : Slab Neighbours) (messages : List Message) (n : ℕ) 
 opened-queues new messages zero = refl
 opened-queues new messages (suc n) = ap (λ (x : Queues). [] ∷ x) (opened-queues new messages n)
 
-pub opened : (new : Slab Neighbours) (messages : List Message) (n : ℕ) → new.slots ≡ [] → 288 ≤ new.capacity → length messages ≡ new.capacity → Step new messages (replicate n empty_chain) (replicate 48 0) (replicate n [])
+pub opened : (new : Slab Neighbours) (messages : List Message) (n : ℕ) → new.slots ≡ [] → 288 ≤ new.capacity → length messages ≡ new.capacity →
+    Step new messages (replicate n empty_chain) (replicate 48 0) (replicate n [])
 opened new messages n empty room size = record {
   linked = linked;
   both_ways = both-ways (buffer_at new messages) (replicate n empty_chain) linked;

@@ -248,7 +248,8 @@ found a qs q c port k shown within read below =
 
 pub withdrawn-step : (a : Inside) (qs : Queues) (q : ℕ) (c d : Chain) (port n : ℕ) (tickets : List ℕ) (new : Slab Neighbours) (k : QueuesInvariant a) → queues_of a ≡ qs →
     q < length qs → c ≡ get_or a.chains.items q c → port < 16 →
-    Withdrawn (buffers_of a) (buffer_at new a.messages.items) k.linked.owner k.linked.rank q c d port tickets → slab_len new + length tickets ≡ slab_len a.neighbours → new.capacity ≡ a.neighbours.capacity → n ≡ length tickets →
+    Withdrawn (buffers_of a) (buffer_at new a.messages.items) k.linked.owner k.linked.rank q c d port tickets → slab_len new + length tickets ≡ slab_len a.neighbours →
+    new.capacity ≡ a.neighbours.capacity → n ≡ length tickets →
     Step new a.messages.items (slice_set a.chains.items q d) (slice_set a.in_use port (slice_index_or a.in_use port 0 - n)) (slice_set qs q (left_of port (slice_index_or qs q [])))
 withdrawn-step a qs q c d port n tickets new k shown within read below w len capacity is =
     let h = here a qs q c k shown within read in

@@ -53,7 +53,8 @@ impl Model for PostedWords {
 
     ghost view = { λ p. shared_words p.table.shared.table_id p.processors p.sweepers p.lines };
 
-    ghost invariant = { λ p. (p.table.shared.key ≡ (4 * p.processors, p.sweepers + p.lines)) × (p.table.shared.table_id.words ≡ 4 * p.processors) × (p.table.shared.table_id.slots ≡ 0) × AreWordSizes p.processors p.sweepers p.lines };
+    ghost invariant = { λ p. (p.table.shared.key ≡ (4 * p.processors, p.sweepers + p.lines))
+        × (p.table.shared.table_id.words ≡ 4 * p.processors) × (p.table.shared.table_id.slots ≡ 0) × AreWordSizes p.processors p.sweepers p.lines };
 }
 
 type Places = Shared<(), View, (u64, u64), Counted>;

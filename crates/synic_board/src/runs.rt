@@ -28,7 +28,8 @@ pub fn run(
     notices: &mut Vec<Notice>,
 ) -> Result<Vec<Reply>, Stopped>
     ensures all { IfOk result (λ replies. (board.new.state, replies.items, notices.new.items) ≡ with_earlier_notices notices.old.items (run_of board.old.state events.now)) }
-    ensures stopped { IfErr result (λ stopped. (board.new.state, stopped.replies.items, notices.new.items) ≡ with_earlier_notices notices.old.items (run_of board.old.state (take stopped.done events.now))) }
+    ensures stopped { IfErr result (λ stopped. (board.new.state, stopped.replies.items, notices.new.items)
+        ≡ with_earlier_notices notices.old.items (run_of board.old.state (take stopped.done events.now))) }
     ensures within { IfErr result (λ stopped. stopped.done < length events.now) }
     ensures conserves { Conserves board.old.state board.new.state (drop (length notices.old.items) notices.new.items) }
     ensures tickets_monotone { board.old.state.next_ticket ≤ board.new.state.next_ticket }

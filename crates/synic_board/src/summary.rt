@@ -57,7 +57,13 @@ impl Model for Summary {
 
     ghost coded = { stored_summary_code };
 
-    ghost view = { λ a. stored_summary (record { nexts = a.nexts.items; autos = a.autos.items; owners = a.owners.items; queued = a.queued.items; earliest = option_map (λ t. (a.due, t)) a.earliest }) a.writes.number };
+    ghost view = { λ a. stored_summary (record {
+      nexts = a.nexts.items;
+      autos = a.autos.items;
+      owners = a.owners.items;
+      queued = a.queued.items;
+      earliest = option_map (λ t. (a.due, t)) a.earliest;
+    }) a.writes.number };
 
     ghost use Rattle.synic_board.specs.inside.Waiting.{AreWaiting};
 

@@ -1,13 +1,14 @@
-// Parses the event of a line.
-ghost use Rattle.std.specs.Prelude.{◌≡◌, ◌∷◌, if◌then◌else◌, Some, None};
+// Parses the event of a line, and performs it.
+ghost use Rattle.std.specs.Prelude.{◌≡◌, [], ◌∷◌};
+ghost use Rattle.std.specs.Option.{option_map};
+ghost use Rattle.synic_board.specs.declared.event.Event.TheVariants.{Post, Store};
+ghost use Rattle.text_lines.specs.Performing.{PerformsLine};
 ghost use Rattle.text_lines.specs.Reading.{parse_event, parse_open, parse_messages, parse_flags, parse_close, parse_write, parse_read, parse_post, parse_signal, parse_assert, parse_absorb, parse_store, parse_load, parse_tick, parse_processor, parse_take, parse_suspend, parse_resume, parse_reset};
 
-use crate::numbers::{
-    bytes_in, hex_u32_of, hex_u64_of, read_bytes, u8_of, u16_of, u64_of, vector_of,
-};
+use crate::numbers::{hex_u32_of, hex_u64_of, read_bytes, u8_of, u16_of, u64_of, vector_of};
 use arrayvec::ArrayVec;
-use board_terms::PortShape;
-use synic_board::Event;
+use board_terms::{Bytes8, Notices, PayloadBytes, PortShape};
+use synic_board::{Board, Event, Reply};
 use text_base::{Fields, is_word};
 
 /// Parses the event with this first word. All remaining fields must be used; `None` if they denote
@@ -15,318 +16,352 @@ use text_base::{Fields, is_word};
 pub fn event_of(word: &[u8], fields: &mut Fields<'_>) -> Option<Event>
     ensures { result ≡ parse_event (word.now ∷ fields.old) }
 {
-    let mut event = Event::Take { vp: 0 };
-    if read_event(word, fields, &mut event) {
-        Some(event)
-    } else {
-        None
-    }
-}
-
-/// Parses the event with this first word into `event`, and returns whether there is one. All
-/// remaining fields must be used. If there is none, `event` is some event.
-#[inline(always)]
-pub fn read_event(word: &[u8], fields: &mut Fields<'_>, event: &mut Event) -> bool
-    ensures { (if result then Some event.new else None) ≡ parse_event (word.now ∷ fields.old) }
-{
     if is_word(word, b"open") {
-        return open_of(fields, event);
+        return open_of(fields);
     }
     if is_word(word, b"close") {
-        return close_of(fields, event);
+        return close_of(fields);
     }
     if is_word(word, b"write") {
-        return write_of(fields, event);
+        return write_of(fields);
     }
     if is_word(word, b"read") {
-        return read_of(fields, event);
+        return read_of(fields);
     }
     if is_word(word, b"post") {
-        return post_of(fields, event);
+        return post_of(fields);
     }
     if is_word(word, b"signal") {
-        return signal_of(fields, event);
+        return signal_of(fields);
     }
     if is_word(word, b"assert") {
-        return assert_of(fields, event);
+        return assert_of(fields);
     }
     if is_word(word, b"absorb") {
-        return absorb_of(fields, event);
+        return absorb_of(fields);
     }
     if is_word(word, b"store") {
-        return store_of(fields, event);
+        return store_of(fields);
     }
     if is_word(word, b"load") {
-        return load_of(fields, event);
+        return load_of(fields);
     }
     if is_word(word, b"tick") {
-        return tick_of(fields, event);
+        return tick_of(fields);
     }
     if is_word(word, b"take") {
-        return take_of(fields, event);
+        return take_of(fields);
     }
     if is_word(word, b"suspend") {
-        return suspend_of(fields, event);
+        return suspend_of(fields);
     }
     if is_word(word, b"resume") {
-        return resume_of(fields, event);
+        return resume_of(fields);
     }
     if is_word(word, b"reset") {
-        return reset_of(fields, event);
+        return reset_of(fields);
     }
-    false
+    None
+}
+
+/// Performs the event with this first word on a board, and returns its reply. All remaining fields
+/// must be used; `None` if they denote no event, and then the board is unchanged. Each kind of event
+/// is performed where it is parsed, so none is written to memory.
+#[inline(always)]
+pub fn perform_event(
+    word: &[u8],
+    fields: &mut Fields<'_>,
+    board: &mut Board,
+    notices: &mut Notices,
+) -> Option<Reply>
+    ensures { PerformsLine result (parse_event (word.now ∷ fields.old)) board.old board.new notices.new }
+{
+    if is_word(word, b"open") {
+        return perform(board, open_of(fields), notices);
+    }
+    if is_word(word, b"close") {
+        return perform(board, close_of(fields), notices);
+    }
+    if is_word(word, b"write") {
+        return perform(board, write_of(fields), notices);
+    }
+    if is_word(word, b"read") {
+        return perform(board, read_of(fields), notices);
+    }
+    if is_word(word, b"post") {
+        return perform_post(fields, board, notices);
+    }
+    if is_word(word, b"signal") {
+        return perform(board, signal_of(fields), notices);
+    }
+    if is_word(word, b"assert") {
+        return perform(board, assert_of(fields), notices);
+    }
+    if is_word(word, b"absorb") {
+        return perform(board, absorb_of(fields), notices);
+    }
+    if is_word(word, b"store") {
+        return perform_store(fields, board, notices);
+    }
+    if is_word(word, b"load") {
+        return perform(board, load_of(fields), notices);
+    }
+    if is_word(word, b"tick") {
+        return perform(board, tick_of(fields), notices);
+    }
+    if is_word(word, b"take") {
+        return perform(board, take_of(fields), notices);
+    }
+    if is_word(word, b"suspend") {
+        return perform(board, suspend_of(fields), notices);
+    }
+    if is_word(word, b"resume") {
+        return perform(board, resume_of(fields), notices);
+    }
+    if is_word(word, b"reset") {
+        return perform(board, reset_of(fields), notices);
+    }
+    None
+}
+
+/// Performs an event, if there is one.
+#[inline(always)]
+fn perform(board: &mut Board, event: Option<Event>, notices: &mut Notices) -> Option<Reply>
+    ensures { PerformsLine result event board.old board.new notices.new }
+{
+    let event = event?;
+    Some(board.perform(&event, notices))
+}
+
+/// Performs a post, from the payload that is parsed.
+#[inline(always)]
+fn perform_post(fields: &mut Fields<'_>, board: &mut Board, notices: &mut Notices) -> Option<Reply>
+    ensures { PerformsLine result (parse_post fields.old) board.old board.new notices.new }
+{
+    let mut payload = ArrayVec::new();
+    let (port, kind) = read_post(fields, &mut payload)?;
+    Some(board.post(port, kind, payload.as_slice(), notices))
+}
+
+/// Performs a store, from the bytes that are parsed.
+#[inline(always)]
+fn perform_store(fields: &mut Fields<'_>, board: &mut Board, notices: &mut Notices) -> Option<Reply>
+    ensures { PerformsLine result (parse_store fields.old) board.old board.new notices.new }
+{
+    let mut bytes = ArrayVec::new();
+    let address = read_store(fields, &mut bytes)?;
+    Some(board.store(address, bytes.as_slice(), notices))
 }
 
 #[inline(always)]
-fn open_of(fields: &mut Fields<'_>, event: &mut Event) -> bool
-    ensures { (if result then Some event.new else None) ≡ parse_open fields.old }
+fn open_of(fields: &mut Fields<'_>) -> Option<Event>
+    ensures { result ≡ parse_open fields.old }
 {
-    let Some(port) = u8_of(fields) else {
-        return false;
-    };
-    let Some(word) = fields.next() else {
-        return false;
-    };
+    let port = u8_of(fields)?;
+    let word = fields.next()?;
     if is_word(word, b"message") {
-        return messages_of(port, fields, event);
+        return messages_of(port, fields);
     }
     if is_word(word, b"event") {
-        return flags_of(port, fields, event);
+        return flags_of(port, fields);
     }
-    false
+    None
 }
 
 #[inline(always)]
-fn messages_of(port: u8, fields: &mut Fields<'_>, event: &mut Event) -> bool
-    ensures { (if result then Some event.new else None) ≡ parse_messages port fields.old }
+fn messages_of(port: u8, fields: &mut Fields<'_>) -> Option<Event>
+    ensures { result ≡ parse_messages port fields.old }
 {
-    let Some(vp) = u8_of(fields) else {
-        return false;
-    };
-    let Some(sint) = u8_of(fields) else {
-        return false;
-    };
-    let Some(buffers) = u8_of(fields) else {
-        return false;
-    };
+    let vp = u8_of(fields)?;
+    let sint = u8_of(fields)?;
+    let buffers = u8_of(fields)?;
     if !fields.is_empty() {
-        return false;
+        return None;
     }
     let shape = PortShape::Messages { buffers };
-    *event = Event::OpenPort {
+    Some(Event::OpenPort {
         port,
         vp,
         sint,
         shape,
-    };
-    true
+    })
 }
 
 #[inline(always)]
-fn flags_of(port: u8, fields: &mut Fields<'_>, event: &mut Event) -> bool
-    ensures { (if result then Some event.new else None) ≡ parse_flags port fields.old }
+fn flags_of(port: u8, fields: &mut Fields<'_>) -> Option<Event>
+    ensures { result ≡ parse_flags port fields.old }
 {
-    let Some(vp) = u8_of(fields) else {
-        return false;
-    };
-    let Some(sint) = u8_of(fields) else {
-        return false;
-    };
-    let Some(base) = u16_of(fields) else {
-        return false;
-    };
-    let Some(count) = u16_of(fields) else {
-        return false;
-    };
+    let vp = u8_of(fields)?;
+    let sint = u8_of(fields)?;
+    let base = u16_of(fields)?;
+    let count = u16_of(fields)?;
     if !fields.is_empty() {
-        return false;
+        return None;
     }
     let shape = PortShape::Flags { base, count };
-    *event = Event::OpenPort {
+    Some(Event::OpenPort {
         port,
         vp,
         sint,
         shape,
-    };
-    true
+    })
 }
 
 #[inline(always)]
-fn close_of(fields: &mut Fields<'_>, event: &mut Event) -> bool
-    ensures { (if result then Some event.new else None) ≡ parse_close fields.old }
+fn close_of(fields: &mut Fields<'_>) -> Option<Event>
+    ensures { result ≡ parse_close fields.old }
 {
-    let Some(port) = u8_of(fields) else {
-        return false;
-    };
+    let port = u8_of(fields)?;
     if !fields.is_empty() {
-        return false;
+        return None;
     }
-    *event = Event::ClosePort { port };
-    true
+    Some(Event::ClosePort { port })
 }
 
 #[inline(always)]
-fn post_of(fields: &mut Fields<'_>, event: &mut Event) -> bool
-    ensures { (if result then Some event.new else None) ≡ parse_post fields.old }
+fn post_of(fields: &mut Fields<'_>) -> Option<Event>
+    ensures { result ≡ parse_post fields.old }
 {
-    let Some(port) = u8_of(fields) else {
-        return false;
-    };
-    let Some(kind) = hex_u32_of(fields) else {
-        return false;
-    };
-    *event = Event::Post {
+    let mut payload = ArrayVec::new();
+    let (port, kind) = read_post(fields, &mut payload)?;
+    Some(Event::Post {
         port,
         kind,
-        payload: ArrayVec::new(),
-    };
-    match event {
-        Event::Post { payload, .. } => read_bytes(fields, payload) && fields.is_empty(),
-        _ => false,
+        payload,
+    })
+}
+
+/// Parses a port and a type, and the payload into the empty `payload`. If the fields denote no post,
+/// `payload` holds some bytes.
+#[inline(always)]
+fn read_post(fields: &mut Fields<'_>, payload: &mut PayloadBytes) -> Option<(u8, u32)>
+    requires { payload.old.items ≡ [] }
+    ensures { option_map (λ p. Post p.0 p.1 payload.new) result ≡ parse_post fields.old }
+{
+    let port = u8_of(fields)?;
+    let kind = hex_u32_of(fields)?;
+    if !read_bytes(fields, payload) {
+        return None;
     }
+    if !fields.is_empty() {
+        return None;
+    }
+    Some((port, kind))
 }
 
 #[inline(always)]
-fn signal_of(fields: &mut Fields<'_>, event: &mut Event) -> bool
-    ensures { (if result then Some event.new else None) ≡ parse_signal fields.old }
+fn signal_of(fields: &mut Fields<'_>) -> Option<Event>
+    ensures { result ≡ parse_signal fields.old }
 {
-    let Some(port) = u8_of(fields) else {
-        return false;
-    };
-    let Some(flag) = u16_of(fields) else {
-        return false;
-    };
+    let port = u8_of(fields)?;
+    let flag = u16_of(fields)?;
     if !fields.is_empty() {
-        return false;
+        return None;
     }
-    *event = Event::Signal { port, flag };
-    true
+    Some(Event::Signal { port, flag })
 }
 
 #[inline(always)]
-fn store_of(fields: &mut Fields<'_>, event: &mut Event) -> bool
-    ensures { (if result then Some event.new else None) ≡ parse_store fields.old }
+fn store_of(fields: &mut Fields<'_>) -> Option<Event>
+    ensures { result ≡ parse_store fields.old }
 {
-    let Some(address) = hex_u64_of(fields) else {
-        return false;
-    };
-    let Some(bytes) = bytes_in(fields) else {
-        return false;
-    };
-    if !fields.is_empty() {
-        return false;
+    let mut bytes = ArrayVec::new();
+    let address = read_store(fields, &mut bytes)?;
+    Some(Event::Store { address, bytes })
+}
+
+/// Parses an address, and the bytes into the empty `bytes`. If the fields denote no store, `bytes` holds
+/// some of them.
+#[inline(always)]
+fn read_store(fields: &mut Fields<'_>, bytes: &mut Bytes8) -> Option<u64>
+    requires { bytes.old.items ≡ [] }
+    ensures { option_map (λ address. Store address bytes.new) result ≡ parse_store fields.old }
+{
+    let address = hex_u64_of(fields)?;
+    if !read_bytes(fields, bytes) {
+        return None;
     }
-    *event = Event::Store { address, bytes };
-    true
+    if !fields.is_empty() {
+        return None;
+    }
+    Some(address)
 }
 
 #[inline(always)]
-fn load_of(fields: &mut Fields<'_>, event: &mut Event) -> bool
-    ensures { (if result then Some event.new else None) ≡ parse_load fields.old }
+fn load_of(fields: &mut Fields<'_>) -> Option<Event>
+    ensures { result ≡ parse_load fields.old }
 {
-    let Some(address) = hex_u64_of(fields) else {
-        return false;
-    };
-    let Some(length) = u8_of(fields) else {
-        return false;
-    };
+    let address = hex_u64_of(fields)?;
+    let length = u8_of(fields)?;
     if !fields.is_empty() {
-        return false;
+        return None;
     }
-    *event = Event::Load { address, length };
-    true
+    Some(Event::Load { address, length })
 }
 
 #[inline(always)]
-fn tick_of(fields: &mut Fields<'_>, event: &mut Event) -> bool
-    ensures { (if result then Some event.new else None) ≡ parse_tick fields.old }
+fn tick_of(fields: &mut Fields<'_>) -> Option<Event>
+    ensures { result ≡ parse_tick fields.old }
 {
-    let Some(moment) = u64_of(fields) else {
-        return false;
-    };
+    let moment = u64_of(fields)?;
     if !fields.is_empty() {
-        return false;
+        return None;
     }
-    *event = Event::Tick { moment };
-    true
+    Some(Event::Tick { moment })
 }
 
 #[inline(always)]
-fn write_of(fields: &mut Fields<'_>, event: &mut Event) -> bool
-    ensures { (if result then Some event.new else None) ≡ parse_write fields.old }
+fn write_of(fields: &mut Fields<'_>) -> Option<Event>
+    ensures { result ≡ parse_write fields.old }
 {
-    let Some(vp) = u8_of(fields) else {
-        return false;
-    };
-    let Some(register) = hex_u32_of(fields) else {
-        return false;
-    };
-    let Some(value) = hex_u64_of(fields) else {
-        return false;
-    };
+    let vp = u8_of(fields)?;
+    let register = hex_u32_of(fields)?;
+    let value = hex_u64_of(fields)?;
     if !fields.is_empty() {
-        return false;
+        return None;
     }
-    *event = Event::Write {
+    Some(Event::Write {
         vp,
         register,
         value,
-    };
-    true
+    })
 }
 
 #[inline(always)]
-fn read_of(fields: &mut Fields<'_>, event: &mut Event) -> bool
-    ensures { (if result then Some event.new else None) ≡ parse_read fields.old }
+fn read_of(fields: &mut Fields<'_>) -> Option<Event>
+    ensures { result ≡ parse_read fields.old }
 {
-    let Some(vp) = u8_of(fields) else {
-        return false;
-    };
-    let Some(register) = hex_u32_of(fields) else {
-        return false;
-    };
+    let vp = u8_of(fields)?;
+    let register = hex_u32_of(fields)?;
     if !fields.is_empty() {
-        return false;
+        return None;
     }
-    *event = Event::Read { vp, register };
-    true
+    Some(Event::Read { vp, register })
 }
 
 #[inline(always)]
-fn assert_of(fields: &mut Fields<'_>, event: &mut Event) -> bool
-    ensures { (if result then Some event.new else None) ≡ parse_assert fields.old }
+fn assert_of(fields: &mut Fields<'_>) -> Option<Event>
+    ensures { result ≡ parse_assert fields.old }
 {
-    let Some(vp) = u8_of(fields) else {
-        return false;
-    };
-    let Some(vector) = vector_of(fields) else {
-        return false;
-    };
+    let vp = u8_of(fields)?;
+    let vector = vector_of(fields)?;
     if !fields.is_empty() {
-        return false;
+        return None;
     }
-    *event = Event::Assert { vp, vector };
-    true
+    Some(Event::Assert { vp, vector })
 }
 
 #[inline(always)]
-fn absorb_of(fields: &mut Fields<'_>, event: &mut Event) -> bool
-    ensures { (if result then Some event.new else None) ≡ parse_absorb fields.old }
+fn absorb_of(fields: &mut Fields<'_>) -> Option<Event>
+    ensures { result ≡ parse_absorb fields.old }
 {
-    let Some(vp) = u8_of(fields) else {
-        return false;
-    };
-    let Some(part) = u8_of(fields) else {
-        return false;
-    };
-    let Some(bits) = hex_u64_of(fields) else {
-        return false;
-    };
+    let vp = u8_of(fields)?;
+    let part = u8_of(fields)?;
+    let bits = hex_u64_of(fields)?;
     if !fields.is_empty() {
-        return false;
+        return None;
     }
-    *event = Event::Absorb { vp, part, bits };
-    true
+    Some(Event::Absorb { vp, part, bits })
 }
 
 /// Parses a processor that is the last field.
@@ -339,45 +374,33 @@ fn processor_of(fields: &mut Fields<'_>) -> Option<u8>
 }
 
 #[inline(always)]
-fn take_of(fields: &mut Fields<'_>, event: &mut Event) -> bool
-    ensures { (if result then Some event.new else None) ≡ parse_take fields.old }
+fn take_of(fields: &mut Fields<'_>) -> Option<Event>
+    ensures { result ≡ parse_take fields.old }
 {
-    let Some(vp) = processor_of(fields) else {
-        return false;
-    };
-    *event = Event::Take { vp };
-    true
+    let vp = processor_of(fields)?;
+    Some(Event::Take { vp })
 }
 
 #[inline(always)]
-fn suspend_of(fields: &mut Fields<'_>, event: &mut Event) -> bool
-    ensures { (if result then Some event.new else None) ≡ parse_suspend fields.old }
+fn suspend_of(fields: &mut Fields<'_>) -> Option<Event>
+    ensures { result ≡ parse_suspend fields.old }
 {
-    let Some(vp) = processor_of(fields) else {
-        return false;
-    };
-    *event = Event::Suspend { vp };
-    true
+    let vp = processor_of(fields)?;
+    Some(Event::Suspend { vp })
 }
 
 #[inline(always)]
-fn resume_of(fields: &mut Fields<'_>, event: &mut Event) -> bool
-    ensures { (if result then Some event.new else None) ≡ parse_resume fields.old }
+fn resume_of(fields: &mut Fields<'_>) -> Option<Event>
+    ensures { result ≡ parse_resume fields.old }
 {
-    let Some(vp) = processor_of(fields) else {
-        return false;
-    };
-    *event = Event::Resume { vp };
-    true
+    let vp = processor_of(fields)?;
+    Some(Event::Resume { vp })
 }
 
 #[inline(always)]
-fn reset_of(fields: &mut Fields<'_>, event: &mut Event) -> bool
-    ensures { (if result then Some event.new else None) ≡ parse_reset fields.old }
+fn reset_of(fields: &mut Fields<'_>) -> Option<Event>
+    ensures { result ≡ parse_reset fields.old }
 {
-    let Some(vp) = processor_of(fields) else {
-        return false;
-    };
-    *event = Event::Reset { vp };
-    true
+    let vp = processor_of(fields)?;
+    Some(Event::Reset { vp })
 }

@@ -8,7 +8,7 @@ mod numbers;
 mod opening;
 mod print;
 
-pub use event::{event_of, read_event};
+pub use event::{event_of, perform_event};
 pub use fault::{ScriptFault, put_fault, skips};
 pub use numbers::{bytes_in, hex_u32_of, hex_u64_of, u8_of, u64_of, vector_of};
 pub use opening::opening_of;

@@ -17,7 +17,8 @@ last-within line stage results.Memory r0 r1 says read = absurd says
 last-within line stage results.Reading r0 r1 says read = absurd says
 
 -- Only a failed read may be beyond the limit.
-pub concluded-within : (end : End (Unit {0})) (stage : Stage) (result : RestoreEnd) (r0 r1 : Option (List ℕ)) → Concludes end stage result → ReadsUpTo (most_of end) r0 r1 → ReadsUpTo (most_read result) r0 r1
+pub concluded-within : (end : End (Unit {0})) (stage : Stage) (result : RestoreEnd) (r0 r1 : Option (List ℕ)) → Concludes end stage result → ReadsUpTo (most_of end) r0 r1 →
+    ReadsUpTo (most_read result) r0 r1
 concluded-within (ends.Last line) stage result r0 r1 says read = last-within line stage result r0 r1 says read
 concluded-within (ends.Wrong line fault) stage result r0 r1 says read = rw says read
 concluded-within (ends.Long line) stage result r0 r1 says read = rw says read

@@ -1,5 +1,5 @@
 -- The lines of a trace, printed and parsed.
-use Rattle.std.proofs.Common.{◌≡◌, ℕ, ◌<◌, ◌≤◌, ◌^◌, List, [], ◌∷◌, length, Option, Some, None, refl, sym, ap, ◌∙◌, arith, cond, Bool, true, false, not, decimal, codes}
+use Rattle.std.proofs.Common.{◌≡◌, ℕ, ◌<◌, ◌≤◌, ◌^◌, List, [], ◌∷◌, length, get_or, Option, Some, None, refl, sym, ap, ◌∙◌, arith, cond, Bool, true, false, not, decimal, codes}
 use Rattle.std.specs.Option.{option_and_then}
 use Rattle.std.specs.Str.{bytes_eq}
 use Rattle.std.proofs.lemmas.Slice.Eq.{bytes_eq-Decides}
@@ -8,8 +8,10 @@ use Rattle.std.proofs.lemmas.Fmt.{length-decimal-le}
 use Rattle.text_base.specs.Fields.{fields_of, spaced}
 use Rattle.text_base.proofs.PlainWords.{IsPlain, plain_by, digits-plain, digits-short, two_digits-plain, IsWritten, written}
 use Rattle.board_terms.specs.Numbers.{refusal_number}
+use Rattle.board_terms.specs.declared.messages.PortShape.TheVariants.{Messages, Flags}
 use Rattle.synic_board.specs.State.{AreSizes}
 use Rattle.synic_board.specs.declared.event.Event.{Event}
+use Rattle.synic_board.specs.declared.event.Event.TheVariants.{OpenPort, ClosePort, Write, Read, Post, Signal, Assert, Absorb, Store, Load, Tick, Take, Suspend, Resume, Reset}
 use Rattle.synic_board.specs.declared.event.Reply.{Reply}
 use Rattle.synic_board.specs.declared.history.Entry.{Entry}
 use Rattle.synic_board.specs.declared.event.Reply.TheVariants as replies
@@ -23,8 +25,8 @@ use Rattle.text_lines.proofs.SizeLemmas.{sizes-are}
 use Rattle.text_lines.proofs.WrittenLemmas.{bytes-plain, bytes-short, event-plain, board-written}
 use Rattle.text_trace.specs.declared.format.Format.{Format}
 use Rattle.text_trace.specs.declared.format.Format.TheVariants.{One, Two, Three}
-use Rattle.text_trace.specs.Trace.{IsEntry, has_line, title_fields, entry_fields, end_fields}
-use Rattle.text_trace.specs.inside.Stages.{with_line, parse_entry, entry_at, within_limits, parse_board, board_at}
+use Rattle.text_trace.specs.Trace.{IsEntry, is_reset, has_line, title_fields, entry_fields, end_fields}
+use Rattle.text_trace.specs.inside.Stages.{has_word, with_line, parse_entry, entry_at, within_limits, parse_board, board_at}
 use Rattle.synic_board.specs.Replies.{IsReply}
 
 vector-plain : (vector : Option ℕ) → IsPlain (vector_or_none vector)
@@ -103,6 +105,43 @@ entry-says f line fields event is e =
 pub entry-only : (f : Format) (line : List ℕ) (event : Event) → entry_at f line ≡ Some event → EntryLine f line event
 unfolding entry_at
 entry-only f line event e = entry-says f line (fields_of line) event refl e
+
+-- the word of a reset is no other's
+reset-word : (e : Event) → bytes_eq (get_or (event_fields e) 0 []) (codes "reset") ≡ is_reset e
+reset-word (OpenPort port vp sint (Messages buffers)) = refl
+reset-word (OpenPort port vp sint (Flags base count)) = refl
+reset-word (ClosePort port) = refl
+reset-word (Write vp number value) = refl
+reset-word (Read vp number) = refl
+reset-word (Post port kind payload) = refl
+reset-word (Signal port flag) = refl
+reset-word (Assert vp vector) = refl
+reset-word (Absorb vp part bits) = refl
+reset-word (Store address bytes) = refl
+reset-word (Load address count) = refl
+reset-word (Tick moment) = refl
+reset-word (Take vp) = refl
+reset-word (Suspend vp) = refl
+reset-word (Resume vp) = refl
+reset-word (Reset vp) = refl
+
+-- so the first word of an event says whether the event has a line
+pub word-line : (f : Format) (word : List ℕ) (fields : Fields) →
+    option_and_then (with_line f) (parse_event (word ∷ fields)) ≡ cond (has_word f word) (parse_event (word ∷ fields)) None
+word-line f word fields = by f (parse_event (word ∷ fields)) refl
+  where
+    none : (t : Bool) → None {A = Event} ≡ cond t None None
+    none true = refl
+    none false = refl
+
+    by : (f : Format) (o : Option Event) → parse_event (word ∷ fields) ≡ o → option_and_then (with_line f) o ≡ cond (has_word f word) o None
+    by f None is = none (has_word f word)
+    by One (Some e) is =
+        let same : is_reset e ≡ bytes_eq word (codes "reset") =
+        sym (reset-word e) ∙ ap (λ (fs : Fields). bytes_eq (get_or fs 0 []) (codes "reset")) (sym (event-says (word ∷ fields) e is).same) in
+        ap (λ (t : Bool). cond (not t) (Some e) None) same
+    by Two (Some e) is = refl
+    by Three (Some e) is = refl
 
 -- an end is no entry
 end-first : (f : Format) (n next : ℕ) (fields : Fields) (word : List ℕ) → end_fields f n next ≡ word ∷ fields → codes "end" ≡ word

@@ -2,6 +2,7 @@
 ghost use Rattle.std.specs.Prelude.{◌≡◌, ◌<◌, ◌-◌, ◌^◌, [], IfOk};
 ghost use Rattle.std.specs.Str.{bytes_eq};
 ghost use Rattle.text_base.specs.Fields.{spaced};
+ghost use Rattle.text_lines.specs.Performing.{PerformsLine};
 ghost use Rattle.text_lines.specs.Printing.{reply_fields};
 ghost use Rattle.text_trace.specs.Trace.{end_fields};
 ghost use Rattle.text_driver.specs.Judging.{Judges};
@@ -13,10 +14,10 @@ use crate::print::put_end;
 use board_terms::{Notices, Ticket};
 use std::alloc::{AllocError, Global};
 use std::mem::replace;
-use synic_board::{Board, Event, OpenFault, Reply};
+use synic_board::{Board, OpenFault, Reply};
 use text_base::Fields;
 use text_driver::Taken;
-use text_lines::{event_of, opening_of, put_reply, u8_of};
+use text_lines::{opening_of, perform_event, put_reply, u8_of};
 use text_restore::{Stage as ImageStage, board_of, has_ended, take_line as take_image_line};
 
 /// Which line of a trace comes next.
@@ -244,10 +245,9 @@ fn run_line(
         Ok(false) => {}
         Err(_) => return Ran::Memory,
     }
-    let Some(event) = entry_of(format, line) else {
+    let Some(reply) = perform_entry(format, line, board, notices) else {
         return Ran::Wrong;
     };
-    let reply = board.perform(&event, notices);
     *due = Some(reply);
     *entries += 1;
     Ran::On
@@ -280,20 +280,22 @@ fn is_end(
     Ok(line == out.as_slice())
 }
 
-/// The event of a line after an actor's number, if it has a line in the format.
+/// Performs the event of a line after an actor's number, if it has a line in the format, and returns
+/// its reply.
 #[tactic(auto, unfolding(crate::specs::inside::Stages::entry_at))]
-fn entry_of(format: Format, line: &[u8]) -> Option<Event>
-    ensures { result ≡ entry_at format line.now }
+fn perform_entry(
+    format: Format,
+    line: &[u8],
+    board: &mut Board,
+    notices: &mut Notices,
+) -> Option<Reply>
+    ensures { PerformsLine result (entry_at format line.now) board.old board.new notices.new }
 {
     let mut fields = Fields::new(line);
     u8_of(&mut fields)?;
-    let Some(word) = fields.next() else {
+    let word = fields.next()?;
+    if !format.has_word(word) {
         return None;
-    };
-    let event = event_of(word, &mut fields)?;
-    if format.has_line(&event) {
-        Some(event)
-    } else {
-        None
     }
+    perform_event(word, &mut fields, board, notices)
 }

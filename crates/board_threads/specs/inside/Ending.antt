@@ -1,10 +1,8 @@
 -- The end of a board and its history.
-use Rattle.std.specs.Prelude.{◌≡◌, ℕ, ◌+◌, ◌*◌, List, map, vec_len}
-use Rattle.std.specs.List.{AllZip, range_with_len}
-use Rattle.synic_board.specs.State.{State, BoardModel}
+use Rattle.std.specs.Prelude.{◌≡◌, ℕ, List}
+use Rattle.synic_board.specs.State.{BoardModel}
 use Rattle.synic_board.specs.declared.history.Entry.{Entry}
-use Rattle.board_threads.specs.Settling.{AreAllOf, AreAbsorbed, IsSettled}
-use Rattle.board_threads.specs.Crew.{IsCrewHistory, HasEach, lists, logs_of}
+use Rattle.board_threads.specs.Settling.{AreAllOf}
 use Rattle.board_threads.specs.declared.settling.ActorCalls.{ActorCalls}
 use Rattle.board_threads.specs.declared.settling.Ended.{Ended}
 use Rattle.board_threads.specs.declared.actor.CallFault.{CallFault}
@@ -13,11 +11,8 @@ use Rattle.board_threads.specs.declared.settling.SettleFault.{SettleFault}
 use Rattle.board_threads.specs.declared.settling.SettleFault.TheVariants as settling
 use Rattle.board_threads.specs.declared.fault.WorkFault.{WorkFault}
 use Rattle.board_threads.specs.declared.fault.WorkFault.TheVariants as works
-use Rattle.board_threads.specs.declared.crew.CrewEnd.{CrewEnd}
 use Rattle.board_threads.specs.declared.crew.CrewFault.{CrewFault}
 use Rattle.board_threads.specs.declared.crew.CrewFault.TheVariants as crews
-use Rattle.board_threads.specs.declared.script.Setup.{Setup}
-use Rattle.board_threads.specs.declared.script.Scripts.{Scripts}
 
 -- The result: the board and its history, the actors' calls, which are exactly that history, and the rest of the words.
 pub record IsEnd (board : BoardModel) (history : List Entry) (called : List ActorCalls) (left : List ℕ) (e : Ended) : Type 0 where
@@ -44,11 +39,3 @@ abbrev pub fault_of_work : WorkFault → CrewFault
 fault_of_work works.Memory = crews.Memory
 fault_of_work works.Unsettled = crews.Unsettled
 fault_of_work works.NoThread = crews.NoThread
-
--- The result of a crew whose board was in a state when it began.
-pub record IsCrewEnd (begun : State) (setup : Setup) (scripts : Scripts) (c : CrewEnd) : Type 0 where
-  pub settled : IsSettled begun c.ended
-  pub numbers : map (λ (a : ActorCalls). a.number) c.ended.actors.items ≡ range_with_len 0 (vec_len scripts.actors + 1)
-  pub crewed : IsCrewHistory setup.processors setup.events.items (lists scripts.actors.items) c.ended.history.items
-  pub each : AllZip HasEach (lists scripts.lines.items) (lists c.raised.items)
-  pub raises : AreAbsorbed (4 * setup.processors) (logs_of (lists scripts.lines.items) (lists c.raised.items)) c.ended.history.items c.ended.standing

@@ -190,7 +190,8 @@ store_at s page at bytes o =
     let stored : List ℕ = overwritten (option_map_or (λ overlay. slice_index_or s.own overlay []) o (slice_index_or s.pages page [])) at bytes in
     option_map_or (λ overlay. record (space_of s) { own = slice_set s.own overlay stored }) o (record (space_of s) { pages = slice_set s.pages page stored })
 
-keeps-store_at : (n : ℕ) (s : State) (page at : ℕ) (bytes : List ℕ) → IsIntact n s → at + length bytes ≤ 4096 → nat_lt page (page_count (space_of s)) ≡ true → (o : Option ℕ) → visible (space_of s) page ≡ o →
+keeps-store_at : (n : ℕ) (s : State) (page at : ℕ) (bytes : List ℕ) → IsIntact n s → at + length bytes ≤ 4096 → nat_lt page (page_count (space_of s)) ≡ true → (o : Option ℕ) →
+    visible (space_of s) page ≡ o →
     KeepsMessages n s (consumed_in (with_space s (store_at s page at bytes o)) (if nat_lt page (page_count (space_of s)) then option_map_or overlay_owner o Guest else Nothing))
 keeps-store_at n s page at bytes h fits inside o is = rw inside (seen o is)
   where

@@ -3,6 +3,7 @@ ghost use Rattle.std.specs.Prelude.{◌≡◌, ◌<◌, ◌≤◌, ◌+◌, [], 
 ghost use Rattle.lapic_core.specs.Apic.{empty_apic};
 ghost use Rattle.synic_regs.specs.Regs.{reset_regs};
 ghost use Rattle.gpa_space.specs.Space.{after_clearing};
+ghost use Rattle.message_queues.specs.Queues.{queue_of};
 ghost use Rattle.stimer_bank.specs.Bank.{reset as bank_reset};
 ghost use Rattle.synic_board.specs.State.{processors, regs_of, space_of, bank_of, with_apic, with_regs, with_space, with_bank};
 ghost use Rattle.synic_board.specs.inside.Effected.{preceded};
@@ -69,9 +70,21 @@ impl Machine {
         ensures effect { Effected self.old notices.old self.new notices.new (queue_emptied self.old.state vp sint) }
         ensures in_all { sum_by length self.old.state.queues ≤ 288 }
     {
-        if self.queues.count(vp, sint) == 0 {
-            return;
+        if self.queues.count(vp, sint) > 0 {
+            self.withdraw_queue(vp, sint, notices);
         }
+    }
+
+    /// The same for a queue that has messages. It is out of line, so that an empty queue does not clear
+    /// the place for the tickets.
+    #[inline(never)]
+    fn withdraw_queue(&mut self, vp: Vp, sint: Sint, notices: &mut Notices)
+        requires on { vp < processors self.old.state }
+        requires some { 0 < length (queue_of self.old.state.queues vp sint) }
+        requires room { sum_by length self.old.state.queues ≤ 288 → length notices.old + sum_by length self.old.state.queues ≤ 320 }
+        ensures effect { Effected self.old notices.old self.new notices.new (queue_emptied self.old.state vp sint) }
+        ensures in_all { sum_by length self.old.state.queues ≤ 288 }
+    {
         let tickets = self.queues.withdraw_all(vp, sint);
         self.summary.write(Entry::Queued(vp, sint, 0));
         emit_withdrawn(vp, sint, tickets.as_slice(), notices);

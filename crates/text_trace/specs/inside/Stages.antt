@@ -1,5 +1,5 @@
 -- The stages of a trace: which line comes next.
-use Rattle.std.specs.Prelude.{◌≡◌, ℕ, ◌+◌, ◌≤◌, true, false, List, [], ◌∷◌, if◌then◌else◌, Option, None, Some, codes}
+use Rattle.std.specs.Prelude.{◌≡◌, ℕ, ◌+◌, ◌≤◌, Bool, true, false, not, List, [], ◌∷◌, if◌then◌else◌, Option, None, Some, codes}
 use Rattle.std.specs.Option.{option_map, option_and_then}
 use Rattle.std.specs.Str.{bytes_eq}
 use Rattle.text_base.specs.Fields.{fields_of, spaced}
@@ -33,6 +33,11 @@ pub data Stage : Type 0 where
   Running : Format → State → ℕ → Option Reply → Stage
   -- nothing, after that many entries
   Over : ℕ → Stage
+
+-- an event whose line begins with this word has a line in the format
+abbrev pub has_word : Format → List ℕ → Bool
+has_word One word = not (bytes_eq word (codes "reset"))
+has_word f word = true
 
 -- the event of the fields after an actor's number, which may be any, if it has a line in the format
 abbrev pub with_line : Format → Event → Option Event

@@ -1,6 +1,6 @@
 use Rattle.std.proofs.Common.{ap, subst, IfOk}
 use Rattle.board_threads.specs.Sharing.{start}
-use Rattle.board_threads.specs.inside.Ending.{IsCrewEnd}
+use Rattle.board_threads.specs.Crew.{IsCrewEnd}
 use Rattle.board_threads.proofs.crew.run_judged.Goals as goal
 
 pub returns : goal.returns

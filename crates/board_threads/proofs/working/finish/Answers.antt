@@ -1,9 +1,6 @@
-use Rattle.std.proofs.Common.{◌≡◌, ◌*◌, length}
 use Rattle.board_threads.specs.Sharing.{start}
-use Rattle.board_threads.specs.inside.Work.{InPlace}
-use Rattle.board_threads.specs.inside.Ending.{IsCrewEnd}
 use Rattle.board_threads.proofs.Crewing.{all-of, all-lines-of, all-only-raise}
-use Rattle.board_threads.proofs.Ending.{of-three, crew-ends}
+use Rattle.board_threads.proofs.Ending.{finishes}
 use Rattle.board_threads.proofs.working.finish.Goals as goal
 
 pub settle-requires-clause-actors : goal.settle-requires-clause-actors
@@ -17,13 +14,6 @@ settle-requires-clause-raises c = λ k d lt. all-only-raise _ _ _ _ _ _ c.requir
 
 pub returns : goal.returns
 returns c =
-    let e = c.in_ok-ended.ended in
-    let setup = c.args.setup.now in
-    let scripts = c.args.scripts.now in
-    let worked = c.args.worked in
-    let begun = start c.args.board in
-    let ends = crew-ends begun c.args.board.words.name setup scripts worked.actors.items worked.lines.items worked.raised c.requires.worked e c.in_ok-ended.ensures.settled
-    c.in_ok-ended.ensures.actors in
-    of-three (λ x. x.ended ≡ e) (λ x. x.raised ≡ worked.raised) (λ _. InPlace (length setup.events.items) (4 * setup.processors) e.history.items) (IsCrewEnd begun setup scripts)
-    (λ x same answers place. ends place c.args.board.words.processors c.requires.processors c.in_ok-ended.ensures.raises x same answers)
+    finishes (start c.args.board) c.args.board.words.name c.args.setup.now c.args.scripts.now c.args.worked.actors.items c.args.worked.lines.items c.args.worked.raised c.requires.worked
+    c.in_ok-ended.ended c.in_ok-ended.ensures.settled c.in_ok-ended.ensures.actors c.args.board.words.processors c.requires.processors c.in_ok-ended.ensures.raises
     c.place.result c.place.ensures.ended c.place.ensures.raised c.place.ensures.placed

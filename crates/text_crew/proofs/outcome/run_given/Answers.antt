@@ -28,7 +28,7 @@ outcome_of-requires-clause-step g c =
 pub returns-in-Ok-run_crew_on : goal.returns-in-Ok-run_crew_on
 returns-in-Ok-run_crew_on g c =
     let s = c.args.script.now in
-    let e = c.in-Ok-run_crew_on.ensures in
+    let e = c.in-Ok-run_crew_on.ensures.ended in
     let start = c.in-Ok-restored_from.start.state in
     let ended = c.in-Ok-run_crew_on.end.ended in
     let out = c.put_given.new.out.items in

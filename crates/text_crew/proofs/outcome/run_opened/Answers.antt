@@ -24,7 +24,7 @@ outcome_of-requires-clause-step g c =
 pub returns-in-Ok : goal.returns-in-Ok
 returns-in-Ok g c =
     let s = c.args.script.now in
-    let e = c.in-Ok.ensures in
+    let e = c.in-Ok.ensures.ended in
     let ended = c.in-Ok.end.ended in
     let out = c.put_opened.new.out.items in
     let start = opened s.setup.processors s.setup.pages s.setup.first_ticket in

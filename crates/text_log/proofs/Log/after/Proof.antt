@@ -78,7 +78,8 @@ module _ {M : Type 1} {𝓤 : Ura M} (𝓛 : Logic 𝓤) (𝓜 : Model 𝓤 𝓛
 
     walks : Goes (vptr b o ∷ [])
     walks =
-        let v : Val = vstruct (vcons (vstruct vnil) vnil) in let r : denote.Triple.Entry.Res ended.signature z.0.0 = record { marker = record {}; bytes = z.0.3.0.now.before.bytes ++ z.0.3.0.now.bytes.items } in
+        let v : Val = vstruct (vcons (vstruct vnil) vnil) in
+        let r : denote.Triple.Entry.Res ended.signature z.0.0 = record { marker = record {}; bytes = z.0.3.0.now.before.bytes ++ z.0.3.0.now.bytes.items } in
         let O : Fml = (type_at ended.signature.result z.0.0).own_val r (v ∷ []) in
         qed 𝓛 ((raw toks ⊛ ‵ passed) ∷ raw ((held z.0.0 z.0.3).requires z.1) ∷ []) ∵ split ! $ keep ! (0 ∷ []) $
         enter ! 𝓣.C 𝓣.Λ function (vptr b o ∷ []) _ $ alloc_all ! (λ l. pass_all ! refl ((tt, tt), tt) $

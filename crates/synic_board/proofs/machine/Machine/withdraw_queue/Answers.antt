@@ -3,7 +3,7 @@ use Rattle.board_terms.specs.Sources.{source_number}
 use Rattle.message_queues.specs.Queues.{Queues, queue_of}
 use Rattle.synic_board.specs.State.{BoardModel, processors}
 use Rattle.synic_board.proofs.Restored.{kept-queued}
-use Rattle.synic_board.proofs.machine.Machine.empty_queue.Goals as goal
+use Rattle.synic_board.proofs.machine.Machine.withdraw_queue.Goals as goal
 
 pub invariant_of-self : goal.invariant_of-self
 invariant_of-self c =
