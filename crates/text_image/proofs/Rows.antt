@@ -26,8 +26,8 @@ parts : (start space feed head number q0 q1 q2 q3 s0 s1 s2 s3 priority status : 
     (((((start ++ head) ++ (space ++ number)) ++ (space ++ (q0 ++ (space ++ (q1 ++ (space ++ (q2 ++ (space ++ q3)))))))) ++
     (space ++ (s0 ++ (space ++ (s1 ++ (space ++ (s2 ++ (space ++ s3)))))))) ++ (space ++ priority)) ++ (space ++ (status ++ feed))
     ≡ start ++ (((head ++ (space ++ (number ++ (space ++ (q0 ++
-        ( (space ++ (q1 ++ (space ++ (q2 ++ (space ++ (q3 ++ (space ++ (s0 ++ (space ++ (s1 ++ (space ++ (s2 ++ (space ++ (s3 ++ (space ++ (priority ++ (space ++ status))))))))))))))))))))))
-        ++ feed) ++ [])
+    (space ++ (q1 ++ (space ++ (q2 ++ (space ++ (q3 ++ (space ++ (s0 ++ (space ++ (s1 ++ (space ++ (s2 ++ (space ++ (s3 ++ (space ++ (priority ++ (space ++ status))))))))))))))))))))))
+    ++ feed) ++ [])
 parts start space feed head number q0 q1 q2 q3 s0 s1 s2 s3 priority status = simp (append_assoc, append-nil)
 
 -- a local APIC

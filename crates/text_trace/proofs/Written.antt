@@ -18,7 +18,7 @@ use Rattle.synic_board.specs.declared.event.Reply.TheVariants as replies
 use Rattle.text_lines.specs.Events.{event_fields, IsEvent}
 use Rattle.text_lines.specs.Items.{Opening, item_fields}
 use Rattle.text_lines.specs.Printing.{vector_or_none, reply_fields}
-use Rattle.text_lines.specs.Reading.{Fields, take_then, u8_at, parse_event, parse_opening}
+use Rattle.text_lines.specs.Reading.{Fields, first_read, take_then, u8_at, parse_event, parse_opening}
 use Rattle.text_lines.specs.Sizes.{are_sizes}
 use Rattle.text_lines.proofs.ReadLemmas.{then-some, then-read, yes, u8-only, u8-spelled, event-says, says-event, opening-says, says-opening}
 use Rattle.text_lines.proofs.SizeLemmas.{sizes-are}
@@ -130,18 +130,27 @@ pub word-line : (f : Format) (word : List ℕ) (fields : Fields) →
     option_and_then (with_line f) (parse_event (word ∷ fields)) ≡ cond (has_word f word) (parse_event (word ∷ fields)) None
 word-line f word fields = by f (parse_event (word ∷ fields)) refl
   where
-    none : (t : Bool) → None {A = Event} ≡ cond t None None
-    none true = refl
-    none false = refl
+    none : (t : Bool) (o : Option Event) → o ≡ None → o ≡ cond t o None
+    none true o is = refl
+    none false o is = is
 
     by : (f : Format) (o : Option Event) → parse_event (word ∷ fields) ≡ o → option_and_then (with_line f) o ≡ cond (has_word f word) o None
-    by f None is = none (has_word f word)
+    by f None is = none (has_word f word) None refl
     by One (Some e) is =
         let same : is_reset e ≡ bytes_eq word (codes "reset") =
         sym (reset-word e) ∙ ap (λ (fs : Fields). bytes_eq (get_or fs 0 []) (codes "reset")) (sym (event-says (word ∷ fields) e is).same) in
         ap (λ (t : Bool). cond (not t) (Some e) None) same
     by Two (Some e) is = refl
     by Three (Some e) is = refl
+
+-- the event of a line, from the fields after the actor's number
+pub entry-word : (f : Format) (line : List ℕ) (actor : ℕ) (more : Fields) (word : List ℕ) (rest : Fields) →
+    first_read u8_at (fields_of line) ≡ Some (actor, more) → more ≡ word ∷ rest → entry_at f line ≡ cond (has_word f word) (parse_event (word ∷ rest)) None
+unfolding entry_at
+entry-word f line actor more word rest read is =
+    ap (λ (r : Option (ℕ × Fields)). option_and_then (with_line f) (option_and_then (λ (p : ℕ × Fields). parse_event p.1) r)) read
+    ∙ ap (λ (fs : Fields). option_and_then (with_line f) (parse_event fs)) is
+    ∙ word-line f word rest
 
 -- an end is no entry
 end-first : (f : Format) (n next : ℕ) (fields : Fields) (word : List ℕ) → end_fields f n next ≡ word ∷ fields → codes "end" ≡ word

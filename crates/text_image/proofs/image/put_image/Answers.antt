@@ -17,7 +17,7 @@ returns g c =
     (each_below n (own_lines s)) (each_below 16 (port_lines s))
     (each_below n (timers_lines s)) (each_below n (queues_lines s)) (each_below n (slots_lines s)) ((codes "end" ∷ []) ∷ [])
     (g.S.Sink.text c.args.out.now) (g.S.Sink.text c.put_head.new.out) (g.S.Sink.text c.put_lapics.new.out) (g.S.Sink.text c.put_registers.new.out) (g.S.Sink.text c.put_guest_pages.new.out)
-        (g.S.Sink.text c.put_own_pages.new.out) (g.S.Sink.text c.put_ports.new.out)
+    (g.S.Sink.text c.put_own_pages.new.out) (g.S.Sink.text c.put_ports.new.out)
     (g.S.Sink.text c.put_timers.new.out) (g.S.Sink.text c.put_queues.new.out) (g.S.Sink.text c.put_slots.new.out) (g.S.Sink.text c.put.new.self)
     c.in_ok-put_head.ensures c.in_ok-put_lapics.ensures c.in_ok-put_registers.ensures c.in_ok-put_guest_pages.ensures c.in_ok-put_own_pages.ensures c.in_ok-put_ports.ensures
     c.in_ok-put_timers.ensures c.in_ok-put_queues.ensures c.in_ok-put_slots.ensures h)
