@@ -510,10 +510,10 @@ uint64_t synicboard_update_owners(const synicboard *board, synicboard_owners *ow
  * page; if not, `*page` is unchanged.
  *
  * The board owns the page. The address is valid, and the same, until the board is closed. Only events
- * and closing change the bytes, so do not read them while such a call runs. Each page is an allocation
- * of its own, so it is aligned to a host page if malloc aligns blocks of this size so
- * (examples/c/pages.c). The message and event flags pages are the processor's own, whether or not an
- * overlay makes them visible; a guest page is the page below the overlays. A sparse board holds none. */
+ * and closing change the bytes, so do not read them while such a call runs. The address is a multiple of
+ * 4096, so the page can be mapped into a guest, read-only (examples/c/pages.c). The message and event
+ * flags pages are the processor's own, whether or not an overlay makes them visible; a guest page is the
+ * page below the overlays. A sparse board holds none. */
 bool synicboard_message_page(const synicboard *board, uint8_t vp, const uint8_t **page);
 bool synicboard_flag_page(const synicboard *board, uint8_t vp, const uint8_t **page);
 bool synicboard_guest_page(const synicboard *board, uint64_t number, const uint8_t **page);

@@ -1,28 +1,16 @@
-/* Pages that can be mapped into a guest directly. The library allocates each page of a board
- * separately. If malloc aligns page-sized blocks to pages, each is a whole page of the host, which
- * KVM, for example, accepts as a read-only memory slot (docs/EMBEDDING.md says when a guest may
- * read it). Some allocators do that by themselves; here the linker redirects the library's calls of
- * malloc to this file.
+/* Pages that can be mapped into a guest directly. Each page of a board is a whole page of the host,
+ * which KVM, for example, accepts as a read-only memory slot (docs/EMBEDDING.md says when a guest may
+ * read it).
  *
- *   cc -I include examples/c/pages.c build/libsynicboard.a -Wl,--wrap=malloc -o pages */
+ *   cc -I include examples/c/pages.c build/libsynicboard.a -o pages */
 #define _DEFAULT_SOURCE /* for mprotect */
 #include <stdint.h>
 #include <stdio.h>
-#include <stdlib.h>
 #include <sys/mman.h>
 
 #include "synicboard.h"
 
 enum { PAGE = 4096, PROCESSORS = 8, PAGES = 64 };
-
-void *__real_malloc(size_t size);
-void *__wrap_malloc(size_t size);
-
-/* free also frees what aligned_alloc returns. */
-void *__wrap_malloc(size_t size)
-{
-    return size == PAGE ? aligned_alloc(PAGE, PAGE) : __real_malloc(size);
-}
 
 /* Whether the bytes are exactly one page of the host: its protection can be changed and restored.
  * The guest's mapping is read-only; the board writes through its own. */

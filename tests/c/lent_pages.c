@@ -142,7 +142,7 @@ static void test_no_such_page(void)
     synicboard_close(&board);
 }
 
-/* Each page of the greatest board is distinct, and its address does not change. */
+/* Each page of the greatest board is a page of the host, and its address does not change. */
 static void test_all_pages(void)
 {
     enum { ALL = 2 * PROCESSORS + PAGES };
@@ -162,10 +162,9 @@ static void test_all_pages(void)
     }
     for (size_t one = 0; one < ALL; one++) {
         CHECK(pages[one] == again[one]);
-        for (size_t other = 0; other < one; other++) {
-            uintptr_t first = (uintptr_t)pages[one], second = (uintptr_t)pages[other];
-            CHECK((first > second ? first - second : second - first) >= PAGE);
-        }
+        CHECK((uintptr_t)pages[one] % PAGE == 0);
+        for (size_t other = 0; other < one; other++)
+            CHECK(pages[one] != pages[other]);
     }
     synicboard_close(&board);
 }

@@ -150,8 +150,8 @@ pub struct Timer {
 ///
 /// # Pages
 ///
-/// A page is returned by reference, not copied, and the borrow rules out events while it is held. It is
-/// aligned to a page of the host only if `malloc` aligns blocks of its size so.
+/// A page is returned by reference, not copied, and the borrow rules out events while it is held. Its
+/// address is a multiple of 4096, so it can be mapped into a guest, read-only.
 ///
 /// ```compile_fail,E0502
 /// # let mut board = synicboard::Board::open(1, 1, 0).unwrap();
