@@ -104,17 +104,14 @@ impl Space {
         }
     }
 
-    /// The number of the overlay that is visible at a page.
+    /// The number of the overlay that is visible at a page which the space holds.
     #[inline(always)]
     fn visible(&self, page: u64) -> Option<usize>
+        requires { page < length self.now.pages }
         ensures value { result ≡ visible self.now page }
         ensures bound { IfSome result (λ overlay. overlay < 16) }
     {
-        if page < self.pages.len() as u64 {
-            self.mapped.first(page as usize)
-        } else {
-            self.search(page)
-        }
+        self.mapped.first(page as usize)
     }
 
     /// The number of the first overlay that is mapped at a page which the space does not hold.
