@@ -92,6 +92,7 @@ impl Source {
     }
 
     /// The line found last, without its line feed.
+    #[inline(always)]
     pub fn line(&self) -> &[u8]
         ensures { result.now ≡ self.now.line }
     {
@@ -100,6 +101,7 @@ impl Source {
 
     /// Finds the next line. Flushes the writer before each read: the peer may wait for the output
     /// before it sends more input.
+    #[inline(always)]
     pub fn next_line<R: Read, W: Write>(&mut self, reader: &mut R, writer: &mut W) -> NextLine
         ensures written { Keeps (W.contents writer.old) (W.contents writer.new) }
         ensures found { (came : List ℕ) × Consumes (R.remaining reader.old) (R.remaining reader.new) came
@@ -124,6 +126,7 @@ impl Source {
     }
 
     /// Takes the next line from the buffer, if it is there.
+    #[inline(always)]
     fn scan(&mut self) -> Scan
         ensures { Scans result self.old self.new }
     {
@@ -152,7 +155,8 @@ impl Source {
         self.at = self.end;
     }
 
-    /// Reads once, after the buffered bytes, within the budget.
+    /// Reads once, after the buffered bytes, within the budget. Out of line: most lines are in the buffer.
+    #[inline(never)]
     fn fill<R: Read, W: Write>(&mut self, reader: &mut R, writer: &mut W) -> Fill
         requires { length self.old.waiting ≤ 640 }
         ensures written { Keeps (W.contents writer.old) (W.contents writer.new) }
