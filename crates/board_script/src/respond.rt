@@ -11,7 +11,9 @@ use std::alloc::{AllocError, Global};
 use synic_board::{Board, Event, OpenFault};
 use text_base::{Fields, is_word};
 use text_driver::Taken;
-use text_lines::{ScriptFault, opening_of, put_notices, put_reply, put_summary, read_event, skips};
+use text_lines::{
+    ScriptFault, open_board, opening_of, put_notices, put_reply, put_summary, read_event, skips,
+};
 
 /// Validates a line, performs it, and writes the answer to `out`. `event` is scratch space: nothing
 /// in it is used by the next line.
@@ -56,7 +58,7 @@ fn open(
     Taken::Wrong(ScriptFault::First)
 }
 
-/// Opens a board with the sizes in the fields.
+/// Opens the board with the sizes in the fields.
 fn open_sized(
     alloc: Global,
     board: &mut Option<Board>,
@@ -68,7 +70,7 @@ fn open_sized(
     let Some((processors, pages, ticket)) = opening_of(fields) else {
         return Taken::Wrong(ScriptFault::First);
     };
-    match Board::open(alloc, processors, pages, ticket) {
+    match open_board(alloc, processors, pages, ticket) {
         Ok(opened) => {
             *board = Some(opened);
             Taken::Good
