@@ -17,7 +17,7 @@ class Script:
         lines = [line for line in text.decode().splitlines() if line and not line.startswith("#")]
         if image is None:
             board = lines.pop(0)
-            self.beginning = "trace 2\n%s\n" % board
+            self.beginning = "trace %d\n%s\n" % (4 if " sparse " in board else 2, board)
         else:
             board = image.decode().splitlines()[1]
             self.beginning = "trace 3\n" + image.decode()

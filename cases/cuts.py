@@ -1,5 +1,7 @@
 """The expected result for each truncated text, derived from that of the whole text."""
 
+import re
+
 LONGEST = 640
 
 
@@ -75,12 +77,12 @@ def entries_of(lines, blocks):
 
 
 def trace_of(text, output, number):
-    """The trace in format 1 or 2 of a script's events and their replies, all by actor 0, and the
+    """The trace in format 1, 2 or 4 of a script's events and their replies, all by actor 0, and the
     number of entries. Each accepted message took a ticket."""
     entries = entries_of(text.splitlines(), outputs_of_lines(text.splitlines(), output))
     board = next(line for line in text.splitlines() if line.startswith(b"board"))
     end = b"end %d" % len(entries)
-    if number == 2:
+    if number != 1:
         end += b" %d" % (int(board.split()[3]) + output.count(b"\n. accepted "))
     return b"trace %d\n%s\n%s%s\n" % (number, board, b"".join(entries), end), len(entries)
 
@@ -94,6 +96,14 @@ def trace_from(image, lines, blocks):
     return b"trace 3\n%s%send %d %d\n" % (image, b"".join(entries), len(entries), ticket), len(entries)
 
 
+def is_sparse(text):
+    """Whether a script opens a sparse board."""
+    return re.search(rb"^board \d+ sparse ", text, re.MULTILINE) is not None
+
+
 def formats_of(text):
-    """The formats that a script's trace can have: format 1 has no line for a reset."""
+    """The formats that a script's trace can have: format 1 has no line for a reset, and only format 4 is
+    of sparse boards."""
+    if is_sparse(text):
+        return (4,)
     return (2,) if b"\nreset " in text else (1, 2)

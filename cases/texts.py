@@ -50,6 +50,28 @@ SCRIPTS_WITH_A_FAULT = (
     (b"board 1 1\n", b"! 1 first\n"),
     (b"board 1 1 0 1\n", b"! 1 first\n"),
     (b"board 0 255 0\n", b"! 1 size\n"),
+    (b"board 2 0 0\n", b"! 1 size\n"),
+    # a sparse board
+    (b"board 0 sparse 0\n", b"! 1 size\n"),
+    (b"board 9 sparse 0\n", b"! 1 size\n"),
+    (b"board 255 sparse 18446744073709551615\n", b"! 1 size\n"),
+    (b"board 256 sparse 0\n", b"! 1 first\n"),
+    (b"board 9 sparse x\n", b"! 1 first\n"),
+    (b"board 1 sparse 18446744073709551616\n", b"! 1 first\n"),
+    (b"board 1 sparse\n", b"! 1 first\n"),
+    (b"board 1 sparse \n", b"! 1 first\n"),
+    (b"board 1 sparse 0 1\n", b"! 1 first\n"),
+    (b"board 1 sparse 1 0\n", b"! 1 first\n"),
+    (b"board sparse 1 0\n", b"! 1 first\n"),
+    (b"board 1 Sparse 0\n", b"! 1 first\n"),
+    (b"board 1 spars 0\n", b"! 1 first\n"),
+    (b"board 1 sparsed 0\n", b"! 1 first\n"),
+    (b"board 1  sparse 0\n", b"! 1 first\n"),
+    (b"board 9 sparse 0", b"! 1 cut\n"),
+    (b"board 1 sparse 0\nboard 1 sparse 0\n", b"! 2 form\n"),
+    (b"board 1 sparse 0\nboard 1 1 0\n", b"! 2 form\n"),
+    (b"board 1 1 0\nboard 1 sparse 0\n", b"! 2 form\n"),
+    (b"board 1 sparse 0\nload 0 1\nboard 9 sparse 0\n", b"= refused 17\n! 3 form\n"),
 ) + tuple((b"board 1 1 0\n" + line + b"\n", b"! 2 form\n") for line in LINES_WITHOUT_A_MEANING)
 
 # scripts without a fault
@@ -58,13 +80,16 @@ SCRIPTS = (
     (b"# one processor\n\nboard 1 64 18446744073709551615\n", b""),
     (b"board 1 1 0\ntake 1\n", b"= refused 14\n"),
     (b"board 1 1 0\nread 0 40000070\n", b"= general protection\n"),
+    (b"board 8 sparse 18446744073709551615\n", b""),
+    (b"\n# sparse\nboard 1 sparse 0\nstore 0 00\nload ffffffffffffffff 1\ntake 1\n", b"= refused 17\n= refused 17\n= refused 14\n"),
     (b"board 1 1 0\nwrite 0 40000072 1ff\nread 0 40000072\n", b"= done\n= value ff\n"),
 )
 
 # wrong traces, and their first wrong line
 TRACES_WITH_A_WRONG_LINE = (
     # the title
-    (b"trace 4\nboard 1 1 0\nend 0 0\n", 1),
+    (b"trace 5\nboard 1 1 0\nend 0 0\n", 1),
+    (b"trace 5\nboard 1 sparse 0\nend 0 0\n", 1),
     (b"trace 01\nboard 1 1 0\nend 0\n", 1),
     (b"trace 1\r\nboard 1 1 0\nend 0\n", 1),
     (b"board 1 1 0\nend 0\n", 1),
@@ -73,9 +98,18 @@ TRACES_WITH_A_WRONG_LINE = (
     (b"trace 1\nboard 9 1 0\nend 0\n", 2),
     (b"trace 1\nboard 1 0 0\nend 0\n", 2),
     (b"trace 1\nend 0\n", 2),
+    (b"trace 1\nboard 1 sparse 0\nend 0\n", 2),
+    (b"trace 2\nboard 1 sparse 0\nend 0 0\n", 2),
+    (b"trace 4\nboard 1 1 0\nend 0 0\n", 2),
+    (b"trace 4\nboard 1 0 0\nend 0 0\n", 2),
+    (b"trace 4\nboard 9 sparse 0\nend 0 0\n", 2),
+    (b"trace 4\nboard 1 sparse 0\nboard 1 sparse 0\nend 0 0\n", 3),
+    (b"trace 4\nboard 1 sparse 0\nend 0\n", 3),
     # the image of format 3
     (b"trace 3\nboard 1 1 0\nend 0 0\n", 2),
+    (b"trace 3\nboard 1 sparse 0\nend 0 0\n", 2),
     (b"trace 3\n\nimage 1\nboard 1 1 0\n", 2),
+    (b"trace 3\nimage 1\nboard 1 sparse 0\n", 3),
     (b"trace 3\nimage 1\nlapic 0 0 0 0 0 0 0 0 0 0 running\nend\nend 0 0\n", 3),
     (b"trace 3\nimage 1\nboard 9 1 0\n", 3),
     (b"trace 3\nimage 1\nboard 1 1 0\nend\nend 0 0\n", 4),
@@ -118,6 +152,8 @@ TRACES = (
     (b"trace 2\nboard 1 1 5\n0 reset 0\n= done\n0 resume 0\n= refused 16\nend 2 5\n", 2),
     (b"trace 2\nboard 1 1 7\n0 write 0 40000080 1\n= done\n0 open 3 message 0 2 1\n= done\n"
      b"1 post 3 1 -\n= accepted 7\n0 reset 0\n= done\nend 4 8\n", 4),
+    (b"trace 4\nboard 1 sparse 0\nend 0 0\n", 0),
+    (b"trace 4\nboard 8 sparse 5\n0 load 0 8\n= refused 17\n0 reset 7\n= done\nend 2 5\n", 2),
     (b"trace 3\nimage 1\nboard 1 1 5\nlapic 0 0 0 0 0 0 0 0 0 0 running\nend\nend 0 5\n", 0),
     (b"trace 3\nimage 1\nboard 1 1 5\nlapic 0 0 100000000 0 0 0 0 0 0 0 running\nend\n7 take 0\n= taken 60\n0 take 0\n= taken none\nend 2 5\n", 2),
 )
@@ -128,4 +164,10 @@ CREWS_WITH_A_FAULT = (
     (b"board 1 1 0\nline\nraise 1 60\n", b"! 3 form\n"),
     (b"board 1 1 0\nassert 0 60\nactor", b"! 3 cut\n"),
     (b"", b"! 1 first\n"),
+    (b"board 0 sparse 0\nactor\n", b"! 1 size\n"),
+    (b"board 9 sparse 0\nactor\n", b"! 1 size\n"),
+    (b"board 1 0 0\nactor\n", b"! 1 size\n"),
+    (b"board 1 sparse\nactor\n", b"! 1 first\n"),
+    (b"board 1 sparse 0\nboard 1 sparse 0\n", b"! 2 form\n"),
+    (b"board 1 sparse 0\nline\nraise 1 60\n", b"! 3 form\n"),
 )

@@ -552,7 +552,7 @@ typedef struct synicboard_verdict {
     uint64_t line;                      /* the first wrong line, counted from 1, or 0 */
 } synicboard_verdict;
 
-/* Checks whether a text is the trace of a legal history, in one of the formats 1 to 3. A trace of format 3
+/* Checks whether a text is the trace of a legal history, in one of the formats 1 to 4. A trace of format 3
  * begins with an image, as synicboard_save writes it. Allocates a board of its own. */
 synicboard_verdict synicboard_check(const uint8_t *trace, size_t length);
 

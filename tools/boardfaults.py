@@ -26,6 +26,17 @@ class Vector:
         return bool(re.fullmatch("[1-9a-f][0-9a-f]", text))
 
 
+class Pages(Number):
+    """A number of pages, or the word of a sparse board."""
+
+    def __init__(self):
+        super().__init__("pages", 255)
+        self.form += ", or `sparse`"
+
+    def takes(self, text):
+        return text == "sparse" or super().takes(text)
+
+
 class Bytes:
     """A field of at most so many bytes."""
 
@@ -43,7 +54,7 @@ def small(*names):
 
 WORD, LONG = 2**32 - 1, 2**64 - 1
 
-BOARD = small("processors", "pages") + [Number("ticket", LONG)]
+BOARD = small("processors") + [Pages(), Number("ticket", LONG)]
 
 # The fields of each line, as docs/FORMATS.md has them.
 LINES = {
@@ -123,7 +134,7 @@ def explain(text, number, fault):
     said = {
         "form": of_form,
         "first": of_first,
-        "size": lambda _: "a board has 1 to 8 processors and 1 to 64 pages",
+        "size": lambda _: "a board has 1 to 8 processors and 1 to 64 pages, or `sparse` in their place",
         "long": lambda _: "a line has at most 640 bytes",
         "cut": lambda _: "the text ends in the middle of this line: the last line needs a line feed too",
     }.get(fault)

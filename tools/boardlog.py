@@ -6,11 +6,13 @@ import subprocess
 import boardfaults
 
 # the first line of a trace that begins with a board line
-TITLES = (["trace 1"], ["trace 2"])
+TITLES = (["trace 1"], ["trace 2"], ["trace 4"])
 
 # the first line of a trace that begins with an image
 TITLE_OF_AN_IMAGE = ["trace 3"]
 NO_IMAGES = "a trace of format 3 begins with an image, which this tool does not read; `synicboard check` does"
+
+NO_SPARSE = "the summaries of a sparse board name no pages, which this tool needs; give the board 1 to 64 pages"
 
 
 class Fault(Exception):
@@ -57,6 +59,9 @@ def events_of(text):
     lines = [line for line in text.splitlines() if line and not line.startswith("#")]
     if lines[:1] == TITLE_OF_AN_IMAGE:
         raise Fault(NO_IMAGES)
+    board = lines[1:2] if lines[:1] in TITLES else lines[:1]
+    if board and board[0].split(" ")[2:3] == ["sparse"]:
+        raise Fault(NO_SPARSE)
     if lines[:1] in TITLES:
         numbered = [line.split(" ", 1) for line in lines[2:] if line[0].isdigit()]
         return lines[1], [(event, int(actor)) for actor, event in numbered]

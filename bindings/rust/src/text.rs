@@ -84,7 +84,7 @@ impl Verdict {
     }
 }
 
-/// Checks whether a text is the trace of a legal history, in one of the formats 1 to 3. A trace of format
+/// Checks whether a text is the trace of a legal history, in one of the formats 1 to 4. A trace of format
 /// 3 begins with an image, as [`Board::save`](crate::Board::save) writes it.
 ///
 /// Allocates a board, and frees it.

@@ -3,11 +3,10 @@ use Rattle.std.proofs.Common.{◌≡◌, ◌≤◌, le-ltb, ap, sym, ◌∙◌, 
 use Rattle.std.specs.List.{cons_option}
 use Rattle.std.specs.Option.{option_map}
 use Rattle.std.specs.Str.{bytes_eq}
-use Rattle.synic_board.specs.State.{AreSizes}
 use Rattle.synic_board.specs.declared.event.Event.{Event}
 use Rattle.text_lines.specs.Items.{Item, Opening, Performs, Summary}
 use Rattle.text_lines.specs.Reading.{Fields, none_left, parse_opening, opening_item, parse_event, parse_item, item_at}
-use Rattle.text_lines.specs.Sizes.{are_sizes}
+use Rattle.text_lines.specs.Sizes.{AreBoardSizes, are_sizes}
 use Rattle.text_lines.proofs.SizeLemmas.{sizes-are}
 use Rattle.board_script.specs.Script.{item_in, is_skipped, item_fault, line_fault, opens, good_items, first_fault}
 use Rattle.board_script.specs.Output.{Machine, answers, output_from, machine_from, machine_after_lines}
@@ -102,9 +101,17 @@ first-other word key fs is e =
     ∙ other (bytes_eq word (codes "summary")) fs (parse_event (word ∷ fs))
 
 -- an opened board has sizes within the limits
-sized : (n g f : ℕ) (t : Bool) → are_sizes n g ≡ t → ((AreSizes n g → ⊥) → ⊥) → item_fault false (Some (Opening n g f)) ≡ None
+sized : (n : ℕ) (g : Option ℕ) (f : ℕ) (t : Bool) → are_sizes n g ≡ t → ((AreBoardSizes n g → ⊥) → ⊥) → item_fault false (Some (Opening n g f)) ≡ None
 sized n g f true is h = rw is refl
 sized n g f false is h = absurd (h (λ sizes. let yes = (sizes-are n g).1 sizes in cc))
 
-pub opened-good : (fs : Fields) (n g f : ℕ) → Some (n, g, f) ≡ parse_opening fs → ((AreSizes n g → ⊥) → ⊥) → (item_fault false (opening_item fs) ≡ None) × (opening_item fs ≡ Some (Opening n g f))
+-- and one that was not opened has not
+unsized : (n : ℕ) (g : Option ℕ) (f : ℕ) (t : Bool) → are_sizes n g ≡ t → (AreBoardSizes n g → ⊥) → item_fault false (Some (Opening n g f)) ≡ Some faults.Size
+unsized n g f true is off = absurd (off ((sizes-are n g).0 is))
+unsized n g f false is off = rw is refl
+
+pub opened-bad : (fs : Fields) (n : ℕ) (g : Option ℕ) (f : ℕ) → Some (n, g, f) ≡ parse_opening fs → (AreBoardSizes n g → ⊥) → item_fault false (opening_item fs) ≡ Some faults.Size
+opened-bad fs n g f said off = rw (← said) (unsized n g f (are_sizes n g) refl off)
+
+pub opened-good : (fs : Fields) (n : ℕ) (g : Option ℕ) (f : ℕ) → Some (n, g, f) ≡ parse_opening fs → ((AreBoardSizes n g → ⊥) → ⊥) → (item_fault false (opening_item fs) ≡ None) × (opening_item fs ≡ Some (Opening n g f))
 opened-good fs n g f said h = rw (← said) (sized n g f (are_sizes n g) refl h, refl)

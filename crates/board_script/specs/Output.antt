@@ -2,13 +2,14 @@
 use Rattle.std.specs.Prelude.{ℕ, List, [], ◌∷◌, ◌++◌, map, Bool, false, Option, None, Some, is_some}
 use Rattle.std.specs.Option.{option_map_or}
 use Rattle.text_base.specs.Lines.{lines_of, rest_of}
-use Rattle.synic_board.specs.State.{State, opened}
+use Rattle.synic_board.specs.State.{State}
 use Rattle.synic_board.specs.Summaries.{summary_of}
 use Rattle.synic_board.specs.Effects.{Outcome}
 use Rattle.synic_board.specs.Step.{step}
 pub use Rattle.text_lines.specs.Faults.{fault_word, fault_line, fault_text}
 use Rattle.text_lines.specs.Items.{Item, Opening, Performs, Summary}
 use Rattle.text_lines.specs.Printing.{text_of, reply_fields, notice_fields, summary_lines}
+use Rattle.text_lines.specs.Sizes.{opened_by}
 use Rattle.text_image.specs.Image.{image}
 use Rattle.board_script.specs.Script.{first_fault, good_items}
 use Rattle.text_lines.specs.declared.fault.ScriptFault.{ScriptFault}
@@ -18,7 +19,7 @@ abbrev pub Machine : Type 0
 Machine = Option State
 
 abbrev pub machine_after : Machine → Item → Machine
-machine_after machine (Opening processors pages ticket) = Some (opened processors pages ticket)
+machine_after machine (Opening processors pages ticket) = Some (opened_by processors pages ticket)
 machine_after None (Performs event) = None
 machine_after (Some s) (Performs event) = Some (step s event).0
 machine_after machine Summary = machine

@@ -12,7 +12,7 @@ use synic_board::{Board, OpenFault, Reply};
 use text_base::{Fields, is_word};
 use text_driver::Taken;
 use text_lines::{
-    ScriptFault, opening_of, perform_event, put_notices, put_reply, put_summary, skips,
+    ScriptFault, open_board, opening_of, perform_event, put_notices, put_reply, put_summary, skips,
 };
 
 /// Validates a line, performs it, and writes the answer to `out`.
@@ -56,7 +56,7 @@ fn open(
     Taken::Wrong(ScriptFault::First)
 }
 
-/// Opens a board with the sizes in the fields.
+/// Opens the board with the sizes in the fields.
 fn open_sized(
     alloc: Global,
     board: &mut Option<Board>,
@@ -68,7 +68,7 @@ fn open_sized(
     let Some((processors, pages, ticket)) = opening_of(fields) else {
         return Taken::Wrong(ScriptFault::First);
     };
-    match Board::open(alloc, processors, pages, ticket) {
+    match open_board(alloc, processors, pages, ticket) {
         Ok(opened) => {
             *board = Some(opened);
             Taken::Good

@@ -1,6 +1,6 @@
 -- The image of a board leads, line by line, to the state of the board.
 use Rattle.std.proofs.Common.{◌≡◌, ◌⊎◌, inl, inr, ℕ, zero, suc, ◌+◌, ◌*◌, ◌<◌, ◌≤◌, [], ◌∷◌, ◌++◌, length, get_or, replicate, refl, arith, codes}
-use Rattle.std.specs.Prelude.{Option, None}
+use Rattle.std.specs.Prelude.{Option, None, Some}
 use Rattle.std.proofs.lemmas.Bool.{cases_lt}
 use Rattle.std.proofs.lemmas.List.{get_or-replicate, get_or_past, length-replicate}
 use Rattle.std.proofs.lemmas.List.Sums.{sum_by-cons}
@@ -109,13 +109,13 @@ module _ (s : State) (h : IsBoardState s) where
   title-written : IsWritten (codes "image" ∷ codes "1" ∷ [])
   title-written = written _ _ (plain_by (codes "image") refl, (plain_by (codes "1") refl, tt)) (omega arith)
 
-  opens : Opens (spaced (item_fields (Opening (processors s) (length s.pages) s.next_ticket))) (Body board 0 0)
+  opens : Opens (spaced (item_fields (Opening (processors s) (Some (length s.pages)) s.next_ticket))) (Body board 0 0)
   opens = record {
     count = processors s;
     pages = length s.pages;
     ticket = s.next_ticket;
-    item = (item-reading (spaced (item_fields (Opening n (length s.pages) s.next_ticket))) (Opening n (length s.pages) s.next_ticket)).1
-        (item-means (Opening n (length s.pages) s.next_ticket) (omega (arith, h.sizes.processor_bound), omega (arith, h.sizes.page_bound), h.ranges.next_ticket));
+    item = (item-reading (spaced (item_fields (Opening n (Some (length s.pages)) s.next_ticket))) (Opening n (Some (length s.pages)) s.next_ticket)).1
+        (item-means (Opening n (Some (length s.pages)) s.next_ticket) (omega (arith, h.sizes.processor_bound), omega (arith, h.sizes.page_bound), h.ranges.next_ticket));
     sizes = h.sizes;
     stage = refl;
   }
@@ -127,7 +127,7 @@ module _ (s : State) (h : IsBoardState s) where
     (refl, refl),
     (
       Body board 0 0,
-      board-written n (length s.pages) s.next_ticket,
+      board-written n (Some (length s.pages)) s.next_ticket,
       opens,
       walks-append (Body board 0 0) (Body timed first.now 0) done (moment_lines s.moment) (body_lines s ++ end_fields ∷ []) first.walk
           (walks-append (Body timed first.now 0) (Body s rest.now n) done (body_lines s) (end_fields ∷ []) rest.walk (end-walked rest.now rest.before)),

@@ -1,5 +1,5 @@
 -- What the image of a board has at each spot. These are all its lines after the board line, except the last.
-use Rattle.std.proofs.Common.{◌≡◌, ℕ, zero, suc, ◌+◌, ◌*◌, Bool, true, List, [], ◌∷◌, ◌++◌, append_assoc, append-nil, cond, length, refl, ap, ◌∙◌, arith, codes, nat_lt, replicate}
+use Rattle.std.proofs.Common.{◌≡◌, ℕ, zero, suc, ◌+◌, ◌*◌, Bool, true, List, [], ◌∷◌, ◌++◌, append_assoc, append-nil, cond, length, Some, refl, ap, ◌∙◌, arith, codes, nat_lt, replicate}
 use Rattle.std.specs.Prelude.{slice_index_or, slice_range}
 use Rattle.std.specs.Str.{bytes_eq}
 use Rattle.std.proofs.lemmas.Bool.Decides.{nat_tests}
@@ -54,7 +54,7 @@ printed s lapics Slots p b c = slot_lines s p b
 
 -- the title and the board line
 abbrev pub titles : ℕ → ℕ → ℕ → Lines
-titles n m ticket = (codes "image" ∷ codes "1" ∷ []) ∷ item_fields (Opening n m ticket) ∷ []
+titles n m ticket = (codes "image" ∷ codes "1" ∷ []) ∷ item_fields (Opening n (Some m) ticket) ∷ []
 
 nine : (f : ℕ → Lines) → each_below 9 f ≡ f 0 ++ (f 1 ++ (f 2 ++ (f 3 ++ (f 4 ++ (f 5 ++ (f 6 ++ (f 7 ++ f 8)))))))
 unfolding each_below
@@ -122,6 +122,6 @@ pub image-printed : (s : State) →
 image-printed s =
     let n = processors s in
     ap (λ (x : Lines). titles n (length s.pages) s.next_ticket ++ (x ++ end_fields ∷ [])) (sections-printed s)
-    ∙ in-order (codes "image" ∷ codes "1" ∷ []) (item_fields (Opening n (length s.pages) s.next_ticket)) (moment_lines s.moment)
+    ∙ in-order (codes "image" ∷ codes "1" ∷ []) (item_fields (Opening n (Some (length s.pages)) s.next_ticket)) (moment_lines s.moment)
     (each_below n (lapic_lines s)) (each_below n (register_lines s)) (each_below (length s.pages) (guest_lines s)) (each_below n (own_lines s)) (each_below 16 (port_lines s))
     (each_below n (timers_lines s)) (each_below n (queues_lines s)) (each_below n (slots_lines s)) (end_fields ∷ [])

@@ -1,5 +1,5 @@
 -- The lines that were read at each stage are those that an image of the board would have so far.
-use Rattle.std.proofs.Common.{◌≡◌, ℕ, ◌<◌, ◌≤◌, Bool, false, List, [], ◌∷◌, ◌++◌, append_assoc, append-nil, cond, refl, sym, ap, subst, ◌∙◌, arith, codes}
+use Rattle.std.proofs.Common.{◌≡◌, ℕ, ◌<◌, ◌≤◌, Bool, false, List, [], ◌∷◌, ◌++◌, append_assoc, append-nil, Some, cond, refl, sym, ap, subst, ◌∙◌, arith, codes}
 use Rattle.std.specs.Prelude.{◌==◌}
 use Rattle.std.proofs.lemmas.Bool.Decides.{nat_tests}
 use Rattle.std.proofs.lemmas.List.Splits.{join_with_byte-slice_split}
@@ -137,8 +137,8 @@ opened-lines n m ticket sizes =
 
 -- the board line
 opening-read : (line : List ℕ) (new : Stage) (lines : Lines) (h : Opens line new) → lines ≡ (codes "image" ∷ codes "1" ∷ []) ∷ [] →
-    HasRead new (lines ++ item_fields (Opening h.count h.pages h.ticket) ∷ [])
-opening-read line new lines h is = subst (λ (st : Stage). HasRead st (lines ++ item_fields (Opening h.count h.pages h.ticket) ∷ [])) (sym h.stage) (record {
+    HasRead new (lines ++ item_fields (Opening h.count (Some h.pages) h.ticket) ∷ [])
+opening-read line new lines h is = subst (λ (st : Stage). HasRead st (lines ++ item_fields (Opening h.count (Some h.pages) h.ticket) ∷ [])) (sym h.stage) (record {
   n = h.count;
   m = h.pages;
   ticket = h.ticket;
@@ -146,7 +146,7 @@ opening-read line new lines h is = subst (λ (st : Stage). HasRead st (lines ++ 
   shaped = opened-shaped h.count h.pages h.ticket;
   blank = λ σ i j k spot behind. opened-blank h.count h.pages h.ticket h.sizes σ i j k spot;
   full = λ e. absurd (omega (arith, e));
-  same = ap (λ (x : Lines). x ++ item_fields (Opening h.count h.pages h.ticket) ∷ []) is ∙ opened-lines h.count h.pages h.ticket h.sizes;
+  same = ap (λ (x : Lines). x ++ item_fields (Opening h.count (Some h.pages) h.ticket) ∷ []) is ∙ opened-lines h.count h.pages h.ticket h.sizes;
 })
 
 -- a line has the fields of what it denotes
@@ -165,8 +165,8 @@ line-read Untitled new line lines h is = record {
   read = subst (λ (st : Stage). HasRead st (lines ++ (codes "image" ∷ codes "1" ∷ []) ∷ [])) (sym h.1) (ap (λ (x : Lines). x ++ (codes "image" ∷ codes "1" ∷ []) ∷ []) is);
 }
 line-read Titled new line lines h is = record {
-  fields = item_fields (Opening h.count h.pages h.ticket);
-  text = whole line (item_fields (Opening h.count h.pages h.ticket)) ((item-means line (Opening h.count h.pages h.ticket)).0 h.item).fields;
+  fields = item_fields (Opening h.count (Some h.pages) h.ticket);
+  text = whole line (item_fields (Opening h.count (Some h.pages) h.ticket)) ((item-means line (Opening h.count (Some h.pages) h.ticket)).0 h.item).fields;
   read = opening-read line new lines h is;
 }
 line-read (Body s last lapics) new line lines h k =

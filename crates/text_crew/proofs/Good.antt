@@ -8,11 +8,11 @@ use Rattle.std.proofs.lemmas.Bool.{cond_both, or_from, or_parts}
 use Rattle.std.proofs.lemmas.Bool.Decides.{Decides-ltb, nat_tests}
 use Rattle.std.proofs.lemmas.List.Folds.{list_any-append}
 use Rattle.std.proofs.lemmas.List.Sums.{sum_by_push}
-use Rattle.synic_board.specs.State.{State, processors}
+use Rattle.synic_board.specs.State.{State, IsWithinLimits, processors}
 use Rattle.synic_board.specs.declared.event.Event.{Event}
 use Rattle.text_base.specs.Fields.{fields_of}
 use Rattle.text_lines.specs.Reading.{Fields, first_read, take_then, none_left, u8_at, vector_at, parse_event, parse_opening}
-use Rattle.text_lines.specs.Sizes.{are_sizes}
+use Rattle.text_lines.specs.Sizes.{AreBoardSizes, are_sizes, pages_held}
 use Rattle.text_lines.specs.Faults.{is_skipped}
 use Rattle.text_lines.specs.declared.fault.ScriptFault.TheVariants as faults
 use Rattle.text_lines.proofs.SizeLemmas.{sizes-are}
@@ -197,11 +197,15 @@ module _ (board : Option State) where
     no_bad_raise = refl;
   }
 
-  board-kept : board ≡ None → (opening : Option (ℕ × ℕ × ℕ)) → Kept (with_board opening)
+  held-within : (n : ℕ) (pages : Option ℕ) → AreBoardSizes n pages → IsWithinLimits n (pages_held pages)
+  held-within n None h = record { some_processor = h.some; processor_bound = h.bound; page_bound = omega arith }
+  held-within n (Some pages) h = record { some_processor = h.some_processor; processor_bound = h.processor_bound; page_bound = h.page_bound }
+
+  board-kept : board ≡ None → (opening : Option (ℕ × Option ℕ × ℕ)) → Kept (with_board opening)
   board-kept none None = tt
-  board-kept none (Some s) = cond_both (are_sizes s.0 s.1) (Ok (Some (new_crew s.0 s.1 s.2))) (Err faults.Size) Kept (λ is.
-      let sizes = (sizes-are s.0 s.1).0 is in
-      new-kept s.0 s.1 s.2 (subst (λ (b : Option State). HasBoard b s.0 s.1) (sym none) sizes) sizes.processor_bound) (λ _. tt)
+  board-kept none (Some s) = cond_both (are_sizes s.0 s.1) (Ok (Some (new_crew s.0 (pages_held s.1) s.2))) (Err faults.Size) Kept (λ is.
+      let limits = held-within s.0 s.1 ((sizes-are s.0 s.1).0 is) in
+      new-kept s.0 (pages_held s.1) s.2 (subst (λ (b : Option State). HasBoard b s.0 (pages_held s.1)) (sym none) limits) limits.processor_bound) (λ _. tt)
 
   fields-kept : (crew : Option Crew) (fields : Fields) → AllGood crew → Kept (parse_fields crew fields)
   fields-kept crew [] g = tt

@@ -1,8 +1,9 @@
 -- A valid script satisfies the preconditions of a crew.
-use Rattle.std.proofs.Common.{◌≡◌, List, [], ◌∷◌, length, Vec, Global, refl, ap, ◌∙◌, arith, Bool, false, ◌||◌, Option, None}
+use Rattle.std.proofs.Common.{◌≡◌, ℕ, zero, suc, ◌≤◌, List, [], ◌∷◌, length, Vec, Global, refl, sym, ap, ◌∙◌, arith, Bool, false, ◌||◌, Option, None}
 use Rattle.std.specs.List.{list_any}
 use Rattle.std.proofs.lemmas.Bool.{or_from}
-use Rattle.synic_board.specs.State.{State}
+use Rattle.std.proofs.lemmas.List.{length-replicate}
+use Rattle.synic_board.specs.State.{State, opened, processors}
 use Rattle.board_threads.specs.Crew.{lists}
 use Rattle.board_threads.specs.Judging.{AreScriptSizes, IsSized, is_bad_step, is_bad_script, is_bad_raise, is_bad_line, has_bad_step}
 use Rattle.board_threads.specs.Sweeps.{is_absorb}
@@ -26,8 +27,20 @@ script-sized board c g = record {
   entries = omega (arith, g.few_entries, lengths c.scripts.actors.items, c.setup.events.ok.0);
 }
 
-pub sized : (c : CrewScript) → IsGoodOn None (crew_of c) → IsSized c.setup c.scripts
-sized c g = record { board = g.board; sizes = script-sized None c g }
+-- at least one page
+pub some-page : (pages : ℕ) → (pages ≡ 0 → ⊥) → 1 ≤ pages
+some-page zero none = absurd (none refl)
+some-page (suc pages) none = omega arith
+
+-- the number of processors on a sparse board
+pub one-sparse : (n ticket : ℕ) (s : State) → s ≡ opened n 0 ticket → n ≡ processors s
+one-sparse n ticket s is = sym (ap processors is ∙ length-replicate n _)
+
+pub sized : (c : CrewScript) → IsGoodOn None (crew_of c) → 1 ≤ c.setup.pages → IsSized c.setup c.scripts
+sized c g some = record {
+  board = record { some_processor = g.board.some_processor; processor_bound = g.board.processor_bound; some_page = some; page_bound = g.board.page_bound };
+  sizes = script-sized None c g;
+}
 
 pub none-bad : (board : Option State) (c : CrewScript) → IsGoodOn board (crew_of c) → has_bad_step c.setup c.scripts ≡ false
 none-bad board c g =

@@ -1,15 +1,16 @@
 -- The trace of a history that was written to memory.
-use Rattle.std.proofs.Common.{◌≡◌, ℕ, List, [], ap, ◌∙◌}
-use Rattle.std.specs.Prelude.{Option}
+use Rattle.std.proofs.Common.{◌≡◌, ℕ, zero, suc, ◌≤◌, List, [], sym, ap, subst, ◌∙◌, arith}
+use Rattle.std.specs.Prelude.{Option, None, Some}
 use Rattle.std.specs.List.{All}
-use Rattle.synic_board.specs.State.{State}
+use Rattle.synic_board.specs.State.{State, opened}
 use Rattle.synic_board.specs.declared.history.Entry.{Entry}
 use Rattle.synic_board.specs.History.{leads_to}
 use Rattle.board_threads.specs.declared.settling.Ended.{Ended}
 use Rattle.text_trace.specs.declared.format.Format.{Format}
-use Rattle.text_trace.specs.Trace.{IsBeginning, IsEntry, trace, trace_text}
+use Rattle.text_trace.specs.declared.format.Format.TheVariants.{Two, Four}
+use Rattle.text_trace.specs.Trace.{IsBeginning, IsEntry, board_text, trace, trace_text}
 use Rattle.text_crew.specs.Crew.{Crew}
-use Rattle.text_crew.specs.Running.{IsHistory, IsCrewTrace, IsTraceOn}
+use Rattle.text_crew.specs.Running.{IsHistory, IsCrewTrace, IsOpenedTrace, IsTraceOn, line_pages, opened_format}
 use Rattle.text_crew.specs.inside.Tracing.{IsTraced}
 use Rattle.text_crew.specs.inside.Reporting.{Prepares}
 use Rattle.text_crew.specs.declared.outcome.Outcome.{Outcome}
@@ -45,3 +46,21 @@ prepared board format beginning start crew outcomes.Done ended text is begins le
 prepared board format beginning start crew outcomes.Memory ended text is begins leads written on = tt
 prepared board format beginning start crew outcomes.Unsettled ended text is begins leads written on = tt
 prepared board format beginning start crew outcomes.NoThread ended text is begins leads written on = tt
+
+-- The format and the beginning of the trace are those of the pages that the board holds.
+abbrev OpenedWith : ℕ → Crew → List ℕ → Type 0
+OpenedWith pages crew text =
+    IsCrewTrace (opened_format pages) (board_text crew.processors (line_pages pages) crew.first_ticket) (opened crew.processors pages crew.first_ticket) crew text
+
+whole-with : (pages : ℕ) (crew : Crew) (text : List ℕ) → 1 ≤ pages →
+    IsCrewTrace Two (board_text crew.processors (Some pages) crew.first_ticket) (opened crew.processors pages crew.first_ticket) crew text → OpenedWith pages crew text
+whole-with zero crew text some is = absurd (omega (arith, some))
+whole-with (suc pages) crew text some is = is
+
+pub opened-whole : (crew : Crew) (text : List ℕ) → 1 ≤ crew.pages →
+    IsCrewTrace Two (board_text crew.processors (Some crew.pages) crew.first_ticket) (opened crew.processors crew.pages crew.first_ticket) crew text → IsOpenedTrace crew text
+opened-whole crew text some is = whole-with crew.pages crew text some is
+
+pub opened-sparse : (crew : Crew) (text : List ℕ) → crew.pages ≡ 0 →
+    IsCrewTrace Four (board_text crew.processors None crew.first_ticket) (opened crew.processors 0 crew.first_ticket) crew text → IsOpenedTrace crew text
+opened-sparse crew text sparse is = subst (λ (pages : ℕ). OpenedWith pages crew text) (sym sparse) is

@@ -11,7 +11,7 @@ pub data Section : Type 0 where
   InLine : List (ℕ × ℕ) → Section
 
 pub record Crew : Type 0 where
-  -- the board
+  -- the board; a sparse one holds no pages
   pub processors : ℕ
   pub pages : ℕ
   pub first_ticket : ℕ

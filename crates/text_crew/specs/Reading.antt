@@ -6,7 +6,7 @@ use Rattle.text_base.specs.Fields.{fields_of}
 use Rattle.text_base.specs.Lines.{lines_of, rest_of}
 use Rattle.synic_board.specs.declared.event.Event.{Event}
 use Rattle.text_lines.specs.Reading.{Fields, take_then, none_left, u8_at, vector_at, parse_event, parse_opening}
-use Rattle.text_lines.specs.Sizes.{are_sizes}
+use Rattle.text_lines.specs.Sizes.{are_sizes, pages_held}
 use Rattle.text_lines.specs.Faults.{is_skipped, rest_fault}
 use Rattle.text_lines.specs.declared.fault.ScriptFault.{ScriptFault}
 use Rattle.text_lines.specs.declared.fault.ScriptFault.TheVariants as faults
@@ -78,9 +78,9 @@ with_line crew [] = if nat_lt (length (finished crew).lines) 16 then Ok (Some (r
 with_line crew (field ∷ fields) = Err faults.Form
 
 -- the first item opens the board, within the limits
-abbrev pub with_board : Option (ℕ × ℕ × ℕ) → Read
+abbrev pub with_board : Option (ℕ × Option ℕ × ℕ) → Read
 with_board None = Err faults.First
-with_board (Some sizes) = if are_sizes sizes.0 sizes.1 then Ok (Some (new_crew sizes.0 sizes.1 sizes.2)) else Err faults.Size
+with_board (Some board) = if are_sizes board.0 board.1 then Ok (Some (new_crew board.0 (pages_held board.1) board.2)) else Err faults.Size
 
 abbrev pub parse_first : List ℕ → Fields → Read
 parse_first word fields = if bytes_eq word (codes "board") then with_board (parse_opening fields) else Err faults.First

@@ -1,5 +1,5 @@
 -- The output for a crew script.
-use Rattle.std.specs.Prelude.{◌≡◌, ℕ, ◌*◌, List, [], ◌++◌, length, Option, None, Some, Result, Ok, Err, IfSome, codes}
+use Rattle.std.specs.Prelude.{◌≡◌, ℕ, zero, suc, ◌*◌, List, [], ◌++◌, length, Option, None, Some, Result, Ok, Err, IfSome, codes}
 use Rattle.std.specs.List.{AllZip}
 use Rattle.std.specs.Option.{option_map}
 use Rattle.std.specs.Io.KnownBytes.{Appends}
@@ -16,7 +16,7 @@ use Rattle.text_image.specs.Image.{image}
 use Rattle.text_restore.specs.Images.{IsImage}
 use Rattle.text_trace.specs.Trace.{board_text, trace, IsTrace}
 use Rattle.text_trace.specs.declared.format.Format.{Format}
-use Rattle.text_trace.specs.declared.format.Format.TheVariants.{Two, Three}
+use Rattle.text_trace.specs.declared.format.Format.TheVariants.{Two, Three, Four}
 use Rattle.text_crew.specs.Crew.{Crew, new_crew, finished, entries_of}
 use Rattle.text_crew.specs.Reading.{parse_from}
 use Rattle.text_crew.specs.declared.running.CrewRun.{CrewRun}
@@ -39,9 +39,20 @@ pub record IsCrewTrace (format : Format) (beginning : List ℕ) (start : State) 
   pub written : text ≡ trace format beginning start history
   pub legal : IsTrace text (entries_of crew)
 
--- of a crew whose script opens its board, in format 2
+-- the pages in the board line of a board that holds so many; a sparse board holds none
+abbrev pub line_pages : ℕ → Option ℕ
+line_pages zero = None
+line_pages (suc n) = Some (suc n)
+
+-- the format of its trace
+abbrev pub opened_format : ℕ → Format
+opened_format zero = Four
+opened_format (suc n) = Two
+
+-- of a crew whose script opens its board, in format 2, or in format 4 if the board is sparse
 abbrev pub IsOpenedTrace : Crew → List ℕ → Type 0
-IsOpenedTrace crew = IsCrewTrace Two (board_text crew.processors crew.pages crew.first_ticket) (opened crew.processors crew.pages crew.first_ticket) crew
+IsOpenedTrace crew =
+    IsCrewTrace (opened_format crew.pages) (board_text crew.processors (line_pages crew.pages) crew.first_ticket) (opened crew.processors crew.pages crew.first_ticket) crew
 
 -- Of a crew on a board that is given, in format 3: it begins with the image of the board's state, and its history starts in a state that has this image.
 abbrev pub IsGivenTrace : State → Crew → List ℕ → Type 0

@@ -1,5 +1,6 @@
 // Running the crew of a whole script, and its trace.
 ghost use Rattle.std.specs.Prelude.{◌≡◌, ◌≢◌, ◌<◌, ◌^◌, [], None, Some, IfOk, IfErr};
+ghost use Rattle.synic_board.specs.State.{IsCount, opened};
 ghost use Rattle.text_image.specs.Image.{image};
 ghost use Rattle.text_restore.specs.Images.{IsImage};
 ghost use Rattle.text_trace.specs.Trace.{board_text};
@@ -13,10 +14,10 @@ use board_threads::{CrewFault, Ended, Gate, Setup, run_crew, run_crew_on};
 use std::alloc::{AllocError, Global};
 use std::sync::Wait;
 use std::thread::Threads;
-use synic_board::Board;
+use synic_board::{Board, OpenFault};
 use text_image::put_image;
 use text_restore::{RestoreEnd, restore};
-use text_trace::{Format, put_trace, put_trace_from_image};
+use text_trace::{Format, put_sparse_trace, put_trace, put_trace_from_image};
 
 /// The result of running a crew.
 #[derive(Clone, Copy)]
@@ -39,9 +40,74 @@ pub(crate) fn run_opened<T: Threads + Wait + Sync, G: Gate + Sync>(
     requires good { IsGoodOn None (crew_of script.now) }
     ensures { Prepares None result (crew_of script.now) out.new.items }
 {
+    if script.setup.pages == 0 {
+        run_sparse(rt, alloc, script, gate, out)
+    } else {
+        run_whole(rt, alloc, script, gate, out)
+    }
+}
+
+/// Runs a crew on a board that holds its guest pages.
+fn run_whole<T: Threads + Wait + Sync, G: Gate + Sync>(
+    rt: &T,
+    alloc: Global,
+    script: &CrewScript,
+    gate: &G,
+    out: &mut Vec<u8>,
+) -> Outcome
+    requires empty { out.old.items ≡ [] }
+    requires good { IsGoodOn None (crew_of script.now) }
+    requires pages { script.now.setup.pages ≢ 0 }
+    ensures { Prepares None result (crew_of script.now) out.new.items }
+{
     match run_crew(rt, alloc, &script.setup, &script.scripts, gate) {
         Ok(end) => put_opened(&script.setup, &end.ended, out),
         Err(fault) => outcome_of(fault),
+    }
+}
+
+/// Runs a crew on a sparse board. A second one is that on which the history is performed once more.
+fn run_sparse<T: Threads + Wait + Sync, G: Gate + Sync>(
+    rt: &T,
+    alloc: Global,
+    script: &CrewScript,
+    gate: &G,
+    out: &mut Vec<u8>,
+) -> Outcome
+    requires empty { out.old.items ≡ [] }
+    requires good { IsGoodOn None (crew_of script.now) }
+    requires sparse { script.now.setup.pages ≡ 0 }
+    ensures { Prepares None result (crew_of script.now) out.new.items }
+{
+    let Ok(board) = sparse_board(alloc, &script.setup) else {
+        return Outcome::Memory;
+    };
+    let Ok(start) = sparse_board(alloc, &script.setup) else {
+        return Outcome::Memory;
+    };
+    match run_crew_on(
+        rt,
+        alloc,
+        board,
+        start,
+        &script.setup,
+        &script.scripts,
+        gate,
+    ) {
+        Ok(end) => put_sparse(&script.setup, &end.ended, out),
+        Err(fault) => outcome_of(fault),
+    }
+}
+
+/// Opens a sparse board.
+fn sparse_board(alloc: Global, setup: &Setup) -> Result<Board, AllocError>
+    requires { IsCount setup.now.processors }
+    ensures { IfOk result (λ board. board.state ≡ opened setup.now.processors 0 setup.now.first_ticket) }
+{
+    match Board::open_sparse(alloc, setup.processors, setup.first_ticket) {
+        Ok(board) => Ok(board),
+        Err(OpenFault::BadSize) => unreachable!(),
+        Err(OpenFault::Memory) => Err(AllocError),
     }
 }
 
@@ -101,9 +167,9 @@ fn restored_from(alloc: Global, mut image: &[u8]) -> Result<Board, Outcome>
 }
 
 /// Appends the trace of a crew that has ended, on a board that its script opened. It is separate
-/// from `run_opened`, so that one owner drops the crew.
+/// from `run_whole`, so that one owner drops the crew.
 fn put_opened(setup: &Setup, ended: &Ended, out: &mut Vec<u8>) -> Outcome
-    ensures traced { IsTraced Format.Two (board_text setup.now.processors setup.now.pages setup.now.first_ticket) result ended.now out.old.items out.new.items }
+    ensures traced { IsTraced Format.Two (board_text setup.now.processors (Some setup.now.pages) setup.now.first_ticket) result ended.now out.old.items out.new.items }
     ensures ticket { setup.now.first_ticket < 2 ^ 64 }
 {
     match put_trace(
@@ -114,6 +180,18 @@ fn put_opened(setup: &Setup, ended: &Ended, out: &mut Vec<u8>) -> Outcome
         ended.history.as_slice(),
         ended.board.next_ticket(),
     ) {
+        Ok(()) => Outcome::Done,
+        Err(_) => Outcome::Memory,
+    }
+}
+
+/// Appends the trace of a crew that has ended, on a sparse board that its script opened.
+fn put_sparse(setup: &Setup, ended: &Ended, out: &mut Vec<u8>) -> Outcome
+    ensures traced { IsTraced Format.Four (board_text setup.now.processors None setup.now.first_ticket) result ended.now out.old.items out.new.items }
+    ensures ticket { setup.now.first_ticket < 2 ^ 64 }
+{
+    let (history, next) = (ended.history.as_slice(), ended.board.next_ticket());
+    match put_sparse_trace(out, setup.processors, setup.first_ticket, history, next) {
         Ok(()) => Outcome::Done,
         Err(_) => Outcome::Memory,
     }

@@ -40,7 +40,8 @@ pub enum CrewRun {
 }
 
 /// Reads a whole crew script, runs its crew on a board of its own, the actors and lines concurrently,
-/// and writes the trace of the run. If a line is wrong, writes only its fault.
+/// and writes the trace of the run, of format 4 if the board is sparse and otherwise of format 2. If
+/// a line is wrong, writes only its fault.
 /// The gate is called around each call of an actor or a line. The script and the history are kept in
 /// memory.
 pub fn crew<T: Threads + Wait + Sync, R: Read, W: Write, G: Gate + Sync>(

@@ -1,8 +1,9 @@
 // Parsing a crew script.
-ghost use Rattle.std.specs.Prelude.{◌≡◌, ◌≤◌, ◌<◌, ◌↔◌, ◌∷◌, length, vec_len, nat_lt, IsTrue, OnOk, IfSome, Some};
+ghost use Rattle.std.specs.Prelude.{◌≡◌, ◌≤◌, ◌<◌, ◌↔◌, ◌∷◌, if◌then◌else◌, length, vec_len, nat_lt, IsTrue, OnOk, IfSome, None, Some};
 ghost use Rattle.std.specs.List.{sum_by};
 ghost use Rattle.std.specs.Option.{option_map};
 ghost use Rattle.synic_board.specs.State.{processors};
+ghost use Rattle.text_lines.specs.Sizes.{are_sizes, pages_held};
 ghost use Rattle.text_crew.specs.Crew.{new_crew, finished, entries};
 ghost use Rattle.text_crew.specs.Running.{crew_on};
 ghost use Rattle.text_crew.specs.Reading.{parse_act, parse_step, parse_line_step, parse_sweep, parse_section_line, parse_first, with_actor, with_line, section_line, parse_line};
@@ -58,11 +59,24 @@ fn open(
     let Some((processors, pages, first_ticket)) = opening_of(fields) else {
         return Taken::Wrong(ScriptFault::First);
     };
-    if processors < 1 || processors > 8 || pages < 1 || pages > 64 {
+    let Some(pages) = pages_within(processors, pages) else {
         return Taken::Wrong(ScriptFault::Size);
-    }
+    };
     *script = Some(CrewScript::new(alloc, processors, pages, first_ticket));
     Taken::Good
+}
+
+/// The pages that the board of a board line holds, if its sizes are within the limits: none if it is
+/// sparse.
+fn pages_within(processors: u8, pages: Option<u8>) -> Option<u8>
+    ensures { result ≡ (if are_sizes processors pages then Some (pages_held pages) else None) }
+{
+    let is_count = 1 <= processors && processors <= 8;
+    match pages {
+        None if is_count => Some(0),
+        Some(pages) if is_count && 1 <= pages && pages <= 64 => Some(pages),
+        _ => None,
+    }
 }
 
 impl CrewScript {

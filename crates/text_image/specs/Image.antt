@@ -42,7 +42,7 @@ moment_lines moment = if moment == 0 then [] else moment_fields moment ∷ []
 
 -- the title, the board line with the next ticket, and the present time
 abbrev pub head_lines : State → Lines
-head_lines s = (codes "image" ∷ codes "1" ∷ []) ∷ item_fields (Opening (processors s) (length s.pages) s.next_ticket) ∷ moment_lines s.moment
+head_lines s = (codes "image" ∷ codes "1" ∷ []) ∷ item_fields (Opening (processors s) (Some (length s.pages)) s.next_ticket) ∷ moment_lines s.moment
 
 -- a set of vectors, those from 0 on in the first word
 abbrev pub words : Vectors → List (List ℕ)

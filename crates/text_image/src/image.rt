@@ -1,6 +1,6 @@
 // The lines of an image, section by section. Each function appends to `out`; an error is an
 // allocation failure.
-ghost use Rattle.std.specs.Prelude.{◌≡◌, ◌++◌, ◌≤◌, OnOk};
+ghost use Rattle.std.specs.Prelude.{◌≡◌, ◌++◌, ◌≤◌, OnOk, Some};
 ghost use Rattle.text_base.specs.Fields.{line_of};
 ghost use Rattle.text_lines.specs.Items.{Opening, item_fields};
 ghost use Rattle.text_lines.specs.Printing.{text_of};
@@ -50,7 +50,7 @@ fn put_opening<S: Sink>(
     pages: u8,
     next_ticket: Ticket,
 ) -> Result<(), S::Error>
-    ensures { OnOk result (S.text out.new ≡ S.text out.old ++ line_of (item_fields (Opening processors pages next_ticket))) }
+    ensures { OnOk result (S.text out.new ≡ S.text out.old ++ line_of (item_fields (Opening processors (Some pages) next_ticket))) }
 {
     out.put(b"board ")?;
     put_decimal(out, processors)?;

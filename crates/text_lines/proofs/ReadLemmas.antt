@@ -12,8 +12,8 @@ use Rattle.synic_board.specs.declared.event.Event.TheVariants.{OpenPort, ClosePo
 use Rattle.board_terms.specs.Ranges.{IsVector}
 use Rattle.board_terms.specs.declared.messages.PortShape.TheVariants.{Messages, Flags}
 use Rattle.text_lines.specs.Events.{event_fields, bytes_text, IsEvent}
-use Rattle.text_lines.specs.Items.{Item, Opening, Performs, Summary, item_fields, IsItem, Denotes}
-use Rattle.text_lines.specs.Reading.{Fields, take_then, none_left, u8_at, u16_at, bytes_at, u64_at, hex_u32_at, hex_u64_at, from_16, vector_at, parse_messages, parse_flags, parse_shape, parse_open, parse_close, parse_write, parse_read, parse_post, parse_signal, parse_assert, parse_absorb, parse_store, parse_load, parse_tick, parse_processor, parse_take, parse_suspend, parse_resume, parse_reset, parse_opening, parse_event, parse_item, item_at}
+use Rattle.text_lines.specs.Items.{Item, Opening, Performs, Summary, pages_field, ArePages, item_fields, IsItem, Denotes}
+use Rattle.text_lines.specs.Reading.{Fields, take_then, none_left, u8_at, u16_at, bytes_at, u64_at, hex_u32_at, hex_u64_at, from_16, vector_at, parse_messages, parse_flags, parse_shape, parse_open, parse_close, parse_write, parse_read, parse_post, parse_signal, parse_assert, parse_absorb, parse_store, parse_load, parse_tick, parse_processor, parse_take, parse_suspend, parse_resume, parse_reset, pages_at, parse_opening, parse_event, parse_item, item_at}
 use Rattle.text_lines.proofs.ByteFields.{bytes_at-only, bytes_at-spelled}
 
 -- A parsed field determines the text before the rest.
@@ -53,6 +53,23 @@ hex_u32-only text n e = let h = hex_at-only (2 ^ 32 - 1) text n e in let bound =
 
 pub hex_u64-only : (text : List ℕ) (n : ℕ) → hex_u64_at text ≡ Some n → (n < 2 ^ 64) × (text ≡ hex n)
 hex_u64-only text n e = let h = hex_at-only (2 ^ 64 - 1) text n e in let bound = h.0 in (omega arith, h.1)
+
+-- the word of a sparse board is no number
+sparse-only : (text : List ℕ) (g : Option ℕ) → text ≡ codes "sparse" → Some None ≡ Some g → ArePages g × (text ≡ pages_field g)
+sparse-only text None same e = (tt, same)
+sparse-only text (Some n) same e = cc
+
+counted-only : (text : List ℕ) (g r : Option ℕ) → u8_at text ≡ r → option_map (λ (n : ℕ). Some n) r ≡ Some g → ArePages g × (text ≡ pages_field g)
+counted-only text g None is e = cc
+counted-only text None (Some n) is e = cc
+counted-only text (Some m) (Some n) is e = let same : n ≡ m = cc in rw (← same) (u8-only text n is)
+
+pub pages-only : (text : List ℕ) (g : Option ℕ) → pages_at text ≡ Some g → ArePages g × (text ≡ pages_field g)
+pages-only text g e = go (bytes_eq text (codes "sparse")) refl e
+  where
+    go : (t : Bool) → bytes_eq text (codes "sparse") ≡ t → cond t (Some None) (option_map (λ (n : ℕ). Some n) (u8_at text)) ≡ Some g → ArePages g × (text ≡ pages_field g)
+    go true is e = sparse-only text g ((bytes_eq-Decides text (codes "sparse")).0 is) e
+    go false is e = counted-only text g (u8_at text) refl e
 
 vector-only : (text : List ℕ) (v : ℕ) → vector_at text ≡ Some v → IsVector v × (text ≡ two_digits v)
 vector-only text v e = go (byte_at text) refl e
@@ -234,6 +251,19 @@ event-says (word ∷ fs) event e =
 pub u8-spelled : (n : ℕ) → n < 256 → u8_at (decimal n) ≡ Some n
 u8-spelled n h = decimal_at-spelled 255 n (omega arith) (omega arith)
 
+sparse-none : u8_at (codes "sparse") ≡ None
+sparse-none = refl
+
+pub pages-spelled : (g : Option ℕ) → ArePages g → pages_at (pages_field g) ≡ Some g
+pages-spelled None h = refl
+pages-spelled (Some n) h = go (bytes_eq (decimal n) (codes "sparse")) refl
+  where
+    go : (t : Bool) → bytes_eq (decimal n) (codes "sparse") ≡ t → cond t (Some None) (option_map (λ (m : ℕ). Some m) (u8_at (decimal n))) ≡ Some (Some n)
+    go true is =
+        let word = (bytes_eq-Decides (decimal n) (codes "sparse")).0 is in
+        let off : Some n ≡ None = sym (u8-spelled n h) ∙ ap u8_at word ∙ sparse-none in cc
+    go false is = ap (option_map (λ (m : ℕ). Some m)) (u8-spelled n h)
+
 u16-spelled : (n : ℕ) → n < 65536 → u16_at (decimal n) ≡ Some n
 u16-spelled n h = decimal_at-spelled 65535 n (omega arith) (omega arith)
 
@@ -286,30 +316,30 @@ pub record SaysItem (fields : Fields) (item : Item) : Type 0 where
   pub same : fields ≡ item_fields item
   pub fits : IsItem item
 
-pub opening-says : (fs : Fields) (p : ℕ × ℕ × ℕ) → parse_opening fs ≡ Some p → SaysItem (codes "board" ∷ fs) (Opening p.0 p.1 p.2)
+pub opening-says : (fs : Fields) (p : ℕ × Option ℕ × ℕ) → parse_opening fs ≡ Some p → SaysItem (codes "board" ∷ fs) (Opening p.0 p.1 p.2)
 opening-says fs p =
     then-some u8_at _ fs p (SaysItem (codes "board" ∷ fs) (Opening p.0 p.1 p.2)) (λ a n more at read.
-    then-some u8_at _ more p (SaysItem (codes "board" ∷ fs) (Opening p.0 p.1 p.2)) (λ b g more' at' read'.
+    then-some pages_at _ more p (SaysItem (codes "board" ∷ fs) (Opening p.0 p.1 p.2)) (λ b g more' at' read'.
     then-some u64_at _ more' p (SaysItem (codes "board" ∷ fs) (Opening p.0 p.1 p.2)) (λ c f more'' at'' read''.
     ended-some (n, g, f) more'' p (SaysItem (codes "board" ∷ fs) (Opening p.0 p.1 p.2)) (λ none is.
-    let h = u8-only a n read in let h' = u8-only b g read' in let h'' = u64-only c f read'' in
+    let h = u8-only a n read in let h' = pages-only b g read' in let h'' = u64-only c f read'' in
     rw (at, at', at'', none, h.1, h'.1, h''.1, ← is) (record { same = refl; fits = (h.0, h'.0, h''.0) })))))
 
 item-says : (fs : Fields) (item : Item) → parse_item fs ≡ Some item → SaysItem fs item
 item-says [] item e = cc
 item-says (word ∷ fs) item e =
     yes (bytes_eq word (codes "board")) _ _ item (SaysItem (word ∷ fs) item) (λ is e. worded (λ w. SaysItem (w ∷ fs) item) word (codes "board") is
-    (mapped (λ (p : ℕ × ℕ × ℕ). Opening p.0 p.1 p.2) (parse_opening fs) item (SaysItem (codes "board" ∷ fs) item) (λ p said same. rw (← same) (opening-says fs p said)) e))
+    (mapped (λ (p : ℕ × Option ℕ × ℕ). Opening p.0 p.1 p.2) (parse_opening fs) item (SaysItem (codes "board" ∷ fs) item) (λ p said same. rw (← same) (opening-says fs p said)) e))
     (yes (bytes_eq word (codes "summary")) (none_left Summary fs) _ item (SaysItem (word ∷ fs) item) (λ is e. worded (λ w. SaysItem (w ∷ fs) item) word
     (codes "summary") is (ended-some Summary fs item (SaysItem (codes "summary" ∷ fs) item) (λ none same. rw (none, ← same) (record { same = refl; fits = tt })) e))
     (λ e. mapped Performs (parse_event (word ∷ fs)) item (SaysItem (word ∷ fs) item)
     (λ event said same. let h = event-says (word ∷ fs) event said in rw (← same) (record { same = h.same; fits = h.fits })) e)) e
 
-pub says-opening : (n g f : ℕ) → IsItem (Opening n g f) → parse_opening (decimal n ∷ decimal g ∷ decimal f ∷ []) ≡ Some (n, g, f)
-says-opening n g f h = then-read u8_at _ (decimal n) n _ (u8-spelled n h.0) ∙ then-read u8_at _ (decimal g) g _ (u8-spelled g h.1) ∙ then-read u64_at _ (decimal f) f [] (u64-spelled f h.2)
+pub says-opening : (n : ℕ) (g : Option ℕ) (f : ℕ) → IsItem (Opening n g f) → parse_opening (decimal n ∷ pages_field g ∷ decimal f ∷ []) ≡ Some (n, g, f)
+says-opening n g f h = then-read u8_at _ (decimal n) n _ (u8-spelled n h.0) ∙ then-read pages_at _ (pages_field g) g _ (pages-spelled g h.1) ∙ then-read u64_at _ (decimal f) f [] (u64-spelled f h.2)
 
 says-item : (item : Item) → IsItem item → parse_item (item_fields item) ≡ Some item
-says-item (Opening n g f) h = ap (option_map (λ (p : ℕ × ℕ × ℕ). Opening p.0 p.1 p.2)) (says-opening n g f h)
+says-item (Opening n g f) h = ap (option_map (λ (p : ℕ × Option ℕ × ℕ). Opening p.0 p.1 p.2)) (says-opening n g f h)
 says-item (Performs (OpenPort port vp sint (Messages buffers))) h = ap (option_map Performs) (says-event (OpenPort port vp sint (Messages buffers)) h)
 says-item (Performs (OpenPort port vp sint (Flags base count))) h = ap (option_map Performs) (says-event (OpenPort port vp sint (Flags base count)) h)
 says-item (Performs (ClosePort port)) h = ap (option_map Performs) (says-event (ClosePort port) h)

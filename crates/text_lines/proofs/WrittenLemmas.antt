@@ -1,12 +1,12 @@
 -- Items as they are printed.
-use Rattle.std.proofs.Common.{◌≡◌, ℕ, ◌+◌, ◌*◌, ◌<◌, ◌≤◌, List, [], ◌∷◌, length, Some, refl, arith, codes}
+use Rattle.std.proofs.Common.{◌≡◌, ℕ, ◌+◌, ◌*◌, ◌<◌, ◌≤◌, List, [], ◌∷◌, length, Option, None, Some, refl, arith, codes}
 use Rattle.text_base.specs.Fields.{spaced}
 use Rattle.text_base.proofs.PlainWords.{IsPlain, ArePlain, total, plain_by, digits-plain, digits-short, two_digits-plain, spelled-plain, spelled-length, IsWritten, written}
 use Rattle.board_terms.specs.declared.messages.PortShape.TheVariants.{Messages, Flags}
 use Rattle.synic_board.specs.declared.event.Event.{Event}
 use Rattle.synic_board.specs.declared.event.Event.TheVariants.{OpenPort, ClosePort, Write, Read, Post, Signal, Assert, Absorb, Store, Load, Tick, Take, Suspend, Resume, Reset}
 use Rattle.text_lines.specs.Events.{event_fields, bytes_text, IsEvent}
-use Rattle.text_lines.specs.Items.{Item, Opening, Performs, Summary, item_fields, IsItem, Denotes}
+use Rattle.text_lines.specs.Items.{Item, Opening, Performs, Summary, pages_field, item_fields, IsItem, Denotes}
 use Rattle.text_lines.specs.Reading.{item_at}
 use Rattle.text_lines.proofs.ReadLemmas.{reading-means}
 
@@ -58,8 +58,14 @@ plain-written : (fields : List (List ℕ)) → FewPlain fields → IsWritten fie
 plain-written [] h = absurd (omega (arith, h.some))
 plain-written (f ∷ fields) h = written f fields h.plain (omega (arith, h.bound))
 
-pub board-written : (p g f : ℕ) → IsWritten (item_fields (Opening p g f))
-board-written p g f = written _ _ (plain_by (codes "board") refl, (digits-plain 10 p, (digits-plain 10 g, (digits-plain 10 f, tt))))
+pages-plain : (g : Option ℕ) → IsPlain (pages_field g)
+pages-plain None = plain_by (codes "sparse") refl
+pages-plain (Some n) = digits-plain 10 n
+
+pub board-written : (p : ℕ) (g : Option ℕ) (f : ℕ) → IsWritten (item_fields (Opening p g f))
+board-written p None f = written _ _ (plain_by (codes "board") refl, (digits-plain 10 p, (pages-plain None, (digits-plain 10 f, tt))))
+    (omega (arith, digits-short 10 p, digits-short 10 f))
+board-written p (Some g) f = written _ _ (plain_by (codes "board") refl, (digits-plain 10 p, (pages-plain (Some g), (digits-plain 10 f, tt))))
     (omega (arith, digits-short 10 p, digits-short 10 g, digits-short 10 f))
 
 item-written : (item : Item) → IsItem item → IsWritten (item_fields item)

@@ -48,6 +48,10 @@ abbrev pub TakesBytes : ℕ → Option (ArrayVec ℕ) → Fields → Fields → 
 TakesBytes most None old new = first_read (bytes_at most) old ≡ None
 TakesBytes most (Some bytes) old new = first_read (bytes_at most) old ≡ Some (bytes.items, new)
 
+-- a number of pages, or the word of a sparse board
+abbrev pub pages_at : List ℕ → Option (Option ℕ)
+pages_at text = if bytes_eq text (codes "sparse") then Some None else option_map (λ (pages : ℕ). Some pages) (decimal_at 255 text)
+
 -- no field is left
 abbrev pub none_left : {A : Type 0} → A → Fields → Option A
 none_left a [] = Some a
@@ -138,8 +142,9 @@ parse_resume fields = option_map Resume (parse_processor fields)
 abbrev pub parse_reset : Fields → Option Event
 parse_reset fields = option_map Reset (parse_processor fields)
 
-abbrev pub parse_opening : Fields → Option (ℕ × ℕ × ℕ)
-parse_opening = take_then u8_at (λ processors. take_then u8_at (λ pages. take_then u64_at (λ ticket. none_left (processors, pages, ticket))))
+-- the processors, the pages and the first ticket of a board line
+abbrev pub parse_opening : Fields → Option (ℕ × Option ℕ × ℕ)
+parse_opening = take_then u8_at (λ processors. take_then pages_at (λ pages. take_then u64_at (λ ticket. none_left (processors, pages, ticket))))
 
 -- the event that the fields denote
 abbrev pub parse_event : Fields → Option Event
@@ -164,7 +169,7 @@ parse_event (word ∷ fields) =
 
 -- the item that the fields of a board line denote
 abbrev pub opening_item : Fields → Option Item
-opening_item fields = option_map (λ (p : ℕ × ℕ × ℕ). Opening p.0 p.1 p.2) (parse_opening fields)
+opening_item fields = option_map (λ (p : ℕ × Option ℕ × ℕ). Opening p.0 p.1 p.2) (parse_opening fields)
 
 -- the item that the fields denote
 abbrev pub parse_item : Fields → Option Item

@@ -1,2 +1,3 @@
 -- Definitions for private functions and their proofs. Callers do not need them.
 pub mod Autos
+pub mod Pages

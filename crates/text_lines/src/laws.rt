@@ -1,12 +1,11 @@
 //! Theorems about the definitions.
-ghost use Rattle.std.specs.Prelude.{◌≡◌, ◌↔◌, ℕ, List, Some, IsTrue};
+ghost use Rattle.std.specs.Prelude.{◌≡◌, ◌↔◌, ℕ, List, Option, Some, IsTrue};
 ghost use Rattle.text_base.specs.Fields.{spaced};
-ghost use Rattle.synic_board.specs.State.{AreSizes};
 ghost use Rattle.synic_board.specs.declared.event.Event.{Event};
 ghost use Rattle.text_lines.specs.Events.{event_fields, IsEvent};
 ghost use Rattle.text_lines.specs.Items.{Item, Performs, item_fields, IsItem, Denotes};
 ghost use Rattle.text_lines.specs.Reading.{item_at};
-ghost use Rattle.text_lines.specs.Sizes.{are_sizes};
+ghost use Rattle.text_lines.specs.Sizes.{AreBoardSizes, are_sizes};
 
 /// Parsing a line gives an item iff the line denotes it.
 pub fn reading_is_exact()
@@ -33,7 +32,8 @@ pub fn one_item()
     ensures { (line : List ℕ) (a b : Item) → Denotes line a → Denotes line b → a ≡ b }
 {}
 
-/// The sizes that scripts and traces accept are those that a board can be opened with.
+/// The sizes that scripts and traces accept are those that a board can be opened with: a sparse one
+/// where no pages are given.
 pub fn sizes_are_those_of_open()
-    ensures { (processors pages : ℕ) → IsTrue (are_sizes processors pages) ↔ AreSizes processors pages }
+    ensures { (processors : ℕ) (pages : Option ℕ) → IsTrue (are_sizes processors pages) ↔ AreBoardSizes processors pages }
 {}

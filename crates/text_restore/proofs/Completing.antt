@@ -229,11 +229,11 @@ titled-ends : Ending Titled
 titled-ends =
     let s = opened 1 1 0 in
     let fits : IsOpenBody s 0 0 = record { bound = omega (arith, length-replicate 1 empty_apic); few = omega arith; missing = λ more. omega arith; before = omega arith } in
-    one-more Titled (Body s 0 0) (item_fields (Opening 1 1 0)) (board-written 1 1 0) (record {
+    one-more Titled (Body s 0 0) (item_fields (Opening 1 (Some 1) 0)) (board-written 1 (Some 1) 0) (record {
       count = 1;
       pages = 1;
       ticket = 0;
-      item = (item-reading (spaced (item_fields (Opening 1 1 0))) (Opening 1 1 0)).1 (item-means (Opening 1 1 0) (omega arith, omega arith, omega arith));
+      item = (item-reading (spaced (item_fields (Opening 1 (Some 1) 0))) (Opening 1 (Some 1) 0)).1 (item-means (Opening 1 (Some 1) 0) (omega arith, omega arith, omega arith));
       sizes = record { some_processor = omega arith; processor_bound = omega arith; page_bound = omega arith };
       stage = refl;
     }) (end-body 1 s 0 0 fits (omega (arith, length-replicate 1 empty_apic)))

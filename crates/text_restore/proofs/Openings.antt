@@ -1,53 +1,52 @@
 -- Which lines open a board.
 use Rattle.std.proofs.Common.{◌≡◌, ℕ, List, [], ◌∷◌, Option, Some, None, true, false, refl, sym, ap, subst, ◌∙◌, codes, decimal}
-use Rattle.std.specs.Option.{IfSome}
 use Rattle.std.specs.Str.{bytes_eq}
 use Rattle.text_base.specs.Fields.{fields_of}
 use Rattle.synic_board.specs.State.{IsWithinLimits}
-use Rattle.text_lines.specs.Items.{Opening}
+use Rattle.text_lines.specs.Items.{Opening, pages_field}
 use Rattle.text_lines.specs.Reading.{Fields, parse_item, parse_opening, item_at}
 use Rattle.text_lines.proofs.ReadLemmas.{reading-means, says-opening}
 use Rattle.text_restore.specs.inside.Stages.{OpensNone}
 
-parsed : (word : List ℕ) (fields : Fields) (n p t : ℕ) → bytes_eq word (codes "board") ≡ true → parse_opening fields ≡ Some (n, p, t) → parse_item (word ∷ fields) ≡ Some (Opening n p t)
+parsed : (word : List ℕ) (fields : Fields) (n : ℕ) (p : Option ℕ) (t : ℕ) → bytes_eq word (codes "board") ≡ true → parse_opening fields ≡ Some (n, p, t) → parse_item (word ∷ fields) ≡ Some (Opening n p t)
 parsed word fields n p t is read = rw (is, read) refl
 
 -- the item of a board line
-item : (line word : List ℕ) (fields : Fields) (n p t : ℕ) → fields_of line ≡ word ∷ fields → bytes_eq word (codes "board") ≡ true → parse_opening fields ≡ Some (n, p, t) →
+pub item : (line word : List ℕ) (fields : Fields) (n : ℕ) (p : Option ℕ) (t : ℕ) → fields_of line ≡ word ∷ fields → bytes_eq word (codes "board") ≡ true → parse_opening fields ≡ Some (n, p, t) →
     item_at line ≡ Some (Opening n p t)
 unfolding item_at
 item line word fields n p t cut is read = ap parse_item cut ∙ parsed word fields n p t is read
 
-pub some-item : (line word : List ℕ) (fields : Fields) (sizes : Option (ℕ × ℕ × ℕ)) → fields_of line ≡ word ∷ fields → bytes_eq word (codes "board") ≡ true → sizes ≡ parse_opening fields →
-    IfSome sizes (λ p. item_at line ≡ Some (Opening p.0 p.1 p.2))
-some-item line word fields None cut is read = tt
-some-item line word fields (Some p) cut is read = item line word fields p.0 p.1 p.2 cut is (sym read)
+-- a board line without a number of pages
+pub no-pages : (line : List ℕ) (n t : ℕ) → item_at line ≡ Some (Opening n None t) → OpensNone line
+no-pages line n t is = λ new h.
+    let both : Some (Opening h.count (Some h.pages) h.ticket) ≡ Some (Opening n None t) = sym h.item ∙ is in cc
 
 pub no-word : (line : List ℕ) → fields_of line ≡ [] → OpensNone line
 no-word line cut = λ new h.
-    let d = (reading-means line (Opening h.count h.pages h.ticket)).0 h.item in
-    let e : [] ≡ codes "board" ∷ decimal h.count ∷ decimal h.pages ∷ decimal h.ticket ∷ [] = sym cut ∙ d.fields in cc
+    let d = (reading-means line (Opening h.count (Some h.pages) h.ticket)).0 h.item in
+    let e : [] ≡ codes "board" ∷ decimal h.count ∷ pages_field (Some h.pages) ∷ decimal h.ticket ∷ [] = sym cut ∙ d.fields in cc
 
 pub other-word : (line word : List ℕ) (fields : Fields) → fields_of line ≡ word ∷ fields → bytes_eq word (codes "board") ≡ false → OpensNone line
 other-word line word fields cut other = λ new h.
-    let d = (reading-means line (Opening h.count h.pages h.ticket)).0 h.item in
-    let e : word ∷ fields ≡ codes "board" ∷ decimal h.count ∷ decimal h.pages ∷ decimal h.ticket ∷ [] = sym cut ∙ d.fields in
+    let d = (reading-means line (Opening h.count (Some h.pages) h.ticket)).0 h.item in
+    let e : word ∷ fields ≡ codes "board" ∷ decimal h.count ∷ pages_field (Some h.pages) ∷ decimal h.ticket ∷ [] = sym cut ∙ d.fields in
     let same : word ≡ codes "board" = cc in
     let off : true ≡ false = sym (ap (λ (w : List ℕ). bytes_eq w (codes "board")) same) ∙ other in cc
 
-apart : (sizes : ℕ × ℕ × ℕ) → None ≡ Some sizes → ⊥
+apart : (sizes : ℕ × Option ℕ × ℕ) → None ≡ Some sizes → ⊥
 apart sizes e = cc
 
 pub no-sizes : (line word : List ℕ) (fields : Fields) → fields_of line ≡ word ∷ fields → parse_opening fields ≡ None → OpensNone line
 no-sizes line word fields cut none = λ new h.
-    let d = (reading-means line (Opening h.count h.pages h.ticket)).0 h.item in
-    let e : word ∷ fields ≡ codes "board" ∷ decimal h.count ∷ decimal h.pages ∷ decimal h.ticket ∷ [] = sym cut ∙ d.fields in
-    let rest : fields ≡ decimal h.count ∷ decimal h.pages ∷ decimal h.ticket ∷ [] = cc in
-    apart (h.count, h.pages, h.ticket) (sym none ∙ ap parse_opening rest ∙ says-opening h.count h.pages h.ticket d.fits)
+    let d = (reading-means line (Opening h.count (Some h.pages) h.ticket)).0 h.item in
+    let e : word ∷ fields ≡ codes "board" ∷ decimal h.count ∷ pages_field (Some h.pages) ∷ decimal h.ticket ∷ [] = sym cut ∙ d.fields in
+    let rest : fields ≡ decimal h.count ∷ pages_field (Some h.pages) ∷ decimal h.ticket ∷ [] = cc in
+    apart (h.count, Some h.pages, h.ticket) (sym none ∙ ap parse_opening rest ∙ says-opening h.count (Some h.pages) h.ticket d.fits)
 
-pub bad-sizes : (line : List ℕ) (n p t : ℕ) → item_at line ≡ Some (Opening n p t) → (IsWithinLimits n p → ⊥) → OpensNone line
+pub bad-sizes : (line : List ℕ) (n p t : ℕ) → item_at line ≡ Some (Opening n (Some p) t) → (IsWithinLimits n p → ⊥) → OpensNone line
 bad-sizes line n p t is off = λ new h.
-    let both : Some (Opening h.count h.pages h.ticket) ≡ Some (Opening n p t) = sym h.item ∙ is in
+    let both : Some (Opening h.count (Some h.pages) h.ticket) ≡ Some (Opening n (Some p) t) = sym h.item ∙ is in
     let count : h.count ≡ n = cc in
     let pages : h.pages ≡ p = cc in
     off (subst (λ (k : ℕ). IsWithinLimits n k) pages (subst (λ (k : ℕ). IsWithinLimits k h.pages) count h.sizes))

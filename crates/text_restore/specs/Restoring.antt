@@ -97,12 +97,12 @@ pub record Continues (s : State) (last lapics : ℕ) (x : Piece) (new : Stage) :
   pub restores : Restores s x next
   pub stage : new ≡ Body next (place_of x) (lapics_after lapics x)
 
--- A board line opens a board.
+-- A board line with a number of pages opens a board; 0 pages open a sparse one.
 pub record Opens (line : List ℕ) (new : Stage) : Type 0 where
   pub count : ℕ
   pub pages : ℕ
   pub ticket : ℕ
-  pub item : item_at line ≡ Some (Opening count pages ticket)
+  pub item : item_at line ≡ Some (Opening count (Some pages) ticket)
   pub sizes : IsWithinLimits count pages
   pub stage : new ≡ Body (opened count pages ticket) 0 0
 

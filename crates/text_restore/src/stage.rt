@@ -99,9 +99,9 @@ fn take_opening(alloc: Global, stage: &mut Stage, line: &[u8]) -> Taken<()>
     }
 }
 
-/// The processors, the pages and the next ticket of a board line.
+/// The processors, the pages and the next ticket of a board line with a number of pages.
 fn sizes_of(line: &[u8]) -> Option<(u8, u8, Ticket)>
-    ensures some { IfSome result (λ sizes. item_at line.now ≡ Some (Opening sizes.0 sizes.1 sizes.2)) }
+    ensures some { IfSome result (λ sizes. item_at line.now ≡ Some (Opening sizes.0 (Some sizes.1) sizes.2)) }
     ensures none { result ≡ None → OpensNone line.now }
 {
     let mut fields = Fields::new(line);
@@ -111,7 +111,13 @@ fn sizes_of(line: &[u8]) -> Option<(u8, u8, Ticket)>
     if !is_word(word, b"board") {
         return None;
     }
-    opening_of(&mut fields)
+    let Some((processors, pages, ticket)) = opening_of(&mut fields) else {
+        return None;
+    };
+    let Some(pages) = pages else {
+        return None;
+    };
+    Some((processors, pages, ticket))
 }
 
 /// Takes a line after the board line.

@@ -1,11 +1,11 @@
 -- A text is the trace of at most one history.
-use Rattle.std.proofs.Common.{◌≡◌, ℕ, get_or, arith, List, [], ◌∷◌, ◌++◌, append_assoc, append-nil, length, Some, refl, sym, ap, subst, ◌∙◌, decimal}
+use Rattle.std.proofs.Common.{◌≡◌, ℕ, get_or, arith, List, [], ◌∷◌, ◌++◌, append_assoc, append-nil, length, Option, Some, refl, sym, ap, subst, ◌∙◌, decimal}
 use Rattle.std.specs.List.{All}
 use Rattle.std.proofs.lemmas.List.{append_cancel_left}
 use Rattle.std.proofs.lemmas.List.Elements.{All-head, All-tail}
 use Rattle.text_base.specs.Lines.{lines_of, joined}
 use Rattle.text_base.specs.Fields.{fields_of, spaced, line_of}
-use Rattle.synic_board.specs.State.{State, opened}
+use Rattle.synic_board.specs.State.{State}
 use Rattle.synic_board.specs.Step.{step}
 use Rattle.synic_board.specs.Run.{run_of}
 use Rattle.synic_board.specs.History.{IsLegal, leads_to}
@@ -15,12 +15,13 @@ use Rattle.synic_board.specs.declared.history.Entry.{Entry}
 use Rattle.text_lines.specs.Items.{Opening, item_fields}
 use Rattle.text_lines.specs.Printing.{text_of, reply_fields}
 use Rattle.text_lines.specs.Reading.{u8_at}
+use Rattle.text_lines.specs.Sizes.{opened_by}
 use Rattle.text_lines.proofs.ReadLemmas.{u8-spelled}
 use Rattle.text_lines.proofs.WrittenLemmas.{board-written}
 use Rattle.text_trace.specs.declared.format.Format.{Format}
-use Rattle.text_trace.specs.declared.format.Format.TheVariants.{One, Two, Three}
+use Rattle.text_trace.specs.declared.format.Format.TheVariants.{One, Two, Three, Four}
 use Rattle.text_trace.specs.Trace.{IsEntry, IsOpening, IsBeginning, IsTrace, title_fields, entry_fields, end_fields, history_lines}
-use Rattle.text_trace.specs.inside.Stages.{entry_at, board_at}
+use Rattle.text_trace.specs.inside.Stages.{entry_at, Board, board_at}
 use Rattle.text_base.proofs.PlainWords.{IsWritten}
 use Rattle.text_base.proofs.LineLemmas.{AreLines, cut}
 use Rattle.text_restore.specs.Restoring as images
@@ -94,31 +95,35 @@ same-format : (f g : Format) → spaced (title_fields f) ≡ spaced (title_field
 same-format One One e = refl
 same-format Two Two e = refl
 same-format Three Three e = refl
+same-format Four Four e = refl
 same-format One Two e = let digit : 49 ≡ 50 = ap (λ (l : List ℕ). get_or l 6 0) e in absurd (omega (arith, digit))
 same-format One Three e = let digit : 49 ≡ 51 = ap (λ (l : List ℕ). get_or l 6 0) e in absurd (omega (arith, digit))
 same-format Two One e = let digit : 50 ≡ 49 = ap (λ (l : List ℕ). get_or l 6 0) e in absurd (omega (arith, digit))
 same-format Two Three e = let digit : 50 ≡ 51 = ap (λ (l : List ℕ). get_or l 6 0) e in absurd (omega (arith, digit))
 same-format Three One e = let digit : 51 ≡ 49 = ap (λ (l : List ℕ). get_or l 6 0) e in absurd (omega (arith, digit))
 same-format Three Two e = let digit : 51 ≡ 50 = ap (λ (l : List ℕ). get_or l 6 0) e in absurd (omega (arith, digit))
+same-format One Four e = let digit : 49 ≡ 52 = ap (λ (l : List ℕ). get_or l 6 0) e in absurd (omega (arith, digit))
+same-format Two Four e = let digit : 50 ≡ 52 = ap (λ (l : List ℕ). get_or l 6 0) e in absurd (omega (arith, digit))
+same-format Three Four e = let digit : 51 ≡ 52 = ap (λ (l : List ℕ). get_or l 6 0) e in absurd (omega (arith, digit))
+same-format Four One e = let digit : 52 ≡ 49 = ap (λ (l : List ℕ). get_or l 6 0) e in absurd (omega (arith, digit))
+same-format Four Two e = let digit : 52 ≡ 50 = ap (λ (l : List ℕ). get_or l 6 0) e in absurd (omega (arith, digit))
+same-format Four Three e = let digit : 52 ≡ 51 = ap (λ (l : List ℕ). get_or l 6 0) e in absurd (omega (arith, digit))
 
 -- texts that begin alike
 abbrev Alike : List ℕ → List ℕ → State → State → List ℕ → List ℕ → Type 0
 Alike x y s t xs ys = (x ≡ y) × (s ≡ t) × (xs ≡ ys)
 
-abbrev Sizes : Type 0
-Sizes = ℕ × ℕ × ℕ
-
-same-opening : (x y xs ys : List ℕ) (s t : State) → IsOpening x s → IsOpening y t → x ++ xs ≡ y ++ ys → Alike x y s t xs ys
-same-opening x y xs ys s t h k text =
+same-opening : (f : Format) (x y xs ys : List ℕ) (s t : State) → IsOpening f x s → IsOpening f y t → x ++ xs ≡ y ++ ys → Alike x y s t xs ys
+same-opening f x y xs ys s t h k text =
     let a = item_fields (Opening h.processors h.pages h.ticket) in
     let b = item_fields (Opening k.processors k.pages k.ticket) in
     let parts = first_line (spaced a) xs (spaced b) ys (board-written h.processors h.pages h.ticket).one (board-written k.processors k.pages k.ticket).one
     (sym (append_assoc (spaced a) (10 ∷ []) xs) ∙ ap (λ (z : List ℕ). z ++ xs) (sym h.line) ∙ text ∙ ap (λ (z : List ℕ). z ++ ys) k.line ∙ append_assoc (spaced b) (10 ∷ []) ys) in
-    let read : Some (h.processors, h.pages, h.ticket) ≡ Some (k.processors, k.pages, k.ticket) = sym (board-reads h.processors h.pages h.ticket h.sizes h.given) ∙ ap board_at parts.0
-    ∙ board-reads k.processors k.pages k.ticket k.sizes k.given in
+    let read : Some (h.processors, h.pages, h.ticket) ≡ Some (k.processors, k.pages, k.ticket) = sym (board-reads f h.processors h.pages h.ticket h.form h.sizes h.given)
+    ∙ ap (board_at f) parts.0 ∙ board-reads f k.processors k.pages k.ticket k.form k.sizes k.given in
     let same : (h.processors, h.pages, h.ticket) ≡ (k.processors, k.pages, k.ticket) = cc in (
       h.line ∙ ap (λ (z : List ℕ). z ++ 10 ∷ []) parts.0 ∙ sym k.line,
-      h.state ∙ ap (λ (z : Sizes). opened z.0 z.1 z.2) same ∙ sym k.state,
+      h.state ∙ ap (λ (z : Board). opened_by z.0 z.1 z.2) same ∙ sym k.state,
       parts.1,
     )
 
@@ -149,9 +154,10 @@ same-image x y xs ys s t h k text =
     (wx ∙ same.0 ∙ sym wy, same.1, same.2)
 
 same-beginning : (f : Format) (x y xs ys : List ℕ) (s t : State) → IsBeginning f x s → IsBeginning f y t → x ++ xs ≡ y ++ ys → Alike x y s t xs ys
-same-beginning One x y xs ys s t h k text = same-opening x y xs ys s t h k text
-same-beginning Two x y xs ys s t h k text = same-opening x y xs ys s t h k text
+same-beginning One x y xs ys s t h k text = same-opening One x y xs ys s t h k text
+same-beginning Two x y xs ys s t h k text = same-opening Two x y xs ys s t h k text
 same-beginning Three x y xs ys s t h k text = same-image x y xs ys s t h k text
+same-beginning Four x y xs ys s t h k text = same-opening Four x y xs ys s t h k text
 
 abbrev next_of : {text : List ℕ} {n : ℕ} → IsTrace text n → ℕ
 next_of a = (leads_to a.state a.history).next_ticket

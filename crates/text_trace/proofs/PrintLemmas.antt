@@ -8,7 +8,7 @@ use Rattle.synic_board.specs.declared.history.Entry.{Entry}
 use Rattle.text_lines.specs.Printing.{text_of}
 use Rattle.text_lines.proofs.PrintLemmas.{text_of-append}
 use Rattle.text_trace.specs.declared.format.Format.{Format}
-use Rattle.text_trace.specs.declared.format.Format.TheVariants.{Two, Three}
+use Rattle.text_trace.specs.declared.format.Format.TheVariants.{Two, Three, Four}
 use Rattle.text_trace.specs.Trace.{IsEntry, title_fields, end_fields, history_lines, rest_lines, trace_text}
 
 -- one more entry
@@ -44,9 +44,15 @@ trace-parts f beginning history next out a b c h i j =
     ∙ append_assoc (out ++ title) beginning rest
     ∙ append_assoc out title (beginning ++ rest)
 
--- formats 2 and 3 have the same entries
+-- formats 2, 3 and 4 have the same entries
 in-three : (e : Entry) → IsEntry Two e → IsEntry Three e
 in-three e h = record { actor = h.actor; event = h.event; line = refl }
 
 pub all-in-three : (history : List Entry) → All (IsEntry Two) history → All (IsEntry Three) history
 all-in-three history fits = All-weaker (IsEntry Two) (IsEntry Three) in-three history fits
+
+in-four : (e : Entry) → IsEntry Two e → IsEntry Four e
+in-four e h = record { actor = h.actor; event = h.event; line = refl }
+
+pub all-in-four : (history : List Entry) → All (IsEntry Two) history → All (IsEntry Four) history
+all-in-four history fits = All-weaker (IsEntry Two) (IsEntry Four) in-four history fits

@@ -1,5 +1,5 @@
 -- How a trace continues from a stage of its check.
-use Rattle.std.proofs.Common.{◌≡◌, ◌⊎◌, inl, inr, ℕ, ◌+◌, ◌<◌, ◌≤◌, ◌^◌, List, [], ◌∷◌, ◌++◌, length, append_assoc, append-nil, Some, None, refl, sym, ap, subst, ◌∙◌, arith, cond, Bool, true, false}
+use Rattle.std.proofs.Common.{◌≡◌, ◌⊎◌, inl, inr, ℕ, ◌+◌, ◌<◌, ◌≤◌, ◌^◌, List, [], ◌∷◌, ◌++◌, length, append_assoc, append-nil, Option, Some, None, refl, sym, ap, subst, ◌∙◌, arith, cond, Bool, true, false}
 use Rattle.std.specs.Option.{option_map}
 use Rattle.std.specs.List.{All}
 use Rattle.std.specs.Str.{bytes_eq}
@@ -9,13 +9,14 @@ use Rattle.text_base.specs.Lines.{IsOneLine, lines_of, rest_of, joined}
 use Rattle.text_base.specs.Fields.{spaced}
 use Rattle.text_base.proofs.PlainWords.{IsWritten}
 use Rattle.text_base.proofs.LineLemmas.{AreLines, cut, lines_of-joined, rest_of-joined}
-use Rattle.synic_board.specs.State.{State, AreSizes, opened}
+use Rattle.synic_board.specs.State.{State}
 use Rattle.synic_board.specs.Step.{step}
 use Rattle.synic_board.specs.Run.{run_of}
 use Rattle.synic_board.specs.declared.event.Event.{Event}
 use Rattle.synic_board.specs.declared.event.Reply.{Reply}
 use Rattle.text_lines.specs.Items.{Opening as Board, item_fields}
 use Rattle.text_lines.specs.Printing.{text_of, reply_fields}
+use Rattle.text_lines.specs.Sizes.{AreBoardSizes, opened_by}
 use Rattle.text_lines.proofs.ReadLemmas.{yes, mapped}
 use Rattle.text_lines.proofs.WrittenLemmas.{board-written}
 use Rattle.synic_board.specs.History.{IsLegal, leads_to}
@@ -27,9 +28,9 @@ use Rattle.text_restore.specs.Taking.{has_ended}
 use Rattle.text_restore.proofs.Unique.{one-next}
 use Rattle.text_restore.proofs.Completing.{IsOpen, no-more, ended, not-ended, open-next, Ending, can-end}
 use Rattle.text_trace.specs.declared.format.Format.{Format}
-use Rattle.text_trace.specs.declared.format.Format.TheVariants.{One, Two, Three}
-use Rattle.text_trace.specs.Trace.{IsEntry, title_fields, entry_fields, end_fields, history_lines, trace, board_text, IsOpening, IsBeginning, IsTrace}
-use Rattle.text_trace.specs.inside.Stages.{Stage, Title, Opening, Image, Running, Over, entry_at, board_at, performed, entered, follow, Follows, IsWrong, count}
+use Rattle.text_trace.specs.declared.format.Format.TheVariants.{One, Two, Three, Four}
+use Rattle.text_trace.specs.Trace.{IsEntry, title_fields, entry_fields, end_fields, history_lines, trace, board_text, may_open, IsOpening, IsBeginning, IsTrace}
+use Rattle.text_trace.specs.inside.Stages.{Stage, Title, Opening, Image, Running, Over, entry_at, Board as BoardValues, board_at, begun, performed, entered, follow, Follows, IsWrong, count}
 use Rattle.synic_board.specs.Replies.{IsReply}
 use Rattle.law_board.proofs.Replies.{step-fits}
 use Rattle.text_trace.proofs.Written.{title-written, entry-written, reply-written, end-written, EntryLine, entry-reads, entry-only, end-no_entry, BoardLine, board-reads, board-only}
@@ -54,13 +55,14 @@ pub record Due (f : Format) (s : State) (c : ℕ) (r : Reply) (ys : List ℕ) (n
 
 pub record Opens (f : Format) (ys : List ℕ) (n : ℕ) : Type 0 where
   pub processors : ℕ
-  pub pages : ℕ
+  pub pages : Option ℕ
   pub ticket : ℕ
-  pub sizes : AreSizes processors pages
+  pub form : may_open f pages ≡ true
+  pub sizes : AreBoardSizes processors pages
   pub given : ticket < 2 ^ 64
   pub rest : List ℕ
   pub text : ys ≡ spaced (item_fields (Board processors pages ticket)) ++ 10 ∷ rest
-  pub goes : Goes f (opened processors pages ticket) 0 rest n
+  pub goes : Goes f (opened_by processors pages ticket) 0 rest n
 
 -- the lines that are left of an image, and then the history on its board
 pub record Imaged (i : images.Stage) (ys : List ℕ) (n : ℕ) : Type 0 where
@@ -138,7 +140,7 @@ entries-go f s n history fits legal counted = record {
 }
 
 back-board : (f : Format) (line ys : List ℕ) (n : ℕ) (beginning : List ℕ) (s : State) (history : List Entry) → follow Title (spaced (title_fields f)) ≡ Some (Opening f) → IsOneLine line →
-    IsOpening beginning s → All (IsEntry f) history → IsLegal s history → length history ≡ n → line ++ 10 ∷ ys ≡ trace f beginning s history → Follow Title line ys n
+    IsOpening f beginning s → All (IsEntry f) history → IsLegal s history → length history ≡ n → line ++ 10 ∷ ys ≡ trace f beginning s history → Follow Title line ys n
 back-board f line ys n beginning s history go one h fits legal counted written =
     let rest = text_of (left f history (length history) (leads_to s history).next_ticket) in
     let parts = title-cut f line ys (beginning ++ rest) one written in
@@ -150,6 +152,7 @@ back-board f line ys n beginning s history go one h fits legal counted written =
         processors = h.processors;
         pages = h.pages;
         ticket = h.ticket;
+        form = h.form;
         sizes = h.sizes;
         given = h.given;
         rest = rest;
@@ -187,6 +190,7 @@ back-title line ys n one t = by t.format t.begins t.fits t.written
     by One begins fits written = back-board One line ys n t.beginning t.state t.history refl one begins fits t.legal t.counted written
     by Two begins fits written = back-board Two line ys n t.beginning t.state t.history refl one begins fits t.legal t.counted written
     by Three begins fits written = back-image line ys n t.beginning t.state t.history one begins fits t.legal t.counted written
+    by Four begins fits written = back-board Four line ys n t.beginning t.state t.history refl one begins fits t.legal t.counted written
 
 -- the text of a title, a beginning and entries
 on-beginning : (f : Format) (line ys beginning : List ℕ) (s : State) (n : ℕ) (rest : List ℕ) → IsBeginning f beginning s → line ≡ spaced (title_fields f) → ys ≡ beginning ++ rest →
@@ -209,13 +213,13 @@ on-beginning f line ys beginning s n rest begins is text goes =
           ∙ sym (append_assoc (spaced (title_fields f)) (10 ∷ []) (beginning ++ text_of (left f history (length history) next)));
     }
 
-opening-is : (f : Format) (ys : List ℕ) (n : ℕ) (h : Opens f ys n) → IsOpening (board_text h.processors h.pages h.ticket) (opened h.processors h.pages h.ticket)
-opening-is f ys n h = record { processors = h.processors; pages = h.pages; ticket = h.ticket; sizes = h.sizes; given = h.given; line = refl; state = refl }
+opening-is : (f : Format) (ys : List ℕ) (n : ℕ) (h : Opens f ys n) → IsOpening f (board_text h.processors h.pages h.ticket) (opened_by h.processors h.pages h.ticket)
+opening-is f ys n h = record { processors = h.processors; pages = h.pages; ticket = h.ticket; form = h.form; sizes = h.sizes; given = h.given; line = refl; state = refl }
 
 on-title : (f : Format) (line ys : List ℕ) (n : ℕ) → line ≡ spaced (title_fields f) → (h : Opens f ys n) →
-    IsBeginning f (board_text h.processors h.pages h.ticket) (opened h.processors h.pages h.ticket) → IsTrace (line ++ 10 ∷ ys) n
+    IsBeginning f (board_text h.processors h.pages h.ticket) (opened_by h.processors h.pages h.ticket) → IsTrace (line ++ 10 ∷ ys) n
 on-title f line ys n is h begins =
-    on-beginning f line ys (board_text h.processors h.pages h.ticket) (opened h.processors h.pages h.ticket) n h.rest begins is
+    on-beginning f line ys (board_text h.processors h.pages h.ticket) (opened_by h.processors h.pages h.ticket) n h.rest begins is
     (h.text ∙ sym (append_assoc (spaced (item_fields (Board h.processors h.pages h.ticket))) (10 ∷ []) h.rest)) h.goes
 
 -- the lines of a text of whole lines
@@ -311,15 +315,25 @@ back-opening : (f : Format) (line ys : List ℕ) (n : ℕ) → IsOneLine line �
 back-opening f line ys n one h =
     let board = item_fields (Board h.processors h.pages h.ticket) in
     let cut = first_line line ys (spaced board) h.rest one (board-written h.processors h.pages h.ticket).one h.text in
-    let read : board_at line ≡ Some (h.processors, h.pages, h.ticket) = ap board_at cut.0 ∙ board-reads h.processors h.pages h.ticket h.sizes h.given in
+    let read : board_at f line ≡ Some (h.processors, h.pages, h.ticket) = ap (board_at f) cut.0 ∙ board-reads f h.processors h.pages h.ticket h.form h.sizes h.given in
     record {
-      next = Running f (opened h.processors h.pages h.ticket) 0 None;
-      is = ap (option_map (λ (p : ℕ × ℕ × ℕ). Running f (opened p.0 p.1 p.2) 0 None)) read;
-      on = subst (λ (x : List ℕ). Goes f (opened h.processors h.pages h.ticket) 0 x n) (sym cut.1) h.goes;
+      next = begun f (h.processors, h.pages, h.ticket);
+      is = ap (option_map (begun f)) read;
+      on = subst (λ (x : List ℕ). Goes f (opened_by h.processors h.pages h.ticket) 0 x n) (sym cut.1) h.goes;
     }
 
-on-opening : (f : Format) (line ys : List ℕ) (n : ℕ) (q : ℕ × ℕ × ℕ) → BoardLine line q → Goes f (opened q.0 q.1 q.2) 0 ys n → Opens f (line ++ 10 ∷ ys) n
-on-opening f line ys n q o h = record { processors = q.0; pages = q.1; ticket = q.2; sizes = o.sizes; given = o.given; rest = ys; text = ap (λ (x : List ℕ). x ++ 10 ∷ ys) o.text; goes = h }
+on-opening : (f : Format) (line ys : List ℕ) (n : ℕ) (q : BoardValues) → BoardLine f line q → Goes f (opened_by q.0 q.1 q.2) 0 ys n → Opens f (line ++ 10 ∷ ys) n
+on-opening f line ys n q o h = record {
+  processors = q.0;
+  pages = q.1;
+  ticket = q.2;
+  form = o.form;
+  sizes = o.sizes;
+  given = o.given;
+  rest = ys;
+  text = ap (λ (x : List ℕ). x ++ 10 ∷ ys) o.text;
+  goes = h;
+}
 
 back-entry : (f : Format) (s : State) (c : ℕ) (line ys : List ℕ) (n : ℕ) (history : List Entry) → IsOneLine line → All (IsEntry f) history → IsLegal s history → c + length history ≡ n
     → line ++ 10 ∷ ys ≡ text_of (left f history n (leads_to s history).next_ticket) → Follow (Running f s c None) line ys n
@@ -403,12 +417,14 @@ forward-follow Title next line ys n e h =
     (λ is e. let o = move next (Opening One) ys n e h in on-title One line ys n ((bytes_eq-Decides line (spaced (title_fields One))).0 is) o (opening-is One ys n o))
     (yes (bytes_eq line (spaced (title_fields Two))) (Some (Opening Two)) _ next _
     (λ is e. let o = move next (Opening Two) ys n e h in on-title Two line ys n ((bytes_eq-Decides line (spaced (title_fields Two))).0 is) o (opening-is Two ys n o))
-    (yes (bytes_eq line (spaced (title_fields Three))) (Some (Image images.Untitled)) None next _
+    (yes (bytes_eq line (spaced (title_fields Three))) (Some (Image images.Untitled)) _ next _
     (λ is e. on-image line ys n ((bytes_eq-Decides line (spaced (title_fields Three))).0 is) (move next (Image images.Untitled) ys n e h))
-    (λ e. cc))) e
+    (yes (bytes_eq line (spaced (title_fields Four))) (Some (Opening Four)) None next _
+    (λ is e. let o = move next (Opening Four) ys n e h in on-title Four line ys n ((bytes_eq-Decides line (spaced (title_fields Four))).0 is) o (opening-is Four ys n o))
+    (λ e. cc)))) e
 forward-follow (Opening f) next line ys n e h =
-    mapped (λ (p : ℕ × ℕ × ℕ). Running f (opened p.0 p.1 p.2) 0 None) (board_at line) next _
-    (λ q is e. on-opening f line ys n q (board-only line q is) (move next (Running f (opened q.0 q.1 q.2) 0 None) ys n (ap (λ (s : Stage). Some s) e) h)) e
+    mapped (begun f) (board_at f line) next _
+    (λ q is e. on-opening f line ys n q (board-only f line q is) (move next (begun f q) ys n (ap (λ (s : Stage). Some s) e) h)) e
 forward-follow (Image i) next line ys n e h = cc
 forward-follow (Running f s c None) next line ys n e h =
     yes (bytes_eq line (spaced (end_fields f c s.next_ticket))) (Some (Over c)) (option_map (performed f s c) (entry_at f line)) next _
@@ -458,9 +474,11 @@ reached-follow Title next line e =
     (λ is e. let same : Opening One ≡ next = cc in subst (Reached Title) same (record { bound = omega arith; fits = λ h. tt }))
     (yes (bytes_eq line (spaced (title_fields Two))) (Some (Opening Two)) _ next (Reached Title next)
     (λ is e. let same : Opening Two ≡ next = cc in subst (Reached Title) same (record { bound = omega arith; fits = λ h. tt }))
-    (yes (bytes_eq line (spaced (title_fields Three))) (Some (Image images.Untitled)) None next (Reached Title next)
-    (λ is e. let same : Image images.Untitled ≡ next = cc in subst (Reached Title) same (record { bound = omega arith; fits = λ h. (tt, refl) })) (λ e. cc))) e
-reached-follow (Opening f) next line e = mapped (λ (p : ℕ × ℕ × ℕ). Running f (opened p.0 p.1 p.2) 0 None) (board_at line) next (Reached (Opening f) next)
+    (yes (bytes_eq line (spaced (title_fields Three))) (Some (Image images.Untitled)) _ next (Reached Title next)
+    (λ is e. let same : Image images.Untitled ≡ next = cc in subst (Reached Title) same (record { bound = omega arith; fits = λ h. (tt, refl) }))
+    (yes (bytes_eq line (spaced (title_fields Four))) (Some (Opening Four)) None next (Reached Title next)
+    (λ is e. let same : Opening Four ≡ next = cc in subst (Reached Title) same (record { bound = omega arith; fits = λ h. tt })) (λ e. cc)))) e
+reached-follow (Opening f) next line e = mapped (begun f) (board_at f line) next (Reached (Opening f) next)
     (λ q is e. subst (Reached (Opening f)) e (record { bound = omega arith; fits = λ h. tt })) e
 reached-follow (Image i) next line e = cc
 reached-follow (Running f s c None) next line e =
@@ -527,16 +545,36 @@ goes-end : (f : Format) (s : State) (c : ℕ) → Goes f s c (text_of (left f []
 unfolding run_of
 goes-end f s c = record { history = []; fits = All-nil (IsEntry f); legal = refl; counted = omega arith; text = refl }
 
-opens-end : (f : Format) → Opens f (spaced (item_fields (Board 1 1 0)) ++ 10 ∷ text_of (left f [] 0 0)) 0
+-- a board of one processor, which a board line of the format may open
+abbrev least : Format → Option ℕ
+least One = Some 1
+least Two = Some 1
+least Three = Some 1
+least Four = None
+
+least-opens : (f : Format) → may_open f (least f) ≡ true
+least-opens One = refl
+least-opens Two = refl
+least-opens Three = refl
+least-opens Four = refl
+
+least-sized : (f : Format) → AreBoardSizes 1 (least f)
+least-sized One = record { some_processor = omega arith; processor_bound = omega arith; some_page = omega arith; page_bound = omega arith }
+least-sized Two = record { some_processor = omega arith; processor_bound = omega arith; some_page = omega arith; page_bound = omega arith }
+least-sized Three = record { some_processor = omega arith; processor_bound = omega arith; some_page = omega arith; page_bound = omega arith }
+least-sized Four = record { some = omega arith; bound = omega arith }
+
+opens-end : (f : Format) → Opens f (spaced (item_fields (Board 1 (least f) 0)) ++ 10 ∷ text_of (left f [] 0 0)) 0
 opens-end f = record {
   processors = 1;
-  pages = 1;
+  pages = least f;
   ticket = 0;
-  sizes = record { some_processor = omega arith; processor_bound = omega arith; some_page = omega arith; page_bound = omega arith };
+  form = least-opens f;
+  sizes = least-sized f;
   given = omega arith;
   rest = text_of (left f [] 0 0);
   text = refl;
-  goes = goes-end f (opened 1 1 0) 0;
+  goes = goes-end f (opened_by 1 (least f) 0) 0;
 }
 
 alive-image : (i : images.Stage) → Ending i → Alive (Image i)
@@ -560,7 +598,7 @@ pub alive : (stage : Stage) → Fits stage → Alive stage
 alive Title fits = record {
   rest = _;
   entries = 0;
-  on = on-title One (spaced (title_fields One)) (spaced (item_fields (Board 1 1 0)) ++ 10 ∷ text_of (left One [] 0 0)) 0 refl (opens-end One) (opening-is One _ 0 (opens-end One));
+  on = on-title One (spaced (title_fields One)) (spaced (item_fields (Board 1 (Some 1) 0)) ++ 10 ∷ text_of (left One [] 0 0)) 0 refl (opens-end One) (opening-is One _ 0 (opens-end One));
 }
 alive (Opening f) fits = record { rest = _; entries = 0; on = opens-end f }
 alive (Image i) fits = alive-image i (can-end i fits.0)

@@ -9,24 +9,23 @@ use Rattle.text_base.specs.Fields.{fields_of, spaced}
 use Rattle.text_base.proofs.PlainWords.{IsPlain, plain_by, digits-plain, digits-short, two_digits-plain, IsWritten, written}
 use Rattle.board_terms.specs.Numbers.{refusal_number}
 use Rattle.board_terms.specs.declared.messages.PortShape.TheVariants.{Messages, Flags}
-use Rattle.synic_board.specs.State.{AreSizes}
 use Rattle.synic_board.specs.declared.event.Event.{Event}
 use Rattle.synic_board.specs.declared.event.Event.TheVariants.{OpenPort, ClosePort, Write, Read, Post, Signal, Assert, Absorb, Store, Load, Tick, Take, Suspend, Resume, Reset}
 use Rattle.synic_board.specs.declared.event.Reply.{Reply}
 use Rattle.synic_board.specs.declared.history.Entry.{Entry}
 use Rattle.synic_board.specs.declared.event.Reply.TheVariants as replies
 use Rattle.text_lines.specs.Events.{event_fields, IsEvent}
-use Rattle.text_lines.specs.Items.{Opening, item_fields}
+use Rattle.text_lines.specs.Items.{Opening, ArePages, item_fields}
 use Rattle.text_lines.specs.Printing.{vector_or_none, reply_fields}
 use Rattle.text_lines.specs.Reading.{Fields, first_read, take_then, u8_at, parse_event, parse_opening}
-use Rattle.text_lines.specs.Sizes.{are_sizes}
+use Rattle.text_lines.specs.Sizes.{AreBoardSizes, are_sizes}
 use Rattle.text_lines.proofs.ReadLemmas.{then-some, then-read, yes, u8-only, u8-spelled, event-says, says-event, opening-says, says-opening}
 use Rattle.text_lines.proofs.SizeLemmas.{sizes-are}
 use Rattle.text_lines.proofs.WrittenLemmas.{bytes-plain, bytes-short, event-plain, board-written}
 use Rattle.text_trace.specs.declared.format.Format.{Format}
-use Rattle.text_trace.specs.declared.format.Format.TheVariants.{One, Two, Three}
-use Rattle.text_trace.specs.Trace.{IsEntry, is_reset, has_line, title_fields, entry_fields, end_fields}
-use Rattle.text_trace.specs.inside.Stages.{has_word, with_line, parse_entry, entry_at, within_limits, parse_board, board_at}
+use Rattle.text_trace.specs.declared.format.Format.TheVariants.{One, Two, Three, Four}
+use Rattle.text_trace.specs.Trace.{IsEntry, is_reset, has_line, may_open, title_fields, entry_fields, end_fields}
+use Rattle.text_trace.specs.inside.Stages.{has_word, with_line, parse_entry, entry_at, Board, within_limits, parse_board, board_at}
 use Rattle.synic_board.specs.Replies.{IsReply}
 
 vector-plain : (vector : Option ℕ) → IsPlain (vector_or_none vector)
@@ -47,11 +46,13 @@ pub title-written : (f : Format) → IsWritten (title_fields f)
 title-written One = written _ _ (plain_by (codes "trace") refl, (plain_by (codes "1") refl, tt)) (omega arith)
 title-written Two = written _ _ (plain_by (codes "trace") refl, (plain_by (codes "2") refl, tt)) (omega arith)
 title-written Three = written _ _ (plain_by (codes "trace") refl, (plain_by (codes "3") refl, tt)) (omega arith)
+title-written Four = written _ _ (plain_by (codes "trace") refl, (plain_by (codes "4") refl, tt)) (omega arith)
 
 pub end-written : (f : Format) (n next : ℕ) → IsWritten (end_fields f n next)
 end-written One n next = written _ _ (plain_by (codes "end") refl, (digits-plain 10 n, tt)) (omega (arith, digits-short 10 n))
 end-written Two n next = written _ _ (plain_by (codes "end") refl, (digits-plain 10 n, (digits-plain 10 next, tt))) (omega (arith, digits-short 10 n, digits-short 10 next))
 end-written Three n next = written _ _ (plain_by (codes "end") refl, (digits-plain 10 n, (digits-plain 10 next, tt))) (omega (arith, digits-short 10 n, digits-short 10 next))
+end-written Four n next = written _ _ (plain_by (codes "end") refl, (digits-plain 10 n, (digits-plain 10 next, tt))) (omega (arith, digits-short 10 n, digits-short 10 next))
 
 pub reply-written : (reply : Reply) → IsReply reply → IsWritten (reply_fields reply)
 reply-written replies.Done h = written _ _ (plain_by (codes "=") refl, (plain_by (codes "done") refl, tt)) (omega arith)
@@ -142,6 +143,7 @@ word-line f word fields = by f (parse_event (word ∷ fields)) refl
         ap (λ (t : Bool). cond (not t) (Some e) None) same
     by Two (Some e) is = refl
     by Three (Some e) is = refl
+    by Four (Some e) is = refl
 
 -- the event of a line, from the fields after the actor's number
 pub entry-word : (f : Format) (line : List ℕ) (actor : ℕ) (more : Fields) (word : List ℕ) (rest : Fields) →
@@ -157,6 +159,7 @@ end-first : (f : Format) (n next : ℕ) (fields : Fields) (word : List ℕ) → 
 end-first One n next fields word e = cc
 end-first Two n next fields word e = cc
 end-first Three n next fields word e = cc
+end-first Four n next fields word e = cc
 
 pub end-no_entry : (f : Format) (n next actor : ℕ) (event : Event) → actor < 256 → IsEvent event → spaced (end_fields f n next) ≡ spaced (entry_fields actor event) → ⊥
 end-no_entry f n next actor event small fits e =
@@ -165,58 +168,87 @@ end-no_entry f n next actor event small fits e =
     let read : u8_at (codes "end") ≡ Some actor = ap u8_at first ∙ u8-spelled actor small in
     cc
 
--- A line parses as a board line iff it is its printed line.
-pub board-reads : (p g f : ℕ) → AreSizes p g → f < 2 ^ 64 → board_at (spaced (item_fields (Opening p g f))) ≡ Some (p, g, f)
-unfolding board_at
-board-reads p g f sizes given =
-    let said = says-opening p g f (omega (arith, sizes.processor_bound), omega (arith, sizes.page_bound), given) in
-    ap parse_board (board-written p g f).read
-    ∙ ap (option_and_then within_limits) said
-    ∙ rw ((sizes-are p g).1 sizes) refl
+-- sizes within the limits fit into a board line
+sizes-fit : (p : ℕ) (g : Option ℕ) → AreBoardSizes p g → (p < 256) × ArePages g
+sizes-fit p None sizes = (omega (arith, sizes.bound), tt)
+sizes-fit p (Some g) sizes = (omega (arith, sizes.processor_bound), omega (arith, sizes.page_bound))
 
-pub record BoardLine (line : List ℕ) (p : ℕ × ℕ × ℕ) : Type 0 where
+-- A line parses as a board line of a format iff it is its printed line.
+pub board-reads : (f : Format) (p : ℕ) (g : Option ℕ) (t : ℕ) → may_open f g ≡ true → AreBoardSizes p g → t < 2 ^ 64 → board_at f (spaced (item_fields (Opening p g t))) ≡ Some (p, g, t)
+unfolding board_at
+board-reads f p g t form sizes given =
+    let fit = sizes-fit p g sizes in
+    let said = says-opening p g t (fit.0, fit.1, given) in
+    ap (parse_board f) (board-written p g t).read
+    ∙ ap (option_and_then (within_limits f)) said
+    ∙ rw (form, (sizes-are p g).1 sizes) refl
+
+pub record BoardLine (f : Format) (line : List ℕ) (p : Board) : Type 0 where
   pub text : line ≡ spaced (item_fields (Opening p.0 p.1 p.2))
-  pub sizes : AreSizes p.0 p.1
+  pub form : may_open f p.1 ≡ true
+  pub sizes : AreBoardSizes p.0 p.1
   pub given : p.2 < 2 ^ 64
 
-within-only : (p q : ℕ × ℕ × ℕ) → within_limits p ≡ Some q → (p ≡ q) × AreSizes p.0 p.1
-within-only p q e = go (are_sizes p.0 p.1) refl e
+within-only : (f : Format) (p q : Board) → within_limits f p ≡ Some q → (p ≡ q) × (may_open f p.1 ≡ true) × AreBoardSizes p.0 p.1
+within-only f p q e = formed (may_open f p.1) refl e
   where
-    go : (t : Bool) → are_sizes p.0 p.1 ≡ t → cond t (Some p) None ≡ Some q → (p ≡ q) × AreSizes p.0 p.1
-    go true is e = (cc, (sizes-are p.0 p.1).0 is)
-    go false is e = cc
+    sized : may_open f p.1 ≡ true → (t : Bool) → are_sizes p.0 p.1 ≡ t → cond t (Some p) None ≡ Some q → (p ≡ q) × (may_open f p.1 ≡ true) × AreBoardSizes p.0 p.1
+    sized form true is e = (cc, form, (sizes-are p.0 p.1).0 is)
+    sized form false is e = cc
 
-board-says : (line : List ℕ) (fields : Fields) (q : ℕ × ℕ × ℕ) → fields_of line ≡ fields → parse_board fields ≡ Some q → BoardLine line q
-board-says line [] q is e = cc
-board-says line (word ∷ fields) q is e =
-    yes (bytes_eq word (codes "board")) (option_and_then within_limits (parse_opening fields)) None q (BoardLine line q)
+    formed : (t : Bool) → may_open f p.1 ≡ t → cond t (cond (are_sizes p.0 p.1) (Some p) None) None ≡ Some q → (p ≡ q) × (may_open f p.1 ≡ true) × AreBoardSizes p.0 p.1
+    formed true is e = sized is (are_sizes p.0 p.1) refl e
+    formed false is e = cc
+
+board-says : (f : Format) (line : List ℕ) (fields : Fields) (q : Board) → fields_of line ≡ fields → parse_board f fields ≡ Some q → BoardLine f line q
+board-says f line [] q is e = cc
+board-says f line (word ∷ fields) q is e =
+    yes (bytes_eq word (codes "board")) (option_and_then (within_limits f) (parse_opening fields)) None q (BoardLine f line q)
     (λ test e. by ((bytes_eq-Decides word (codes "board")).0 test) (parse_opening fields) refl e) (λ e. cc) e
   where
-    by : word ≡ codes "board" → (r : Option (ℕ × ℕ × ℕ)) → parse_opening fields ≡ r → option_and_then within_limits r ≡ Some q → BoardLine line q
+    by : word ≡ codes "board" → (r : Option Board) → parse_opening fields ≡ r → option_and_then (within_limits f) r ≡ Some q → BoardLine f line q
     by named None said e = cc
     by named (Some p) said e =
-        let w = within-only p q e in
+        let w = within-only f p q e in
         let h = opening-says fields p said in
         let all : word ∷ fields ≡ item_fields (Opening p.0 p.1 p.2) = rw named h.same in
-        rw (← w.0) (record { text = whole line (word ∷ fields) is ∙ ap spaced all; sizes = w.1; given = h.fits.2 })
+        rw (← w.0) (record { text = whole line (word ∷ fields) is ∙ ap spaced all; form = w.1; sizes = w.2; given = h.fits.2 })
 
-pub board-only : (line : List ℕ) (q : ℕ × ℕ × ℕ) → board_at line ≡ Some q → BoardLine line q
+pub board-only : (f : Format) (line : List ℕ) (q : Board) → board_at f line ≡ Some q → BoardLine f line q
 unfolding board_at
-board-only line q e = board-says line (fields_of line) q refl e
+board-only f line q e = board-says f line (fields_of line) q refl e
 
 -- a board was opened, so its sizes are within the limits
-within : (p : ℕ × ℕ × ℕ) → ((AreSizes p.0 p.1 → ⊥) → ⊥) → within_limits p ≡ Some p
-within p h = go (are_sizes p.0 p.1) refl
+within : (f : Format) (p : Board) → may_open f p.1 ≡ true → ((AreBoardSizes p.0 p.1 → ⊥) → ⊥) → within_limits f p ≡ Some p
+within f p form h = go (are_sizes p.0 p.1) refl
   where
-    go : (t : Bool) → are_sizes p.0 p.1 ≡ t → cond t (Some p) None ≡ Some p
-    go true is = refl
+    go : (t : Bool) → are_sizes p.0 p.1 ≡ t → within_limits f p ≡ Some p
+    go true is = rw (form, is) refl
     go false is = absurd (h (λ sizes. let yes = (sizes-are p.0 p.1).1 sizes in cc))
 
-pub board-opened : (line word : List ℕ) (fields : Fields) (n g f : ℕ) → fields_of line ≡ word ∷ fields → word ≡ codes "board" → Some (n, g, f) ≡ parse_opening fields →
-    ((AreSizes n g → ⊥) → ⊥) → board_at line ≡ Some (n, g, f)
+pub board-opened : (f : Format) (line word : List ℕ) (fields : Fields) (n : ℕ) (g : Option ℕ) (t : ℕ) → fields_of line ≡ word ∷ fields → word ≡ codes "board" → Some (n, g, t) ≡ parse_opening fields →
+    may_open f g ≡ true → ((AreBoardSizes n g → ⊥) → ⊥) → board_at f line ≡ Some (n, g, t)
 unfolding board_at
-board-opened line word fields n g f are named said h =
-    ap parse_board (are ∙ ap (λ (w : List ℕ). w ∷ fields) named) ∙ ap (option_and_then within_limits) (sym said) ∙ within (n, g, f) h
+board-opened f line word fields n g t are named said form h =
+    ap (parse_board f) (are ∙ ap (λ (w : List ℕ). w ∷ fields) named) ∙ ap (option_and_then (within_limits f)) (sym said) ∙ within f (n, g, t) form h
+
+-- a board was not opened, since its sizes are outside the limits
+outside : (f : Format) (p : Board) → (AreBoardSizes p.0 p.1 → ⊥) → within_limits f p ≡ None
+outside f p off = formed (may_open f p.1)
+  where
+    sized : (t : Bool) → are_sizes p.0 p.1 ≡ t → cond t (Some p) None ≡ None
+    sized true is = absurd (off ((sizes-are p.0 p.1).0 is))
+    sized false is = refl
+
+    formed : (t : Bool) → cond t (cond (are_sizes p.0 p.1) (Some p) None) None ≡ None
+    formed true = sized (are_sizes p.0 p.1) refl
+    formed false = refl
+
+pub board-outside : (f : Format) (line word : List ℕ) (fields : Fields) (n : ℕ) (g : Option ℕ) (t : ℕ) → fields_of line ≡ word ∷ fields → word ≡ codes "board" → Some (n, g, t) ≡ parse_opening fields →
+    (AreBoardSizes n g → ⊥) → board_at f line ≡ None
+unfolding board_at
+board-outside f line word fields n g t are named said off =
+    ap (parse_board f) (are ∙ ap (λ (w : List ℕ). w ∷ fields) named) ∙ ap (option_and_then (within_limits f)) (sym said) ∙ outside f (n, g, t) off
 
 pub same-word : (word key : List ℕ) → false ≡ not (bytes_eq word key) → word ≡ key
 same-word word key e = go (bytes_eq word key) refl e

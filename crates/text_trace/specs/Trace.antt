@@ -1,7 +1,7 @@
 -- The text form of a history.
-use Rattle.std.specs.Prelude.{◌≡◌, ℕ, ◌<◌, ◌^◌, List, [], ◌∷◌, ◌++◌, length, Bool, true, false, not, codes, decimal}
+use Rattle.std.specs.Prelude.{◌≡◌, ℕ, ◌<◌, ◌^◌, List, [], ◌∷◌, ◌++◌, length, Bool, true, false, not, Option, is_some, is_none, codes, decimal}
 use Rattle.std.specs.List.{All}
-use Rattle.synic_board.specs.State.{State, AreSizes, opened}
+use Rattle.synic_board.specs.State.{State}
 use Rattle.synic_board.specs.History.{IsLegal, leads_to}
 use Rattle.synic_board.specs.declared.event.Event.{Event}
 use Rattle.synic_board.specs.declared.event.Event.TheVariants.{Reset}
@@ -10,9 +10,10 @@ use Rattle.text_base.specs.Fields.{line_of}
 use Rattle.text_lines.specs.Events.{event_fields, IsEvent}
 use Rattle.text_lines.specs.Items.{Opening, item_fields}
 use Rattle.text_lines.specs.Printing.{text_of, reply_fields}
+use Rattle.text_lines.specs.Sizes.{AreBoardSizes, opened_by}
 use Rattle.text_restore.specs.Images.{IsImage}
 use Rattle.text_trace.specs.declared.format.Format.{Format}
-use Rattle.text_trace.specs.declared.format.Format.TheVariants.{One, Two, Three}
+use Rattle.text_trace.specs.declared.format.Format.TheVariants.{One, Two, Three, Four}
 
 abbrev pub is_reset : Event → Bool
 is_reset (Reset vp) = true
@@ -23,6 +24,7 @@ abbrev pub has_line : Format → Event → Bool
 has_line One event = not (is_reset event)
 has_line Two event = true
 has_line Three event = true
+has_line Four event = true
 
 -- an entry that has a line, and the ranges of its fields
 pub record IsEntry (f : Format) (e : Entry) : Type 0 where
@@ -34,15 +36,17 @@ abbrev pub title_fields : Format → List (List ℕ)
 title_fields One = codes "trace" ∷ codes "1" ∷ []
 title_fields Two = codes "trace" ∷ codes "2" ∷ []
 title_fields Three = codes "trace" ∷ codes "3" ∷ []
+title_fields Four = codes "trace" ∷ codes "4" ∷ []
 
 abbrev pub entry_fields : ℕ → Event → List (List ℕ)
 entry_fields actor event = decimal actor ∷ event_fields event
 
--- the number of entries, and in formats 2 and 3 the next ticket
+-- the number of entries, and in all formats but the first the next ticket
 abbrev pub end_fields : Format → ℕ → ℕ → List (List ℕ)
 end_fields One entries next = codes "end" ∷ decimal entries ∷ []
 end_fields Two entries next = codes "end" ∷ decimal entries ∷ decimal next ∷ []
 end_fields Three entries next = codes "end" ∷ decimal entries ∷ decimal next ∷ []
+end_fields Four entries next = codes "end" ∷ decimal entries ∷ decimal next ∷ []
 
 -- two lines for each entry
 abbrev pub history_lines : List Entry → List (List (List ℕ))
@@ -61,24 +65,33 @@ trace_text f beginning history next = line_of (title_fields f) ++ (beginning ++ 
 abbrev pub trace : Format → List ℕ → State → List Entry → List ℕ
 trace f beginning s history = trace_text f beginning history (leads_to s history).next_ticket
 
-abbrev pub board_text : ℕ → ℕ → ℕ → List ℕ
+abbrev pub board_text : ℕ → Option ℕ → ℕ → List ℕ
 board_text processors pages ticket = line_of (item_fields (Opening processors pages ticket))
 
--- the text is a board line within the limits, and opens a board of this state
-pub record IsOpening (text : List ℕ) (s : State) : Type 0 where
+-- the board line of format 4 opens a sparse board, that of the other formats a board that holds its guest pages
+abbrev pub may_open : Format → Option ℕ → Bool
+may_open One pages = is_some pages
+may_open Two pages = is_some pages
+may_open Three pages = is_some pages
+may_open Four pages = is_none pages
+
+-- the text is a board line of this format within the limits, and opens a board of this state
+pub record IsOpening (f : Format) (text : List ℕ) (s : State) : Type 0 where
   pub processors : ℕ
-  pub pages : ℕ
+  pub pages : Option ℕ
   pub ticket : ℕ
-  pub sizes : AreSizes processors pages
+  pub form : may_open f pages ≡ true
+  pub sizes : AreBoardSizes processors pages
   pub given : ticket < 2 ^ 64
   pub line : text ≡ board_text processors pages ticket
-  pub state : s ≡ opened processors pages ticket
+  pub state : s ≡ opened_by processors pages ticket
 
 -- How a trace begins after its title, and the state in which its history starts: with a board line, or in format 3 with an image.
 abbrev pub IsBeginning : Format → List ℕ → State → Type 0
-IsBeginning One text s = IsOpening text s
-IsBeginning Two text s = IsOpening text s
+IsBeginning One text s = IsOpening One text s
+IsBeginning Two text s = IsOpening Two text s
 IsBeginning Three text s = IsImage text s
+IsBeginning Four text s = IsOpening Four text s
 
 -- The text is the trace of a legal history of that many entries.
 pub record IsTrace (text : List ℕ) (entries : ℕ) : Type 0 where

@@ -1,17 +1,19 @@
 // The formats of a trace.
 ghost use Rattle.std.specs.Prelude.{◌≡◌};
+ghost use Rattle.text_trace.specs.Trace.{may_open};
 ghost use Rattle.text_trace.specs.inside.Stages.{has_word};
 
 use text_base::is_word;
 
-/// The formats of a trace, named by its first line. Formats 2 and 3 have lines for resets of a
+/// The formats of a trace, named by its first line. All but format 1 have lines for resets of a
 /// processor, and their last line has the next ticket. Format 3 has an image in place of the board
-/// line.
+/// line, and the board line of format 4 opens a sparse board.
 #[derive(Clone, Copy, PartialEq, Eq, Debug)]
 pub enum Format {
     One,
     Two,
     Three,
+    Four,
 }
 
 impl Format {
@@ -21,7 +23,18 @@ impl Format {
     {
         match self {
             Format::One => !is_word(word, b"reset"),
-            Format::Two | Format::Three => true,
+            Format::Two | Format::Three | Format::Four => true,
+        }
+    }
+
+    /// Whether the board line of this format may open a board with these pages, of which a sparse
+    /// one has none.
+    pub(crate) fn may_open(self, pages: Option<u8>) -> bool
+        ensures { result ≡ may_open self pages }
+    {
+        match self {
+            Format::One | Format::Two | Format::Three => pages.is_some(),
+            Format::Four => pages.is_none(),
         }
     }
 }

@@ -10,4 +10,4 @@ mod stage;
 
 pub use check::{CheckEnd, check_trace};
 pub use format::Format;
-pub use print::{put_entry, put_trace, put_trace_from_image};
+pub use print::{put_entry, put_sparse_trace, put_trace, put_trace_from_image};

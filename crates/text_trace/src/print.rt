@@ -1,7 +1,8 @@
 // Printing a history.
-ghost use Rattle.std.specs.Prelude.{◌≡◌, ◌++◌, [], ◌∷◌, OnOk};
+ghost use Rattle.std.specs.Prelude.{◌≡◌, ◌++◌, [], ◌∷◌, None, Some, OnOk};
 ghost use Rattle.std.specs.List.{All};
 ghost use Rattle.text_base.specs.Fields.{spaced};
+ghost use Rattle.text_lines.specs.Items.{pages_field};
 ghost use Rattle.text_lines.specs.Printing.{text_of};
 ghost use Rattle.text_trace.specs.Trace.{IsEntry, end_fields, history_lines, rest_lines, board_text, trace_text};
 
@@ -22,12 +23,29 @@ pub fn put_trace(
     history: &[Entry],
     next_ticket: Ticket,
 ) -> Result<(), AllocError>
-    ensures written { OnOk result (out.new.items ≡ out.old.items ++ trace_text Format.Two (board_text processors pages first_ticket) history.now next_ticket) }
+    ensures written { OnOk result (out.new.items ≡ out.old.items ++ trace_text Format.Two (board_text processors (Some pages) first_ticket) history.now next_ticket) }
     ensures fits { OnOk result (All (IsEntry Format.Two) history.now) }
 {
     out.extend_from_slice(b"trace 2\n")?;
-    put_opening(out, processors, pages, first_ticket)?;
+    put_opening(out, processors, Some(pages), first_ticket)?;
     put_rest(out, Format::Two, history, next_ticket)
+}
+
+/// Appends the trace of a history, in format 4, to `out`: for a sparse board of that many
+/// processors, with its first ticket, and the next ticket after the history.
+pub fn put_sparse_trace(
+    out: &mut Vec<u8>,
+    processors: u8,
+    first_ticket: Ticket,
+    history: &[Entry],
+    next_ticket: Ticket,
+) -> Result<(), AllocError>
+    ensures written { OnOk result (out.new.items ≡ out.old.items ++ trace_text Format.Four (board_text processors None first_ticket) history.now next_ticket) }
+    ensures fits { OnOk result (All (IsEntry Format.Four) history.now) }
+{
+    out.extend_from_slice(b"trace 4\n")?;
+    put_opening(out, processors, None, first_ticket)?;
+    put_rest(out, Format::Four, history, next_ticket)
 }
 
 /// Appends the trace of a history, in format 3, to `out`: for a board whose state before the history
@@ -46,11 +64,11 @@ pub fn put_trace_from_image(
     put_rest(out, Format::Three, history, next_ticket)
 }
 
-/// Appends the board line.
+/// Appends the board line, of a sparse board without pages.
 fn put_opening(
     out: &mut Vec<u8>,
     processors: u8,
-    pages: u8,
+    pages: Option<u8>,
     first_ticket: Ticket,
 ) -> Result<(), AllocError>
     ensures { OnOk result (out.new.items ≡ out.old.items ++ board_text processors pages first_ticket) }
@@ -58,10 +76,20 @@ fn put_opening(
     out.extend_from_slice(b"board ")?;
     put_decimal(out, processors)?;
     out.extend_from_slice(b" ")?;
-    put_decimal(out, pages)?;
+    put_pages(out, pages)?;
     out.extend_from_slice(b" ")?;
     put_decimal(out, first_ticket)?;
     out.extend_from_slice(b"\n")
+}
+
+/// Appends the field of the pages.
+fn put_pages(out: &mut Vec<u8>, pages: Option<u8>) -> Result<(), AllocError>
+    ensures { OnOk result (out.new.items ≡ out.old.items ++ pages_field pages) }
+{
+    match pages {
+        Some(pages) => put_decimal(out, pages),
+        None => out.extend_from_slice(b"sparse"),
+    }
 }
 
 /// Appends the entries and the end line.
@@ -116,7 +144,7 @@ pub(crate) fn put_end(
     put_decimal(out, entries)?;
     match format {
         Format::One => Ok(()),
-        Format::Two | Format::Three => {
+        Format::Two | Format::Three | Format::Four => {
             out.extend_from_slice(b" ")?;
             put_decimal(out, next)
         }

@@ -17,7 +17,7 @@ use std::mem::replace;
 use synic_board::{Board, OpenFault, Reply};
 use text_base::Fields;
 use text_driver::Taken;
-use text_lines::{opening_of, perform_event, put_reply, u8_of};
+use text_lines::{open_board, opening_of, perform_event, put_reply, u8_of};
 use text_restore::{Stage as ImageStage, board_of, has_ended, take_line as take_image_line};
 
 /// Which line of a trace comes next.
@@ -117,6 +117,8 @@ fn take_title(stage: &mut Stage, line: &[u8]) -> Taken<()>
         Stage::Opening(Format::Two)
     } else if line == b"trace 3".as_slice() {
         Stage::Image(ImageStage::Untitled)
+    } else if line == b"trace 4".as_slice() {
+        Stage::Opening(Format::Four)
     } else {
         return Taken::Wrong(());
     };
@@ -129,7 +131,7 @@ fn take_opening(alloc: Global, stage: &mut Stage, format: Format, line: &[u8]) -
     requires { stage_of stage.old ≡ Opening format }
     ensures { Judges IsGood IsWrong result (stage_of stage.old) (stage_of stage.new) line.now [] }
 {
-    match open(alloc, line) {
+    match open(alloc, format, line) {
         Opened::Board(board) => {
             *stage = Stage::Running {
                 format,
@@ -194,10 +196,10 @@ pub(crate) fn entries_of(stage: &Stage) -> Option<u64>
     }
 }
 
-/// Opens the board of a board line.
+/// Opens the board of a board line, if the line may be in this format.
 #[tactic(auto, unfolding(crate::specs::inside::Stages::board_at))]
-fn open(alloc: Global, line: &[u8]) -> Opened
-    ensures { (format : Format) → Opens result format line.now }
+fn open(alloc: Global, format: Format, line: &[u8]) -> Opened
+    ensures { Opens result format line.now }
 {
     let mut fields = Fields::new(line);
     let Some(word) = fields.next() else {
@@ -209,7 +211,10 @@ fn open(alloc: Global, line: &[u8]) -> Opened
     let Some((processors, pages, ticket)) = opening_of(&mut fields) else {
         return Opened::Wrong;
     };
-    match Board::open(alloc, processors, pages, ticket) {
+    if !format.may_open(pages) {
+        return Opened::Wrong;
+    }
+    match open_board(alloc, processors, pages, ticket) {
         Ok(board) => Opened::Board(board),
         Err(OpenFault::BadSize) => Opened::Wrong,
         Err(OpenFault::Memory) => Opened::Memory,

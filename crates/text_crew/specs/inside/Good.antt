@@ -1,7 +1,7 @@
 -- The invariant of a parsed script.
 use Rattle.std.specs.Prelude.{◌≡◌, ◌≤◌, ℕ, length, false, Option, None, Some}
 use Rattle.std.specs.List.{list_any}
-use Rattle.synic_board.specs.State.{State, AreSizes, processors}
+use Rattle.synic_board.specs.State.{State, IsWithinLimits, processors}
 use Rattle.board_threads.specs.Judging.{is_bad_step, is_bad_raise}
 use Rattle.board_threads.specs.Sweeps.{is_absorb}
 use Rattle.text_crew.specs.Crew.{Crew, entries_of}
@@ -18,7 +18,7 @@ pub record IsGood (IsBoard : ℕ → ℕ → Type 0) (crew : Crew) : Type 0 wher
 
 -- the processors and the pages of a board that is given, or that a script may open
 abbrev pub HasBoard : Option State → ℕ → ℕ → Type 0
-HasBoard None n pages = AreSizes n pages
+HasBoard None n pages = IsWithinLimits n pages
 HasBoard (Some s) n pages = n ≡ processors s
 
 -- the crew of a script on such a board

@@ -3,18 +3,18 @@ use Rattle.std.specs.Prelude.{◌≡◌, ℕ, ◌+◌, ◌≤◌, Bool, true, fa
 use Rattle.std.specs.Option.{option_map, option_and_then}
 use Rattle.std.specs.Str.{bytes_eq}
 use Rattle.text_base.specs.Fields.{fields_of, spaced}
-use Rattle.synic_board.specs.State.{State, opened}
+use Rattle.synic_board.specs.State.{State}
 use Rattle.synic_board.specs.Step.{step}
 use Rattle.synic_board.specs.declared.event.Event.{Event}
 use Rattle.synic_board.specs.declared.event.Reply.{Reply}
 use Rattle.text_lines.specs.Printing.{reply_fields}
 use Rattle.text_lines.specs.Reading.{Fields, take_then, u8_at, parse_event, parse_opening}
-use Rattle.text_lines.specs.Sizes.{are_sizes}
+use Rattle.text_lines.specs.Sizes.{are_sizes, opened_by}
 use Rattle.text_restore.specs.Restoring as images
 use Rattle.text_restore.specs.Taking.{has_ended, stage_of as image_stage_of}
-use Rattle.text_trace.specs.Trace.{has_line, title_fields, end_fields}
+use Rattle.text_trace.specs.Trace.{has_line, may_open, title_fields, end_fields}
 use Rattle.text_trace.specs.declared.format.Format.{Format}
-use Rattle.text_trace.specs.declared.format.Format.TheVariants.{One, Two, Three}
+use Rattle.text_trace.specs.declared.format.Format.TheVariants.{One, Two, Three, Four}
 use Rattle.text_trace.specs.declared.stage.Stage.{Stage as BoardModel}
 use Rattle.text_trace.specs.declared.stage.Stage.TheVariants as held
 use Rattle.text_trace.specs.declared.stage.Opened.{Opened}
@@ -49,16 +49,24 @@ parse_entry f fields = option_and_then (with_line f) (take_then u8_at (λ (actor
 unfoldable pub entry_at : Format → List ℕ → Option Event
 entry_at f line = parse_entry f (fields_of line)
 
--- the sizes, within the limits, and the first ticket of a board line
-abbrev pub within_limits : ℕ × ℕ × ℕ → Option (ℕ × ℕ × ℕ)
-within_limits sizes = if are_sizes sizes.0 sizes.1 then Some sizes else None
+-- the processors, the pages and the first ticket of a board line
+abbrev pub Board : Type 0
+Board = ℕ × Option ℕ × ℕ
 
-abbrev pub parse_board : Fields → Option (ℕ × ℕ × ℕ)
-parse_board [] = None
-parse_board (word ∷ fields) = if bytes_eq word (codes "board") then option_and_then within_limits (parse_opening fields) else None
+-- of this format, and with sizes within the limits
+abbrev pub within_limits : Format → Board → Option Board
+within_limits f board = if may_open f board.1 then (if are_sizes board.0 board.1 then Some board else None) else None
 
-unfoldable pub board_at : List ℕ → Option (ℕ × ℕ × ℕ)
-board_at line = parse_board (fields_of line)
+abbrev pub parse_board : Format → Fields → Option Board
+parse_board f [] = None
+parse_board f (word ∷ fields) = if bytes_eq word (codes "board") then option_and_then (within_limits f) (parse_opening fields) else None
+
+unfoldable pub board_at : Format → List ℕ → Option Board
+board_at f line = parse_board f (fields_of line)
+
+-- the history starts on the board that a board line opens
+abbrev pub begun : Format → Board → Stage
+begun f board = Running f (opened_by board.0 board.1 board.2) 0 None
 
 -- the event of one more entry is performed, and its reply is due
 abbrev pub performed : Format → State → ℕ → Event → Stage
@@ -75,8 +83,9 @@ follow Title line =
     if bytes_eq line (spaced (title_fields One)) then Some (Opening One)
     else if bytes_eq line (spaced (title_fields Two)) then Some (Opening Two)
     else if bytes_eq line (spaced (title_fields Three)) then Some (Image images.Untitled)
+    else if bytes_eq line (spaced (title_fields Four)) then Some (Opening Four)
     else None
-follow (Opening f) line = option_map (λ (sizes : ℕ × ℕ × ℕ). Running f (opened sizes.0 sizes.1 sizes.2) 0 None) (board_at line)
+follow (Opening f) line = option_map (begun f) (board_at f line)
 follow (Image image) line = None
 follow (Running f s entries None) line =
     if bytes_eq line (spaced (end_fields f entries s.next_ticket)) then Some (Over entries)

@@ -32,3 +32,15 @@ returns-clause-form c = refl
 pub returns-clause-cut : goal.returns-clause-cut
 unfolding digits item_at output_on fault_on step
 returns-clause-cut c = refl
+
+pub returns-clause-sparse : goal.returns-clause-sparse
+unfolding digits item_at output_on fault_on step
+returns-clause-sparse c = refl
+
+pub returns-clause-sparse_size : goal.returns-clause-sparse_size
+unfolding digits item_at output_on fault_on step
+returns-clause-sparse_size c = refl
+
+pub returns-clause-no_pages : goal.returns-clause-no_pages
+unfolding digits item_at output_on fault_on step
+returns-clause-no_pages c = refl

@@ -1,4 +1,4 @@
-use Rattle.std.proofs.Common.{ℕ, List, [], Err, refl, ap, ◌∙◌, subst}
+use Rattle.std.proofs.Common.{◌≡◌, ℕ, ◌≤◌, List, [], Err, Some, refl, ap, ◌∙◌, subst, arith}
 use Rattle.std.specs.Prelude.{None}
 use Rattle.std.proofs.lemmas.Bool.{both_ways}
 use Rattle.board_threads.specs.Crew.{lists}
@@ -9,12 +9,12 @@ use Rattle.text_trace.specs.Trace.{board_text}
 use Rattle.text_crew.specs.inside.View.{crew_of}
 use Rattle.text_crew.specs.inside.Tracing.{IsTraced}
 use Rattle.text_crew.specs.Running.{IsHistory}
-use Rattle.text_crew.proofs.Judged.{sized, none-bad}
-use Rattle.text_crew.proofs.Traced.{prepared}
-use Rattle.text_crew.proofs.outcome.run_opened.Goals as goal
+use Rattle.text_crew.proofs.Judged.{some-page, sized, none-bad}
+use Rattle.text_crew.proofs.Traced.{prepared, opened-whole}
+use Rattle.text_crew.proofs.outcome.run_whole.Goals as goal
 
 pub outcome_of-requires-clause-size : goal.outcome_of-requires-clause-size
-outcome_of-requires-clause-size g c = λ bad. c.run_crew.ensures.size.0 (c.in-Err.is ∙ ap Err bad) (sized c.args.script.now c.requires.good)
+outcome_of-requires-clause-size g c = λ bad. c.run_crew.ensures.size.0 (c.in-Err.is ∙ ap Err bad) (sized c.args.script.now c.requires.good (some-page _ c.requires.pages))
 
 pub outcome_of-requires-clause-step : goal.outcome_of-requires-clause-step
 outcome_of-requires-clause-step g c =
@@ -28,7 +28,8 @@ returns-in-Ok g c =
     let ended = c.in-Ok.end.ended in
     let out = c.put_opened.new.out.items in
     let start = opened s.setup.processors s.setup.pages s.setup.first_ticket in
-    let text = board_text s.setup.processors s.setup.pages s.setup.first_ticket in
+    let text = board_text s.setup.processors (Some s.setup.pages) s.setup.first_ticket in
+    let some = some-page s.setup.pages c.requires.pages in
     let is : IsHistory (crew_of s) start ended.history.items = record {
       legal = e.settled.legal;
       crewed = e.crewed;
@@ -39,5 +40,14 @@ returns-in-Ok g c =
     } in
     let was : IsTraced Two text c.put_opened.result ended [] out = subst (λ (old : List ℕ). IsTraced Two text c.put_opened.result ended old out) c.requires.empty c.put_opened.ensures.traced in
     prepared None Two text start (crew_of s) c.put_opened.result ended out is
-    (record { processors = s.setup.processors; pages = s.setup.pages; ticket = s.setup.first_ticket; sizes = c.requires.good.board; given = c.put_opened.ensures.ticket; line = refl; state = refl })
-    e.settled.leads was (λ is. is)
+    (record {
+      processors = s.setup.processors;
+      pages = Some s.setup.pages;
+      ticket = s.setup.first_ticket;
+      form = refl;
+      sizes = (sized s c.requires.good some).board;
+      given = c.put_opened.ensures.ticket;
+      line = refl;
+      state = refl;
+    })
+    e.settled.leads was (opened-whole (crew_of s) out some)
