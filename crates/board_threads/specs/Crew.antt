@@ -86,7 +86,7 @@ pub record IsCrewHistory (processors : ℕ) (setup : List Event) (scripts : List
   pub all : length history ≡ length setup + sum_by (λ (s : List Step). length s) scripts + 4 * processors
 
 -- the result of a crew whose board was in a state when it began: the board is settled, the numbers of its actors are 0, 1, ..,
--- its history is one of the crew, each raise has a result, and each fresh one was absorbed once or stands
+-- its history is one of the crew, each raise has a result, and each fresh one was absorbed once or its bit is set
 pub record IsCrewEnd (begun : State) (setup : Setup) (scripts : Scripts) (c : CrewEnd) : Type 0 where
   pub settled : IsSettled begun c.ended
   pub numbers : map (λ (a : ActorCalls). a.number) c.ended.actors.items ≡ range_with_len 0 (vec_len scripts.actors + 1)

@@ -10,7 +10,7 @@ use Rattle.text_base.proofs.PlainWords.{IsPlain, plain_by, digits-plain, digits-
 use Rattle.board_terms.specs.Numbers.{refusal_number}
 use Rattle.board_terms.specs.declared.messages.PortShape.TheVariants.{Messages, Flags}
 use Rattle.synic_board.specs.declared.event.Event.{Event}
-use Rattle.synic_board.specs.declared.event.Event.TheVariants.{OpenPort, ClosePort, Write, Read, Post, Signal, Assert, Absorb, Store, Load, Tick, Take, Suspend, Resume, Reset}
+use Rattle.synic_board.specs.declared.event.Event.TheVariants.{OpenPort}
 use Rattle.synic_board.specs.declared.event.Reply.{Reply}
 use Rattle.synic_board.specs.declared.history.Entry.{Entry}
 use Rattle.synic_board.specs.declared.event.Reply.TheVariants as replies
@@ -111,20 +111,7 @@ entry-only f line event e = entry-says f line (fields_of line) event refl e
 reset-word : (e : Event) → bytes_eq (get_or (event_fields e) 0 []) (codes "reset") ≡ is_reset e
 reset-word (OpenPort port vp sint (Messages buffers)) = refl
 reset-word (OpenPort port vp sint (Flags base count)) = refl
-reset-word (ClosePort port) = refl
-reset-word (Write vp number value) = refl
-reset-word (Read vp number) = refl
-reset-word (Post port kind payload) = refl
-reset-word (Signal port flag) = refl
-reset-word (Assert vp vector) = refl
-reset-word (Absorb vp part bits) = refl
-reset-word (Store address bytes) = refl
-reset-word (Load address count) = refl
-reset-word (Tick moment) = refl
-reset-word (Take vp) = refl
-reset-word (Suspend vp) = refl
-reset-word (Resume vp) = refl
-reset-word (Reset vp) = refl
+reset-word event = refl
 
 -- so the first word of an event says whether the event has a line
 pub word-line : (f : Format) (word : List ℕ) (fields : Fields) →
@@ -141,9 +128,7 @@ word-line f word fields = by f (parse_event (word ∷ fields)) refl
         let same : is_reset e ≡ bytes_eq word (codes "reset") =
         sym (reset-word e) ∙ ap (λ (fs : Fields). bytes_eq (get_or fs 0 []) (codes "reset")) (sym (event-says (word ∷ fields) e is).same) in
         ap (λ (t : Bool). cond (not t) (Some e) None) same
-    by Two (Some e) is = refl
-    by Three (Some e) is = refl
-    by Four (Some e) is = refl
+    by f (Some e) is = refl
 
 -- the event of a line, from the fields after the actor's number
 pub entry-word : (f : Format) (line : List ℕ) (actor : ℕ) (more : Fields) (word : List ℕ) (rest : Fields) →
