@@ -1,4 +1,5 @@
-use Rattle.std.proofs.Common.{◌++◌, Some, Option, List, ℕ, ap, sym, refl, subst, ◌∙◌}
+use Rattle.std.proofs.Common.{◌∷◌, ◌++◌, Some, Option, List, ℕ, ap, sym, refl, subst, ◌∙◌}
+use Rattle.board_terms.specs.declared.notices.Notice.{Notice}
 use Rattle.synic_board.specs.Effects.{Outcome}
 use Rattle.synic_board.specs.Step.{step}
 use Rattle.text_lines.specs.Items.{Item}
@@ -14,7 +15,7 @@ returns-in-Ok-put_outcome c =
     let is = c.in-Some.ensures.2.step in
     let s = c.perform_event.new.board.state in
     let item = event-item (c.args.word.now ∷ c.args.fields.now) event c.in-Some.ensures.1 in
-    let written = c.in-Ok-put_outcome.ensures s ∙ ap (λ (out : List ℕ). out ++ outcome_text (s, c.in-Some.reply, c.perform_event.new.notices)) c.requires
-    ∙ ap (λ (o : Outcome). outcome_text o) is in
+    let told = ap (λ (ns : List Notice). outcome_text (s, c.in-Some.reply, ns)) c.as_slice.ensures.value ∙ ap (λ (o : Outcome). outcome_text o) is in
+    let written = c.in-Ok-put_outcome.ensures s ∙ ap (λ (out : List ℕ). out ++ outcome_text (s, c.in-Some.reply, c.as_slice.result.now)) c.requires ∙ told in
     subst (λ (r : Option Item). AnswersItem Good r (Some c.args.board.now.state) (Some s) c.put_outcome.new.out.items) (sym item)
     (refl, ap (λ (o : Outcome). Some o.0) is, written)
