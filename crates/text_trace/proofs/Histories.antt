@@ -1,5 +1,5 @@
 -- A text is the trace of at most one history.
-use Rattle.std.proofs.Common.{◌≡◌, ℕ, get_or, arith, List, [], ◌∷◌, ◌++◌, append_assoc, append-nil, length, Option, Some, refl, sym, ap, subst, ◌∙◌, decimal}
+use Rattle.std.proofs.Common.{◌≡◌, ℕ, get_or, arith, List, [], ◌∷◌, ◌++◌, append_assoc, append-nil, length, Some, refl, sym, ap, subst, ◌∙◌, decimal}
 use Rattle.std.specs.List.{All}
 use Rattle.std.proofs.lemmas.List.{append_cancel_left}
 use Rattle.std.proofs.lemmas.List.Elements.{All-head, All-tail}

@@ -19,13 +19,13 @@ outcome_of-requires-clause-size g c =
     let s = c.args.script.now in
     let sizes = script-sized None s c.requires.good in
     let count : s.setup.processors ≡ processors c.in-Ok.board.state = one-sparse s.setup.processors s.setup.first_ticket c.in-Ok.board.state c.in-Ok.ensures in
-    λ bad. c.run_crew_on.ensures.size.0 (c.in-Err-run_crew_on.is ∙ ap Err bad) (record { board = count; sizes = sizes })
+    λ bad. c.run_crew_on.ensures.size.0 (c.in-Err.is ∙ ap Err bad) (record { board = count; sizes = sizes })
 
 pub outcome_of-requires-clause-step : goal.outcome_of-requires-clause-step
 outcome_of-requires-clause-step g c =
     let s = c.args.script.now in
     let none = none-bad None s c.requires.good in
-    λ bad. both_ways (has_bad_step s.setup s.scripts) none (c.run_crew_on.ensures.step.0 (c.in-Err-run_crew_on.is ∙ ap Err bad)).1
+    λ bad. both_ways (has_bad_step s.setup s.scripts) none (c.run_crew_on.ensures.step.0 (c.in-Err.is ∙ ap Err bad)).1
 
 pub returns-in-Ok-run_crew_on : goal.returns-in-Ok-run_crew_on
 returns-in-Ok-run_crew_on g c =

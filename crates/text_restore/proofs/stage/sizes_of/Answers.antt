@@ -1,4 +1,4 @@
-use Rattle.std.proofs.Common.{ℕ, Option, Some, sym, subst, ap, ◌∙◌}
+use Rattle.std.proofs.Common.{ℕ, Option, Some, sym, ap, ◌∙◌}
 use Rattle.text_lines.specs.Items.{Opening}
 use Rattle.text_restore.proofs.Openings.{item, no-word, other-word, no-sizes, no-pages}
 use Rattle.text_restore.proofs.stage.sizes_of.Goals as goal
