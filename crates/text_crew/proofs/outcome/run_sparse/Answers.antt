@@ -30,7 +30,7 @@ outcome_of-requires-clause-step g c =
 pub returns-in-Ok-run_crew_on : goal.returns-in-Ok-run_crew_on
 returns-in-Ok-run_crew_on g c =
     let s = c.args.script.now in
-    let e = c.in-Ok-run_crew_on.ensures in
+    let e = c.in-Ok-run_crew_on.ensures.ended in
     let ended = c.in-Ok-run_crew_on.end.ended in
     let out = c.put_sparse.new.out.items in
     let start = opened s.setup.processors 0 s.setup.first_ticket in
