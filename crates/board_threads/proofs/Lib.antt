@@ -1,4 +1,3 @@
-pub mod Runs
 pub mod Replies
 pub mod Sweeping
 pub mod Numbering

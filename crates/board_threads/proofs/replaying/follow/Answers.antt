@@ -1,7 +1,7 @@
 use Rattle.std.proofs.Common.{◌≡◌, [], refl, sym, ap, ◌∙◌}
 use Rattle.synic_board.specs.Effects.{Outcome}
 use Rattle.synic_board.specs.Step.{step}
-use Rattle.board_threads.proofs.Runs.{legal-none, leads-none, legal-push, leads-push}
+use Rattle.entry_log.proofs.Runs.{legal-none, leads-none, legal-push, leads-push}
 use Rattle.board_threads.proofs.Replies.{reply-at, equal, different}
 use Rattle.board_threads.proofs.Taking.{taken-on}
 use Rattle.board_threads.proofs.replaying.follow.Goals as goal

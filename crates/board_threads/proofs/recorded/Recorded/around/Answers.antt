@@ -1,6 +1,6 @@
 use Rattle.std.proofs.Common.{◌∙◌}
 use Rattle.synic_board.specs.State.{opened}
-use Rattle.board_threads.proofs.Runs.{legal-none, leads-none}
+use Rattle.entry_log.proofs.Runs.{legal-none, leads-none}
 use Rattle.board_threads.proofs.recorded.Recorded.around.Goals as goal
 
 pub invariant_of-result : goal.invariant_of-result

@@ -1,7 +1,7 @@
 use Rattle.std.proofs.Common.{ap}
 use Rattle.synic_board.specs.State.{opened}
 use Rattle.synic_board.specs.Effects.{Outcome}
-use Rattle.board_threads.proofs.Runs.{legal-push, leads-push}
+use Rattle.entry_log.proofs.Runs.{legal-push, leads-push}
 use Rattle.board_threads.proofs.recorded.Recorded.perform.Goals as goal
 
 pub invariant_of-self : goal.invariant_of-self
