@@ -3,7 +3,7 @@
  *
  * The proof assumes that no pointer is null. The proved calls themselves handle closed handles,
  * numbers that encode no event, and buffers that are too small. So each null pointer is replaced by
- * a value that they already handle:
+ * a value that they already handle (nulls.h):
  *
  *   a handle               a closed one
  *   bytes, and 0 of them   an empty array
@@ -19,34 +19,11 @@
  * A handle to open and a text with a length have no such value. The header defines what their calls
  * return, and they come last here. No call in this file allocates or keeps state. `./library`
  * renames the proved calls, so that these have the public names. */
-#include "synicboard.h"
+#include "nulls.h"
 
 #ifndef __x86_64__
 #error "structs are answered here as on x86-64"
 #endif
-
-/* ---- Replacements for null pointers ---- */
-
-static const synicboard_event no_event = { 0 };
-static const synicboard_reply no_reply = { 0 };
-static const uint8_t too_many[sizeof no_event.bytes + 1] = { 0 };
-
-#define OR(pointer, stand_in) pointer = pointer != NULL ? pointer : (stand_in);
-
-#define BOARD(board) OR(board, &(synicboard)SYNICBOARD_CLOSED)
-#define CONST_BOARD(board) OR(board, &(const synicboard)SYNICBOARD_CLOSED)
-#define LINE(line) OR(line, &(synicboard_line)SYNICBOARD_LINE_CLOSED)
-#define BYTES(bytes, length) \
-    length = bytes != NULL || length == 0 ? length : sizeof too_many; OR(bytes, too_many)
-#define EVENT(event) OR(event, &no_event)
-#define EVENTS(events, count) count = events != NULL || count == 0 ? count : 1; OR(events, &no_event)
-#define REPLY(reply) OR(reply, &no_reply)
-#define ROOM(room, length, type) length = room != NULL ? length : 0; OR(room, &(type){ 0 })
-#define PLACE(page) OR(page, &(const uint8_t *){ NULL })
-#define VIEW(view) OR(view, &(synicboard_view){ 0 })
-#define OWNERS(owners) OR(owners, &(synicboard_owners){ 0 })
-#define DUE(due) OR(due, &(synicboard_due){ 0 })
-#define TICKET(ticket) OR(ticket, &(uint64_t){ 0 })
 
 /* ---- How a call is built ---- */
 

@@ -594,7 +594,8 @@ void synicboard_close_shared(synicboard_shared *shared);
 
 /* Performs an event for an actor, as synicboard_perform does, appends the event and its reply to the
  * history, and copies the notices of the event, as many as fit into `room` elements. If the history
- * cannot grow, the fault is SYNICBOARD_NO_MEMORY, and no event is performed. */
+ * cannot grow, the fault is SYNICBOARD_NO_MEMORY, and no event is performed; an invalid event has its own
+ * fault first. */
 synicboard_reply synicboard_act(synicboard_shared *shared, uint8_t actor, const synicboard_event *event, synicboard_notice *notices, size_t room);
 
 /* The same for synicboard_absorb_line. Other threads may raise through other lines at the same time. */
@@ -603,7 +604,7 @@ synicboard_reply synicboard_act_absorb(synicboard_shared *shared, uint8_t actor,
 /* Acquires the lock and returns the board, for queries and synicboard_save; null if the handle is closed, and then no lock is
  * held. The pointer is valid until the thread calls synicboard_release. Until then, the thread must
  * make no other call on the shared board. It must not close the board, and must perform no event on it,
- * since the history would lack that event. */
+ * since the history would lack that event, and would be legal no longer. */
 synicboard *synicboard_hold(synicboard_shared *shared);
 
 /* Releases the lock. Does nothing if the handle is closed. */
@@ -611,15 +612,15 @@ void synicboard_release(synicboard_shared *shared);
 
 /* The result of synicboard_settle. */
 typedef struct synicboard_settled {
-    uint8_t kind;                       /* as of synicboard_check: SYNICBOARD_OK if it is legal */
+    uint8_t kind;                       /* SYNICBOARD_OK if the trace was written */
     uint64_t entries;
-    uint64_t line;
+    uint64_t line;                      /* 0: no line is wrong */
     size_t length;                      /* of the whole trace, even if it did not fit, or 0 if there is none */
 } synicboard_settled;
 
-/* Writes the whole history as a trace to `room`, as much as fits, and returns what synicboard_check returns
- * for that trace. Holds the lock only while it formats the trace. Changes nothing, so it may be called
- * at any time and repeatedly. SYNICBOARD_IS_CLOSED if the handle is closed. */
+/* Writes the whole history as a trace to `room`, as much as fits. It is the trace of a legal history of
+ * `entries` entries, so synicboard_check need not check it. Changes nothing, so it may be called at any time
+ * and repeatedly. SYNICBOARD_NO_MEMORY if an allocation fails; SYNICBOARD_IS_CLOSED if the handle is closed. */
 synicboard_settled synicboard_settle(synicboard_shared *shared, uint8_t *room, size_t length);
 
 #ifdef __cplusplus

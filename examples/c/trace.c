@@ -76,7 +76,7 @@ static void settle(void)
     if (settled.kind == SYNICBOARD_OK)
         printf("legal %" PRIu64 "\n", settled.entries);
     else
-        printf("refused %" PRIu64 "\n", settled.line);
+        printf("not settled: outcome %u\n", settled.kind);
 }
 
 int main(void)

@@ -1,5 +1,6 @@
 /* Shared boards: closed handles, openings that fail, replies and notices compared with those of an
- * unshared board, the trace of a history, refused memory, and threads that act at the same time. */
+ * unshared board, the trace of a history in buffers of each length, refused memory, and threads that act
+ * at the same time. */
 #include <pthread.h>
 #include <stdbool.h>
 #include <stddef.h>
@@ -224,21 +225,28 @@ static void test_trace(void)
     close_shared(&shared);
 }
 
-/* The check finds an event that bypassed the history, at the first reply that it changes. */
-static void test_beside_the_history(void)
+/* Settles into a buffer of each length up to that of the trace, and a little more. */
+static void test_lengths(void)
 {
-    static const synicboard_event count = { .kind = SYNICBOARD_READ, .vp = 0, .msr = REFERENCE_COUNTER };
+    static char whole[1 << 14], part[sizeof whole];
     synicboard_shared shared = SYNICBOARD_SHARED_CLOSED;
-    CHECK_NUMBER(synicboard_open_shared(&shared, 1, 1, 0), SYNICBOARD_OK);
-    CHECK_NUMBER(act(&shared, 0, count).value, 0);
-    CHECK_REPLY(synicboard_tick(synicboard_hold(&shared), 5), SYNICBOARD_DONE);
-    synicboard_release(&shared);
-    CHECK_NUMBER(act(&shared, 0, count).value, 5);
-    synicboard_settled settled = settle(&shared);
-    CHECK_NUMBER(settled.kind, SYNICBOARD_WRONG_LINE);
-    CHECK_NUMBER(settled.line, 6);
-    CHECK_NUMBER(settled.entries, 0);
-    CHECK_NUMBER(settled.length, strlen(trace));
+    CHECK_NUMBER(synicboard_open_shared(&shared, 2, 4, FIRST_TICKET), SYNICBOARD_OK);
+    for (size_t at = 0; at < EVENTS; at++)
+        act(&shared, 0, events[at]);
+    size_t needed = synicboard_settle(&shared, (uint8_t *)whole, sizeof whole).length;
+    CHECK(needed > 0 && needed + 2 < sizeof part);
+    for (size_t length = 0; length <= needed + 2; length++) {
+        memset(part, 'x', needed + 2);
+        synicboard_settled settled = synicboard_settle(&shared, (uint8_t *)part, length);
+        size_t written = length < needed ? length : needed;
+        CHECK_NUMBER(settled.kind, SYNICBOARD_OK);
+        CHECK_NUMBER(settled.entries, EVENTS);
+        CHECK_NUMBER(settled.length, needed);
+        CHECK(memcmp(part, whole, written) == 0);
+        for (size_t at = written; at < needed + 2; at++)
+            CHECK(part[at] == 'x');
+    }
+    CHECK_NUMBER(synicboard_check((uint8_t *)whole, needed).entries, EVENTS);
     close_shared(&shared);
 }
 
@@ -260,30 +268,63 @@ static void test_opening_without_memory(void)
     refuse(0);
 }
 
-/* If the history cannot grow, the event is not performed; it is once there is memory. */
-static void test_acting_without_memory(void)
+/* If the history cannot grow, the event is not performed; it is once there is memory. Refuses the first,
+ * or the second, allocation of each event: the history has a list of numbers, and one of bytes. */
+static void act_without_memory(size_t number)
 {
+    static synicboard_event post = { .kind = SYNICBOARD_POST, .port = PORT, .message_type = 1, .length = 240 };
     synicboard_shared shared = SYNICBOARD_SHARED_CLOSED;
     unsigned refused = 0;
     CHECK_NUMBER(synicboard_open_shared(&shared, 1, 1, 0), SYNICBOARD_OK);
     for (unsigned turn = 1; turn <= LONG_HISTORY; turn++) {
         synicboard_event tick = { .kind = SYNICBOARD_TICK, .moment = turn };
+        synicboard_event event = turn % 2 == 0 ? tick : post;
         describe_shared(&shared, &before);
-        refuse(1);
-        synicboard_reply reply = act(&shared, 0, tick);
+        refuse(number);
+        synicboard_reply reply = act(&shared, 0, event);
         refuse(0);
         if (reply.kind == SYNICBOARD_NOT_PERFORMED) {
             CHECK_FAULT(reply, SYNICBOARD_NO_MEMORY);
             describe_shared(&shared, &after);
             CHECK_SAME(&before, &after);
-            CHECK_REPLY(act(&shared, 0, tick), SYNICBOARD_DONE);
+            reply = act(&shared, 0, event);
             refused++;
         }
+        CHECK_NUMBER(reply.kind, turn % 2 == 0 ? SYNICBOARD_DONE : SYNICBOARD_REFUSED);
     }
-    CHECK(refused > 2 && refused < 10);
+    CHECK(refused > 0 && refused < 20);
     synicboard_settled settled = settle(&shared);
     CHECK_NUMBER(settled.kind, SYNICBOARD_OK);
     CHECK_NUMBER(settled.entries, LONG_HISTORY);
+    CHECK_NUMBER(synicboard_check((uint8_t *)trace, settled.length).entries, LONG_HISTORY);
+    close_shared(&shared);
+}
+
+static void test_acting_without_memory(void)
+{
+    act_without_memory(1);
+    act_without_memory(2);
+}
+
+/* If the history cannot grow, no bit is taken from the words. */
+static void test_absorbing_without_memory(void)
+{
+    synicboard_shared shared = SYNICBOARD_SHARED_CLOSED;
+    synicboard_line line = SYNICBOARD_LINE_CLOSED;
+    CHECK_NUMBER(synicboard_open_shared(&shared, 1, 1, 0), SYNICBOARD_OK);
+    CHECK_NUMBER(synicboard_open_line(&line, 1), SYNICBOARD_OK);
+    CHECK_NUMBER(synicboard_raise(&line, 0, 0x40), SYNICBOARD_FRESH);
+    for (size_t number = 1; number <= 2; number++) {
+        refuse(number);
+        CHECK_FAULT(synicboard_act_absorb(&shared, 0, &line, 0, 1, NULL, 0), SYNICBOARD_NO_MEMORY);
+        refuse(0);
+        CHECK_NUMBER(synicboard_raise(&line, 0, 0x40), SYNICBOARD_ALREADY);
+    }
+    synicboard_reply absorbed = synicboard_act_absorb(&shared, 0, &line, 0, 1, NULL, 0);
+    CHECK_REPLY(absorbed, SYNICBOARD_DONE);
+    CHECK_NUMBER(absorbed.value, 1);
+    CHECK_NUMBER(settle(&shared).entries, 1);
+    synicboard_close_line(&line);
     close_shared(&shared);
 }
 
@@ -297,7 +338,7 @@ static void test_settling_without_memory(void)
     refuse(0);
     CHECK_NUMBER(settle(&shared).kind, SYNICBOARD_OK);
     size_t needed = requests, blocks = blocks_out;
-    CHECK(needed > EVENTS);
+    CHECK(needed > 2);
     for (size_t number = 1; number <= needed; number++) {
         refuse(number);
         synicboard_settled settled = settle(&shared);
@@ -313,7 +354,7 @@ static void test_settling_without_memory(void)
 
 /* ---- Threads ---- */
 
-enum { ACTORS = 3, TURNS = 400, RAISES = 3000, PART = 1, PART_VECTORS = 64 };
+enum { ACTORS = 8, TURNS = 400, RAISES = 3000, PART = 1, PART_VECTORS = 64 };
 
 static synicboard_shared board = SYNICBOARD_SHARED_CLOSED;
 static synicboard_line first_line = SYNICBOARD_LINE_CLOSED;
@@ -412,9 +453,10 @@ int main(void)
         { "replies", test_replies },
         { "no event", test_no_event },
         { "trace", test_trace },
-        { "beside the history", test_beside_the_history },
+        { "lengths", test_lengths },
         { "opening without memory", test_opening_without_memory },
         { "acting without memory", test_acting_without_memory },
+        { "absorbing without memory", test_absorbing_without_memory },
         { "settling without memory", test_settling_without_memory },
         { "threads", test_threads },
     };

@@ -54,7 +54,7 @@ impl fmt::Debug for NoticeRoom {
 /// The result of settling a history.
 #[derive(Clone, Copy, PartialEq, Eq, Debug)]
 pub struct Settled {
-    /// The verdict of a check of its trace.
+    /// Legal, with the number of its entries, unless an allocation failed.
     pub verdict: Verdict,
     /// The length of the whole trace in bytes, even if it did not fit; 0 if an allocation failed.
     pub length: usize,
@@ -65,7 +65,7 @@ pub struct Settled {
 ///
 /// An actor is a number that the caller gives to each thread. Devices raise through a [`Line`], without
 /// the lock. The methods block on the lock, and each history entry allocates memory.
-/// [`settle`](SharedBoard::settle) writes the history as a trace and checks it.
+/// [`settle`](SharedBoard::settle) writes the history as a trace, which is legal.
 ///
 /// ```
 /// use std::thread;
@@ -172,8 +172,8 @@ impl SharedBoard {
         seen
     }
 
-    /// Writes the history as a trace to a buffer, as much as fits, and checks the trace. Changes
-    /// nothing, so it may be called repeatedly.
+    /// Writes the history as a trace to a buffer, as much as fits. Changes nothing, so it may be
+    /// called repeatedly.
     pub fn settle(&self, room: &mut [u8]) -> Settled {
         let settled = ask!(self, synicboard_settle, room.as_mut_ptr(), room.len());
         let verdict = Verdict::of(settled.kind, settled.entries, settled.line);

@@ -448,11 +448,11 @@ pub const SYNICBOARD_SHARED_CLOSED: synicboard_shared =
 #[repr(C)]
 #[derive(Clone, Copy, PartialEq, Eq, Debug)]
 pub struct synicboard_settled {
-    /// How the check of the trace ended.
+    /// `SYNICBOARD_OK` if the trace was written.
     pub kind: u8,
     /// The entries of the legal history.
     pub entries: u64,
-    /// The first wrong line, counted from 1.
+    /// 0: no line is wrong.
     pub line: u64,
     /// The length of the whole trace in bytes, even if it did not fit.
     pub length: usize,
@@ -656,7 +656,7 @@ extern "C" {
     pub fn synicboard_hold(shared: *mut synicboard_shared) -> *mut synicboard;
     /// Releases the lock.
     pub fn synicboard_release(shared: *mut synicboard_shared);
-    /// Writes the history as a trace to a buffer, as much as fits, and checks it.
+    /// Writes the history as a legal trace to a buffer, as much as fits.
     pub fn synicboard_settle(
         shared: *mut synicboard_shared,
         room: *mut u8,

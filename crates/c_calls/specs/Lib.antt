@@ -6,5 +6,6 @@ pub mod Views
 pub mod Opened
 pub mod Texts
 pub mod Lines
+pub mod Recorded
 pub mod Outcomes
 pub mod inside

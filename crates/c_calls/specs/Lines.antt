@@ -1,12 +1,12 @@
 -- What a call does to the line that a handle owns, and what it returns.
-use Rattle.std.specs.Prelude.{◌≡◌, ℕ, nat_lt, nat_eq, ◌&&◌, not, Bool, false, Option, Some, None, List, [], if◌then◌else◌}
+use Rattle.std.specs.Prelude.{◌≡◌, ℕ, nat_lt, nat_eq, ◌&&◌, not, Bool, false, Option, Some, None, List, []}
 use Rattle.board_terms.specs.declared.notices.Notice.{Notice}
 use Rattle.c_handles.specs.declared.board.BoardWithNotices.{BoardWithNotices}
-use Rattle.c_handles.specs.Lines.{LineModel, line_model, new_line, with_step, with_one_split_off}
+use Rattle.c_handles.specs.Lines.{LineModel, line_model, new_line, with_step, with_one_split_off, IsSwept}
 use Rattle.c_terms.specs.declared.reply.CReply.{CReply}
 use Rattle.c_terms.specs.declared.reply.Fault.TheVariants.{Closed, NoLine}
 use Rattle.c_terms.specs.Replies.{fault_to_c}
-use Rattle.posted_words.specs.Words.{shared_words, raise_of, sweep_of}
+use Rattle.posted_words.specs.Words.{shared_words, raise_of}
 use Rattle.synic_board.specs.declared.event.Event.TheVariants.{Absorb}
 use Rattle.synic_board.specs.State.{State, processors}
 use Rattle.synic_board.specs.Step.{step}
@@ -37,13 +37,10 @@ abbrev pub IsRaised : Option LineModel → ℕ → ℕ → Bool → Option LineM
 IsRaised (Some line) vp vector fresh after = after ≡ Some (with_step line (raise_of vp vector fresh))
 IsRaised None vp vector fresh after = ⊥
 
--- whether both a board and a line have a part of a processor
-abbrev pub has_part : BoardWithNotices → LineModel → ℕ → ℕ → Bool
-has_part board line vp part = (nat_lt vp (processors board.board.state) && nat_lt vp line.words.processors) && nat_lt part 4
-
--- a line swept that part, if both have it, and took those bits
-abbrev pub IsSwept : BoardWithNotices → LineModel → ℕ → ℕ → ℕ → Option LineModel → Type 0
-IsSwept board line vp part bits after = (after ≡ Some (if has_part board line vp part then with_step line (sweep_of vp part bits) else line)) × (has_part board line vp part ≡ false → bits ≡ 0)
+-- a line swept a part of a processor for a board, and took those bits
+abbrev pub HasSwept : BoardWithNotices → LineModel → ℕ → ℕ → ℕ → Option LineModel → Type 0
+HasSwept board line vp part bits (Some after) = IsSwept (processors board.board.state) line vp part bits after
+HasSwept board line vp part bits None = ⊥
 
 -- an outcome whose reply also has bits in `value`
 abbrev pub with_bits : ℕ → State × CReply × List Notice → State × CReply × List Notice
@@ -51,7 +48,7 @@ with_bits bits (s, reply, notices) = (s, record reply { value = bits }, notices)
 
 -- the board absorbed what the line swept: without a board or without a line nothing changes
 abbrev pub IsAbsorbed : ℕ → ℕ → Option BoardWithNotices → Option LineModel → Option BoardWithNotices → Option LineModel → CReply → Type 0
-IsAbsorbed vp part (Some board) (Some line) board_after line_after reply = (bits : ℕ) × IsSwept board line vp part bits line_after
+IsAbsorbed vp part (Some board) (Some line) board_after line_after reply = (bits : ℕ) × HasSwept board line vp part bits line_after
     × IsOutcome (with_bits bits (outcome_to_c (step board.board.state (Absorb vp part bits)))) board_after reply
 IsAbsorbed vp part None line board_after line_after reply = (board_after ≡ None) × (line_after ≡ line) × (reply ≡ fault_to_c Closed)
 IsAbsorbed vp part (Some board) None board_after line_after reply = (board_after ≡ Some board) × (line_after ≡ None) × (reply ≡ fault_to_c NoLine)

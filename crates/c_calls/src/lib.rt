@@ -12,5 +12,6 @@ mod notices;
 mod opening;
 mod pages;
 mod perform_on;
+mod recorded;
 mod texts;
 mod views;

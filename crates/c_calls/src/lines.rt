@@ -121,11 +121,7 @@ pub extern "C" fn synicboard_absorb_line(
     let Some(held) = line.line_mut() else {
         return fault_to_c(Fault::NoLine);
     };
-    let bits = if vp < board.board.processors() {
-        held.sweep(vp, part).unwrap_or(0)
-    } else {
-        0
-    };
+    let bits = held.sweep_for(board.board.processors(), vp, part);
     let reply = board.perform(&Event::Absorb { vp, part, bits });
     CReply {
         value: bits,

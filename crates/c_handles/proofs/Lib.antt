@@ -3,4 +3,5 @@ pub mod Owned
 pub mod Heap
 pub mod OfBoard
 pub mod OfLine
+pub mod OfHistory
 pub mod Sent

@@ -1,2 +1,4 @@
 pub mod Lines
+pub mod Histories
+pub mod Recorded
 pub mod inside

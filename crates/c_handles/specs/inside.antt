@@ -1,2 +1,3 @@
--- The ownership of a handle. Callers do not need it.
+-- The ownership of a handle, and the invariant of a board with its history. Callers need neither.
 pub mod Owned
+pub mod Leading

@@ -1,12 +1,19 @@
-//! C handles: each owns an optional board with the notices of its last event, or an optional line.
+//! C handles: each owns an optional board with the notices of its last event, an optional line, or
+//! an optional board with its history.
 #![tactic(auto)]
 
 mod board;
 mod board_handle;
+mod history;
+mod history_handle;
 mod line;
 mod line_handle;
+mod recorded_handle;
 
 pub use board::BoardWithNotices;
 pub use board_handle::BoardHandle;
+pub use history::History;
+pub use history_handle::HistoryHandle;
 pub use line::{OwnedLine, SplitFault};
 pub use line_handle::LineHandle;
+pub use recorded_handle::RecordedHandle;

@@ -3,7 +3,7 @@ ghost use Rattle.std.specs.Prelude.{◌≡◌, ◌<◌, ◌≤◌, ◌↔◌, []
 ghost use Rattle.std.specs.Arc.{arc_value};
 ghost use Rattle.posted_words.specs.Answers.{is_fresh};
 ghost use Rattle.posted_words.specs.Words.{AreWordSizes, shared_words, raise_of, sweep_of, token};
-ghost use Rattle.c_handles.specs.Lines.{line_model, new_line, with_step, with_one_split_off};
+ghost use Rattle.c_handles.specs.Lines.{line_model, new_line, with_step, with_one_split_off, IsSwept};
 
 use board_terms::{Vector, Vp};
 use posted_words::{Line, PostedFault, PostedWords, Raised};
@@ -115,6 +115,18 @@ impl OwnedLine {
             Some(self.words.sweep(&mut self.line, vp, part))
         } else {
             None
+        }
+    }
+
+    /// `sweep` for a board of that many processors: takes nothing, and returns 0, if the board or the
+    /// words do not have this part of this processor.
+    pub fn sweep_for(&mut self, processors: u8, vp: u8, part: u8) -> u64
+        ensures { IsSwept processors self.old vp part result self.new }
+    {
+        if vp < processors {
+            self.sweep(vp, part).unwrap_or(0)
+        } else {
+            0
         }
     }
 

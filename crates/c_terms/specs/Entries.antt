@@ -1,7 +1,9 @@
--- The lines of a trace entry.
+-- The lines of a trace entry, and the trace of a history.
 use Rattle.std.specs.Prelude.{ℕ, [], ◌∷◌, List, Option, Some, None}
 use Rattle.text_lines.specs.Printing.{text_of}
-use Rattle.text_trace.specs.Trace.{history_lines}
+use Rattle.text_trace.specs.declared.format.Format.TheVariants.{Two}
+use Rattle.text_trace.specs.Trace.{history_lines, board_text, trace}
+use Rattle.c_handles.specs.Histories.{HistoryModel, start_of}
 use Rattle.synic_board.specs.declared.event.Event.{Event}
 use Rattle.synic_board.specs.declared.event.Reply.{Reply}
 
@@ -10,3 +12,7 @@ abbrev pub entry_text : ℕ → Option Event → Option Reply → Option (List �
 entry_text actor (Some event) (Some reply) = Some (text_of (history_lines (record { actor = actor; event = event; reply = reply } ∷ [])))
 entry_text actor (Some event) None = None
 entry_text actor None reply = None
+
+-- the trace of a history, in format 2
+abbrev pub trace_of : HistoryModel → List ℕ
+trace_of h = trace Two (board_text h.processors h.pages h.first_ticket) (start_of h) h.entries

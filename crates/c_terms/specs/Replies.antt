@@ -8,7 +8,7 @@ use Rattle.synic_board.specs.declared.event.Reply.{Reply}
 use Rattle.synic_board.specs.declared.event.Reply.TheVariants.{Done, Value, Bytes, Taken, Accepted, FlagWasClear, FlagWasSet, GeneralProtection, Refused}
 use Rattle.c_terms.specs.declared.reply.CReply.{CReply}
 use Rattle.c_terms.specs.declared.reply.Fault.{Fault}
-use Rattle.c_terms.specs.declared.reply.Fault.TheVariants.{Closed, NoEvent, NoLine}
+use Rattle.c_terms.specs.declared.reply.Fault.TheVariants.{NoMemory, Closed, NoEvent, NoLine}
 use Rattle.c_terms.specs.Events.{bytes_from_c, vector_from_c}
 
 -- a kind, and how many notices there are; no other field used
@@ -20,6 +20,7 @@ abbrev pub padded : List ℕ → List ℕ
 padded bytes = bytes ++ replicate (8 - length bytes) 0
 
 abbrev pub fault_to_c : Fault → CReply
+fault_to_c NoMemory = record (empty_reply 0 0) { fault = 2 }
 fault_to_c Closed = record (empty_reply 0 0) { fault = 4 }
 fault_to_c NoEvent = record (empty_reply 0 0) { fault = 8 }
 fault_to_c NoLine = record (empty_reply 0 0) { fault = 7 }

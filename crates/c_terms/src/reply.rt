@@ -35,6 +35,8 @@ pub struct CReply {
 /// Why no event was performed.
 #[derive(Clone, Copy, PartialEq, Eq, Debug)]
 pub enum Fault {
+    /// An allocation failed.
+    NoMemory = 2,
     /// The handle of the board is closed.
     Closed = 4,
     /// The struct encodes no event.
