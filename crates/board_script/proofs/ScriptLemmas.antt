@@ -105,13 +105,5 @@ sized : (n : ℕ) (g : Option ℕ) (f : ℕ) (t : Bool) → are_sizes n g ≡ t 
 sized n g f true is h = rw is refl
 sized n g f false is h = absurd (h (λ sizes. let yes = (sizes-are n g).1 sizes in cc))
 
--- and one that was not opened has not
-unsized : (n : ℕ) (g : Option ℕ) (f : ℕ) (t : Bool) → are_sizes n g ≡ t → (AreBoardSizes n g → ⊥) → item_fault false (Some (Opening n g f)) ≡ Some faults.Size
-unsized n g f true is off = absurd (off ((sizes-are n g).0 is))
-unsized n g f false is off = rw is refl
-
-pub opened-bad : (fs : Fields) (n : ℕ) (g : Option ℕ) (f : ℕ) → Some (n, g, f) ≡ parse_opening fs → (AreBoardSizes n g → ⊥) → item_fault false (opening_item fs) ≡ Some faults.Size
-opened-bad fs n g f said off = rw (← said) (unsized n g f (are_sizes n g) refl off)
-
 pub opened-good : (fs : Fields) (n : ℕ) (g : Option ℕ) (f : ℕ) → Some (n, g, f) ≡ parse_opening fs → ((AreBoardSizes n g → ⊥) → ⊥) → (item_fault false (opening_item fs) ≡ None) × (opening_item fs ≡ Some (Opening n g f))
 opened-good fs n g f said h = rw (← said) (sized n g f (are_sizes n g) refl h, refl)
