@@ -15,4 +15,4 @@ entry_text actor None reply = None
 
 -- the trace of a history, in format 2
 abbrev pub trace_of : HistoryModel → List ℕ
-trace_of h = trace Two (board_text h.processors h.pages h.first_ticket) (start_of h) h.entries
+trace_of h = trace Two (board_text h.processors (Some h.pages) h.first_ticket) (start_of h) h.entries

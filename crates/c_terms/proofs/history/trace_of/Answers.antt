@@ -1,4 +1,4 @@
-use Rattle.std.proofs.Common.{◌<◌, ◌^◌, refl, subst, arith, ◌∙◌}
+use Rattle.std.proofs.Common.{◌<◌, ◌^◌, Some, refl, subst, arith, ◌∙◌}
 use Rattle.std.specs.List.{All}
 use Rattle.text_trace.specs.declared.format.Format.TheVariants.{Two}
 use Rattle.text_trace.specs.Trace.{IsEntry, board_text}
@@ -11,6 +11,6 @@ returns-clause-legal c =
     let h = c.args.history.now in
     let e = c.in_ok-entries.ensures in
     let given : h.first_ticket < 2 ^ 64 = omega (arith, c.first_ticket.type_inv, c.first_ticket.ensures) in
-    trace-is Two (board_text h.processors h.pages h.first_ticket) (start_of h) h.entries
-    (record { processors = h.processors; pages = h.pages; ticket = h.first_ticket; sizes = e.sizes; given = given; line = refl; state = refl })
+    trace-is Two (board_text h.processors (Some h.pages) h.first_ticket) (start_of h) h.entries
+    (record { processors = h.processors; pages = Some h.pages; ticket = h.first_ticket; form = refl; sizes = e.sizes; given = given; line = refl; state = refl })
     (subst (All (IsEntry Two)) (c.as_slice.ensures.value ∙ e.entries) c.in_ok-put_trace.ensures.fits) e.legal
