@@ -4,7 +4,6 @@ use Rattle.board_terms.specs.declared.notices.Notice.{Notice}
 use Rattle.c_handles.specs.Histories.{HistoryModel, with_entry}
 use Rattle.c_handles.specs.Lines.{LineModel, IsSwept}
 use Rattle.c_handles.specs.Recorded.{Recorded}
-use Rattle.c_terms.specs.declared.event.CEvent.{CEvent}
 use Rattle.c_terms.specs.declared.notice.CNotice.{CNotice}
 use Rattle.c_terms.specs.declared.reply.CReply.{CReply}
 use Rattle.c_terms.specs.declared.reply.Fault.{Fault}

@@ -4,7 +4,7 @@ ghost use Rattle.synic_board.specs.State.{AreSizes};
 ghost use Rattle.c_handles.specs.Recorded.{both, recorded_of, IsNewlyRecorded};
 ghost use Rattle.c_handles.specs.inside.Leading.{LeadsTo};
 ghost use Rattle.c_terms.specs.Events.{event_from_c};
-ghost use Rattle.c_calls.specs.Recorded.{IsActed, IsActedAbsorb, IsSettled, IsUnwritten};
+ghost use Rattle.c_calls.specs.Recorded.{IsActed, IsActedAbsorb, IsSettled};
 
 use c_handles::{BoardHandle, HistoryHandle, LineHandle, RecordedHandle};
 use c_terms::{
