@@ -31,7 +31,8 @@ module _ {J : Type 0} (seen : J → Option Crew) where
     abbrev Stopped : End ScriptFault → List ℕ → List ℕ → Type 0
     Stopped end answers text = Stops Good Wrong end old new answers text
 
-    asks : (end : End ScriptFault) (answers text : List ℕ) (h : Stopped end answers text) → (answers ≡ []) × (parse_from first text ≡ parse_lines (length h.lines + 1) (seen h.state) h.left (rest_of text))
+    asks : (end : End ScriptFault) (answers text : List ℕ) (h : Stopped end answers text) →
+        (answers ≡ []) × (parse_from first text ≡ parse_lines (length h.lines + 1) (seen h.state) h.left (rest_of text))
     unfolding parse_from
     asks end answers text h =
         let f = followed old h.state h.lines h.left answers (rest_of text) 1 (length h.lines + 1) (omega arith) h.follows in

@@ -29,7 +29,8 @@ module _ (board : Option State) (tells : CrewRun → List ℕ → Type 0) (r0 w0
   spoken Reading h = plain Reading h
   spoken Writing h = (h.0, h.1, h.2, known r0 P (λ input. IsOutput board input h.0 (h.1 ++ h.2)) (λ input p. step input p h.0 (h.1 ++ h.2) h.3) read, Appends-trans w0 w w1 [] h.1 first h.4)
 
-pub tells-refusal : (board : Option State) (line : ℕ) (fault : ScriptFault) (input : List ℕ) → parse_on board input ≡ Err (line, fault) → (end : CrewRun) (text : List ℕ) → Refusal line fault end text → IsOutput board input end text
+pub tells-refusal : (board : Option State) (line : ℕ) (fault : ScriptFault) (input : List ℕ) → parse_on board input ≡ Err (line, fault) → (end : CrewRun) (text : List ℕ) →
+    Refusal line fault end text → IsOutput board input end text
 tells-refusal board line fault input is Done text h = absurd h
 tells-refusal board line fault input is (Script l f) text h = rw (h.0, h.1) (is, h.2)
 tells-refusal board line fault input is Unsettled text h = absurd h
@@ -38,7 +39,8 @@ tells-refusal board line fault input is NoThread text h = absurd h
 tells-refusal board line fault input is Reading text h = absurd h
 tells-refusal board line fault input is Writing text h = absurd h
 
-pub tells-report : (board : Option State) (last : Crew) (input : List ℕ) → parse_on board input ≡ Ok (Some last) → (end : CrewRun) (text : List ℕ) → Report board (finished last) end text → IsOutput board input end text
+pub tells-report : (board : Option State) (last : Crew) (input : List ℕ) → parse_on board input ≡ Ok (Some last) → (end : CrewRun) (text : List ℕ) → Report board (finished last) end text →
+    IsOutput board input end text
 tells-report board last input is Done text h = (finished last, (last, is, refl), h)
 tells-report board last input is (Script l f) text h = absurd h
 tells-report board last input is Unsettled text h = (finished last, (last, is, refl), h)
