@@ -41,7 +41,7 @@ divides-low : (n : ℕ) → ((i : ℕ) → i < 16 → (bit_at n i == 1) ≡ fals
 divides-low n clear =
     same_from_bits_below 16 (n % 65536) 0 (omega arith) (omega arith) (λ i low.
     sym (ap (λ m. bit_at m i) (split) ∙ bit_at_cat_low (n / 65536) 16 (n % 65536) i low) ∙
-        same_digit (bit_at n i) (bit_at 0 i) (bit_at-lt n i) (bit_at-lt 0 i) (clear i low ∙ sym (ap (λ m. m == 1) (bit_at-zero i))))
+    same_digit (bit_at n i) (bit_at 0 i) (bit_at-lt n i) (bit_at-lt 0 i) (clear i low ∙ sym (ap (λ m. m == 1) (bit_at-zero i))))
   where
     split : n ≡ n / 65536 * 2 ^ 16 + n % 65536
     split = omega arith

@@ -295,7 +295,7 @@ bytes_by x address bytes o = overwritten (option_map_or (λ overlay. get_or x.ow
 abbrev space_by : State → ℕ → List ℕ → Option ℕ → Space
 space_by x address bytes o =
     option_map_or (λ overlay. record (space_of x) { own = set x.own overlay (bytes_by x address bytes o) }) o
-        (record (space_of x) { pages = set x.pages (address / 4096) (bytes_by x address bytes o) })
+    (record (space_of x) { pages = set x.pages (address / 4096) (bytes_by x address bytes o) })
 
 abbrev store_by : State → ℕ → List ℕ → Bool → Bool → Bool → Option ℕ → Bool → Outcome
 store_by x address bytes bad within crosses o sparse =

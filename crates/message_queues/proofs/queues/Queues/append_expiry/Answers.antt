@@ -11,14 +11,14 @@ pub overflow_add-self : goal.overflow_add-self
 overflow_add-self c =
     let m : Message = FromTimer c.args.ticket c.args.timer c.args.expiration in
     let room = room-for c.self.inside c.args.self.now m c.owner_of_timer.result c.self.invariant c.self.view_is (c.owner_of_timer.ensures.processor, c.owner_of_timer.ensures.index)
-        c.requires.buffer c.owner_of_timer.ensures.value in
+    c.requires.buffer c.owner_of_timer.ensures.value in
     omega (arith, room.fits)
 
 pub link-key-requires-clause-room : goal.link-key-requires-clause-room
 link-key-requires-clause-room c =
     let m : Message = FromTimer c.args.ticket c.args.timer c.args.expiration in
     let room = room-for c.self.inside c.args.self.now m c.owner_of_timer.result c.self.invariant c.self.view_is (c.owner_of_timer.ensures.processor, c.owner_of_timer.ensures.index)
-        c.requires.buffer c.owner_of_timer.ensures.value in
+    c.requires.buffer c.owner_of_timer.ensures.value in
     omega (arith, room.total, c.self.invariant.held, c.self.invariant.room)
 
 pub link-key-requires-clause-bound : goal.link-key-requires-clause-bound
@@ -33,7 +33,7 @@ invariant_of-self c =
     let within : c.source_number.result < length c.args.self.now = omega (arith, c.source_number.ensures.value, c.requires.on_the_board) in
     let s = append-step c.self.inside c.args.self.now c.source_number.result c.index_mut-chain.result.now c.link-key.new.chain c.link-key.result m c.owner_of_timer.result
     c.link-key.new.neighbours c.self.invariant c.self.view_is within c.index_mut-chain.ensures.value (c.owner_of_timer.ensures.processor, c.owner_of_timer.ensures.index) c.requires.buffer
-        c.owner_of_timer.ensures.value
+    c.owner_of_timer.ensures.value
     c.link-key.ensures.linked c.link-key.ensures.len c.link-key.ensures.capacity c.link-key.ensures.range in
     let s' = rw (← c.write_expiry.ensures) at s in
     record { linked = s'.linked; held = s'.held; both_ways = s'.both_ways; room = s'.room; size = s'.size; owned = s'.owned; counts = s'.counts }
@@ -44,7 +44,7 @@ returns-clause-queued c =
     let within : c.source_number.result < length c.args.self.now = omega (arith, c.source_number.ensures.value, c.requires.on_the_board) in
     let s = append-step c.self.inside c.args.self.now c.source_number.result c.index_mut-chain.result.now c.link-key.new.chain c.link-key.result m c.owner_of_timer.result
     c.link-key.new.neighbours c.self.invariant c.self.view_is within c.index_mut-chain.ensures.value (c.owner_of_timer.ensures.processor, c.owner_of_timer.ensures.index) c.requires.buffer
-        c.owner_of_timer.ensures.value
+    c.owner_of_timer.ensures.value
     c.link-key.ensures.linked c.link-key.ensures.len c.link-key.ensures.capacity c.link-key.ensures.range in
     let chains = slice_set c.self.inside.chains.items c.source_number.result c.link-key.new.chain in
     ap (λ (x : Message). queues_at (buffer_at c.link-key.new.neighbours (slice_set c.self.inside.messages.items c.link-key.result x)) chains) c.write_expiry.ensures

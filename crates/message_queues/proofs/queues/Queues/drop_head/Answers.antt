@@ -43,7 +43,7 @@ owner_of-owner-requires c =
     let h = head-at c.self.inside c.args.self.now c.source_number.result c.index_mut-chain.result.now c.in-Some.key c.self.invariant c.self.view_is within
     c.index_mut-chain.ensures.value c.in-Some.is in
     let same = c.message_in-message.ensures ∙ ap (λ (ms : List Message). message_in ms c.in-Some.key) c.as_slice.ensures.value ∙
-        head-message c.self.inside c.args.self.now c.source_number.result c.index_mut-chain.result.now c.in-Some.key h in
+    head-message c.self.inside c.args.self.now c.source_number.result c.index_mut-chain.result.now c.in-Some.key h in
     owned_port c.message_in-message.result.now (rw same h.own)
 
 pub drop_first-requires-clause-there : goal.drop_first-requires-clause-there
@@ -64,7 +64,7 @@ overflow_sub-self c =
     let h = head-at c.self.inside c.args.self.now c.source_number.result c.index_mut-chain.result.now c.in-Some.key c.self.invariant c.self.view_is within
     c.index_mut-chain.ensures.value c.in-Some.is in
     let same = c.message_in-message.ensures ∙ ap (λ (ms : List Message). message_in ms c.in-Some.key) c.as_slice.ensures.value ∙
-        head-message c.self.inside c.args.self.now c.source_number.result c.index_mut-chain.result.now c.in-Some.key h in
+    head-message c.self.inside c.args.self.now c.source_number.result c.index_mut-chain.result.now c.in-Some.key h in
     let owner : owner_of h.b.message ≡ c.owner_of-owner.result = ap owner_of (sym same) ∙ sym c.owner_of-owner.ensures.value in
     let used : 1 ≤ slice_index_or c.self.inside.in_use c.owner_of-owner.result 0 = rw owner at h.used in
     omega (arith, used)
@@ -75,8 +75,8 @@ invariant_of-self-2 c =
     let s = place-step c.self.inside c.args.self.now c.source_number.result c.index_mut-chain.result.now c.drop_first.new.chain c.in-Some.key
     c.drop_first.ensures.unlinked.0 c.owner_of-owner.result c.drop_first.new.neighbours c.self.invariant c.self.view_is within
     c.index_mut-chain.ensures.value c.in-Some.is (c.owner_of-owner.ensures.value ∙
-        ap owner_of (c.message_in-message.ensures ∙ ap (λ (ms : List Message). message_in ms c.in-Some.key) c.as_slice.ensures.value)) c.drop_first.ensures.unlinked.1 c.drop_first.ensures.len
-        c.drop_first.ensures.capacity in
+    ap owner_of (c.message_in-message.ensures ∙ ap (λ (ms : List Message). message_in ms c.in-Some.key) c.as_slice.ensures.value)) c.drop_first.ensures.unlinked.1 c.drop_first.ensures.len
+    c.drop_first.ensures.capacity in
     record { linked = s.linked; held = s.held; both_ways = s.both_ways; room = s.room; size = s.size; owned = s.owned; counts = s.counts }
 
 pub returns-clause-rest : goal.returns-clause-rest
@@ -85,8 +85,8 @@ returns-clause-rest c =
     let s = place-step c.self.inside c.args.self.now c.source_number.result c.index_mut-chain.result.now c.drop_first.new.chain c.in-Some.key
     c.drop_first.ensures.unlinked.0 c.owner_of-owner.result c.drop_first.new.neighbours c.self.invariant c.self.view_is within
     c.index_mut-chain.ensures.value c.in-Some.is (c.owner_of-owner.ensures.value ∙
-        ap owner_of (c.message_in-message.ensures ∙ ap (λ (ms : List Message). message_in ms c.in-Some.key) c.as_slice.ensures.value)) c.drop_first.ensures.unlinked.1 c.drop_first.ensures.len
-        c.drop_first.ensures.capacity in
+    ap owner_of (c.message_in-message.ensures ∙ ap (λ (ms : List Message). message_in ms c.in-Some.key) c.as_slice.ensures.value)) c.drop_first.ensures.unlinked.1 c.drop_first.ensures.len
+    c.drop_first.ensures.capacity in
     s.view_is ∙ ap (λ (k : ℕ). slice_set c.args.self.now k (drop 1 (slice_index_or c.args.self.now k []))) c.source_number.ensures.value
 
 pub drop_first-requires-clause-first : goal.drop_first-requires-clause-first

@@ -8,7 +8,7 @@ pub invariant_of-result : goal.invariant_of-result
 invariant_of-result c =
     let done : c.loop.counter ≡ 16 * c.args.processors = omega arith in
     let s = opened c.in_ok-neighbours.neighbours c.in_ok-messages.messages.items c.loop.counter c.in_ok-neighbours.ensures.empty c.in_ok-neighbours.ensures.capacity
-        (c.in_ok-messages.ensures ∙ c.capacity.ensures.value) in
+    (c.in_ok-messages.ensures ∙ c.capacity.ensures.value) in
     let s' = rw (← c.loop.invariant.0) at s in
     record { linked = s'.linked; held = s'.held; both_ways = s'.both_ways; room = s'.room; size = s'.size; owned = s'.owned; counts = s'.counts }
 
@@ -16,4 +16,4 @@ pub returns : goal.returns
 returns c =
     let done : c.loop.counter ≡ 16 * c.args.processors = omega arith in
     ap (queues_at (buffer_at c.in_ok-neighbours.neighbours c.in_ok-messages.messages.items)) c.loop.invariant.0 ∙
-        opened-queues c.in_ok-neighbours.neighbours c.in_ok-messages.messages.items c.loop.counter ∙ ap (λ (n : ℕ). replicate n []) done
+    opened-queues c.in_ok-neighbours.neighbours c.in_ok-messages.messages.items c.loop.counter ∙ ap (λ (n : ℕ). replicate n []) done
