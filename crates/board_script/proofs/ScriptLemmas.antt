@@ -105,5 +105,6 @@ sized : (n : ℕ) (g : Option ℕ) (f : ℕ) (t : Bool) → are_sizes n g ≡ t 
 sized n g f true is h = rw is refl
 sized n g f false is h = absurd (h (λ sizes. let yes = (sizes-are n g).1 sizes in cc))
 
-pub opened-good : (fs : Fields) (n : ℕ) (g : Option ℕ) (f : ℕ) → Some (n, g, f) ≡ parse_opening fs → ((AreBoardSizes n g → ⊥) → ⊥) → (item_fault false (opening_item fs) ≡ None) × (opening_item fs ≡ Some (Opening n g f))
+pub opened-good : (fs : Fields) (n : ℕ) (g : Option ℕ) (f : ℕ) → Some (n, g, f) ≡ parse_opening fs → ((AreBoardSizes n g → ⊥) → ⊥) →
+    (item_fault false (opening_item fs) ≡ None) × (opening_item fs ≡ Some (Opening n g f))
 opened-good fs n g f said h = rw (← said) (sized n g f (are_sizes n g) refl h, refl)

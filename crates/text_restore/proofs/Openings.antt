@@ -8,7 +8,8 @@ use Rattle.text_lines.specs.Reading.{Fields, parse_item, parse_opening, item_at}
 use Rattle.text_lines.proofs.ReadLemmas.{reading-means, says-opening}
 use Rattle.text_restore.specs.inside.Stages.{OpensNone}
 
-parsed : (word : List ℕ) (fields : Fields) (n : ℕ) (p : Option ℕ) (t : ℕ) → bytes_eq word (codes "board") ≡ true → parse_opening fields ≡ Some (n, p, t) → parse_item (word ∷ fields) ≡ Some (Opening n p t)
+parsed : (word : List ℕ) (fields : Fields) (n : ℕ) (p : Option ℕ) (t : ℕ) → bytes_eq word (codes "board") ≡ true → parse_opening fields ≡ Some (n, p, t) →
+    parse_item (word ∷ fields) ≡ Some (Opening n p t)
 parsed word fields n p t is read = rw (is, read) refl
 
 -- the item of a board line
