@@ -217,24 +217,6 @@ unfolding board_at
 board-opened f line word fields n g t are named said form h =
     ap (parse_board f) (are ∙ ap (λ (w : List ℕ). w ∷ fields) named) ∙ ap (option_and_then (within_limits f)) (sym said) ∙ within f (n, g, t) form h
 
--- a board was not opened, since its sizes are outside the limits
-outside : (f : Format) (p : Board) → (AreBoardSizes p.0 p.1 → ⊥) → within_limits f p ≡ None
-outside f p off = formed (may_open f p.1)
-  where
-    sized : (t : Bool) → are_sizes p.0 p.1 ≡ t → cond t (Some p) None ≡ None
-    sized true is = absurd (off ((sizes-are p.0 p.1).0 is))
-    sized false is = refl
-
-    formed : (t : Bool) → cond t (cond (are_sizes p.0 p.1) (Some p) None) None ≡ None
-    formed true = sized (are_sizes p.0 p.1) refl
-    formed false = refl
-
-pub board-outside : (f : Format) (line word : List ℕ) (fields : Fields) (n : ℕ) (g : Option ℕ) (t : ℕ) → fields_of line ≡ word ∷ fields → word ≡ codes "board" → Some (n, g, t) ≡ parse_opening fields →
-    (AreBoardSizes n g → ⊥) → board_at f line ≡ None
-unfolding board_at
-board-outside f line word fields n g t are named said off =
-    ap (parse_board f) (are ∙ ap (λ (w : List ℕ). w ∷ fields) named) ∙ ap (option_and_then (within_limits f)) (sym said) ∙ outside f (n, g, t) off
-
 pub same-word : (word key : List ℕ) → false ≡ not (bytes_eq word key) → word ≡ key
 same-word word key e = go (bytes_eq word key) refl e
   where
