@@ -1,7 +1,6 @@
 use Rattle.std.proofs.Common.{◌∷◌, ◌++◌, Some, Option, List, ℕ, ap, sym, refl, subst, ◌∙◌}
 use Rattle.board_terms.specs.declared.notices.Notice.{Notice}
 use Rattle.synic_board.specs.Effects.{Outcome}
-use Rattle.synic_board.specs.Step.{step}
 use Rattle.text_lines.specs.Items.{Item}
 use Rattle.text_lines.proofs.ReadLemmas.{event-item}
 use Rattle.board_script.specs.Output.{outcome_text}
