@@ -7,6 +7,7 @@ use Rattle.synic_board.specs.declared.event.Event.{Event}
 use Rattle.text_lines.specs.Items.{Item, Opening, Performs, Summary}
 use Rattle.text_lines.specs.Reading.{Fields, none_left, parse_opening, opening_item, parse_event, parse_item, item_at}
 use Rattle.text_lines.specs.Sizes.{AreBoardSizes, are_sizes}
+use Rattle.text_lines.proofs.ReadLemmas.{IsOther, other-word}
 use Rattle.text_lines.proofs.SizeLemmas.{sizes-are}
 use Rattle.board_script.specs.Script.{item_in, is_skipped, item_fault, line_fault, opens, good_items, first_fault}
 use Rattle.board_script.specs.Output.{Machine, answers, output_from, machine_from, machine_after_lines}
@@ -68,24 +69,24 @@ pub first_fault-bad : (k : ℕ) (opened : Bool) (line : List ℕ) (lines : List 
     first_fault k opened (line ∷ lines) rest ≡ Some (k, fault)
 first_fault-bad k opened line lines rest fault e = rw e refl
 
-item-at : (line word : List ℕ) (rest : Fields) → fields_of line ≡ word ∷ rest → item_at line ≡ parse_item (word ∷ rest)
+item-at : (line : List ℕ) (fields : Fields) → fields_of line ≡ fields → item_at line ≡ parse_item fields
 unfolding item_at
-item-at line word rest e = ap parse_item e
+item-at line fields e = ap parse_item e
 
 judged : (opened : Bool) (line : List ℕ) (item : Option Item) → length line ≤ 640 → is_skipped line ≡ false → item_at line ≡ item →
     (line_fault opened line ≡ item_fault opened item) × (item_in line ≡ item)
 judged opened line item short not is = rw (le-ltb 640 (length line) short, not, is) (refl, refl)
 
 -- the answer to the item is the answer to the line
-pub answers-line : (result : Taken ScriptFault) (line word : List ℕ) (rest : Fields) (old new : Machine) (out : List ℕ) → length line ≤ 640 → is_skipped line ≡ false →
-    fields_of line ≡ word ∷ rest → AnswersItem result (parse_item (word ∷ rest)) old new out → Judges IsAnswered IsFaulty result old new line out
-answers-line taken.Good line word rest old new out short not fields h =
-    let j = judged (is_some old) line (parse_item (word ∷ rest)) short not (item-at line word rest fields) in
+pub answers-line : (result : Taken ScriptFault) (line : List ℕ) (fields : Fields) (old new : Machine) (out : List ℕ) → length line ≤ 640 → is_skipped line ≡ false →
+    fields_of line ≡ fields → AnswersItem result (parse_item fields) old new out → Judges IsAnswered IsFaulty result old new line out
+answers-line taken.Good line fields old new out short not is h =
+    let j = judged (is_some old) line (parse_item fields) short not (item-at line fields is) in
     rw (j.0, j.1) h
-answers-line (taken.Wrong fault) line word rest old new out short not fields h =
-    let j = judged (is_some old) line (parse_item (word ∷ rest)) short not (item-at line word rest fields) in
+answers-line (taken.Wrong fault) line fields old new out short not is h =
+    let j = judged (is_some old) line (parse_item fields) short not (item-at line fields is) in
     rw j.0 h
-answers-line taken.Memory line word rest old new out short not fields h = tt
+answers-line taken.Memory line fields old new out short not is h = tt
 
 -- a first item that is not a board line
 other : (t : Bool) (fs : Fields) (r : Option Event) → item_fault false (cond t (none_left Summary fs) (option_map Performs r)) ≡ Some faults.First
@@ -94,11 +95,26 @@ other true (field ∷ fs) r = refl
 other false fs None = refl
 other false fs (Some event) = refl
 
-pub first-other : (word key : List ℕ) (fs : Fields) → key ≡ codes "board" → false ≡ bytes_eq word key → item_fault false (parse_item (word ∷ fs)) ≡ Some faults.First
-first-other word key fs is e =
-    let no_board : bytes_eq word (codes "board") ≡ false = ap (bytes_eq word) (sym is) ∙ sym e in
-    ap (λ (t : Bool). item_fault false (cond t (opening_item fs) (cond (bytes_eq word (codes "summary")) (none_left Summary fs) (option_map Performs (parse_event (word ∷ fs)))))) no_board
+pub first-other : (fields : Fields) → IsOther (codes "board") fields → item_fault false (parse_item fields) ≡ Some faults.First
+first-other [] differs = refl
+first-other (word ∷ fs) differs =
+    ap (λ (t : Bool). item_fault false (cond t (opening_item fs) (cond (bytes_eq word (codes "summary")) (none_left Summary fs) (option_map Performs (parse_event (word ∷ fs))))))
+    (other-word word (codes "board") fs differs)
     ∙ other (bytes_eq word (codes "summary")) fs (parse_event (word ∷ fs))
+
+-- neither an event nor a summary, after the board line
+again : (t : Bool) (item : Option (ℕ × Option ℕ × ℕ)) (r : Option Event) → r ≡ None →
+    item_fault true (cond t (option_map (λ (p : ℕ × Option ℕ × ℕ). Opening p.0 p.1 p.2) item) (option_map Performs r)) ≡ Some faults.Form
+again true None r none = refl
+again true (Some opening) r none = refl
+again false item r none = ap (λ (e : Option Event). item_fault true (option_map Performs e)) none
+
+pub later-other : (fields : Fields) → parse_event fields ≡ None → IsOther (codes "summary") fields → item_fault true (parse_item fields) ≡ Some faults.Form
+later-other [] none differs = refl
+later-other (word ∷ fs) none differs =
+    ap (λ (t : Bool). item_fault true (cond (bytes_eq word (codes "board")) (opening_item fs) (cond t (none_left Summary fs) (option_map Performs (parse_event (word ∷ fs))))))
+    (other-word word (codes "summary") fs differs)
+    ∙ again (bytes_eq word (codes "board")) (parse_opening fs) (parse_event (word ∷ fs)) none
 
 -- an opened board has sizes within the limits
 sized : (n : ℕ) (g : Option ℕ) (f : ℕ) (t : Bool) → are_sizes n g ≡ t → ((AreBoardSizes n g → ⊥) → ⊥) → item_fault false (Some (Opening n g f)) ≡ None

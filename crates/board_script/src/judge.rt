@@ -24,6 +24,7 @@ impl Judge for ScriptJudge {
 
     ghost wrong = { λ judge line fault. IsFaulty (machine_of judge.board) line fault };
 
+    #[inline(always)]
     fn take(&mut self, line: &[u8], out: &mut Vec<u8>) -> Taken<ScriptFault> {
         respond(self.alloc, &mut self.board, line, &mut self.notices, out)
     }

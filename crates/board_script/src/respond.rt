@@ -1,21 +1,21 @@
 // Performing a line, and its answer.
-ghost use Rattle.std.specs.Prelude.{◌≡◌, ◌≤◌, [], ◌∷◌, ◌++◌, length, OnOk, None, Some};
-ghost use Rattle.synic_board.specs.State.{State};
-ghost use Rattle.text_lines.specs.Reading.{opening_item, parse_item};
-ghost use Rattle.board_script.specs.Output.{outcome_text};
+ghost use Rattle.std.specs.Prelude.{◌≡◌, ◌≤◌, [], ◌∷◌, ◌++◌, length, map, OnOk, None, Some};
+ghost use Rattle.text_lines.specs.Reading.{opening_item, parse_event, parse_item};
+ghost use Rattle.text_lines.specs.Printing.{text_of, reply_fields, notice_fields};
 ghost use Rattle.board_script.specs.inside.Judging.{IsAnswered, IsFaulty, AnswersItem, machine_of};
 ghost use Rattle.text_driver.specs.Judging.{Judges};
 
 use board_terms::{Notice, Notices};
 use std::alloc::{AllocError, Global};
 use synic_board::{Board, OpenFault, Reply};
-use text_base::{Fields, is_word};
+use text_base::Fields;
 use text_driver::Taken;
 use text_lines::{
     ScriptFault, open_board, opening_of, perform_event, put_notices, put_reply, put_summary, skips,
 };
 
 /// Validates a line, performs it, and writes the answer to `out`.
+#[inline(always)]
 pub(crate) fn respond(
     alloc: Global,
     board: &mut Option<Board>,
@@ -30,30 +30,24 @@ pub(crate) fn respond(
     if skips(line) {
         return Taken::Good;
     }
-    let mut fields = Fields::new(line);
-    let Some(word) = fields.next() else {
-        return Taken::Wrong(ScriptFault::Form);
-    };
+    let fields = Fields::new(line);
     match board {
-        Some(board) => take_line(board, word, &mut fields, notices, out),
-        None => open(alloc, board, word, &mut fields),
+        Some(board) => take_line(board, &fields, notices, out),
+        None => open(alloc, board, &fields),
     }
 }
 
-/// Takes the first item, which must be a board line.
-fn open(
-    alloc: Global,
-    board: &mut Option<Board>,
-    word: &[u8],
-    fields: &mut Fields<'_>,
-) -> Taken<ScriptFault>
+/// Takes the first item, which must be a board line. Out of line, since it has a board on its stack: other
+/// lines need not make room for one.
+#[inline(never)]
+fn open(alloc: Global, board: &mut Option<Board>, fields: &Fields<'_>) -> Taken<ScriptFault>
     requires { board.old ≡ None }
-    ensures { AnswersItem result (parse_item (word.now ∷ fields.old)) None (machine_of board.new) [] }
+    ensures { AnswersItem result (parse_item fields.now) None (machine_of board.new) [] }
 {
-    if is_word(word, b"board") {
-        return open_sized(alloc, board, fields);
+    match fields.after(b"board") {
+        Some(mut sizes) => open_sized(alloc, board, &mut sizes),
+        None => Taken::Wrong(ScriptFault::First),
     }
-    Taken::Wrong(ScriptFault::First)
 }
 
 /// Opens the board with the sizes in the fields.
@@ -81,29 +75,39 @@ fn open_sized(
 /// Takes the line of an event or the line `summary`.
 fn take_line(
     board: &mut Board,
-    word: &[u8],
-    fields: &mut Fields<'_>,
+    fields: &Fields<'_>,
     notices: &mut Notices,
     out: &mut Vec<u8>,
 ) -> Taken<ScriptFault>
     requires { out.old.items ≡ [] }
-    ensures { AnswersItem result (parse_item (word.now ∷ fields.old)) (Some board.old.state) (Some board.new.state) out.new.items }
+    ensures { AnswersItem result (parse_item fields.now) (Some board.old.state) (Some board.new.state) out.new.items }
 {
-    if is_word(word, b"summary") {
-        if !fields.is_empty() {
-            return Taken::Wrong(ScriptFault::Form);
-        }
-        return match put_summary(out, board.summary(), board.processors(), board.pages()) {
-            Ok(()) => Taken::Good,
-            Err(_) => Taken::Memory,
-        };
-    }
     // README text_lines: begin
-    let Some(reply) = perform_event(word, fields, board, notices) else {
+    let performed = perform_event(fields, board, notices);
+    // README text_lines: end
+    // By reference, since a reply that is moved is copied.
+    let Some(reply) = &performed else {
+        return take_summary(board, fields, out);
+    };
+    match put_outcome(out, reply, notices.as_slice()) {
+        Ok(()) => Taken::Good,
+        Err(_) => Taken::Memory,
+    }
+}
+
+/// Takes the line `summary`, or a line that has no event.
+fn take_summary(board: &Board, fields: &Fields<'_>, out: &mut Vec<u8>) -> Taken<ScriptFault>
+    requires empty { out.old.items ≡ [] }
+    requires none { parse_event fields.now ≡ None }
+    ensures { AnswersItem result (parse_item fields.now) (Some board.now.state) (Some board.now.state) out.new.items }
+{
+    let Some(rest) = fields.after(b"summary") else {
         return Taken::Wrong(ScriptFault::Form);
     };
-    // README text_lines: end
-    match put_outcome(out, &reply, notices.as_slice()) {
+    if !rest.is_empty() {
+        return Taken::Wrong(ScriptFault::Form);
+    }
+    match put_summary(out, board.summary(), board.processors(), board.pages()) {
         Ok(()) => Taken::Good,
         Err(_) => Taken::Memory,
     }
@@ -111,9 +115,8 @@ fn take_line(
 
 /// Appends a reply, and a line for each notice, to `out`.
 fn put_outcome(out: &mut Vec<u8>, reply: &Reply, notices: &[Notice]) -> Result<(), AllocError>
-    ensures { OnOk result ((s : State) → out.new.items ≡ out.old.items ++ outcome_text (s, reply.now, notices.now)) }
+    ensures { OnOk result (out.new.items ≡ out.old.items ++ text_of (reply_fields reply.now ∷ map notice_fields notices.now)) }
 {
     put_reply(out, reply)?;
-    out.push(b'\n')?;
     put_notices(out, notices)
 }

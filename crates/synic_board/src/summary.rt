@@ -98,8 +98,8 @@ impl Summary {
         })
     }
 
-    /// Writes one value.
-    #[inline]
+    /// Writes one value. The kind is constant at each caller, so the match compiles to one arm.
+    #[inline(always)]
     pub(crate) fn write(&mut self, entry: Entry)
         requires { HasEntry self.old.values entry }
         ensures { self.new ≡ stored_summary (with_entry self.old.values entry) (self.old.writes + 1) }

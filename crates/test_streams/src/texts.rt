@@ -1,9 +1,7 @@
 // Numbers, bytes and fields.
 use arrayvec::ArrayVec;
 use std::alloc::AllocError;
-use text_base::{
-    Fields, byte_of, bytes_of, decimal_of, hex_of, put_byte, put_bytes, put_decimal, put_hex,
-};
+use text_base::{Fields, byte_of, decimal_of, hex_of, put_byte, put_bytes, put_decimal, put_hex};
 
 /// The number to parse, and its greatest value.
 #[derive(Clone, Copy)]
@@ -64,9 +62,12 @@ fn reads_numbers(rt: HostRuntime) {
     }
 }
 
-/// Texts, and the bytes that they decode to, if any.
-const BYTES: [(&[u8], Option<&[u8]>); 6] = [
+/// Texts, and the bytes that their first field denotes, if any.
+const BYTES: [(&[u8], Option<&[u8]>); 9] = [
     (b"0aff", Some(&[0x0a, 0xff])),
+    (b"0aff 01", Some(&[0x0a, 0xff])),
+    (b"0a ", Some(&[0x0a])),
+    (b"0a 0b0c0d", Some(&[0x0a])),
     (b"", Some(&[])),
     (b"0a0b0c", None),
     (b"0a0", None),
@@ -74,14 +75,14 @@ const BYTES: [(&[u8], Option<&[u8]>); 6] = [
     (b"-", None),
 ];
 
-/// Whether a text decodes to these bytes, or not at all, whatever the buffer held before.
+/// Whether the first field decodes to these bytes, or not at all, whatever the buffer held before.
 fn is_read_as(text: &[u8], expected: Option<&[u8]>) -> bool {
     let mut bytes = ArrayVec::<u8, 2>::new();
     let _ = bytes.try_push(7);
-    let is_read = bytes_of(text, &mut bytes);
+    let read = Fields::new(text).bytes(&mut bytes);
     match expected {
-        Some(expected) => is_read && bytes.as_slice() == expected,
-        None => !is_read,
+        Some(expected) => read.is_some() && bytes.as_slice() == expected,
+        None => read.is_none(),
     }
 }
 

@@ -1,32 +1,40 @@
 -- Bytes as two digits each.
-use Rattle.std.proofs.Common.{◌≡◌, ℕ, ◌+◌, ◌*◌, ◌/◌, ◌%◌, ◌<◌, ◌≤◌, List, [], ◌∷◌, ◌++◌, length, get_or, take, drop, ◌-◌, nat_eq, append-nil, refl, sym, ap, ◌∙◌, arith, Bool, false, append_assoc}
-use Rattle.std.specs.Bool.{MatchBool}
+use Rattle.std.proofs.Common.{◌≡◌, ◌≢◌, ℕ, ◌+◌, ◌*◌, ◌/◌, ◌%◌, ◌<◌, ◌≤◌, List, [], ◌∷◌, ◌++◌, length, get_or, take, drop, ◌-◌, Option, Some, None, IfNone, refl, sym, ap, subst, ◌∙◌, arith, false, append_assoc}
 use Rattle.std.specs.Fmt.{digit_glyph}
-use Rattle.std.proofs.lemmas.List.{take_all}
+use Rattle.std.proofs.lemmas.List.{take_all, take-append-drop, get_or-drop, length-drop}
 use Rattle.std.proofs.lemmas.List.Elements.{All-head, All-tail, All-push}
 use Rattle.text_base.proofs.DigitLemmas.{glyph-injective}
+use Rattle.text_base.proofs.PlainWords.{glyph-plain}
 use Rattle.text_base.specs.Numbers.{spelled, IsByte, AreBytes}
+use Rattle.text_base.specs.inside.Parsing.{IsBytesFront}
+
+-- what follows bytes is a space, or nothing
+abbrev IsEnd : List ℕ → Type 0
+IsEnd s = 0 < length s → get_or s 0 0 ≡ 32
+
+no-digit : (d : ℕ) (s : List ℕ) → IsEnd (digit_glyph false d ∷ s) → ⊥
+no-digit d s end = let space : digit_glyph false d ≡ 32 = end (omega arith) in omega (arith, glyph-plain d, space)
 
 -- decoding a prefix leaves the rest to decode
-pub record GoesOn (xs r bytes : List ℕ) : Type 0 where
+record GoesOn (xs r bytes s : List ℕ) : Type 0 where
   pub more : List ℕ
   pub whole : bytes ≡ xs ++ more
-  pub rest : r ≡ spelled more
+  pub rest : r ≡ spelled more ++ s
   pub all : AreBytes more
 
-pub spelled-front : (xs r bytes : List ℕ) → AreBytes xs → AreBytes bytes → spelled xs ++ r ≡ spelled bytes → GoesOn xs r bytes
-spelled-front [] r bytes h k e = record { more = bytes; whole = refl; rest = e; all = k }
-spelled-front (x ∷ xs) r [] h k e = cc
-spelled-front (x ∷ xs) r (b ∷ bytes) h k e =
+spelled-front : (xs r bytes s : List ℕ) → AreBytes xs → AreBytes bytes → IsEnd s → spelled xs ++ r ≡ spelled bytes ++ s → GoesOn xs r bytes s
+spelled-front [] r bytes s h k end e = record { more = bytes; whole = refl; rest = e; all = k }
+spelled-front (x ∷ xs) r [] s h k end e = absurd (no-digit (x / 16) (digit_glyph false (x % 16) ∷ spelled xs ++ r) (subst IsEnd (sym e) end))
+spelled-front (x ∷ xs) r (b ∷ bytes) s h k end e =
     let high : digit_glyph false (x / 16) ≡ digit_glyph false (b / 16) = cc in
     let low : digit_glyph false (x % 16) ≡ digit_glyph false (b % 16) = cc in
-    let tail : spelled xs ++ r ≡ spelled bytes = cc in
+    let tail : spelled xs ++ r ≡ spelled bytes ++ s = cc in
     let small : x < 256 = All-head IsByte x xs h in
     let small' : b < 256 = All-head IsByte b bytes k in
     let same_high = glyph-injective (x / 16) (b / 16) high in
     let same_low = glyph-injective (x % 16) (b % 16) low in
     let same : x ≡ b = omega arith in
-    let g = spelled-front xs r bytes (All-tail IsByte x xs h) (All-tail IsByte b bytes k) tail in
+    let g = spelled-front xs r bytes s (All-tail IsByte x xs h) (All-tail IsByte b bytes k) end tail in
     record { more = g.more; whole = ap (λ (y : ℕ). y ∷ bytes) (sym same) ∙ ap (λ (y : List ℕ). x ∷ y) g.whole; rest = g.rest; all = g.all }
 
 pub spelled-push : (xs : List ℕ) (h l : ℕ) → h < 16 → l < 16 → spelled (xs ++ (h * 16 + l) ∷ []) ≡ spelled xs ++ digit_glyph false h ∷ digit_glyph false l ∷ []
@@ -39,25 +47,47 @@ pub record Next (xs r bytes : List ℕ) : Type 0 where
   pub more : List ℕ
   pub small : b < 256
   pub whole : bytes ≡ xs ++ b ∷ more
+  pub two : 2 ≤ length r
   pub high : get_or r 0 0 ≡ digit_glyph false (b / 16)
   pub low : get_or r 1 0 ≡ digit_glyph false (b % 16)
 
-pub next-byte : (text xs r bytes : List ℕ) → text ≡ spelled xs ++ r → AreBytes xs → AreBytes bytes → text ≡ spelled bytes → 1 ≤ length r → Next xs r bytes
-next-byte text xs r bytes split h k e some = by (spelled-front xs r bytes h k (sym split ∙ e))
+pub next-byte : (text xs r bytes : List ℕ) (count : ℕ) → text ≡ spelled xs ++ r → AreBytes xs → IsBytesFront text bytes count → 0 < length r → get_or r 0 0 ≢ 32 → Next xs r bytes
+next-byte text xs r bytes count split h front some digit = by (spelled-front xs r bytes s h front.3 end (sym split ∙ whole))
   where
-    at : (more : List ℕ) → bytes ≡ xs ++ more → r ≡ spelled more → AreBytes more → Next xs r bytes
-    at [] whole rest all = let none = ap length rest in absurd (omega arith)
-    at (b ∷ more) whole rest all = record {
+    s : List ℕ
+    s = drop count text
+
+    end : IsEnd s
+    end more =
+        let here : count + 0 ≡ count = omega arith in
+        get_or-drop count text 0 0 ∙ ap (λ (i : ℕ). get_or text i 0) here ∙ front.2 (omega (arith, more, length-drop count text))
+
+    whole : text ≡ spelled bytes ++ s
+    whole = sym (take-append-drop count text) ∙ ap (λ (y : List ℕ). y ++ s) front.1
+
+    at : (more : List ℕ) → bytes ≡ xs ++ more → r ≡ spelled more ++ s → AreBytes more → Next xs r bytes
+    at [] none rest all = absurd (digit (ap (λ (y : List ℕ). get_or y 0 0) rest ∙ end (omega (arith, some, ap length rest))))
+    at (b ∷ more) same rest all = record {
       b = b;
       more = more;
       small = All-head IsByte b more all;
-      whole = whole;
+      whole = same;
+      two = omega (arith, ap length rest);
       high = ap (λ (y : List ℕ). get_or y 0 0) rest;
       low = ap (λ (y : List ℕ). get_or y 1 0) rest;
     }
 
-    by : GoesOn xs r bytes → Next xs r bytes
+    by : GoesOn xs r bytes s → Next xs r bytes
     by g = at g.more g.whole g.rest g.all
+
+-- a digit is no space
+pub digit-no_space : (c d : ℕ) → c ≡ digit_glyph false d → c ≢ 32
+digit-no_space c d is space = omega (arith, is, space, glyph-plain d)
+
+-- where nothing was found
+pub unfound : {P Q : Type 0} (r : Option ℕ) → IfNone r P → (P → Q) → IfNone r Q
+unfound None h k = k h
+unfound (Some n) h k = tt
 
 pub two-first : (r : List ℕ) → 2 ≤ length r → r ≡ get_or r 0 0 ∷ get_or r 1 0 ∷ take (length r - 2) (drop 2 r)
 two-first [] h = absurd (omega arith)
@@ -75,17 +105,3 @@ grow text xs r out h l split all two hs ls high low is =
           ∙ ap (λ (y : List ℕ). y ++ tail) (sym (spelled-push xs h l hs ls)),
       All-push IsByte xs (h * 16 + l) all (omega arith),
     )
-
--- fewer than two digits are left
-pub at_end : (text xs r : List ℕ) (b : Bool) (most : ℕ) → text ≡ spelled xs ++ r → AreBytes xs → length r < 2 → b ≡ nat_eq (length r) 0 →
-    MatchBool b ((text ≡ spelled xs) × AreBytes xs) ((bytes : List ℕ) → AreBytes bytes → length bytes ≤ most → text ≡ spelled bytes → ⊥)
-at_end text xs [] b most split all short is = rw is (split ∙ append-nil (spelled xs), all)
-at_end text xs (x ∷ []) b most split all short is = rw is (λ bytes every room e. by (spelled-front xs (x ∷ []) bytes all every (sym split ∙ e)))
-  where
-    odd : (more : List ℕ) → x ∷ [] ≡ spelled more → ⊥
-    odd [] e = cc
-    odd (b ∷ more) e = let two = ap length e in omega arith
-
-    by : {bytes : List ℕ} → GoesOn xs (x ∷ []) bytes → ⊥
-    by g = odd g.more g.rest
-at_end text xs (x ∷ y ∷ r) b most split all short is = absurd (omega arith)

@@ -174,6 +174,35 @@ decimal-last k n acc some bound =
     let same : n % 10 ≡ n = omega arith in
     onto-last 10 k n acc some (omega arith) ∙ ap (λ (g : ℕ). g ∷ acc) (decimal-glyph (n % 10) (omega arith) ∙ ap (λ (d : ℕ). 48 + d) same)
 
+-- two digits at a time
+pub decimal-less_two : (k n : ℕ) → 100 ≤ n → n < 10 ^ k → (3 ≤ k) × (n / 100 < 10 ^ (k - 2))
+decimal-less_two k n more h =
+    let two = decimal-more k n (omega (arith, more)) h in
+    let less = decimal-less k n (omega (arith, two)) h in
+    let three = decimal-more (k - 1) (n / 10) (omega (arith, more)) less in
+    let least = decimal-less (k - 1) (n / 10) (omega (arith, three)) less in
+    let hundredth : n / 10 / 10 ≡ n / 100 = omega arith in
+    let fewer : k - 1 - 1 ≡ k - 2 = omega arith in
+    (omega (arith, three), subst (λ (q : ℕ). q < 10 ^ (k - 2)) hundredth (subst (λ (j : ℕ). n / 10 / 10 < 10 ^ j) fewer least))
+
+pub decimal-step_two : (k n : ℕ) (acc : List ℕ) → 2 ≤ k → 100 ≤ n →
+    digits_onto k 10 false n acc ≡ digits_onto (k - 2) 10 false (n / 100) ((48 + n % 100 / 10) ∷ (48 + n % 100 % 10) ∷ acc)
+decimal-step_two k n acc some more =
+    let tens : n / 10 % 10 ≡ n % 100 / 10 = omega arith in
+    let ones : n % 10 ≡ n % 100 % 10 = omega arith in
+    let hundredth : n / 10 / 10 ≡ n / 100 = omega arith in
+    let fewer : k - 1 - 1 ≡ k - 2 = omega arith in
+    decimal-step k n acc (omega (arith, some)) (omega (arith, more))
+    ∙ decimal-step (k - 1) (n / 10) ((48 + n % 10) ∷ acc) (omega (arith, some)) (omega (arith, more))
+    ∙ ap (λ (j : ℕ). digits_onto j 10 false (n / 10 / 10) ((48 + n / 10 % 10) ∷ (48 + n % 10) ∷ acc)) fewer
+    ∙ ap (λ (q : ℕ). digits_onto (k - 2) 10 false q ((48 + n / 10 % 10) ∷ (48 + n % 10) ∷ acc)) hundredth
+    ∙ ap (λ (t : ℕ). digits_onto (k - 2) 10 false (n / 100) ((48 + t) ∷ (48 + n % 10) ∷ acc)) tens
+    ∙ ap (λ (o : ℕ). digits_onto (k - 2) 10 false (n / 100) ((48 + n % 100 / 10) ∷ (48 + o) ∷ acc)) ones
+
+pub decimal-last_two : (k n : ℕ) (acc : List ℕ) → 2 ≤ k → 10 ≤ n → n < 100 → digits_onto k 10 false n acc ≡ (48 + n / 10) ∷ (48 + n % 10) ∷ acc
+decimal-last_two k n acc some more bound =
+    decimal-step k n acc (omega (arith, some)) more ∙ decimal-last (k - 1) (n / 10) ((48 + n % 10) ∷ acc) (omega (arith, some)) (omega (arith, bound))
+
 pub decimal-whole : (n : ℕ) (acc : List ℕ) → digits_onto 64 10 false n acc ≡ digits 10 false n ++ acc
 unfolding digits
 decimal-whole n acc = onto-append 10 64 n [] acc

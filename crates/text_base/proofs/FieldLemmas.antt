@@ -1,13 +1,16 @@
 -- The fields of a text.
-use Rattle.std.proofs.Common.{◌≡◌, ◌≢◌, ◌<◌, subst, ne_eqb, ◌+◌, ◌-◌, ◌∷◌, ◌++◌, [], ℕ, List, Bool, nat_eq, false, true, cond, take, drop, length, get_or, arith, sym, ap, ◌∙◌, drop-cons, suc, refl}
+use Rattle.std.proofs.Common.{◌≡◌, ◌≢◌, ◌<◌, ◌≤◌, subst, ne_eqb, ◌+◌, ◌-◌, ◌∷◌, ◌++◌, [], ℕ, List, Bool, nat_eq, false, true, cond, take, drop, length, get_or, arith, sym, ap, ◌∙◌, drop-cons, suc, refl}
 use native.Mathlib.Numerals.{unary_clauses}
 use Rattle.std.specs.Fmt.{digits}
 use Rattle.std.specs.List.{All, onto_first}
-use Rattle.std.proofs.lemmas.List.{take_all, length-drop, take-append-drop}
-use Rattle.std.proofs.lemmas.List.Splits.{slice_split_at}
+use Rattle.std.proofs.lemmas.List.{take_all, length-drop, length-take, take-append-drop}
+use Rattle.std.proofs.Math.Seq.{take-append_seam, get_or-append_seam}
+use Rattle.std.proofs.lemmas.List.Splits.{slice_split_at, join_with_byte-slice_split}
 use Rattle.std.proofs.lemmas.List.Elements.{All-nil, All-cons}
-use Rattle.text_base.specs.Fields.{fields_of}
-use Rattle.text_base.proofs.PlainWords.{IsPlain, digits-plain, split-one}
+use Rattle.text_base.specs.Fields.{fields_of, spaced}
+use Rattle.text_base.specs.Numbers.{spelled, AreBytes}
+use Rattle.text_base.specs.inside.Parsing.{IsFront, IsBytesFront, IsFieldEnd}
+use Rattle.text_base.proofs.PlainWords.{IsPlain, digits-plain, spelled-plain}
 
 pub at_space : (text : List ℕ) (i : ℕ) → i < length text → All (λ (x : ℕ). nat_eq x 32 ≡ false) (take i text) → get_or text i 0 ≡ 32 →
     fields_of text ≡ take i text ∷ fields_of (take (length text - (i + 1)) (drop (i + 1) text))
@@ -21,18 +24,15 @@ no_spaces : (text : List ℕ) → IsPlain text → All (λ (x : ℕ). nat_eq x 3
 no_spaces [] h = All-nil (λ (x : ℕ). nat_eq x 32 ≡ false)
 no_spaces (x ∷ xs) h = All-cons (λ (x : ℕ). nat_eq x 32 ≡ false) x xs (ne_eqb x 32 (λ e. let low = h.0 in omega arith)) (no_spaces xs h.1)
 
--- a number, and a space after it
-pub at_number : (text : List ℕ) (i base n : ℕ) → i < length text → take i text ≡ digits base false n → get_or text i 0 ≡ 32 →
-    fields_of text ≡ digits base false n ∷ fields_of (take (length text - (i + 1)) (drop (i + 1) text))
-at_number text i base n within is space =
-    let others = subst (λ (front : List ℕ). All (λ (x : ℕ). nat_eq x 32 ≡ false) front) (sym is) (no_spaces (digits base false n) (digits-plain base n)) in
-    at_space text i within others space ∙ ap (λ (front : List ℕ). front ∷ fields_of (take (length text - (i + 1)) (drop (i + 1) text))) is
+-- the first field ends behind a number
+pub number-end : (text : List ℕ) (base n count : ℕ) → IsFront base text n count → IsFieldEnd text count
+number-end text base n count front =
+    (front.0, subst (λ (field : List ℕ). All (λ (x : ℕ). nat_eq x 32 ≡ false) field) (sym front.1) (no_spaces (digits base false n) (digits-plain base n)), front.2)
 
--- nothing but a number
-pub one_number : (text : List ℕ) (i base n : ℕ) → i ≡ length text → take i text ≡ digits base false n → fields_of text ≡ digits base false n ∷ []
-one_number text i base n all is =
-    let same : text ≡ digits base false n = sym (take_all i text (omega (arith, all))) ∙ is in
-    ap fields_of same ∙ split-one (digits base false n) (digits-plain base n)
+-- and behind bytes in two digits each
+pub bytes-end : (text bytes : List ℕ) (count : ℕ) → IsBytesFront text bytes count → IsFieldEnd text count
+bytes-end text bytes count front =
+    (front.0, subst (λ (field : List ℕ). All (λ (x : ℕ). nat_eq x 32 ≡ false) field) (sym front.1) (no_spaces (spelled bytes) (spelled-plain bytes)), front.2)
 
 onto_some : (x : ℕ) (ps : List (List ℕ)) → onto_first x ps ≢ []
 onto_some x [] e = cc
@@ -46,3 +46,42 @@ some_field (x ∷ xs) e = go (nat_eq x 32) e
     go : (b : Bool) → cond b ([] ∷ fields_of xs) (onto_first x (fields_of xs)) ≢ []
     go true e = cc
     go false e = onto_some x (fields_of xs) e
+
+onto_one : (x : ℕ) (xs : List ℕ) (ps : List (List ℕ)) → ps ≢ [] → onto_first x ps ≡ (x ∷ xs) ∷ [] → ps ≡ xs ∷ []
+onto_one x xs [] some e = absurd (some refl)
+onto_one x xs (p ∷ ps) some e = cc
+
+-- a text that is one field has no space
+one_field : (word : List ℕ) → fields_of word ≡ word ∷ [] → All (λ (x : ℕ). nat_eq x 32 ≡ false) word
+one_field [] e = All-nil (λ (x : ℕ). nat_eq x 32 ≡ false)
+one_field (x ∷ xs) e = go (nat_eq x 32) refl e (λ one. one_field xs one)
+  where
+    go : (b : Bool) → nat_eq x 32 ≡ b → cond b ([] ∷ fields_of xs) (onto_first x (fields_of xs)) ≡ (x ∷ xs) ∷ [] →
+        (fields_of xs ≡ xs ∷ [] → All (λ (y : ℕ). nat_eq y 32 ≡ false) xs) → All (λ (y : ℕ). nat_eq y 32 ≡ false) (x ∷ xs)
+    go true is e rest = cc
+    go false is e rest = All-cons (λ (y : ℕ). nat_eq y 32 ≡ false) x xs is (rest (onto_one x xs (fields_of xs) (some_field xs) e))
+
+-- and behind a word
+pub word-end : (text word : List ℕ) → fields_of word ≡ word ∷ [] → length word ≤ length text → take (length word) text ≡ word →
+    (length word < length text → get_or text (length word) 0 ≡ 32) → IsFieldEnd text (length word)
+word-end text word one within is space = (within, subst (λ (front : List ℕ). All (λ (x : ℕ). nat_eq x 32 ≡ false) front) (sym is) (one_field word one), space)
+
+-- a text whose first field is this word
+first-is : (text word : List ℕ) (rest : List (List ℕ)) → fields_of text ≡ word ∷ rest → text ≡ spaced (word ∷ rest)
+first-is text word rest e = sym (join_with_byte-slice_split 32 text) ∙ ap spaced e
+
+pub first-begins : (text word : List ℕ) (rest : List (List ℕ)) → fields_of text ≡ word ∷ rest → take (length word) text ≡ word
+first-begins text word [] e = ap (take (length word)) (first-is text word [] e) ∙ take_all (length word) word (omega arith)
+first-begins text word (field ∷ fields) e = ap (take (length word)) (first-is text word (field ∷ fields) e) ∙ take-append_seam word (32 ∷ spaced (field ∷ fields))
+
+pub first-ends : (text word : List ℕ) (rest : List (List ℕ)) → fields_of text ≡ word ∷ rest → length word ≢ length text → get_or text (length word) 0 ≡ 32
+first-ends text word [] e more = absurd (more (ap length (sym (first-is text word [] e))))
+first-ends text word (field ∷ fields) e more =
+    ap (λ (t : List ℕ). get_or t (length word) 0) (first-is text word (field ∷ fields) e) ∙ get_or-append_seam word 32 (spaced (field ∷ fields)) 0
+
+-- a first field of bytes
+pub bytes-front : (text bytes : List ℕ) (rest : List (List ℕ)) → AreBytes bytes → fields_of text ≡ spelled bytes ∷ rest → IsBytesFront text bytes (length (spelled bytes))
+bytes-front text bytes rest all is =
+    let begins = first-begins text (spelled bytes) rest is in
+    let long : length (take (length (spelled bytes)) text) ≡ length (spelled bytes) = ap length begins in
+    (omega (arith, long, length-take (length (spelled bytes)) text), begins, λ within. first-ends text (spelled bytes) rest is (λ same. omega (arith, same, within)), all)

@@ -1,4 +1,5 @@
 pub mod DigitLemmas
+pub mod DigitPairs
 pub mod NumberLemmas
 pub mod ByteLemmas
 pub mod FieldLemmas

@@ -27,7 +27,7 @@ pub plain_by : (xs : List ℕ) → is_plain xs ≡ true → IsPlain xs
 plain_by [] e = tt
 plain_by (x ∷ xs) e = let h = (Decides-and _ _ (Decides-ltb 32 x) (same-Decides (is_plain xs))).0 e in (h.0, plain_by xs h.1)
 
-glyph-plain : (d : ℕ) → 32 < digit_glyph false d
+pub glyph-plain : (d : ℕ) → 32 < digit_glyph false d
 glyph-plain d = go (nat_lt d 10)
   where
     go : (b : Bool) → 32 < cond b (48 + d) (87 + d)

@@ -1,11 +1,13 @@
 // The fields of a line, one at a time.
-ghost use Rattle.std.specs.Prelude.{◌≡◌, ◌↔◌, ◌≤◌, ◌^◌, [], Option, IsTrue, IfSome};
+ghost use Rattle.std.specs.Prelude.{◌≡◌, ◌↔◌, ◌≤◌, ◌^◌, ℕ, List, [], ◌∷◌, take, length, Option, MatchOption, IsTrue, IfSome, IfNone};
 ghost use Rattle.std.specs.Str.{bytes_eq};
 ghost use Rattle.text_base.specs.Fields.{fields_of, TakesField, ReadsField};
-ghost use Rattle.text_base.specs.inside.Parsing.{fields_left, ReadsShort};
-ghost use Rattle.text_base.specs.Numbers.{decimal_at, hex_at};
+ghost use Rattle.text_base.specs.inside.Parsing.{IsFieldEnd, ReadsShort};
+ghost use Rattle.text_base.specs.Numbers.{decimal_at, hex_at, spelled, AreBytes};
 
+use crate::bytes::bytes_front;
 use crate::numbers::{decimal_of, hex_of, short_number};
+use arrayvec::ArrayVec;
 use std::marker::Model;
 
 /// Whether a field is that word. `N` is constant at each caller, so the comparison compiles to no
@@ -19,6 +21,22 @@ pub fn is_word<const N: usize>(field: &[u8], word: &[u8; N]) -> bool
     }
     for i in 0..N {
         if field[i] != word[i] {
+            return false;
+        }
+    }
+    true
+}
+
+/// Whether a text begins with that word.
+#[inline(always)]
+fn starts_with<const N: usize>(text: &[u8], word: &[u8; N]) -> bool
+    ensures { result ≡ bytes_eq (take N text.now) word.now }
+{
+    if text.len() < N {
+        return false;
+    }
+    for i in 0..N {
+        if text[i] != word[i] {
             return false;
         }
     }
@@ -50,20 +68,57 @@ impl<'a> Fields<'a> {
         Fields { rest: Some(line) }
     }
 
+    /// The fields behind the first one, which ends at `end`.
+    #[inline(always)]
+    fn behind(text: &'a [u8], end: usize) -> Fields<'a>
+        requires { IsFieldEnd text.now end }
+        ensures { fields_of text.now ≡ take end text.now ∷ result }
+    {
+        if end == text.len() {
+            return Fields { rest: None };
+        }
+        Fields {
+            rest: Some(&text[end + 1..]),
+        }
+    }
+
     /// The next field, if one is left.
     #[inline(always)]
     pub fn next(&mut self) -> Option<&'a [u8]>
         ensures { TakesField result self.old self.new }
     {
         let rest = self.rest?;
-        for (i, b) in rest.iter().enumerate() {
-            if *b == b' ' {
-                self.rest = Some(&rest[i + 1..]);
-                return Some(&rest[..i]);
-            }
+        let end = field_end(rest);
+        *self = Fields::behind(rest, end);
+        Some(&rest[..end])
+    }
+
+    /// The same, with the search out of line.
+    #[inline(always)]
+    fn long_next(&mut self) -> Option<&'a [u8]>
+        ensures { TakesField result self.old self.new }
+    {
+        let rest = self.rest?;
+        let end = long_field_end(rest);
+        *self = Fields::behind(rest, end);
+        Some(&rest[..end])
+    }
+
+    /// The fields behind the next one, if that is this word, which has no space.
+    #[inline(always)]
+    pub fn after<const N: usize>(&self, word: &[u8; N]) -> Option<Fields<'a>>
+        requires { fields_of word.now ≡ word.now ∷ [] }
+        ensures found { IfSome result (λ rest. self.now ≡ word.now ∷ rest) }
+        ensures none { IfNone result ((rest : List (List ℕ)) → self.now ≡ word.now ∷ rest → ⊥) }
+    {
+        let rest = self.rest?;
+        if !starts_with(rest, word) {
+            return None;
         }
-        self.rest = None;
-        Some(rest)
+        if N < rest.len() && rest[N] != b' ' {
+            return None;
+        }
+        Some(Fields::behind(rest, N))
     }
 
     /// Takes the next field, if it is a decimal number up to `most`. `None` otherwise; then some
@@ -76,7 +131,8 @@ impl<'a> Fields<'a> {
         if let Some(n) = self.short(10, 19, most) {
             return Some(n);
         }
-        self.long_decimal(most)
+        let field = self.long_next()?;
+        decimal_of(field, most)
     }
 
     /// Takes the next field, if it is a hexadecimal number up to `most`. `None` otherwise; then
@@ -89,7 +145,8 @@ impl<'a> Fields<'a> {
         if let Some(n) = self.short(16, 16, most) {
             return Some(n);
         }
-        self.long_hexadecimal(most)
+        let field = self.long_next()?;
+        hex_of(field, most)
     }
 
     /// Takes the next field, if it is a number up to `most` with at most `digits` digits. Takes
@@ -106,30 +163,21 @@ impl<'a> Fields<'a> {
         if n > most {
             return None;
         }
-        if count == rest.len() {
-            self.rest = None;
-        } else {
-            self.rest = Some(&rest[count + 1..]);
-        }
+        *self = Fields::behind(rest, count);
         Some(n)
     }
 
-    #[cold]
-    fn long_decimal(&mut self, most: u64) -> Option<u64>
-        ensures read { ReadsField (decimal_at most) result self.old self.new }
-        ensures bound { IfSome result (λ n. n ≤ most) }
+    /// Takes the next field, if it is two digits for each byte, and decodes it into `out`. `None` if it is
+    /// not, or if the bytes do not fit; then `out` holds some bytes, and some fields are left.
+    #[inline(always)]
+    pub fn bytes<const N: usize>(&mut self, out: &mut ArrayVec<u8, N>) -> Option<()>
+        ensures { MatchOption result ((bytes : List ℕ) (rest : List (List ℕ)) → AreBytes bytes → length bytes ≤ N → self.old ≡ spelled bytes ∷ rest → ⊥)
+            (λ _. (self.old ≡ spelled out.new.items ∷ self.new) × AreBytes out.new.items) }
     {
-        let field = self.next()?;
-        decimal_of(field, most)
-    }
-
-    #[cold]
-    fn long_hexadecimal(&mut self, most: u64) -> Option<u64>
-        ensures read { ReadsField (hex_at most) result self.old self.new }
-        ensures bound { IfSome result (λ n. n ≤ most) }
-    {
-        let field = self.next()?;
-        hex_of(field, most)
+        let rest = self.rest?;
+        let count = bytes_front(rest, out)?;
+        *self = Fields::behind(rest, count);
+        Some(())
     }
 
     /// Whether no field is left.
@@ -139,4 +187,27 @@ impl<'a> Fields<'a> {
     {
         self.rest.is_none()
     }
+}
+
+/// Where the first field of a text ends: at the first space, or at the end.
+#[inline(always)]
+fn field_end(text: &[u8]) -> usize
+    ensures { IsFieldEnd text.now result }
+{
+    for (i, b) in text.iter().enumerate() {
+        if *b == b' ' {
+            return i;
+        }
+    }
+    text.len()
+}
+
+/// The same for a field that is no short number. Out of line, and without a reference to the fields, so that
+/// those of a line with short numbers stay in registers.
+#[cold]
+#[inline(never)]
+fn long_field_end(text: &[u8]) -> usize
+    ensures { IsFieldEnd text.now result }
+{
+    field_end(text)
 }

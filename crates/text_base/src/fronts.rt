@@ -1,17 +1,17 @@
 // Short texts written from the end to the front, so that a number needs no count of its digits, and
 // a line is formed in one buffer.
-ghost use Rattle.std.specs.Prelude.{◌≡◌, ◌+◌, ◌≤◌, ◌<◌, ◌++◌, decimal, drop};
-ghost use Rattle.text_base.specs.Numbers.{two_digits};
+ghost use Rattle.std.specs.Prelude.{◌≡◌, ◌+◌, ◌≤◌, ◌<◌, ◌++◌, ◌*◌, ◌/◌, ◌%◌, ◌∷◌, [], decimal, drop, length};
+ghost use Rattle.text_base.specs.Numbers.{two_digits, spelled};
 
 use crate::numbers::glyph_of;
 
 /// The capacity of the buffer.
-pub const ROOM: usize = 96;
+pub const ROOM: usize = 48;
 
 /// Writes a text that ends before `at`, and returns where it begins. Requires that it fits.
 #[inline(always)]
 pub fn text_before<const N: usize>(room: &mut [u8; ROOM], at: usize, text: &[u8; N]) -> usize
-    requires place { at ≤ 96 }
+    requires place { at ≤ 48 }
     requires fits { N ≤ at }
     ensures begins { result + N ≡ at }
     ensures written { drop result room.new ≡ text.now ++ drop at room.old }
@@ -25,7 +25,7 @@ pub fn text_before<const N: usize>(room: &mut [u8; ROOM], at: usize, text: &[u8;
 /// before `at`.
 #[inline(always)]
 pub fn decimal_before(room: &mut [u8; ROOM], at: usize, n: u64) -> usize
-    requires place { at ≤ 96 }
+    requires place { at ≤ 48 }
     requires fits { 20 ≤ at }
     ensures begins { result < at }
     ensures short { at ≤ result + 20 }
@@ -33,21 +33,54 @@ pub fn decimal_before(room: &mut [u8; ROOM], at: usize, n: u64) -> usize
 {
     let mut start = at;
     let mut rest = n;
-    while rest >= 10 {
-        start -= 1;
-        room[start] = b'0' + (rest % 10) as u8;
-        rest /= 10;
+    while rest >= 100 {
+        start = text_before(room, start, &pair_of((rest % 100) as usize));
+        rest /= 100;
     }
-    start -= 1;
-    room[start] = b'0' + rest as u8;
-    start
+    if rest >= 10 {
+        return text_before(room, start, &pair_of(rest as usize));
+    }
+    text_before(room, start, &[b'0' + rest as u8])
+}
+
+/// Writes a decimal number below 10 that ends before `at`, and returns where it begins. Requires a byte
+/// before `at`.
+#[inline(always)]
+pub fn digit_before(room: &mut [u8; ROOM], at: usize, n: u8) -> usize
+    requires digit { n < 10 }
+    requires place { at ≤ 48 }
+    requires fits { 1 ≤ at }
+    ensures begins { result + 1 ≡ at }
+    ensures written { drop result room.new ≡ decimal n ++ drop at room.old }
+{
+    text_before(room, at, &[b'0' + n])
+}
+
+/// Writes a decimal number of one byte that ends before `at`, and returns where it begins. Requires three
+/// bytes before `at`.
+#[inline(always)]
+pub fn small_before(room: &mut [u8; ROOM], at: usize, n: u8) -> usize
+    requires place { at ≤ 48 }
+    requires fits { 3 ≤ at }
+    ensures begins { result < at }
+    ensures short { at ≤ result + 3 }
+    ensures written { drop result room.new ≡ decimal n ++ drop at room.old }
+{
+    if n < 10 {
+        return digit_before(room, at, n);
+    }
+    let start = text_before(room, at, &pair_of((n % 100) as usize));
+    if n < 100 {
+        return start;
+    }
+    text_before(room, start, &[b'0' + n / 100])
 }
 
 /// Writes a byte as two hexadecimal digits that end before `at`, and returns where it begins.
 /// Requires two bytes before `at`.
 #[inline(always)]
 pub fn byte_before(room: &mut [u8; ROOM], at: usize, byte: u8) -> usize
-    requires place { at ≤ 96 }
+    requires place { at ≤ 48 }
     requires fits { 2 ≤ at }
     ensures begins { result + 2 ≡ at }
     ensures written { drop result room.new ≡ two_digits byte ++ drop at room.old }
@@ -55,4 +88,33 @@ pub fn byte_before(room: &mut [u8; ROOM], at: usize, byte: u8) -> usize
     room[at - 1] = glyph_of(byte % 16);
     room[at - 2] = glyph_of(byte / 16);
     at - 2
+}
+
+/// Writes bytes as two hexadecimal digits each that end before `at`, and returns where they begin.
+/// Requires that they fit.
+#[inline(always)]
+pub fn bytes_before(room: &mut [u8; ROOM], at: usize, bytes: &[u8]) -> usize
+    requires place { at ≤ 48 }
+    requires fits { 2 * length bytes.now ≤ at }
+    ensures begins { result + 2 * length bytes.now ≡ at }
+    ensures written { drop result room.new ≡ spelled bytes.now ++ drop at room.old }
+{
+    let mut start = at;
+    let mut left = bytes.len();
+    while left > 0 {
+        left -= 1;
+        start = byte_before(room, start, bytes[left]);
+    }
+    start
+}
+
+/// The two decimal digits of a number below 100.
+#[inline(always)]
+fn pair_of(n: usize) -> [u8; 2]
+    requires { n < 100 }
+    ensures { result ≡ (48 + n / 10) ∷ (48 + n % 10) ∷ [] }
+{
+    let pairs =
+        b"00010203040506070809101112131415161718192021222324252627282930313233343536373839404142434445464748495051525354555657585960616263646566676869707172737475767778798081828384858687888990919293949596979899";
+    [pairs[2 * n], pairs[2 * n + 1]]
 }

@@ -10,9 +10,11 @@ mod sending;
 mod sink;
 mod source;
 
-pub use bytes::{byte_of, bytes_of, put_byte, put_bytes};
+pub use bytes::{byte_of, digits_of, put_byte, put_bytes};
 pub use fields::{Fields, is_word};
-pub use fronts::{ROOM, byte_before, decimal_before, text_before};
+pub use fronts::{
+    ROOM, byte_before, bytes_before, decimal_before, digit_before, small_before, text_before,
+};
 pub use numbers::{decimal_of, hex_of, put_decimal, put_hex};
 pub use output::Output;
 pub use sending::send;

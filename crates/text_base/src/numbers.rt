@@ -8,6 +8,7 @@ use crate::sink::Sink;
 use itoa::{Buffer, Integer};
 
 /// The number that a decimal text denotes, if it is at most `most`: no leading zero, no sign.
+#[inline(never)]
 pub fn decimal_of(text: &[u8], most: u64) -> Option<u64>
     ensures found { IfSome result (λ n. (n ≤ most) × (text.now ≡ decimal n)) }
     ensures none { IfNone result ((n : ℕ) → n ≤ most → text.now ≡ decimal n → ⊥) }
@@ -19,6 +20,7 @@ pub fn decimal_of(text: &[u8], most: u64) -> Option<u64>
 
 /// The number that a hexadecimal text denotes, if it is at most `most`: lower case, no leading
 /// zero.
+#[inline(never)]
 pub fn hex_of(text: &[u8], most: u64) -> Option<u64>
     ensures found { IfSome result (λ n. (n ≤ most) × (text.now ≡ hex n)) }
     ensures none { IfNone result ((n : ℕ) → n ≤ most → text.now ≡ hex n → ⊥) }
@@ -61,12 +63,10 @@ fn positive_front(text: &[u8], base: u64, digits: usize) -> Option<(u64, usize)>
     requires first { get_or text.now 0 0 ≢ 48 }
     ensures { IfSome result (λ p. IsFront base text.now p.0 p.1) }
 {
+    let most = text.len().min(digits);
     let mut n: u64 = 0;
     let mut count = 0;
-    while count < text.len() {
-        if count == digits {
-            return None;
-        }
+    while count < most {
         let Some(digit) = digit_of(text[count]) else {
             break;
         };
@@ -91,11 +91,15 @@ fn positive_front(text: &[u8], base: u64, digits: usize) -> Option<(u64, usize)>
 pub(crate) fn digit_of(c: u8) -> Option<u8>
     ensures { MatchOption result ((d : ℕ) → d < 16 → c ≡ digit_glyph false d → ⊥) (λ d. (d < 16) × (c ≡ digit_glyph false d)) }
 {
-    match c {
-        b'0'..=b'9' => Some(c - b'0'),
-        b'a'..=b'f' => Some(c - b'a' + 10),
-        _ => None,
+    let digit = c.wrapping_sub(b'0');
+    if digit < 10 {
+        return Some(digit);
     }
+    let letter = c.wrapping_sub(b'a');
+    if letter < 6 {
+        return Some(letter + 10);
+    }
+    None
 }
 
 /// The digit of a value below 16.

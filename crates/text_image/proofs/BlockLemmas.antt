@@ -1,5 +1,5 @@
 -- A field of 256 bytes.
-use Rattle.std.proofs.Common.{◌≡◌, ℕ, ◌≤◌, List, ◌∷◌, length, Option, Some, None, refl, ap, ◌∙◌, cond, arith, Bool, true, false}
+use Rattle.std.proofs.Common.{◌≡◌, ℕ, ◌≤◌, List, [], ◌∷◌, length, Option, Some, None, refl, ap, ◌∙◌, cond, arith, Bool, true, false}
 use Rattle.std.specs.Prelude.{◌==◌}
 use Rattle.std.specs.Option.{option_and_then}
 use Rattle.std.proofs.lemmas.Bool.Decides.{nat_tests}
@@ -27,16 +27,19 @@ block-only text bytes e = go (spelled_at text) refl e
 pub block-spelled : (bytes : List ℕ) → AreBytes bytes → length bytes ≡ 256 → block_at (spelled bytes) ≡ Some bytes
 block-spelled bytes all size = ap (option_and_then whole_block) (spelled_at-spelled bytes all) ∙ ap (λ n. cond (n == 256) (Some bytes) None) size
 
--- What is parsed from a field, as the calls say it.
-pub block-none : (old new : Fields) (field : List ℕ) → old ≡ field ∷ new → ((bytes : List ℕ) → AreBytes bytes → length bytes ≤ 256 → field ≡ spelled bytes → ⊥) → first_read block_at old ≡ None
-block-none old new field at never = rw (at, go (block_at field) refl) refl
+-- What is parsed from the first field, as the calls say it.
+pub block-none : (old : Fields) → ((bytes : List ℕ) (rest : Fields) → AreBytes bytes → length bytes ≤ 256 → old ≡ spelled bytes ∷ rest → ⊥) → first_read block_at old ≡ None
+block-none [] never = refl
+block-none (field ∷ rest) never = rw (go (block_at field) refl) refl
   where
     go : (r : Option (List ℕ)) → block_at field ≡ r → r ≡ None
     go None is = refl
-    go (Some bytes) is = let h = block-only field bytes is in absurd (never bytes h.all (omega (arith, h.size)) h.same)
+    go (Some bytes) is =
+        let h = block-only field bytes is in
+        absurd (never bytes rest h.all (omega (arith, h.size)) (ap (λ (f : List ℕ). f ∷ rest) h.same))
 
-pub block-short : (old new : Fields) (field bytes : List ℕ) → old ≡ field ∷ new → field ≡ spelled bytes → AreBytes bytes → (length bytes == 256) ≡ false → first_read block_at old ≡ None
-block-short old new field bytes at same all short = rw (at, same, spelled_at-spelled bytes all, short) refl
+pub block-short : (old new : Fields) (bytes : List ℕ) → old ≡ spelled bytes ∷ new → AreBytes bytes → (length bytes == 256) ≡ false → first_read block_at old ≡ None
+block-short old new bytes at all short = rw (at, spelled_at-spelled bytes all, short) refl
 
-pub block-taken : (old new : Fields) (field bytes : List ℕ) → old ≡ field ∷ new → field ≡ spelled bytes → AreBytes bytes → length bytes ≡ 256 → first_read block_at old ≡ Some (bytes, new)
-block-taken old new field bytes at same all size = rw (at, same, block-spelled bytes all size) refl
+pub block-taken : (old new : Fields) (bytes : List ℕ) → old ≡ spelled bytes ∷ new → AreBytes bytes → length bytes ≡ 256 → first_read block_at old ≡ Some (bytes, new)
+block-taken old new bytes at all size = rw (at, block-spelled bytes all size) refl

@@ -1,13 +1,15 @@
 -- Bytes that are written as two digits each.
-use Rattle.std.proofs.Common.{◌≡◌, ℕ, zero, suc, ◌<◌, ◌≤◌, List, [], ◌∷◌, length, Option, Some, None, refl, ap, ◌∙◌, cond, arith, Bool, true, false, nat_le, leb-true, le-leb, codes, ◌==◌}
+use Rattle.std.proofs.Common.{◌≡◌, ℕ, zero, suc, ◌<◌, ◌≤◌, List, [], ◌∷◌, length, Option, Some, None, MatchOption, is_some, refl, sym, ap, ◌∙◌, cond, if◌then◌else◌, arith, Bool, true, false, not, nat_le, leb-true, le-leb, codes, ◌==◌}
 use Rattle.std.specs.Option.{option_map, option_and_then}
 use Rattle.std.specs.Str.{bytes_eq}
 use Rattle.std.proofs.lemmas.List.Elements.{All-nil, All-cons, All-head, All-tail}
+use Rattle.std.proofs.lemmas.Bool.Decides.{Decides-eqb}
 use Rattle.std.proofs.lemmas.Slice.Eq.{bytes_eq-Decides}
 use Rattle.text_base.specs.Numbers.{spelled, byte_at, IsByte, AreBytes}
 use Rattle.text_base.proofs.NumberLemmas.{byte_at-spelled, byte_at-only}
 use Rattle.text_lines.specs.Events.{bytes_text, AtMostBytes}
-use Rattle.text_lines.specs.Reading.{spelled_at, some_bytes, bytes_at, first_read}
+use Rattle.arrayvec.specs.ArrayVec.{ArrayVec}
+use Rattle.text_lines.specs.Reading.{spelled_at, some_bytes, bytes_at, first_read, TakesBytes}
 
 pub record Spells (text bytes : List ℕ) : Type 0 where
   pub same : text ≡ spelled bytes
@@ -88,13 +90,47 @@ read-none most text dash never = go (bytes_at most text) refl
     go (Some []) is = let h = bytes_at-only most text [] is in let same = (bytes_eq-Decides text (codes "-")).1 h.same in cc
     go (Some (b ∷ bytes)) is = let h = bytes_at-only most text (b ∷ bytes) is in absurd (never (b ∷ bytes) h.bound.0 h.bound.1 h.same)
 
--- the first field, and what is parsed from it
-pub taken-none : (most : ℕ) (old new : List (List ℕ)) (field : List ℕ) → old ≡ field ∷ new → bytes_at most field ≡ None → first_read (bytes_at most) old ≡ None
-taken-none most old new field at read = rw (at, read) refl
-
-pub taken-some : (most : ℕ) (old new : List (List ℕ)) (field bytes : List ℕ) → old ≡ field ∷ new → bytes_at most field ≡ Some bytes → first_read (bytes_at most) old ≡ Some (bytes, new)
-taken-some most old new field bytes at read = rw (at, read) refl
-
-pub not-empty : (n : ℕ) → (n == 0) ≡ false → 0 < n
+not-empty : (n : ℕ) → (n == 0) ≡ false → 0 < n
 not-empty zero e = cc
 not-empty (suc n) e = omega arith
+
+-- the first field, and what is parsed from it
+taken-none : (most : ℕ) (old new : List (List ℕ)) (field : List ℕ) → old ≡ field ∷ new → bytes_at most field ≡ None → first_read (bytes_at most) old ≡ None
+taken-none most old new field at read = rw (at, read) refl
+
+taken-some : (most : ℕ) (old new : List (List ℕ)) (field bytes : List ℕ) → old ≡ field ∷ new → bytes_at most field ≡ Some bytes → first_read (bytes_at most) old ≡ Some (bytes, new)
+taken-some most old new field bytes at read = rw (at, read) refl
+
+-- a first field that is neither a dash nor bytes
+pub no-bytes : (most : ℕ) (old : List (List ℕ)) → ((rest : List (List ℕ)) → old ≡ codes "-" ∷ rest → ⊥) →
+    ((bytes : List ℕ) (rest : List (List ℕ)) → AreBytes bytes → length bytes ≤ most → old ≡ spelled bytes ∷ rest → ⊥) → first_read (bytes_at most) old ≡ None
+no-bytes most [] other never = refl
+no-bytes most (field ∷ rest) other never =
+    taken-none most (field ∷ rest) rest field refl (read-none most field (dash (bytes_eq field (codes "-")) refl) (λ bytes all fits is. never bytes rest all fits (ap (λ (f : List ℕ). f ∷ rest) is)))
+  where
+    dash : (t : Bool) → bytes_eq field (codes "-") ≡ t → t ≡ false
+    dash false is = refl
+    dash true is = absurd (other rest (ap (λ (f : List ℕ). f ∷ rest) ((bytes_eq-Decides field (codes "-")).0 is)))
+
+some : (n : ℕ) → (suc n == 0) ≡ true → ⊥
+some n e = let zero : suc n ≡ 0 = (Decides-eqb (suc n) 0).0 e in omega (arith, zero)
+
+-- bytes, unless there are none
+pub takes-bytes : (most : ℕ) (old new : List (List ℕ)) (out : ArrayVec ℕ) (empty : Bool) → empty ≡ (length out.items == 0) → (old ≡ spelled out.items ∷ new) × AreBytes out.items →
+    length out.items ≤ most → TakesBytes most (if not empty then Some out else None) old new
+takes-bytes most old new out true is h fits = none out.items (sym is) h.0
+  where
+    none : (bytes : List ℕ) → (length bytes == 0) ≡ true → old ≡ spelled bytes ∷ new → first_read (bytes_at most) old ≡ None
+    none [] e at = taken-none most old new [] at refl
+    none (b ∷ bytes) e at = absurd (some (length bytes) e)
+takes-bytes most old new out false is h fits =
+    taken-some most old new (spelled out.items) out.items h.0 (read-bytes most (spelled out.items) out.items (record { same = refl; all = h.1 }) (not-empty (length out.items) (sym is)) fits)
+
+-- what was decoded, if anything was
+pub decoded : (r : Option (Unit {0})) (P Q : Type 0) → true ≡ is_some r → MatchOption r P (λ _. Q) → Q
+decoded None P Q e h = cc
+decoded (Some u) P Q e h = h
+
+pub not-decoded : (r : Option (Unit {0})) (P Q : Type 0) → false ≡ is_some r → MatchOption r P (λ _. Q) → P
+not-decoded None P Q e h = h
+not-decoded (Some u) P Q e h = cc

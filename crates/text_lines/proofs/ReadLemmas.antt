@@ -361,6 +361,40 @@ says-item Summary h = refl
 pub event-item : (fs : Fields) (event : Event) → parse_event fs ≡ Some event → parse_item fs ≡ Some (Performs event)
 event-item fs event e = let h = event-says fs event e in ap parse_item h.same ∙ says-item (Performs event) h.fits
 
+-- some fields whose first is not this word
+abbrev pub IsOther : List ℕ → Fields → Type 0
+IsOther word fields = (rest : Fields) → fields ≡ word ∷ rest → ⊥
+
+pub other-word : (word key : List ℕ) (rest : Fields) → IsOther key (word ∷ rest) → bytes_eq word key ≡ false
+other-word word key rest other = by (bytes_eq word key) refl
+  where
+    by : (t : Bool) → bytes_eq word key ≡ t → t ≡ false
+    by false e = refl
+    by true e = absurd (other rest (ap (λ (w : List ℕ). w ∷ rest) ((bytes_eq-Decides word key).0 e)))
+
+-- fields that begin with no event's word
+pub no-event : (fields : Fields) → IsOther (codes "open") fields → IsOther (codes "close") fields → IsOther (codes "write") fields → IsOther (codes "read") fields → IsOther (codes "post") fields → IsOther (codes "signal") fields → IsOther (codes "assert") fields → IsOther (codes "absorb") fields →
+    IsOther (codes "store") fields → IsOther (codes "load") fields → IsOther (codes "tick") fields → IsOther (codes "take") fields → IsOther (codes "suspend") fields → IsOther (codes "resume") fields → IsOther (codes "reset") fields → parse_event fields ≡ None
+no-event [] not_open not_close not_write not_read not_post not_signal not_assert not_absorb not_store not_load not_tick not_take not_suspend not_resume not_reset = refl
+no-event (word ∷ rest) not_open not_close not_write not_read not_post not_signal not_assert not_absorb not_store not_load not_tick not_take not_suspend not_resume not_reset =
+    rw (
+      other-word word (codes "open") rest not_open,
+      other-word word (codes "close") rest not_close,
+      other-word word (codes "write") rest not_write,
+      other-word word (codes "read") rest not_read,
+      other-word word (codes "post") rest not_post,
+      other-word word (codes "signal") rest not_signal,
+      other-word word (codes "assert") rest not_assert,
+      other-word word (codes "absorb") rest not_absorb,
+      other-word word (codes "store") rest not_store,
+      other-word word (codes "load") rest not_load,
+      other-word word (codes "tick") rest not_tick,
+      other-word word (codes "take") rest not_take,
+      other-word word (codes "suspend") rest not_suspend,
+      other-word word (codes "resume") rest not_resume,
+      other-word word (codes "reset") rest not_reset,
+    ) refl
+
 pub reading-means : (line : List ℕ) (item : Item) → (item_at line ≡ Some item) ↔ Denotes line item
 unfolding item_at
 reading-means line item = (

@@ -4,7 +4,7 @@ ghost use Rattle.text_lines.specs.Reading.{TakesNumber, TakesBytes, u8_at, u16_a
 
 use arrayvec::ArrayVec;
 use board_terms::{Ticket, Vector};
-use text_base::{Fields, byte_of, bytes_of, is_word};
+use text_base::{Fields, byte_of};
 
 /// A decimal number up to 255.
 #[inline(always)]
@@ -92,17 +92,9 @@ pub(crate) fn read_bytes<const N: usize>(
     requires { bytes.old.items ≡ [] }
     ensures { TakesBytes N (if result then Some bytes.new else None) fields.old fields.new }
 {
-    let Some(field) = fields.next() else {
-        return false;
-    };
-    if is_word(field, b"-") {
+    if let Some(rest) = fields.after(b"-") {
+        *fields = rest;
         return true;
     }
-    if !bytes_of(field, bytes) {
-        return false;
-    }
-    if bytes.as_slice().is_empty() {
-        return false;
-    }
-    true
+    fields.bytes(bytes).is_some() && !bytes.as_slice().is_empty()
 }

@@ -25,7 +25,7 @@ use Rattle.text_lines.proofs.WrittenLemmas.{bytes-plain, bytes-short, event-plai
 use Rattle.text_trace.specs.declared.format.Format.{Format}
 use Rattle.text_trace.specs.declared.format.Format.TheVariants.{One, Two, Three, Four}
 use Rattle.text_trace.specs.Trace.{IsEntry, is_reset, has_line, may_open, title_fields, entry_fields, end_fields}
-use Rattle.text_trace.specs.inside.Stages.{has_word, with_line, parse_entry, entry_at, Board, within_limits, parse_board, board_at}
+use Rattle.text_trace.specs.inside.Stages.{has_fields, with_line, parse_entry, entry_at, Board, within_limits, parse_board, board_at}
 use Rattle.synic_board.specs.Replies.{IsReply}
 
 vector-plain : (vector : Option ℕ) → IsPlain (vector_or_none vector)
@@ -113,17 +113,17 @@ reset-word (OpenPort port vp sint (Messages buffers)) = refl
 reset-word (OpenPort port vp sint (Flags base count)) = refl
 reset-word event = refl
 
--- so the first word of an event says whether the event has a line
-pub word-line : (f : Format) (word : List ℕ) (fields : Fields) →
-    option_and_then (with_line f) (parse_event (word ∷ fields)) ≡ cond (has_word f word) (parse_event (word ∷ fields)) None
-word-line f word fields = by f (parse_event (word ∷ fields)) refl
-  where
-    none : (t : Bool) (o : Option Event) → o ≡ None → o ≡ cond t o None
-    none true o is = refl
-    none false o is = is
+no-event-line : (t : Bool) (o : Option Event) → o ≡ None → o ≡ cond t o None
+no-event-line true o is = refl
+no-event-line false o is = is
 
-    by : (f : Format) (o : Option Event) → parse_event (word ∷ fields) ≡ o → option_and_then (with_line f) o ≡ cond (has_word f word) o None
-    by f None is = none (has_word f word) None refl
+-- so the first word of an event says whether the event has a line
+fields-line : (f : Format) (fields : Fields) → option_and_then (with_line f) (parse_event fields) ≡ cond (has_fields f fields) (parse_event fields) None
+fields-line f [] = no-event-line (has_fields f []) None refl
+fields-line f (word ∷ fields) = by f (parse_event (word ∷ fields)) refl
+  where
+    by : (f : Format) (o : Option Event) → parse_event (word ∷ fields) ≡ o → option_and_then (with_line f) o ≡ cond (has_fields f (word ∷ fields)) o None
+    by f None is = no-event-line (has_fields f (word ∷ fields)) None refl
     by One (Some e) is =
         let same : is_reset e ≡ bytes_eq word (codes "reset") =
         sym (reset-word e) ∙ ap (λ (fs : Fields). bytes_eq (get_or fs 0 []) (codes "reset")) (sym (event-says (word ∷ fields) e is).same) in
@@ -131,13 +131,11 @@ word-line f word fields = by f (parse_event (word ∷ fields)) refl
     by f (Some e) is = refl
 
 -- the event of a line, from the fields after the actor's number
-pub entry-word : (f : Format) (line : List ℕ) (actor : ℕ) (more : Fields) (word : List ℕ) (rest : Fields) →
-    first_read u8_at (fields_of line) ≡ Some (actor, more) → more ≡ word ∷ rest → entry_at f line ≡ cond (has_word f word) (parse_event (word ∷ rest)) None
+pub entry-after : (f : Format) (line : List ℕ) (actor : ℕ) (more : Fields) → first_read u8_at (fields_of line) ≡ Some (actor, more) →
+    entry_at f line ≡ cond (has_fields f more) (parse_event more) None
 unfolding entry_at
-entry-word f line actor more word rest read is =
-    ap (λ (r : Option (ℕ × Fields)). option_and_then (with_line f) (option_and_then (λ (p : ℕ × Fields). parse_event p.1) r)) read
-    ∙ ap (λ (fs : Fields). option_and_then (with_line f) (parse_event fs)) is
-    ∙ word-line f word rest
+entry-after f line actor more read =
+    ap (λ (r : Option (ℕ × Fields)). option_and_then (with_line f) (option_and_then (λ (p : ℕ × Fields). parse_event p.1) r)) read ∙ fields-line f more
 
 -- an end is no entry
 end-first : (f : Format) (n next : ℕ) (fields : Fields) (word : List ℕ) → end_fields f n next ≡ word ∷ fields → codes "end" ≡ word

@@ -1,9 +1,9 @@
 // The formats of a trace.
 ghost use Rattle.std.specs.Prelude.{◌≡◌};
 ghost use Rattle.text_trace.specs.Trace.{may_open};
-ghost use Rattle.text_trace.specs.inside.Stages.{has_word};
+ghost use Rattle.text_trace.specs.inside.Stages.{has_fields};
 
-use text_base::is_word;
+use text_base::Fields;
 
 /// The formats of a trace, named by its first line. All but format 1 have lines for resets of a
 /// processor, and their last line has the next ticket. Format 3 has an image in place of the board
@@ -17,12 +17,12 @@ pub enum Format {
 }
 
 impl Format {
-    /// Whether an event whose line begins with this word has a line in this format.
-    pub(crate) fn has_word(self, word: &[u8]) -> bool
-        ensures { result ≡ has_word self word.now }
+    /// Whether an event whose line has these fields has a line in this format.
+    pub(crate) fn has_fields(self, fields: &Fields<'_>) -> bool
+        ensures { result ≡ has_fields self fields.now }
     {
         match self {
-            Format::One => !is_word(word, b"reset"),
+            Format::One => fields.after(b"reset").is_none(),
             Format::Two | Format::Three | Format::Four => true,
         }
     }

@@ -264,7 +264,8 @@ fn is_reply(reply: &Reply, line: &[u8], out: &mut Vec<u8>) -> Result<bool, Alloc
 {
     out.clear();
     put_reply(out, reply)?;
-    Ok(line == out.as_slice())
+    let text = out.as_slice();
+    Ok(line == &text[..text.len() - 1])
 }
 
 /// Whether a line is the end line after that many entries, with this next ticket.
@@ -298,9 +299,8 @@ fn perform_entry(
 {
     let mut fields = Fields::new(line);
     u8_of(&mut fields)?;
-    let word = fields.next()?;
-    if !format.has_word(word) {
+    if !format.has_fields(&fields) {
         return None;
     }
-    perform_event(word, &mut fields, board, notices)
+    perform_event(&fields, board, notices)
 }

@@ -1,12 +1,22 @@
--- A number at the front of a text.
-use Rattle.std.specs.Prelude.{◌≡◌, ◌≤◌, length, take, get_or, ◌∷◌, [], ℕ, List, Option, None, Some, false, ◌<◌}
+-- A number, or bytes, at the front of a text.
+use Rattle.std.specs.Prelude.{◌≡◌, ◌≤◌, length, take, get_or, ◌∷◌, [], ℕ, List, Option, None, Some, false, ◌<◌, ◌==◌}
 use Rattle.std.specs.Fmt.{digits}
+use Rattle.std.specs.List.{All}
 use Rattle.text_base.specs.Fields.{fields_of}
+use Rattle.text_base.specs.Numbers.{spelled, AreBytes}
 use Rattle.std.specs.Borrow.{Bor}
 
 -- the first `count` bytes denote the number, and a space or the end of the text follows
 abbrev pub IsFront : ℕ → List ℕ → ℕ → ℕ → Type 0
 IsFront base text n count = (count ≤ length text) × (take count text ≡ digits base false n) × (count < length text → get_or text count 0 ≡ 32)
+
+-- the first `count` bytes spell these bytes, and a space or the end of the text follows
+abbrev pub IsBytesFront : List ℕ → List ℕ → ℕ → Type 0
+IsBytesFront text bytes count = (count ≤ length text) × (take count text ≡ spelled bytes) × (count < length text → get_or text count 0 ≡ 32) × AreBytes bytes
+
+-- the first field ends there
+abbrev pub IsFieldEnd : List ℕ → ℕ → Type 0
+IsFieldEnd text end = (end ≤ length text) × All (λ (b : ℕ). b == 32 ≡ false) (take end text) × (end < length text → get_or text end 0 ≡ 32)
 
 -- the fields of the rest of a line, if there is a rest
 abbrev pub fields_left : Option (Bor (List ℕ)) → List (List ℕ)

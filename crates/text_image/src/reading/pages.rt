@@ -7,7 +7,7 @@ ghost use Rattle.text_image.specs.inside.Taking.{Takes, TakesBlock};
 use crate::piece::{Block, Piece};
 use arrayvec::ArrayVec;
 use board_terms::Kind;
-use text_base::{Fields, bytes_of, is_word};
+use text_base::{Fields, is_word};
 use text_lines::u8_of;
 
 pub(crate) fn guest_of(fields: &mut Fields<'_>) -> Option<Piece>
@@ -66,11 +66,8 @@ fn offset_of(fields: &mut Fields<'_>) -> Option<u16>
 fn block_of(fields: &mut Fields<'_>) -> Option<Block>
     ensures { TakesBlock result fields.old fields.new }
 {
-    let field = fields.next()?;
     let mut bytes = ArrayVec::new();
-    if !bytes_of(field, &mut bytes) {
-        return None;
-    }
+    fields.bytes(&mut bytes)?;
     if !bytes.is_full() {
         return None;
     }

@@ -6,7 +6,7 @@ ghost use Rattle.text_lines.specs.Printing.{notice_fields, text_of};
 
 use board_terms::{Notice, Sint, Ticket, Vp};
 use std::alloc::AllocError;
-use text_base::{ROOM, byte_before, decimal_before, text_before};
+use text_base::{ROOM, byte_before, decimal_before, digit_before, small_before, text_before};
 
 /// Appends a line for each notice to `out`.
 #[inline(always)]
@@ -29,31 +29,15 @@ fn put_notice(out: &mut Vec<u8>, notice: &Notice) -> Result<(), AllocError>
         Notice::Placed { ticket, vp, sint } => put_message(out, b". placed ", ticket, vp, sint),
         Notice::Pending { vp, sint } => put_source(out, b". pending ", vp, sint),
         Notice::Requested { vp, vector } => put_request(out, b". requested ", vp, vector.number()),
-        Notice::FlagSet { vp, sint, flag } => put_numbers(
-            out,
-            b". flag ",
-            u64::from(vp.number()),
-            u64::from(sint.number()),
-            u64::from(flag),
-        ),
+        Notice::FlagSet { vp, sint, flag } => {
+            put_numbers(out, b". flag ", vp, sint.number(), u64::from(flag))
+        }
         Notice::Consumed { ticket, vp, sint } => put_message(out, b". consumed ", ticket, vp, sint),
         Notice::Withdrawn { ticket, vp, sint } => {
             put_message(out, b". withdrawn ", ticket, vp, sint)
         }
-        Notice::Expired { vp, index, due } => put_numbers(
-            out,
-            b". expired ",
-            u64::from(vp.number()),
-            u64::from(index),
-            due,
-        ),
-        Notice::Skipped { vp, index, count } => put_numbers(
-            out,
-            b". skipped ",
-            u64::from(vp.number()),
-            u64::from(index),
-            count,
-        ),
+        Notice::Expired { vp, index, due } => put_numbers(out, b". expired ", vp, index, due),
+        Notice::Skipped { vp, index, count } => put_numbers(out, b". skipped ", vp, index, count),
     }
 }
 
@@ -66,37 +50,39 @@ fn put_message<const N: usize>(
     vp: Vp,
     sint: Sint,
 ) -> Result<(), AllocError>
-    requires { N ≤ 32 }
+    requires { N ≤ 16 }
     ensures { OnOk result (out.new.items ≡ out.old.items ++ (head.now ++ line_of (decimal ticket ∷ decimal vp ∷ decimal sint ∷ []))) }
 {
-    put_numbers(
-        out,
-        head,
-        ticket,
-        u64::from(vp.number()),
-        u64::from(sint.number()),
-    )
+    let mut room = [0u8; ROOM];
+    let at = text_before(&mut room, ROOM, b"\n");
+    let at = small_before(&mut room, at, sint.number());
+    let at = text_before(&mut room, at, b" ");
+    let at = digit_before(&mut room, at, vp.number());
+    let at = text_before(&mut room, at, b" ");
+    let at = decimal_before(&mut room, at, ticket);
+    let at = text_before(&mut room, at, head);
+    out.extend_from_slice(&room[at..])
 }
 
-/// Appends a line that ends in three numbers.
+/// Appends the line of a notice with a processor, the number of its source or timer, and a value.
 #[inline(always)]
 fn put_numbers<const N: usize>(
     out: &mut Vec<u8>,
     head: &[u8; N],
-    first: u64,
-    second: u64,
-    third: u64,
+    vp: Vp,
+    number: u8,
+    value: u64,
 ) -> Result<(), AllocError>
-    requires { N ≤ 32 }
-    ensures { OnOk result (out.new.items ≡ out.old.items ++ (head.now ++ line_of (decimal first ∷ decimal second ∷ decimal third ∷ []))) }
+    requires { N ≤ 16 }
+    ensures { OnOk result (out.new.items ≡ out.old.items ++ (head.now ++ line_of (decimal vp ∷ decimal number ∷ decimal value ∷ []))) }
 {
     let mut room = [0u8; ROOM];
     let at = text_before(&mut room, ROOM, b"\n");
-    let at = decimal_before(&mut room, at, third);
+    let at = decimal_before(&mut room, at, value);
     let at = text_before(&mut room, at, b" ");
-    let at = decimal_before(&mut room, at, second);
+    let at = small_before(&mut room, at, number);
     let at = text_before(&mut room, at, b" ");
-    let at = decimal_before(&mut room, at, first);
+    let at = digit_before(&mut room, at, vp.number());
     let at = text_before(&mut room, at, head);
     out.extend_from_slice(&room[at..])
 }
@@ -109,14 +95,14 @@ fn put_source<const N: usize>(
     vp: Vp,
     sint: Sint,
 ) -> Result<(), AllocError>
-    requires { N ≤ 32 }
+    requires { N ≤ 16 }
     ensures { OnOk result (out.new.items ≡ out.old.items ++ (head.now ++ line_of (decimal vp ∷ decimal sint ∷ []))) }
 {
     let mut room = [0u8; ROOM];
     let at = text_before(&mut room, ROOM, b"\n");
-    let at = decimal_before(&mut room, at, u64::from(sint.number()));
+    let at = small_before(&mut room, at, sint.number());
     let at = text_before(&mut room, at, b" ");
-    let at = decimal_before(&mut room, at, u64::from(vp.number()));
+    let at = digit_before(&mut room, at, vp.number());
     let at = text_before(&mut room, at, head);
     out.extend_from_slice(&room[at..])
 }
@@ -129,14 +115,14 @@ fn put_request<const N: usize>(
     vp: Vp,
     vector: u8,
 ) -> Result<(), AllocError>
-    requires { N ≤ 32 }
+    requires { N ≤ 16 }
     ensures { OnOk result (out.new.items ≡ out.old.items ++ (head.now ++ line_of (decimal vp ∷ two_digits vector ∷ []))) }
 {
     let mut room = [0u8; ROOM];
     let at = text_before(&mut room, ROOM, b"\n");
     let at = byte_before(&mut room, at, vector);
     let at = text_before(&mut room, at, b" ");
-    let at = decimal_before(&mut room, at, u64::from(vp.number()));
+    let at = digit_before(&mut room, at, vp.number());
     let at = text_before(&mut room, at, head);
     out.extend_from_slice(&room[at..])
 }

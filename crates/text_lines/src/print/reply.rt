@@ -1,41 +1,78 @@
 // Prints replies.
-ghost use Rattle.std.specs.Prelude.{◌≡◌, ◌++◌, OnOk};
-ghost use Rattle.text_base.specs.Fields.{spaced};
+ghost use Rattle.std.specs.Prelude.{◌≡◌, ◌++◌, ◌≤◌, ◌∷◌, [], OnOk, codes, decimal};
+ghost use Rattle.text_base.specs.Fields.{line_of};
+ghost use Rattle.text_base.specs.Numbers.{two_digits};
+ghost use Rattle.text_lines.specs.Events.{bytes_text};
 ghost use Rattle.text_lines.specs.Printing.{reply_fields};
 
-use crate::print::{put, put_data, put_vector};
+use crate::print::put;
+use board_terms::{Bytes8, Ticket};
 use std::alloc::AllocError;
 use synic_board::Reply;
-use text_base::{put_decimal, put_hex};
+use text_base::{ROOM, bytes_before, decimal_before, digits_of, put_decimal, put_hex, text_before};
 
-/// Appends a reply to `out`, without a line feed.
+/// Appends the line of a reply to `out`.
 pub fn put_reply(out: &mut Vec<u8>, reply: &Reply) -> Result<(), AllocError>
-    ensures { OnOk result (out.new.items ≡ out.old.items ++ spaced (reply_fields reply.now)) }
+    ensures { OnOk result (out.new.items ≡ out.old.items ++ line_of (reply_fields reply.now)) }
 {
     match reply {
-        Reply::Done => put(out, b"= done"),
+        Reply::Done => put(out, b"= done\n"),
         Reply::Value(value) => {
             put(out, b"= value ")?;
-            put_hex(out, *value)
+            put_hex(out, *value)?;
+            put(out, b"\n")
         }
-        Reply::Bytes(bytes) => {
-            put(out, b"= bytes ")?;
-            put_data(out, bytes.as_slice())
-        }
-        Reply::Taken(vector) => {
-            put(out, b"= taken ")?;
-            put_vector(out, *vector)
-        }
-        Reply::Accepted(ticket) => {
-            put(out, b"= accepted ")?;
-            put_decimal(out, *ticket)
-        }
-        Reply::FlagWasClear => put(out, b"= clear"),
-        Reply::FlagWasSet => put(out, b"= set"),
-        Reply::GeneralProtection => put(out, b"= general protection"),
+        Reply::Bytes(bytes) => put_loaded(out, bytes),
+        Reply::Taken(Some(vector)) => put_taken(out, vector.number()),
+        Reply::Taken(None) => put(out, b"= taken none\n"),
+        Reply::Accepted(ticket) => put_accepted(out, *ticket),
+        Reply::FlagWasClear => put(out, b"= clear\n"),
+        Reply::FlagWasSet => put(out, b"= set\n"),
+        Reply::GeneralProtection => put(out, b"= general protection\n"),
         Reply::Refused(refusal) => {
             put(out, b"= refused ")?;
-            put_decimal(out, refusal.number())
+            put_decimal(out, refusal.number())?;
+            put(out, b"\n")
         }
     }
+}
+
+/// Appends the line of the vector that was taken.
+#[inline(always)]
+fn put_taken(out: &mut Vec<u8>, vector: u8) -> Result<(), AllocError>
+    ensures { OnOk result (out.new.items ≡ out.old.items ++ line_of (codes "=" ∷ codes "taken" ∷ two_digits vector ∷ [])) }
+{
+    let [high, low] = digits_of(vector);
+    let mut line = *b"= taken ..\n";
+    line[8] = high;
+    line[9] = low;
+    put(out, &line)
+}
+
+/// Appends the line of the ticket of an accepted message.
+#[inline(always)]
+fn put_accepted(out: &mut Vec<u8>, ticket: Ticket) -> Result<(), AllocError>
+    ensures { OnOk result (out.new.items ≡ out.old.items ++ line_of (codes "=" ∷ codes "accepted" ∷ decimal ticket ∷ [])) }
+{
+    let mut room = [0u8; ROOM];
+    let at = text_before(&mut room, ROOM, b"\n");
+    let at = decimal_before(&mut room, at, ticket);
+    let at = text_before(&mut room, at, b"= accepted ");
+    put(out, &room[at..])
+}
+
+/// Appends the line of the bytes that were loaded.
+#[inline(always)]
+fn put_loaded(out: &mut Vec<u8>, bytes: &Bytes8) -> Result<(), AllocError>
+    ensures { OnOk result (out.new.items ≡ out.old.items ++ line_of (codes "=" ∷ codes "bytes" ∷ bytes_text bytes.now.items ∷ [])) }
+{
+    let bytes = bytes.as_slice();
+    if bytes.is_empty() {
+        return put(out, b"= bytes -\n");
+    }
+    let mut room = [0u8; ROOM];
+    let at = text_before(&mut room, ROOM, b"\n");
+    let at = bytes_before(&mut room, at, bytes);
+    let at = text_before(&mut room, at, b"= bytes ");
+    put(out, &room[at..])
 }

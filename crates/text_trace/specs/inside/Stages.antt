@@ -34,10 +34,10 @@ pub data Stage : Type 0 where
   -- nothing, after that many entries
   Over : ℕ → Stage
 
--- an event whose line begins with this word has a line in the format
-abbrev pub has_word : Format → List ℕ → Bool
-has_word One word = not (bytes_eq word (codes "reset"))
-has_word f word = true
+-- an event whose line has these fields has a line in the format
+abbrev pub has_fields : Format → Fields → Bool
+has_fields One (word ∷ fields) = not (bytes_eq word (codes "reset"))
+has_fields f fields = true
 
 -- the event of the fields after an actor's number, which may be any, if it has a line in the format
 abbrev pub with_line : Format → Event → Option Event

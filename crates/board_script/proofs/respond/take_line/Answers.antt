@@ -1,4 +1,4 @@
-use Rattle.std.proofs.Common.{◌∷◌, ◌++◌, Some, Option, List, ℕ, ap, sym, refl, subst, ◌∙◌}
+use Rattle.std.proofs.Common.{◌++◌, Some, Option, List, ℕ, ap, sym, refl, subst, ◌∙◌}
 use Rattle.board_terms.specs.declared.notices.Notice.{Notice}
 use Rattle.synic_board.specs.Effects.{Outcome}
 use Rattle.text_lines.specs.Items.{Item}
@@ -8,13 +8,14 @@ use Rattle.board_script.specs.inside.Judging.{AnswersItem}
 use Rattle.text_driver.specs.declared.judge.Taken.TheVariants.{Good}
 use Rattle.board_script.proofs.respond.take_line.Goals as goal
 
-pub returns-in-Ok-put_outcome : goal.returns-in-Ok-put_outcome
-returns-in-Ok-put_outcome c =
-    let event = c.in-Some.ensures.0 in
-    let is = c.in-Some.ensures.2.step in
-    let s = c.perform_event.new.board.state in
-    let item = event-item (c.args.word.now ∷ c.args.fields.now) event c.in-Some.ensures.1 in
+pub returns-in-Ok : goal.returns-in-Ok
+returns-in-Ok c =
+    let performs = rw c.in-Some.is at c.perform_event-performed.ensures in
+    let event = performs.0 in
+    let is = performs.2.step in
+    let s = c.perform_event-performed.new.board.state in
+    let item = event-item c.args.fields.now event performs.1 in
     let told = ap (λ (ns : List Notice). outcome_text (s, c.in-Some.reply, ns)) c.as_slice.ensures.value ∙ ap (λ (o : Outcome). outcome_text o) is in
-    let written = c.in-Ok-put_outcome.ensures s ∙ ap (λ (out : List ℕ). out ++ outcome_text (s, c.in-Some.reply, c.as_slice.result.now)) c.requires ∙ told in
+    let written = c.in-Ok.ensures ∙ ap (λ (out : List ℕ). out ++ outcome_text (s, c.in-Some.reply, c.as_slice.result.now)) c.requires ∙ told in
     subst (λ (r : Option Item). AnswersItem Good r (Some c.args.board.now.state) (Some s) c.put_outcome.new.out.items) (sym item)
     (refl, ap (λ (o : Outcome). Some o.0) is, written)

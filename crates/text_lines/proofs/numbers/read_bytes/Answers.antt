@@ -1,15 +1,14 @@
-use Rattle.std.proofs.Common.{sym, ap, length, arith}
-use Rattle.text_lines.proofs.ByteFields.{read-none, read-bytes, taken-none, taken-some, not-empty}
+use Rattle.std.proofs.Common.{length, sym, ap, ◌∙◌, ◌==◌, ℕ, List, None, Some, if◌then◌else◌, Bool, Option, subst, arith}
+use Rattle.arrayvec.specs.ArrayVec.{ArrayVec}
+use Rattle.text_lines.specs.Reading.{TakesBytes}
+use Rattle.text_lines.proofs.ByteFields.{no-bytes, takes-bytes, decoded, not-decoded}
 use Rattle.text_lines.proofs.numbers.read_bytes.Goals as goal
 
-pub returns-then-not-bytes_of : goal.returns-then-not-bytes_of
-returns-then-not-bytes_of g c = taken-none g.row.N _ c.next.new.self c.in-Some.field.now c.in-Some.ensures (read-none g.row.N c.in-Some.field.now (sym c.if-is_word.ensures) c.if-not-bytes_of.ensures)
+pub returns-then-is_some : goal.returns-then-is_some
+returns-then-is_some g c =
+    let items = c.as_slice.ensures.value in
+    takes-bytes g.row.N c.args.fields.now c.bytes.new.self c.bytes.new.out c.is_empty.result (c.is_empty.ensures ∙ ap (λ (bytes : List ℕ). length bytes == 0) items)
+    (decoded c.bytes.result _ _ c.if-is_some.ensures c.bytes.ensures) (omega (arith, c.as_slice.ensures.fits, ap length items))
 
-pub returns : goal.returns
-returns g c =
-    let spelled = c.if-not-bytes_of.ensures in
-    let items = ap length c.as_slice.ensures.value in
-    let some = not-empty (length c.as_slice.result.now) (sym c.if-is_empty.ensures) in
-    let bound = c.as_slice.ensures.fits in
-    taken-some g.row.N _ c.next.new.self c.in-Some.field.now c.bytes_of.new.out.items c.in-Some.ensures
-    (read-bytes g.row.N c.in-Some.field.now c.bytes_of.new.out.items (record { same = spelled.0; all = spelled.1 }) (omega (arith, some, items)) (omega (arith, bound, items)))
+pub returns-else-is_some : goal.returns-else-is_some
+returns-else-is_some g c = rw c.if-is_some.false (no-bytes g.row.N c.args.fields.now c.in_default.ensures.none (not-decoded c.bytes.result _ _ c.if-is_some.ensures c.bytes.ensures))
