@@ -24,12 +24,12 @@ no_spaces : (text : List ℕ) → IsPlain text → All (λ (x : ℕ). nat_eq x 3
 no_spaces [] h = All-nil (λ (x : ℕ). nat_eq x 32 ≡ false)
 no_spaces (x ∷ xs) h = All-cons (λ (x : ℕ). nat_eq x 32 ≡ false) x xs (ne_eqb x 32 (λ e. let low = h.0 in omega arith)) (no_spaces xs h.1)
 
--- the first field ends behind a number
+-- the first field ends after a number
 pub number-end : (text : List ℕ) (base n count : ℕ) → IsFront base text n count → IsFieldEnd text count
 number-end text base n count front =
     (front.0, subst (λ (field : List ℕ). All (λ (x : ℕ). nat_eq x 32 ≡ false) field) (sym front.1) (no_spaces (digits base false n) (digits-plain base n)), front.2)
 
--- and behind bytes in two digits each
+-- and after bytes in two digits each
 pub bytes-end : (text bytes : List ℕ) (count : ℕ) → IsBytesFront text bytes count → IsFieldEnd text count
 bytes-end text bytes count front =
     (front.0, subst (λ (field : List ℕ). All (λ (x : ℕ). nat_eq x 32 ≡ false) field) (sym front.1) (no_spaces (spelled bytes) (spelled-plain bytes)), front.2)
@@ -61,7 +61,7 @@ one_field (x ∷ xs) e = go (nat_eq x 32) refl e (λ one. one_field xs one)
     go true is e rest = cc
     go false is e rest = All-cons (λ (y : ℕ). nat_eq y 32 ≡ false) x xs is (rest (onto_one x xs (fields_of xs) (some_field xs) e))
 
--- and behind a word
+-- and after a word
 pub word-end : (text word : List ℕ) → fields_of word ≡ word ∷ [] → length word ≤ length text → take (length word) text ≡ word →
     (length word < length text → get_or text (length word) 0 ≡ 32) → IsFieldEnd text (length word)
 word-end text word one within is space = (within, subst (λ (front : List ℕ). All (λ (x : ℕ). nat_eq x 32 ≡ false) front) (sym is) (one_field word one), space)

@@ -68,7 +68,7 @@ impl<'a> Fields<'a> {
         Fields { rest: Some(line) }
     }
 
-    /// The fields behind the first one, which ends at `end`.
+    /// The fields after the first one, which ends at `end`.
     #[inline(always)]
     fn behind(text: &'a [u8], end: usize) -> Fields<'a>
         requires { IsFieldEnd text.now end }
@@ -104,7 +104,7 @@ impl<'a> Fields<'a> {
         Some(&rest[..end])
     }
 
-    /// The fields behind the next one, if that is this word, which has no space.
+    /// The fields after the next one, if that is this word, which has no space.
     #[inline(always)]
     pub fn after<const N: usize>(&self, word: &[u8; N]) -> Option<Fields<'a>>
         requires { fields_of word.now ≡ word.now ∷ [] }
