@@ -73,6 +73,7 @@ fn open_sized(
 }
 
 /// Takes the line of an event or the line `summary`.
+#[inline(always)]
 fn take_line(
     board: &mut Board,
     fields: &Fields<'_>,
@@ -84,7 +85,6 @@ fn take_line(
 {
     // README text_lines: begin
     let performed = perform_event(fields, board, notices);
-    // README text_lines: end
     // By reference, since a reply that is moved is copied.
     let Some(reply) = &performed else {
         return take_summary(board, fields, out);
@@ -93,6 +93,7 @@ fn take_line(
         Ok(()) => Taken::Good,
         Err(_) => Taken::Memory,
     }
+    // README text_lines: end
 }
 
 /// Takes the line `summary`, or a line that has no event.

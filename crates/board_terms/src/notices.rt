@@ -16,9 +16,9 @@ pub const ROOM: usize = 320;
 #[derive(Clone, Copy, PartialEq, Eq, Debug)]
 pub enum Notice {
     /// A message was appended to its queue.
-    Accepted { ticket: Ticket, vp: Vp, sint: Sint },
+    Accepted { vp: Vp, sint: Sint, ticket: Ticket },
     /// The head of a queue was written into its slot.
-    Placed { ticket: Ticket, vp: Vp, sint: Sint },
+    Placed { vp: Vp, sint: Sint, ticket: Ticket },
     /// A message was placed with MessagePending set, or a clear MessagePending was set in an
     /// occupied slot.
     Pending { vp: Vp, sint: Sint },
@@ -27,10 +27,10 @@ pub enum Notice {
     /// A clear event flag was set. `flag` is the base of the port plus the number signalled.
     FlagSet { vp: Vp, sint: Sint, flag: u16 },
     /// A guest store emptied a slot that held a ticket.
-    Consumed { ticket: Ticket, vp: Vp, sint: Sint },
+    Consumed { vp: Vp, sint: Sint, ticket: Ticket },
     /// A queued message of a closed port, or a queued or placed one of a reset processor, was
     /// withdrawn.
-    Withdrawn { ticket: Ticket, vp: Vp, sint: Sint },
+    Withdrawn { vp: Vp, sint: Sint, ticket: Ticket },
     /// A timer that was due at `due` expired.
     Expired { vp: Vp, index: u8, due: Moment },
     /// A timer skipped `count` of its deadlines, at least one.

@@ -8,20 +8,21 @@ use std::marker::Model;
 /// A synthetic timer: a processor and an index, STIMER0 to STIMER3 (TLFS, "Synthetic Timers").
 #[derive(Clone, Copy, PartialEq, Eq, PartialOrd, Ord, Debug, Default)]
 pub struct TimerId {
-    vp: Vp,
-    index: u8,
+    number: u8,
 }
 
 impl Model for TimerId {
-    ghost use Rattle.std.specs.Prelude.{ℕ, ◌<◌};
+    ghost use Rattle.std.specs.Prelude.{ℕ, ◌<◌, ◌+◌, ◌*◌, ◌/◌};
+    ghost use Rattle.board_terms.specs.Dues.{number_of, timer_of};
 
     ghost Value = { ℕ × ℕ };
 
-    ghost view = { λ a. (a.vp, a.index) };
+    ghost view = { λ a. timer_of a.number };
 
-    ghost invariant = { λ a. a.index < 4 };
+    ghost invariant = { λ a. a.number < 32 };
 
-    ghost inverse = { λ p. record { vp = p.0; index = p.1 } };
+    // of a pair that is no timer, it is a number out of range
+    ghost inverse = { λ t. record { number = number_of t + 32 * (t.1 / 4) } };
 }
 
 impl TimerId {
@@ -31,7 +32,9 @@ impl TimerId {
         ensures value { IfSome result (λ t. t ≡ (vp, index)) }
     {
         if index < 4 {
-            Some(TimerId { vp, index })
+            Some(TimerId {
+                number: 4 * vp.number() + index,
+            })
         } else {
             None
         }
@@ -42,9 +45,10 @@ impl TimerId {
         ensures valid { IsSome result ↔ (number < 32) }
         ensures value { IfSome result (λ t. t ≡ timer_of number) }
     {
-        match Vp::new(number / 4) {
-            Some(vp) => TimerId::new(vp, number % 4),
-            None => None,
+        if number < 32 {
+            Some(TimerId { number })
+        } else {
+            None
         }
     }
 
@@ -52,7 +56,7 @@ impl TimerId {
     pub fn vp(self) -> Vp
         ensures { result ≡ self.0 }
     {
-        self.vp
+        Vp::known(self.number / 4)
     }
 
     /// Its index, 0 to 3.
@@ -60,7 +64,7 @@ impl TimerId {
         ensures value { result ≡ self.1 }
         ensures range { result < 4 }
     {
-        self.index
+        self.number % 4
     }
 
     /// Its number among all timers, 0 to 31: 4 * processor + index.
@@ -68,6 +72,6 @@ impl TimerId {
         ensures value { result ≡ number_of self }
         ensures range { result < 32 }
     {
-        4 * self.vp.number() + self.index
+        self.number
     }
 }

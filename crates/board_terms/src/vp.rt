@@ -34,6 +34,15 @@ impl Vp {
         }
     }
 
+    /// The processor of a number that is in range.
+    #[inline]
+    pub(crate) fn known(number: u8) -> Vp
+        requires { number < 8 }
+        ensures { result ≡ number }
+    {
+        Vp { number }
+    }
+
     /// Its number, 0 to 7.
     pub fn number(self) -> u8
         ensures value { result ≡ self }

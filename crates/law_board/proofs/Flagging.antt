@@ -56,7 +56,7 @@ none-joined xs ys h k p i flag = joined xs ∙ neither (h p i flag) (k p i flag)
     joined [] = refl
     joined (z ∷ zs) = ap (λ b. is_flag_notice p i flag z || b) (joined zs) ∙ or-assoc (is_flag_notice p i flag z) (has_flag_notice p i flag zs) (has_flag_notice p i flag ys)
 
-none-withdrawn : (q j : ℕ) (tickets : List ℕ) → TellNone (map (λ t. Withdrawn t q j) tickets)
+none-withdrawn : (q j : ℕ) (tickets : List ℕ) → TellNone (map (λ t. Withdrawn q j t) tickets)
 none-withdrawn q j [] p i flag = refl
 none-withdrawn q j (t ∷ tickets) p i flag = none-withdrawn q j tickets p i flag
 
@@ -74,7 +74,7 @@ mute = record {
   joins = λ s e f a b. record { none = none-joined e.1 f.1 a.none b.none };
   requests = λ s p v _. record { none = λ _ _ _. refl };
   accepts = λ s p i m. record { none = λ _ _ _. refl };
-  locations = λ s p i m rest _ _. record { none = either (λ ns. TellNone (Placed (ticket_of m) p i ∷ ns)) (nat_lt 0 (length rest)) (Pending p i ∷ []) [] (λ _ _ _ _. refl) (λ _ _ _ _. refl) };
+  locations = λ s p i m rest _ _. record { none = either (λ ns. TellNone (Placed p i (ticket_of m) ∷ ns)) (nat_lt 0 (length rest)) (Pending p i ∷ []) [] (λ _ _ _ _. refl) (λ _ _ _ _. refl) };
   marks = λ s p i. record { none = either TellNone (is_pending (space_of s) p i) [] (Pending p i ∷ []) (λ _ _ _ _. refl) (λ _ _ _ _. refl) };
   consumes = λ s p i t _. record { none = λ _ _ _. refl };
   withdraws = λ s p i port. record { none = none-withdrawn p i (withdrawn_of port (queue_of s.queues p i)) };

@@ -131,18 +131,18 @@ emitted-away a b ticket ne = either (λ o. o ≡ None) (a == b) (Some ticket) No
 
 in-order-accepted : (p i : ℕ) (s : State) (q j : ℕ) (m : Message) → KeepsOrder p i s (accepted s q j m).0 (accepted s q j m).1
 in-order-accepted p i s q j m = moved p i q j s (accepted s q j m).0 (queue_of s.queues q j ++ m ∷ []) (accepted s q j m).1 refl
-    (λ e. let ticket = one (accepted_ticket p i) (Accepted (ticket_of m) q j) (Some (ticket_of m)) (emitted-here (source_number q j) (source_number p i) (ticket_of m) e) in
+    (λ e. let ticket = one (accepted_ticket p i) (Accepted q j (ticket_of m)) (Some (ticket_of m)) (emitted-here (source_number q j) (source_number p i) (ticket_of m) e) in
     equal _ _ (map-append ticket_of (queue_of s.queues q j) (m ∷ []) ∙ ap (λ l. map ticket_of (queue_of s.queues q j) ++ l) (sym ticket)))
-    (λ ne. (refl, one (accepted_ticket p i) (Accepted (ticket_of m) q j) None (emitted-away (source_number q j) (source_number p i) (ticket_of m) ne)))
+    (λ ne. (refl, one (accepted_ticket p i) (Accepted q j (ticket_of m)) None (emitted-away (source_number q j) (source_number p i) (ticket_of m) ne)))
 
 in-order-placed : (p i : ℕ) (s : State) (q j : ℕ) (m : Message) (rest : List Message) → queue_of s.queues q j ≡ m ∷ rest → KeepsOrder p i s (placement s q j m rest).0 (placement s q j m rest).1
 in-order-placed p i s q j m rest is =
-    either (λ more. KeepsOrder p i s (placed_state s q j m rest) (Placed (ticket_of m) q j ∷ more)) (nat_lt 0 (length rest)) (Pending q j ∷ []) []
+    either (λ more. KeepsOrder p i s (placed_state s q j m rest) (Placed q j (ticket_of m) ∷ more)) (nat_lt 0 (length rest)) (Pending q j ∷ []) []
     (λ _. by (Pending q j ∷ []) refl refl) (λ _. by [] refl refl)
   where
-    by : (more : List Notice) → placed_at p i more ≡ [] → accepted_at p i more ≡ [] → KeepsOrder p i s (placed_state s q j m rest) (Placed (ticket_of m) q j ∷ more)
+    by : (more : List Notice) → placed_at p i more ≡ [] → accepted_at p i more ≡ [] → KeepsOrder p i s (placed_state s q j m rest) (Placed q j (ticket_of m) ∷ more)
     by more none no_more =
-        let notice : Notice = Placed (ticket_of m) q j in
+        let notice : Notice = Placed q j (ticket_of m) in
         let after_first : placed_at p i (notice ∷ more) ≡ placed_at p i (notice ∷ []) = filter_map-append (placed_ticket p i) (notice ∷ []) more
         ∙ ap (λ l. placed_at p i (notice ∷ []) ++ l) none ∙ append-nil (placed_at p i (notice ∷ [])) in
         moved p i q j s (placed_state s q j m rest) rest (notice ∷ more) refl
@@ -151,12 +151,12 @@ in-order-placed p i s q j m rest is =
         ∙ ap (λ l. map ticket_of (queue_of s.queues q j) ++ l) (sym no_more)))
         (λ ne. (after_first ∙ one (placed_ticket p i) notice None (emitted-away (source_number q j) (source_number p i) (ticket_of m) ne), no_more))
 
-none-withdrawn : (tells : Notice → Option ℕ) (q j : ℕ) → ((ticket : ℕ) → tells (Withdrawn ticket q j) ≡ None) → (tickets : List ℕ) → filter_map tells (map (λ t. Withdrawn t q j) tickets) ≡ []
+none-withdrawn : (tells : Notice → Option ℕ) (q j : ℕ) → ((ticket : ℕ) → tells (Withdrawn q j ticket) ≡ None) → (tickets : List ℕ) → filter_map tells (map (λ t. Withdrawn q j t) tickets) ≡ []
 none-withdrawn tells q j never [] = refl
 none-withdrawn tells q j never (t ∷ tickets) =
-    let notice : Notice = Withdrawn t q j in
-    filter_map-append tells (notice ∷ []) (map (λ t. Withdrawn t q j) tickets)
-    ∙ ap (λ l. l ++ filter_map tells (map (λ t. Withdrawn t q j) tickets)) (one tells notice None (never t)) ∙ none-withdrawn tells q j never tickets
+    let notice : Notice = Withdrawn q j t in
+    filter_map-append tells (notice ∷ []) (map (λ t. Withdrawn q j t) tickets)
+    ∙ ap (λ l. l ++ filter_map tells (map (λ t. Withdrawn q j t) tickets)) (one tells notice None (never t)) ∙ none-withdrawn tells q j never tickets
 
 in-order-withdrawn : (p i : ℕ) (s : State) (q j port : ℕ) → KeepsOrder p i s (withdrawn s q j port).0 (withdrawn s q j port).1
 in-order-withdrawn p i s q j port =

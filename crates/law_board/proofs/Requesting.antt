@@ -103,7 +103,7 @@ tells-request s p v clear = record { many = length-set s.apics p (request (apic_
         let same : w ≡ v = grind (arith, nat_tests) in
         ap (λ i. is_requested s i w) here ∙ ap (is_requested s p) same ∙ clear
 
-emitted-withdrawn : (p v q i : ℕ) (tickets : List ℕ) → has_request_notice p v (map (λ t. Withdrawn t q i) tickets) ≡ false
+emitted-withdrawn : (p v q i : ℕ) (tickets : List ℕ) → has_request_notice p v (map (λ t. Withdrawn q i t) tickets) ≡ false
 emitted-withdrawn p v q i [] = refl
 emitted-withdrawn p v q i (t ∷ tickets) = emitted-withdrawn p v q i tickets
 
@@ -124,7 +124,7 @@ emitted = record {
   joins = tells-after;
   requests = tells-request;
   accepts = λ s p i m. mute s _ refl (λ _ _. refl);
-  locations = λ s p i m rest _ _. either (λ ns. Tells s (placed_state s p i m rest, Placed (ticket_of m) p i ∷ ns)) (nat_lt 0 (length rest)) _ _
+  locations = λ s p i m rest _ _. either (λ ns. Tells s (placed_state s p i m rest, Placed p i (ticket_of m) ∷ ns)) (nat_lt 0 (length rest)) _ _
       (λ _. mute s _ refl (λ _ _. refl)) (λ _. mute s _ refl (λ _ _. refl));
   marks = λ s p i. either (λ ns. Tells s (with_space s (after_pending (space_of s) p i), ns)) (is_pending (space_of s) p i) _ _ (λ _. mute s _ refl (λ _ _. refl)) (λ _. mute s _ refl (λ _ _. refl));
   consumes = λ s p i t _. mute s _ refl (λ _ _. refl);

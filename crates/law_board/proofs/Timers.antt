@@ -51,14 +51,14 @@ pub skips-joined : (t : ℕ × ℕ) (xs ys : List Notice) → skips t (xs ++ ys)
 skips-joined t xs ys = sum_by-append (skips_of t) xs ys
 
 -- withdrawals report no expiry
-none-withdrawn : (t : ℕ × ℕ) (q j : ℕ) (tickets : List ℕ) → expiries t (map (λ x. Withdrawn x q j) tickets) ≡ 0
+none-withdrawn : (t : ℕ × ℕ) (q j : ℕ) (tickets : List ℕ) → expiries t (map (λ x. Withdrawn q j x) tickets) ≡ 0
 none-withdrawn t q j [] = refl
-none-withdrawn t q j (x ∷ tickets) = sum_by-cons (tells t) (Withdrawn x q j) (map (λ x. Withdrawn x q j) tickets) ∙ ap (λ n. 0 + n) (none-withdrawn t q j tickets)
+none-withdrawn t q j (x ∷ tickets) = sum_by-cons (tells t) (Withdrawn q j x) (map (λ x. Withdrawn q j x) tickets) ∙ ap (λ n. 0 + n) (none-withdrawn t q j tickets)
 
 -- and no skipped period
-none-skipped : (t : ℕ × ℕ) (q j : ℕ) (tickets : List ℕ) → skips t (map (λ x. Withdrawn x q j) tickets) ≡ 0
+none-skipped : (t : ℕ × ℕ) (q j : ℕ) (tickets : List ℕ) → skips t (map (λ x. Withdrawn q j x) tickets) ≡ 0
 none-skipped t q j [] = refl
-none-skipped t q j (x ∷ tickets) = sum_by-cons (skips_of t) (Withdrawn x q j) (map (λ x. Withdrawn x q j) tickets) ∙ ap (λ n. 0 + n) (none-skipped t q j tickets)
+none-skipped t q j (x ∷ tickets) = sum_by-cons (skips_of t) (Withdrawn q j x) (map (λ x. Withdrawn q j x) tickets) ∙ ap (λ n. 0 + n) (none-skipped t q j tickets)
 
 -- one timer is replaced
 abbrev pub replaced : State → ℕ × ℕ → Timer → State
@@ -139,8 +139,8 @@ of-timer t P h = record {
   requests = λ s p v _. h.still s (request_made s p v) refl refl refl;
   accepts = λ s p i m. h.still s (accepted s p i m) refl refl refl;
   locations = λ s p i m rest _ _. h.still s (placement s p i m rest) refl
-      (either (λ ns. expiries t (Placed (ticket_of m) p i ∷ ns) ≡ 0) (nat_lt 0 (length rest)) (Pending p i ∷ []) [] (λ _. refl) (λ _. refl))
-      (either (λ ns. skips t (Placed (ticket_of m) p i ∷ ns) ≡ 0) (nat_lt 0 (length rest)) (Pending p i ∷ []) [] (λ _. refl) (λ _. refl));
+      (either (λ ns. expiries t (Placed p i (ticket_of m) ∷ ns) ≡ 0) (nat_lt 0 (length rest)) (Pending p i ∷ []) [] (λ _. refl) (λ _. refl))
+      (either (λ ns. skips t (Placed p i (ticket_of m) ∷ ns) ≡ 0) (nat_lt 0 (length rest)) (Pending p i ∷ []) [] (λ _. refl) (λ _. refl));
   marks = λ s p i. h.still s (marked s p i) refl (either (λ ns. expiries t ns ≡ 0) (is_pending (space_of s) p i) [] (Pending p i ∷ []) (λ _. refl) (λ _. refl))
       (either (λ ns. skips t ns ≡ 0) (is_pending (space_of s) p i) [] (Pending p i ∷ []) (λ _. refl) (λ _. refl));
   consumes = λ s p i ticket _. h.still s (consumption s p i ticket) refl refl refl;

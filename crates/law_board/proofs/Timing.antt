@@ -38,7 +38,7 @@ joined m (x ∷ xs) ys h k = (h.0, joined m xs ys h.1 k)
 timely-after : (s : State) (e f : Effect) → Timely s e → Timely e.0 f → Timely s (after e f)
 timely-after s e f a b = record { same = b.same ∙ a.same; emitted = joined s.moment e.1 f.1 a.emitted (subst (λ m. AreTimely m f.1) a.same b.emitted) }
 
-timely-withdrawals : (m p i : ℕ) (tickets : List ℕ) → AreTimely m (map (λ t. Withdrawn t p i) tickets)
+timely-withdrawals : (m p i : ℕ) (tickets : List ℕ) → AreTimely m (map (λ t. Withdrawn p i t) tickets)
 timely-withdrawals m p i [] = tt
 timely-withdrawals m p i (t ∷ tickets) = (tt, timely-withdrawals m p i tickets)
 
@@ -86,7 +86,7 @@ timely = record {
   joins = timely-after;
   requests = λ s p v _. record { same = refl; emitted = (tt, tt) };
   accepts = λ s p i m. record { same = refl; emitted = (tt, tt) };
-  locations = λ s p i m rest _ _. either (λ ns. Timely s (placed_state s p i m rest, Placed (ticket_of m) p i ∷ ns)) (nat_lt 0 (length rest)) _ _
+  locations = λ s p i m rest _ _. either (λ ns. Timely s (placed_state s p i m rest, Placed p i (ticket_of m) ∷ ns)) (nat_lt 0 (length rest)) _ _
       (λ _. record { same = refl; emitted = (tt, (tt, tt)) }) (λ _. record { same = refl; emitted = (tt, tt) });
   marks = λ s p i. either (λ ns. Timely s (with_space s (after_pending (space_of s) p i), ns)) (is_pending (space_of s) p i) _ _
       (λ _. record { same = refl; emitted = tt }) (λ _. record { same = refl; emitted = (tt, tt) });

@@ -10,11 +10,11 @@ use Rattle.synic_board.specs.State.{State}
 
 -- the ticket of a notice, if it is an Accepted of a source, or a Placed in its slot
 abbrev pub accepted_ticket : ℕ → ℕ → Notice → Option ℕ
-accepted_ticket p i (Accepted ticket q j) = if source_number q j == source_number p i then Some ticket else None
+accepted_ticket p i (Accepted q j ticket) = if source_number q j == source_number p i then Some ticket else None
 accepted_ticket p i notice = None
 
 abbrev pub placed_ticket : ℕ → ℕ → Notice → Option ℕ
-placed_ticket p i (Placed ticket q j) = if source_number q j == source_number p i then Some ticket else None
+placed_ticket p i (Placed q j ticket) = if source_number q j == source_number p i then Some ticket else None
 placed_ticket p i notice = None
 
 -- the tickets of all such notices, in order

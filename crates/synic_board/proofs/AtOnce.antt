@@ -57,7 +57,7 @@ at-once s p i m free within =
     emitted : Queues → Effect
     emitted qs =
         let t : State = with_slot_ticket (record (with_space s (after_slot (space_of s) p i (image m false s.moment))) { next_ticket = s.next_ticket + 1; queues = qs }) p i (Some (ticket_of m)) in
-        ((raised t p i).0, Accepted (ticket_of m) p i ∷ Placed (ticket_of m) p i ∷ (raised t p i).1)
+        ((raised t p i).0, Accepted p i (ticket_of m) ∷ Placed p i (ticket_of m) ∷ (raised t p i).1)
 
 both : (a b : Bool) → (a && not b) ≡ true → (a ≡ true) × (b ≡ false)
 both true false h = (refl, refl)

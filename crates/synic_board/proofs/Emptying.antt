@@ -42,7 +42,7 @@ queue-room : (s : State) (p i : ℕ) → length (queue_emptied s p i).1 + total 
 queue-room s p i = by (cases_lt (source_number p i) (length s.queues))
   where
     emitted : length (queue_emptied s p i).1 ≡ length (queue_of s.queues p i)
-    emitted = length-map (map ticket_of (queue_of s.queues p i)) (λ t. Withdrawn t p i) ∙ length-map (queue_of s.queues p i) ticket_of
+    emitted = length-map (map ticket_of (queue_of s.queues p i)) (λ t. Withdrawn p i t) ∙ length-map (queue_of s.queues p i) ticket_of
 
     by : (source_number p i < length s.queues) ⊎ (length s.queues ≤ source_number p i) → length (queue_emptied s p i).1 + total (queue_emptied s p i).0 ≡ total s
     by (inl inside) = omega (arith, emitted, sum_by-set (λ (q : List Message). length q) s.queues (source_number p i) [] [] inside)

@@ -61,7 +61,7 @@ abbrev pub placement : State → ℕ → ℕ → Message → List Message → Ef
 placement s p i m rest = (placed_state s p i m rest, placed_notices (ticket_of m) p i (nat_lt 0 (length rest)))
 
 abbrev pub consumption : State → ℕ → ℕ → ℕ → Effect
-consumption s p i t = (with_slot_ticket s p i None, Consumed t p i ∷ [])
+consumption s p i t = (with_slot_ticket s p i None, Consumed p i t ∷ [])
 
 -- a property that holds of each part, and of one effect after another
 pub record OfEffects (P : State → Effect → Type 0) : Type 0 where

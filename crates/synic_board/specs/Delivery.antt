@@ -38,7 +38,7 @@ placed_state s p i m rest =
     with_slot_ticket queued p i (Some (ticket_of m))
 
 abbrev pub placed_notices : Ticket → Processor → Source → Bool → List Notice
-placed_notices ticket p i pending = Placed ticket p i ∷ (if pending then Pending p i ∷ [] else [])
+placed_notices ticket p i pending = Placed p i ticket ∷ (if pending then Pending p i ∷ [] else [])
 
 abbrev pub placed_head : State → Processor → Source → List Message → Effect
 placed_head s p i [] = nothing s
@@ -65,7 +65,7 @@ tried_below s p (suc i) = after (tried_below s p i) (tried (tried_below s p i).0
 
 -- a message gets the next ticket and joins the end of its queue
 abbrev pub accepted : State → Processor → Source → Message → Effect
-accepted s p i m = (record s { queues = joined s.queues p i m; next_ticket = s.next_ticket + 1 }, Accepted (ticket_of m) p i ∷ [])
+accepted s p i m = (record s { queues = joined s.queues p i m; next_ticket = s.next_ticket + 1 }, Accepted p i (ticket_of m) ∷ [])
 
 -- accepted, then tried
 abbrev pub delivered : State → Processor → Source → Message → Effect

@@ -16,8 +16,8 @@ times t tickets = count_by (λ x. x == t) tickets
 
 -- the notice reports that the ticket's message was consumed or withdrawn
 abbrev pub is_end_of : ℕ → Notice → Bool
-is_end_of t (Consumed ticket p i) = ticket == t
-is_end_of t (Withdrawn ticket p i) = ticket == t
+is_end_of t (Consumed p i ticket) = ticket == t
+is_end_of t (Withdrawn p i ticket) = ticket == t
 is_end_of t _ = false
 
 -- how often a ticket's message was consumed or withdrawn

@@ -32,7 +32,7 @@ opened_port s port p i shape =
 
 -- the messages of a port leave the queue of its source, front first; messages in slots stay
 abbrev pub withdrawals : State → Processor → Source → PortNumber → List Notice
-withdrawals s p i port = map (λ t. Withdrawn t p i) (withdrawn_of port (queue_of s.queues p i))
+withdrawals s p i port = map (λ t. Withdrawn p i t) (withdrawn_of port (queue_of s.queues p i))
 
 abbrev pub withdrawn : State → Processor → Source → PortNumber → Effect
 withdrawn s p i port = (record s { queues = after_withdrawal s.queues p i port }, withdrawals s p i port)

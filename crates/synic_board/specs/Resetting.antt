@@ -15,14 +15,14 @@ use Rattle.synic_board.specs.Effects.{Effect, Outcome, nothing, after, answered}
 
 -- the message in a slot is withdrawn, if the slot holds a ticket
 abbrev pub withdrawn_ticket : State → Processor → Source → Ticket → Effect
-withdrawn_ticket s p i t = (with_slot_ticket s p i None, Withdrawn t p i ∷ [])
+withdrawn_ticket s p i t = (with_slot_ticket s p i None, Withdrawn p i t ∷ [])
 
 abbrev pub slot_emptied : State → Processor → Source → Effect
 slot_emptied s p i = option_map_or (withdrawn_ticket s p i) (slot_of s p i) (nothing s)
 
 -- and those in a queue, front first
 abbrev pub queue_emptied : State → Processor → Source → Effect
-queue_emptied s p i = (record s { queues = with_queue s.queues p i [] }, map (λ t. Withdrawn t p i) (map ticket_of (queue_of s.queues p i)))
+queue_emptied s p i = (record s { queues = with_queue s.queues p i [] }, map (λ t. Withdrawn p i t) (map ticket_of (queue_of s.queues p i)))
 
 -- the slot of a source, and then its queue
 abbrev pub source_emptied : State → Processor → Source → Effect

@@ -17,7 +17,7 @@ use Rattle.synic_board.specs.Delivery.{is_slot_empty}
 -- an empty slot loses its ticket: the message was consumed
 abbrev pub consumed_ticket : State → Processor → Source → Option Ticket → Effect
 consumed_ticket s p i None = nothing s
-consumed_ticket s p i (Some t) = (with_slot_ticket s p i None, Consumed t p i ∷ [])
+consumed_ticket s p i (Some t) = (with_slot_ticket s p i None, Consumed p i t ∷ [])
 
 unfoldable pub consumed : State → Processor → Source → Effect
 consumed s p i = if is_slot_empty s p i then consumed_ticket s p i (slot_of s p i) else nothing s

@@ -22,6 +22,9 @@ record GoesOn (xs r bytes s : List ℕ) : Type 0 where
   pub rest : r ≡ spelled more ++ s
   pub all : AreBytes more
 
+onto-same : (x b : ℕ) (bytes xs more : List ℕ) → x ≡ b → bytes ≡ xs ++ more → b ∷ bytes ≡ (x ∷ xs) ++ more
+onto-same x b bytes xs more same whole = cc
+
 spelled-front : (xs r bytes s : List ℕ) → AreBytes xs → AreBytes bytes → IsEnd s → spelled xs ++ r ≡ spelled bytes ++ s → GoesOn xs r bytes s
 spelled-front [] r bytes s h k end e = record { more = bytes; whole = refl; rest = e; all = k }
 spelled-front (x ∷ xs) r [] s h k end e = absurd (no-digit (x / 16) (digit_glyph false (x % 16) ∷ spelled xs ++ r) (subst IsEnd (sym e) end))
@@ -35,7 +38,7 @@ spelled-front (x ∷ xs) r (b ∷ bytes) s h k end e =
     let same_low = glyph-injective (x % 16) (b % 16) low in
     let same : x ≡ b = omega arith in
     let g = spelled-front xs r bytes s (All-tail IsByte x xs h) (All-tail IsByte b bytes k) end tail in
-    record { more = g.more; whole = ap (λ (y : ℕ). y ∷ bytes) (sym same) ∙ ap (λ (y : List ℕ). x ∷ y) g.whole; rest = g.rest; all = g.all }
+    record { more = g.more; whole = onto-same x b bytes xs g.more same g.whole; rest = g.rest; all = g.all }
 
 pub spelled-push : (xs : List ℕ) (h l : ℕ) → h < 16 → l < 16 → spelled (xs ++ (h * 16 + l) ∷ []) ≡ spelled xs ++ digit_glyph false h ∷ digit_glyph false l ∷ []
 spelled-push [] h l a b = let high : (h * 16 + l) / 16 ≡ h = omega arith in let low : (h * 16 + l) % 16 ≡ l = omega arith in rw (high, low) refl
@@ -85,9 +88,9 @@ pub digit-no_space : (c d : ℕ) → c ≡ digit_glyph false d → c ≢ 32
 digit-no_space c d is space = omega (arith, is, space, glyph-plain d)
 
 -- where nothing was found
-pub unfound : {P Q : Type 0} (r : Option ℕ) → IfNone r P → (P → Q) → IfNone r Q
+pub unfound : {A P Q : Type 0} (r : Option A) → IfNone r P → (P → Q) → IfNone r Q
 unfound None h k = k h
-unfound (Some n) h k = tt
+unfound (Some x) h k = tt
 
 pub two-first : (r : List ℕ) → 2 ≤ length r → r ≡ get_or r 0 0 ∷ get_or r 1 0 ∷ take (length r - 2) (drop 2 r)
 two-first [] h = absurd (omega arith)

@@ -1,10 +1,12 @@
 -- The digits of the numbers below 100, from a table.
-use Rattle.std.proofs.Common.{◌≡◌, ℕ, ◌+◌, ◌*◌, ◌/◌, ◌%◌, ◌<◌, ◌&&◌, zero, suc, Bool, true, false, nat_eq, List, get_or, refl, sym, subst, arith, codes, Decides}
+use Rattle.std.proofs.Common.{◌≡◌, ℕ, ◌+◌, ◌*◌, ◌/◌, ◌%◌, ◌<◌, ◌&&◌, zero, suc, Bool, true, false, nat_eq, List, ◌++◌, get_or, refl, sym, subst, arith, codes, Decides}
 use Rattle.std.proofs.lemmas.Bool.Decides.{Decides-and, Decides-eqb}
 use Rattle.std.proofs.lemmas.Bool.{eqb-false}
 
 abbrev pub pairs : List ℕ
-pairs = codes "00010203040506070809101112131415161718192021222324252627282930313233343536373839404142434445464748495051525354555657585960616263646566676869707172737475767778798081828384858687888990919293949596979899"
+pairs =
+    codes "0001020304050607080910111213141516171819202122232425262728293031323334353637383940414243444546474849"
+    ++ codes "5051525354555657585960616263646566676869707172737475767778798081828384858687888990919293949596979899"
 
 -- the two digits of a number are in the table
 abbrev pub HasPair : ℕ → Type 0

@@ -1,5 +1,5 @@
 -- The fields of a text.
-use Rattle.std.proofs.Common.{◌≡◌, ◌≢◌, ◌<◌, ◌≤◌, subst, ne_eqb, ◌+◌, ◌-◌, ◌∷◌, ◌++◌, [], ℕ, List, Bool, nat_eq, false, true, cond, take, drop, length, get_or, arith, sym, ap, ◌∙◌, drop-cons, suc, refl}
+use Rattle.std.proofs.Common.{◌≡◌, ◌≢◌, ◌<◌, subst, ne_eqb, ◌+◌, ◌-◌, ◌∷◌, ◌++◌, [], ℕ, List, Bool, nat_eq, false, true, cond, take, drop, length, get_or, arith, sym, ap, ◌∙◌, drop-cons, suc, refl}
 use native.Mathlib.Numerals.{unary_clauses}
 use Rattle.std.specs.Fmt.{digits}
 use Rattle.std.specs.List.{All, onto_first}
@@ -9,7 +9,7 @@ use Rattle.std.proofs.lemmas.List.Splits.{slice_split_at, join_with_byte-slice_s
 use Rattle.std.proofs.lemmas.List.Elements.{All-nil, All-cons}
 use Rattle.text_base.specs.Fields.{fields_of, spaced}
 use Rattle.text_base.specs.Numbers.{spelled, AreBytes}
-use Rattle.text_base.specs.inside.Parsing.{IsFront, IsBytesFront, IsFieldEnd}
+use Rattle.text_base.specs.inside.Parsing.{IsFront, IsBytesFront, HasNoSpace}
 use Rattle.text_base.proofs.PlainWords.{IsPlain, digits-plain, spelled-plain}
 
 pub at_space : (text : List ℕ) (i : ℕ) → i < length text → All (λ (x : ℕ). nat_eq x 32 ≡ false) (take i text) → get_or text i 0 ≡ 32 →
@@ -20,19 +20,17 @@ at_space text i within others space =
     let whole : text ≡ take i text ++ 32 ∷ drop (i + 1) text = sym (take-append-drop i text) ∙ ap (λ (r : List ℕ). take i text ++ r) here in
     rw rest (ap fields_of whole ∙ slice_split_at (λ b. nat_eq b 32) (take i text) 32 (drop (i + 1) text) others refl)
 
-no_spaces : (text : List ℕ) → IsPlain text → All (λ (x : ℕ). nat_eq x 32 ≡ false) text
+no_spaces : (text : List ℕ) → IsPlain text → HasNoSpace text
 no_spaces [] h = All-nil (λ (x : ℕ). nat_eq x 32 ≡ false)
 no_spaces (x ∷ xs) h = All-cons (λ (x : ℕ). nat_eq x 32 ≡ false) x xs (ne_eqb x 32 (λ e. let low = h.0 in omega arith)) (no_spaces xs h.1)
 
--- the first field ends after a number
-pub number-end : (text : List ℕ) (base n count : ℕ) → IsFront base text n count → IsFieldEnd text count
-number-end text base n count front =
-    (front.0, subst (λ (field : List ℕ). All (λ (x : ℕ). nat_eq x 32 ≡ false) field) (sym front.1) (no_spaces (digits base false n) (digits-plain base n)), front.2)
+-- no space is in a number
+pub number-no_space : (text : List ℕ) (base n count : ℕ) → IsFront base text n count → HasNoSpace (take count text)
+number-no_space text base n count front = subst HasNoSpace (sym front.1) (no_spaces (digits base false n) (digits-plain base n))
 
--- and after bytes in two digits each
-pub bytes-end : (text bytes : List ℕ) (count : ℕ) → IsBytesFront text bytes count → IsFieldEnd text count
-bytes-end text bytes count front =
-    (front.0, subst (λ (field : List ℕ). All (λ (x : ℕ). nat_eq x 32 ≡ false) field) (sym front.1) (no_spaces (spelled bytes) (spelled-plain bytes)), front.2)
+-- nor in bytes of two digits each
+pub bytes-no_space : (text bytes : List ℕ) (count : ℕ) → IsBytesFront text bytes count → HasNoSpace (take count text)
+bytes-no_space text bytes count front = subst HasNoSpace (sym front.1) (no_spaces (spelled bytes) (spelled-plain bytes))
 
 onto_some : (x : ℕ) (ps : List (List ℕ)) → onto_first x ps ≢ []
 onto_some x [] e = cc
@@ -52,7 +50,7 @@ onto_one x xs [] some e = absurd (some refl)
 onto_one x xs (p ∷ ps) some e = cc
 
 -- a text that is one field has no space
-one_field : (word : List ℕ) → fields_of word ≡ word ∷ [] → All (λ (x : ℕ). nat_eq x 32 ≡ false) word
+pub one_field : (word : List ℕ) → fields_of word ≡ word ∷ [] → HasNoSpace word
 one_field [] e = All-nil (λ (x : ℕ). nat_eq x 32 ≡ false)
 one_field (x ∷ xs) e = go (nat_eq x 32) refl e (λ one. one_field xs one)
   where
@@ -60,11 +58,6 @@ one_field (x ∷ xs) e = go (nat_eq x 32) refl e (λ one. one_field xs one)
         (fields_of xs ≡ xs ∷ [] → All (λ (y : ℕ). nat_eq y 32 ≡ false) xs) → All (λ (y : ℕ). nat_eq y 32 ≡ false) (x ∷ xs)
     go true is e rest = cc
     go false is e rest = All-cons (λ (y : ℕ). nat_eq y 32 ≡ false) x xs is (rest (onto_one x xs (fields_of xs) (some_field xs) e))
-
--- and after a word
-pub word-end : (text word : List ℕ) → fields_of word ≡ word ∷ [] → length word ≤ length text → take (length word) text ≡ word →
-    (length word < length text → get_or text (length word) 0 ≡ 32) → IsFieldEnd text (length word)
-word-end text word one within is space = (within, subst (λ (front : List ℕ). All (λ (x : ℕ). nat_eq x 32 ≡ false) front) (sym is) (one_field word one), space)
 
 -- a text whose first field is this word
 first-is : (text word : List ℕ) (rest : List (List ℕ)) → fields_of text ≡ word ∷ rest → text ≡ spaced (word ∷ rest)

@@ -1,8 +1,8 @@
 // The fields of a line, one at a time.
-ghost use Rattle.std.specs.Prelude.{◌≡◌, ◌↔◌, ◌≤◌, ◌^◌, ℕ, List, [], ◌∷◌, take, length, Option, MatchOption, IsTrue, IfSome, IfNone};
+ghost use Rattle.std.specs.Prelude.{◌≡◌, ◌≢◌, ◌↔◌, ◌<◌, ◌≤◌, ◌^◌, ℕ, List, [], ◌∷◌, take, length, get_or, Option, MatchOption, IsTrue, IfSome, IfNone};
 ghost use Rattle.std.specs.Str.{bytes_eq};
 ghost use Rattle.text_base.specs.Fields.{fields_of, TakesField, ReadsField};
-ghost use Rattle.text_base.specs.inside.Parsing.{IsFieldEnd, ReadsShort};
+ghost use Rattle.text_base.specs.inside.Parsing.{HasNoSpace, IsFieldEnd, ReadsShort};
 ghost use Rattle.text_base.specs.Numbers.{decimal_at, hex_at, spelled, AreBytes};
 
 use crate::bytes::bytes_front;
@@ -10,24 +10,16 @@ use crate::numbers::{decimal_of, hex_of, short_number};
 use arrayvec::ArrayVec;
 use std::marker::Model;
 
-/// Whether a field is that word. `N` is constant at each caller, so the comparison compiles to no
-/// loop.
+/// Whether a field is that word.
 #[inline(always)]
 pub fn is_word<const N: usize>(field: &[u8], word: &[u8; N]) -> bool
     ensures { result ≡ bytes_eq field.now word.now }
 {
-    if field.len() != N {
-        return false;
-    }
-    for i in 0..N {
-        if field[i] != word[i] {
-            return false;
-        }
-    }
-    true
+    field.len() == N && starts_with(field, word)
 }
 
-/// Whether a text begins with that word.
+/// Whether a text begins with that word. `N` is constant at each caller, so the comparison compiles to
+/// no loop.
 #[inline(always)]
 fn starts_with<const N: usize>(text: &[u8], word: &[u8; N]) -> bool
     ensures { result ≡ bytes_eq (take N text.now) word.now }
@@ -68,18 +60,23 @@ impl<'a> Fields<'a> {
         Fields { rest: Some(line) }
     }
 
-    /// The fields after the first one, which ends at `end`.
+    /// The fields past the first one, if that ends at `end`: if a space or the end of the text is there.
     #[inline(always)]
-    fn behind(text: &'a [u8], end: usize) -> Fields<'a>
-        requires { IsFieldEnd text.now end }
-        ensures { fields_of text.now ≡ take end text.now ∷ result }
+    fn past(text: &'a [u8], end: usize) -> Option<Fields<'a>>
+        requires within { end ≤ length text.now }
+        requires field { HasNoSpace (take end text.now) }
+        ensures found { IfSome result (λ rest. fields_of text.now ≡ take end text.now ∷ rest) }
+        ensures none { IfNone result (end < length text.now × get_or text.now end 0 ≢ 32) }
     {
         if end == text.len() {
-            return Fields { rest: None };
+            return Some(Fields { rest: None });
         }
-        Fields {
+        if text[end] != b' ' {
+            return None;
+        }
+        Some(Fields {
             rest: Some(&text[end + 1..]),
-        }
+        })
     }
 
     /// The next field, if one is left.
@@ -89,7 +86,7 @@ impl<'a> Fields<'a> {
     {
         let rest = self.rest?;
         let end = field_end(rest);
-        *self = Fields::behind(rest, end);
+        *self = Fields::past(rest, end)?;
         Some(&rest[..end])
     }
 
@@ -100,7 +97,7 @@ impl<'a> Fields<'a> {
     {
         let rest = self.rest?;
         let end = long_field_end(rest);
-        *self = Fields::behind(rest, end);
+        *self = Fields::past(rest, end)?;
         Some(&rest[..end])
     }
 
@@ -115,10 +112,7 @@ impl<'a> Fields<'a> {
         if !starts_with(rest, word) {
             return None;
         }
-        if N < rest.len() && rest[N] != b' ' {
-            return None;
-        }
-        Some(Fields::behind(rest, N))
+        Fields::past(rest, N)
     }
 
     /// Takes the next field, if it is a decimal number up to `most`. `None` otherwise; then some
@@ -163,7 +157,7 @@ impl<'a> Fields<'a> {
         if n > most {
             return None;
         }
-        *self = Fields::behind(rest, count);
+        *self = Fields::past(rest, count)?;
         Some(n)
     }
 
@@ -176,7 +170,7 @@ impl<'a> Fields<'a> {
     {
         let rest = self.rest?;
         let count = bytes_front(rest, out)?;
-        *self = Fields::behind(rest, count);
+        *self = Fields::past(rest, count)?;
         Some(())
     }
 

@@ -30,8 +30,7 @@ pub fn hex_of(text: &[u8], most: u64) -> Option<u64>
     if n <= most { Some(n) } else { None }
 }
 
-/// The number at the front of a text, with at most `digits` digits, and its length. A space or the
-/// end of the text must follow.
+/// A number at the front of a text, with at most `digits` digits, and its length.
 #[inline(always)]
 pub(crate) fn short_number(text: &[u8], base: u64, digits: usize) -> Option<(u64, usize)>
     requires low { 10 ≤ base }
@@ -45,13 +44,7 @@ pub(crate) fn short_number(text: &[u8], base: u64, digits: usize) -> Option<(u64
     if *first != b'0' {
         return positive_front(text, base, digits);
     }
-    if text.len() == 1 {
-        return Some((0, 1));
-    }
-    if text[1] == b' ' {
-        return Some((0, 1));
-    }
-    None
+    Some((0, 1))
 }
 
 /// The same for a text that does not begin with a zero.
@@ -78,9 +71,6 @@ fn positive_front(text: &[u8], base: u64, digits: usize) -> Option<(u64, usize)>
         count += 1;
     }
     if count == 0 {
-        return None;
-    }
-    if count < text.len() && text[count] != b' ' {
         return None;
     }
     Some((n, count))

@@ -223,6 +223,7 @@ fn refill<R: Read>(
 }
 
 /// The index of the first line feed.
+#[inline(always)]
 fn feed(text: &[u8]) -> Option<usize>
     ensures { MatchOption result (IsOneLine text.now) (λ k. (k < length text.now) × IsOneLine (take k text.now) × (get_or text.now k 0 ≡ 10)) }
 {

@@ -373,26 +373,42 @@ other-word word key rest other = by (bytes_eq word key) refl
     by true e = absurd (other rest (ap (λ (w : List ℕ). w ∷ rest) ((bytes_eq-Decides word key).0 e)))
 
 -- fields that begin with no event's word
-pub no-event : (fields : Fields) → IsOther (codes "open") fields → IsOther (codes "close") fields → IsOther (codes "write") fields → IsOther (codes "read") fields → IsOther (codes "post") fields → IsOther (codes "signal") fields → IsOther (codes "assert") fields → IsOther (codes "absorb") fields →
-    IsOther (codes "store") fields → IsOther (codes "load") fields → IsOther (codes "tick") fields → IsOther (codes "take") fields → IsOther (codes "suspend") fields → IsOther (codes "resume") fields → IsOther (codes "reset") fields → parse_event fields ≡ None
-no-event [] not_open not_close not_write not_read not_post not_signal not_assert not_absorb not_store not_load not_tick not_take not_suspend not_resume not_reset = refl
-no-event (word ∷ rest) not_open not_close not_write not_read not_post not_signal not_assert not_absorb not_store not_load not_tick not_take not_suspend not_resume not_reset =
+pub record NoEvent (fields : Fields) : Type 0 where
+  pub not_open : IsOther (codes "open") fields
+  pub not_close : IsOther (codes "close") fields
+  pub not_write : IsOther (codes "write") fields
+  pub not_read : IsOther (codes "read") fields
+  pub not_post : IsOther (codes "post") fields
+  pub not_signal : IsOther (codes "signal") fields
+  pub not_assert : IsOther (codes "assert") fields
+  pub not_absorb : IsOther (codes "absorb") fields
+  pub not_store : IsOther (codes "store") fields
+  pub not_load : IsOther (codes "load") fields
+  pub not_tick : IsOther (codes "tick") fields
+  pub not_take : IsOther (codes "take") fields
+  pub not_suspend : IsOther (codes "suspend") fields
+  pub not_resume : IsOther (codes "resume") fields
+  pub not_reset : IsOther (codes "reset") fields
+
+pub no-event : (fields : Fields) → NoEvent fields → parse_event fields ≡ None
+no-event [] other = refl
+no-event (word ∷ rest) other =
     rw (
-      other-word word (codes "open") rest not_open,
-      other-word word (codes "close") rest not_close,
-      other-word word (codes "write") rest not_write,
-      other-word word (codes "read") rest not_read,
-      other-word word (codes "post") rest not_post,
-      other-word word (codes "signal") rest not_signal,
-      other-word word (codes "assert") rest not_assert,
-      other-word word (codes "absorb") rest not_absorb,
-      other-word word (codes "store") rest not_store,
-      other-word word (codes "load") rest not_load,
-      other-word word (codes "tick") rest not_tick,
-      other-word word (codes "take") rest not_take,
-      other-word word (codes "suspend") rest not_suspend,
-      other-word word (codes "resume") rest not_resume,
-      other-word word (codes "reset") rest not_reset,
+      other-word word (codes "open") rest other.not_open,
+      other-word word (codes "close") rest other.not_close,
+      other-word word (codes "write") rest other.not_write,
+      other-word word (codes "read") rest other.not_read,
+      other-word word (codes "post") rest other.not_post,
+      other-word word (codes "signal") rest other.not_signal,
+      other-word word (codes "assert") rest other.not_assert,
+      other-word word (codes "absorb") rest other.not_absorb,
+      other-word word (codes "store") rest other.not_store,
+      other-word word (codes "load") rest other.not_load,
+      other-word word (codes "tick") rest other.not_tick,
+      other-word word (codes "take") rest other.not_take,
+      other-word word (codes "suspend") rest other.not_suspend,
+      other-word word (codes "resume") rest other.not_resume,
+      other-word word (codes "reset") rest other.not_reset,
     ) refl
 
 pub reading-means : (line : List ℕ) (item : Item) → (item_at line ≡ Some item) ↔ Denotes line item

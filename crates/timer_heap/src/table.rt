@@ -3,7 +3,7 @@ ghost use Rattle.std.specs.Prelude.{◌≡◌, ◌≢◌, ℕ, ◌+◌, ◌/◌,
 ghost use Rattle.std.specs.Option.{option_map};
 ghost use Rattle.board_terms.specs.Dues.{least, least_below, earlier, if_later, later_than};
 ghost use Rattle.timer_heap.specs.Heap.{no_dues, is_due_by, MarksDue};
-ghost use Rattle.timer_heap.specs.inside.Table.{node, is_set, moment_of, word_for, word_of, due_at, dues, idle, with_due, IsBelow, IsTree, IsOrdered, IsSound};
+ghost use Rattle.timer_heap.specs.inside.Table.{node, is_set, moment_of, word_for, word_of, due_at, dues, idle, with_mark, with_word, IsBelow, IsTree, IsOrdered, IsSound};
 ghost use Rattle.timer_heap.specs.inside.Climbs.{IsClimbing, IsAlone, IsAlike};
 
 use crate::heap::comparer::Comparer;
@@ -138,18 +138,34 @@ impl Table {
         }
     }
 
-    /// Writes the deadline and the word of a timer, and how many timers have a deadline.
+    /// Writes the deadline and the word of a timer.
     #[inline]
-    fn write(&mut self, number: u8, mark: bool, word: u64, due: u128, count: u8)
+    fn write(&mut self, number: u8, word: u64, due: u128)
         requires { number < 32 }
-        ensures { self.new ≡ with_due self.old number mark word due count }
+        ensures { self.new ≡ with_word self.old number word due }
     {
         let at = number as usize;
-        self.marks[at] = mark;
-        self.count = count;
         self.nodes[32 + at] = word;
         self.highs[at] = high(due);
         self.lows[at] = low(due);
+    }
+
+    /// Marks a timer as one with a deadline, and returns how many others have one. Writes nothing if the timer
+    /// has one, as when it expires and is set again.
+    #[inline]
+    fn mark(&mut self, number: u8) -> u8
+        requires number { number < 32 }
+        requires sound { IsSound self.old }
+        ensures marked { self.new ≡ with_mark self.old number true (result + 1) }
+        ensures others { idle (slice_set (dues self.old) number None) + result ≡ 32 }
+    {
+        let others = self.others(number);
+        if self.is_set(number) {
+            return others;
+        }
+        self.marks[number as usize] = true;
+        self.count = others + 1;
+        others
     }
 
     /// How many other timers have a deadline.
@@ -205,8 +221,9 @@ impl Table {
         self.nodes[child / 2] = word;
     }
 
-    /// Updates the nodes above a timer, each by a comparison.
-    #[inline(always)]
+    /// Updates the nodes above a timer, each by a comparison. Out of line: in the loop of a caller LLVM makes
+    /// branches of the comparisons, which are mispredicted.
+    #[inline(never)]
     fn climb(&mut self, number: u8, word: u64, comparer: &mut Comparer)
         requires number { number < 32 }
         requires climbing { IsClimbing self.old (32 + number) }
@@ -279,8 +296,8 @@ impl Table {
         ensures counted { comparer.new.total.number ≡ comparer.old.total.number + result }
     {
         let word = word(due, number);
-        let others = self.others(number);
-        self.write(number, true, word, due, others + 1);
+        let others = self.mark(number);
+        self.write(number, word, due);
         self.update(number, word, others, comparer)
     }
 
@@ -297,7 +314,9 @@ impl Table {
         ensures counted { comparer.new.total.number ≡ comparer.old.total.number + result }
     {
         let others = self.others(number);
-        self.write(number, false, NEVER, 0, others);
+        self.marks[number as usize] = false;
+        self.count = others;
+        self.write(number, NEVER, 0);
         self.update(number, NEVER, others, comparer)
     }
 

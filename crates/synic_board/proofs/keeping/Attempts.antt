@@ -122,7 +122,7 @@ keeps-accepted n s p i m h below under good next =
       leaves = leaves-same n s (accepted s p i m).0 refl refl;
     }
   where
-    accepted-ends : EndsNone (Accepted (ticket_of m) p i ∷ [])
+    accepted-ends : EndsNone (Accepted p i (ticket_of m) ∷ [])
     accepted-ends t = refl
 
 pub keeps-delivered : (n : ℕ) (s : State) (p i : ℕ) (m : Message) → IsIntact n s → p < n → i < 16 → IsMessage m → ticket_of m ≡ s.next_ticket → Keeps n s (delivered s p i m)
@@ -131,11 +131,11 @@ keeps-delivered n s p i m h below under good next =
     keeps-after n s (accepted s p i m) (tried (accepted s p i m).0 p i) first (keeps-tried n (accepted s p i m).0 p i first.kept below under)
 
 -- the messages of a port are withdrawn from a queue
-pub ends-each : (t p i : ℕ) (tickets : List ℕ) → times_ended t (map (λ x. Withdrawn x p i) tickets) ≡ times t tickets
+pub ends-each : (t p i : ℕ) (tickets : List ℕ) → times_ended t (map (λ x. Withdrawn p i x) tickets) ≡ times t tickets
 ends-each t p i [] = refl
 ends-each t p i (x ∷ tickets) =
     let more = ends-each t p i tickets in
-    omega (arith, more, sum_by-cons (λ (k : Notice). cond (is_end_of t k) 1 0) (Withdrawn x p i) (map (λ y. Withdrawn y p i) tickets), sum_by-cons (λ y. one y t) x tickets)
+    omega (arith, more, sum_by-cons (λ (k : Notice). cond (is_end_of t k) 1 0) (Withdrawn p i x) (map (λ y. Withdrawn p i y) tickets), sum_by-cons (λ y. one y t) x tickets)
 
 parted : (t port : ℕ) (q : List Message) → in_queue t (left_of port q) + times t (withdrawn_of port q) ≡ in_queue t q
 parted t port [] = refl

@@ -113,7 +113,7 @@ queue-emitted : (s : State) (p i : ℕ) → i < 16 → HasBuffers s → length (
 queue-emitted s p i below h = by (cases_lt (source_number p i) (length s.queues))
   where
     emitted : length (queue_emptied s p i).1 ≡ length (queue_of s.queues p i)
-    emitted = length-map (map ticket_of (queue_of s.queues p i)) (λ t. Withdrawn t p i) ∙ length-map (queue_of s.queues p i) ticket_of
+    emitted = length-map (map ticket_of (queue_of s.queues p i)) (λ t. Withdrawn p i t) ∙ length-map (queue_of s.queues p i) ticket_of
 
     by : (source_number p i < length s.queues) ⊎ (length s.queues ≤ source_number p i) → length (queue_emptied s p i).1 + homes p (queue_emptied s p i).0.queues ≤ homes p s.queues
     by (inl inside) =

@@ -58,7 +58,7 @@ keeps-freed n s p i x h below under is = record {
   );
 }
   where
-    emitted : (t : ℕ) → times_ended t (Withdrawn x p i ∷ []) ≡ one x t
+    emitted : (t : ℕ) → times_ended t (Withdrawn p i x ∷ []) ≡ one x t
     emitted t = zero-add (one x t)
 
 keeps-slot : (n : ℕ) (s : State) (p i : ℕ) → IsIntact n s → p < n → i < 16 → KeepsMessages n s (slot_emptied s p i)

@@ -88,7 +88,7 @@ left = record {
   joins = λ s e f a b. record { many = b.many ∙ a.many; marks = b.marks ∙ a.marks; apics = λ p. b.apics p ∙ a.apics p; idle = λ n h. b.idle n (a.idle n h) };
   requests = λ s p v _. record { many = length-set s.apics p (request (apic_of s p) v); marks = refl; apics = marked-same s p (request (apic_of s p) v) refl; idle = λ n h. h };
   accepts = λ s p i m. mute s _ refl refl refl;
-  locations = λ s p i m rest _ _. either (λ ns. Leaves s (placed_state s p i m rest, Placed (ticket_of m) p i ∷ ns)) (nat_lt 0 (length rest)) _ _
+  locations = λ s p i m rest _ _. either (λ ns. Leaves s (placed_state s p i m rest, Placed p i (ticket_of m) ∷ ns)) (nat_lt 0 (length rest)) _ _
       (λ _. mute s _ refl refl refl) (λ _. mute s _ refl refl refl);
   marks = λ s p i. either (λ ns. Leaves s (with_space s (after_pending (space_of s) p i), ns)) (is_pending (space_of s) p i) _ _ (λ _. mute s _ refl refl refl) (λ _. mute s _ refl refl refl);
   consumes = λ s p i t _. mute s _ refl refl refl;

@@ -79,7 +79,7 @@ consumes-ticket n s p i x h below under is = record {
   );
 }
   where
-    emitted : (t : ℕ) → times_ended t (Consumed x p i ∷ []) ≡ one x t
+    emitted : (t : ℕ) → times_ended t (Consumed p i x ∷ []) ≡ one x t
     emitted t = zero-add (one x t)
 
 consumes-nothing : (n : ℕ) (s : State) (p i : ℕ) → IsPartly n p i s → IsFree s p i → Consumes n p (suc i) s (nothing s)

@@ -163,7 +163,7 @@ impl Machine {
 /// Emits a notice for each withdrawn message.
 pub(crate) fn emit_withdrawn(vp: Vp, sint: Sint, tickets: &[Ticket], notices: &mut Notices)
     requires { length notices.old + length tickets.now ≤ 320 }
-    ensures { notices.new ≡ notices.old ++ map (λ t. Notice.Withdrawn t vp sint) tickets.now }
+    ensures { notices.new ≡ notices.old ++ map (λ t. Notice.Withdrawn vp sint t) tickets.now }
 {
     for ticket in tickets {
         notices.push(Notice::Withdrawn {

@@ -6,17 +6,21 @@ use Rattle.text_base.specs.Fields.{fields_of}
 use Rattle.text_base.specs.Numbers.{spelled, AreBytes}
 use Rattle.std.specs.Borrow.{Bor}
 
--- the first `count` bytes denote the number, and a space or the end of the text follows
+-- the first `count` bytes denote the number
 abbrev pub IsFront : ℕ → List ℕ → ℕ → ℕ → Type 0
-IsFront base text n count = (count ≤ length text) × (take count text ≡ digits base false n) × (count < length text → get_or text count 0 ≡ 32)
+IsFront base text n count = (count ≤ length text) × (take count text ≡ digits base false n)
 
 -- the first `count` bytes spell these bytes, and a space or the end of the text follows
 abbrev pub IsBytesFront : List ℕ → List ℕ → ℕ → Type 0
 IsBytesFront text bytes count = (count ≤ length text) × (take count text ≡ spelled bytes) × (count < length text → get_or text count 0 ≡ 32) × AreBytes bytes
 
+-- no space is in a text
+abbrev pub HasNoSpace : List ℕ → Type 0
+HasNoSpace text = All (λ (b : ℕ). b == 32 ≡ false) text
+
 -- the first field ends there
 abbrev pub IsFieldEnd : List ℕ → ℕ → Type 0
-IsFieldEnd text end = (end ≤ length text) × All (λ (b : ℕ). b == 32 ≡ false) (take end text) × (end < length text → get_or text end 0 ≡ 32)
+IsFieldEnd text end = (end ≤ length text) × HasNoSpace (take end text) × (end < length text → get_or text end 0 ≡ 32)
 
 -- the fields of the rest of a line, if there is a rest
 abbrev pub fields_left : Option (Bor (List ℕ)) → List (List ℕ)

@@ -12,6 +12,7 @@ use synic_board::Reply;
 use text_base::{ROOM, bytes_before, decimal_before, digits_of, put_decimal, put_hex, text_before};
 
 /// Appends the line of a reply to `out`.
+#[inline(always)]
 pub fn put_reply(out: &mut Vec<u8>, reply: &Reply) -> Result<(), AllocError>
     ensures { OnOk result (out.new.items ≡ out.old.items ++ line_of (reply_fields reply.now)) }
 {

@@ -73,12 +73,20 @@ pub record IsSound (t : Table) : Type 0 where
 abbrev pub with_node : Table → ℕ → ℕ → Table
 with_node t j word = record { nodes = slice_set t.nodes j word; marks = t.marks; count = t.count; highs = t.highs; lows = t.lows }
 
--- the table with another deadline of timer n, its word at the leaf, and another count
-abbrev pub with_due : Table → ℕ → Bool → ℕ → ℕ → ℕ → Table
-with_due t n mark word due count = record {
+-- the table with another mark of timer n, and another count
+abbrev pub with_mark : Table → ℕ → Bool → ℕ → Table
+with_mark t n mark count = record { nodes = t.nodes; marks = slice_set t.marks n mark; count = count; highs = t.highs; lows = t.lows }
+
+-- the table with another deadline of timer n, and its word at the leaf
+abbrev pub with_word : Table → ℕ → ℕ → ℕ → Table
+with_word t n word due = record {
   nodes = slice_set t.nodes (32 + n) word;
-  marks = slice_set t.marks n mark;
-  count = count;
+  marks = t.marks;
+  count = t.count;
   highs = slice_set t.highs n (due / 2 ^ 64);
   lows = slice_set t.lows n (due % 2 ^ 64);
 }
+
+-- both
+abbrev pub with_due : Table → ℕ → Bool → ℕ → ℕ → ℕ → Table
+with_due t n mark word due count = with_word (with_mark t n mark count) n word due

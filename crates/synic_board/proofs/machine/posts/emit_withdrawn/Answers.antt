@@ -4,7 +4,7 @@ use Rattle.synic_board.proofs.Telling.{told_none, told_more, told_all, emitted-r
 use Rattle.synic_board.proofs.machine.posts.emit_withdrawn.Goals as goal
 
 pub loop-ticket-init : goal.loop-ticket-init
-loop-ticket-init c = told_none (λ t. Withdrawn t c.args.vp c.args.sint) c.args.notices.now c.args.tickets.now
+loop-ticket-init c = told_none (λ t. Withdrawn c.args.vp c.args.sint t) c.args.notices.now c.args.tickets.now
 
 pub push-requires : goal.push-requires
 push-requires c = emitted-room _ _ _ _ _ c.loop-ticket-test.true c.loop-ticket.invariant c.requires

@@ -3,4 +3,4 @@ use Rattle.synic_board.proofs.Telling.{Told}
 use Rattle.synic_board.proofs.machine.posts.emit_withdrawn.Given as goal
 
 abbrev pub invariant-loop-ticket : goal.invariant-loop-ticket
-invariant-loop-ticket l = Told (λ t. Withdrawn t l.vp l.sint) l.fn.notices l.tickets l.ticket-index l.notices
+invariant-loop-ticket l = Told (λ t. Withdrawn l.vp l.sint t) l.fn.notices l.tickets l.ticket-index l.notices

@@ -1,6 +1,6 @@
 use Rattle.std.proofs.Common.{length, ◌∙◌}
 use Rattle.text_base.specs.Numbers.{spelled}
-use Rattle.text_base.proofs.FieldLemmas.{bytes-front, bytes-end}
+use Rattle.text_base.proofs.FieldLemmas.{bytes-front, bytes-no_space}
 use Rattle.text_base.proofs.fields.Fields.bytes.Goals as goal
 
 pub returns-in_err-count : goal.returns-in_err-count
@@ -8,5 +8,5 @@ returns-in_err-count g c = rw c.from_residual-in_err-count.ensures (λ bytes res
     let whole = rw c.in_ok-rest.was at c.self.view_is in
     c.in_err-count.ensures.none bytes (length (spelled bytes)) fits (bytes-front c.in_ok-rest.rest.now bytes rest all (whole ∙ is)))
 
-pub behind-requires : goal.behind-requires
-behind-requires g c = bytes-end c.in_ok-rest.rest.now c.bytes_front.new.out.items c.in_ok-count.count c.in_ok-count.ensures.found
+pub past-requires-clause-field : goal.past-requires-clause-field
+past-requires-clause-field g c = bytes-no_space c.in_ok-rest.rest.now c.bytes_front.new.out.items c.in_ok-count.count c.in_ok-count.ensures.found
