@@ -5,7 +5,7 @@ use Rattle.std.specs.Io.KnownBytes.{Appends}
 use Rattle.std.proofs.KnownBytes.{Appends-nil}
 use Rattle.text_base.specs.Streams.{ReadsUpTo}
 use Rattle.text_driver.specs.Judging.{Follows}
-use Rattle.text_driver.specs.Driving.{Drives, most_of}
+use Rattle.text_driver.specs.Driving.{Stops, Drives, most_of}
 use Rattle.text_driver.specs.Driving as driving
 use Rattle.text_driver.specs.declared.driving.End.{End}
 use Rattle.text_driver.specs.declared.driving.End.TheVariants as ends
@@ -14,17 +14,35 @@ use Rattle.text_lines.specs.declared.fault.ScriptFault.TheVariants as faults
 use Rattle.synic_board.specs.State.{State}
 use Rattle.text_image.specs.Image.{image}
 use Rattle.board_script.specs.Output.{Machine, machine_after_lines, machine_at_end, fault_of, fault_text, saved_of, saved_text}
+use Rattle.board_script.specs.Script.{item_in}
 use Rattle.board_script.specs.Streams.{BegunText, Saves, StopsNear, most_read}
-use Rattle.board_script.specs.inside.Judging.{Finishes, SavesEnd, SavesImage}
+use Rattle.board_script.specs.inside.Judging.{answer_maybe, Advances, Finishes, SavesEnd, SavesImage}
 use Rattle.board_script.specs.declared.stream.ReplayEnd.{ReplayEnd}
 use Rattle.board_script.specs.declared.stream.ReplayEnd.TheVariants.{Done, Script, Memory, Reading, Writing}
 use Rattle.board_script.proofs.ScriptLemmas.{machine-line}
-use Rattle.board_script.proofs.Judged.{FaultAt, Good, Ended, Driven, known}
+use Rattle.board_script.proofs.Judged.{FaultAt, Good, Wrong, Ended, known}
 use Rattle.board_script.proofs.Limits.{concluded-within, concluded-near}
 
 some-map : (r : Option (List ℕ)) (P Q : List ℕ → Type 0) → ((input : List ℕ) → P input → Q input) → IfSome r P → IfSome r Q
 some-map None P Q f h = tt
 some-map (Some input) P Q f h = f input h
+
+module _ {J : Type 0} (seen : J → Machine) where
+  abbrev Advanced : J → List ℕ → List ℕ → J → Type 0
+  Advanced old line sent new = Advances (seen old) line (seen new)
+
+  -- the answers that a save does not form
+  answered-so : (old new : J) (lines : List (List ℕ)) (sent : List ℕ) → Follows Advanced old lines sent new → (answers : List ℕ) × Follows (Good seen) old lines answers new
+  answered-so old new [] sent h = ([], (refl, h.1))
+  answered-so old new (line ∷ lines) sent h =
+      let on = answered-so h.2 new lines h.1 h.5 in
+      let answer : List ℕ = answer_maybe (seen old) (item_in line) in
+      (answer ++ on.0, (answer, on.0, h.2, h.3, (h.4.0, h.4.1, refl), on.1, refl))
+
+  stopped-so : (old new : J) (end : End ScriptFault) (sent text : List ℕ) → Stops Advanced (Wrong seen) end old new sent text → (answers : List ℕ) × Stops (Good seen) (Wrong seen) end old new answers text
+  stopped-so old new end sent text h =
+      let on = answered-so old h.state h.lines sent h.follows in
+      (on.0, record { lines = h.lines; left = h.left; state = h.state; split = h.split; follows = on.1; ends = h.ends })
 
 -- good lines lead from one machine to another
 reached : {J : Type 0} (seen : J → Machine) (old new : J) (lines left : List (List ℕ)) (answers : List ℕ) → Follows (Good seen) old lines answers new →
@@ -61,29 +79,31 @@ module _ {J : Type 0} (seen : J → Machine) (old new : J) (start : seen old ≡
       (k.1, ap (λ (f : Option (ℕ × ScriptFault)). saved_of f (machine_at_end text)) k.1 ∙ ap (saved_of None) (at-end line answers text h ∙ is))
 
   module _ (r0 r1 v0 v1 w0 w1 : Option (List ℕ)) where
-    fault-saved : (end : End ScriptFault) (line : ℕ) (g : ScriptFault) (result : ReplayEnd) → FaultAt end (is_some (seen new)) (Some (line, g)) → Driven seen old new None start end r0 r1 v0 v1 →
+    fault-saved : (end : End ScriptFault) (line : ℕ) (g : ScriptFault) (result : ReplayEnd) → FaultAt end (is_some (seen new)) (Some (line, g)) → Drives (Advanced seen) (Wrong seen) end old new r0 r1 v0 v1 →
         Finishes result (Some (line, g)) w0 w1 → Saves result r0 r1 w0 w1
     fault-saved end line g Done is d f = let off = f.0 in cc
     fault-saved end line g (Script l h) is d f =
-        some-map r0 _ _ (λ input k. let b = saved-fault end line g d.answers input is k in (b.0 ∙ f.0, subst (Appends w0 w1) (sym b.1) f.1)) d.whole
+        some-map r0 _ _ (λ input k. let s = stopped-so seen old new end d.answers input k in let b = saved-fault end line g s.0 input is s.1 in (b.0 ∙ f.0, subst (Appends w0 w1) (sym b.1) f.1)) d.whole
     fault-saved end line g Memory is d f = rw f (Appends-nil w0)
     fault-saved end line g Reading is d f = absurd f
     fault-saved end line g Writing is d f =
-        let b = saved-fault end line g d.answers d.taken is d.read in
+        let s = stopped-so seen old new end d.answers d.taken d.read in
+        let b = saved-fault end line g s.0 d.taken is s.1 in
         record { taken = d.taken; sent = f.0; unsent = f.1; reads = d.reads; writes = f.2; begins = b.1 ∙ f.3 }
 
-    image-saved : (line : ℕ) (s : State) (result : ReplayEnd) → seen new ≡ Some s → Driven seen old new None start (ends.Last line) r0 r1 v0 v1 → SavesImage result s w0 w1 → Saves result r0 r1 w0 w1
+    image-saved : (line : ℕ) (s : State) (result : ReplayEnd) → seen new ≡ Some s → Drives (Advanced seen) (Wrong seen) (ends.Last line) old new r0 r1 v0 v1 → SavesImage result s w0 w1 → Saves result r0 r1 w0 w1
     image-saved line s Done is d f =
-        some-map r0 _ _ (λ input k. let b = saved-image line s d.answers input is k in (b.0, subst (Appends w0 w1) (sym b.1) f)) d.whole
+        some-map r0 _ _ (λ input k. let p = stopped-so seen old new (ends.Last line) d.answers input k in let b = saved-image line s p.0 input is p.1 in (b.0, subst (Appends w0 w1) (sym b.1) f)) d.whole
     image-saved line s (Script l h) is d f = absurd f
     image-saved line s Memory is d f = absurd f
     image-saved line s Reading is d f = absurd f
     image-saved line s Writing is d f =
-        let b = saved-image line s d.answers d.taken is d.read in
+        let p = stopped-so seen old new (ends.Last line) d.answers d.taken d.read in
+        let b = saved-image line s p.0 d.taken is p.1 in
         record { taken = d.taken; sent = f.0; unsent = f.1; reads = d.reads; writes = f.2; begins = b.1 ∙ f.3 }
 
     -- a drive, and what is written after it
-    pub saves-concluded : (end : End ScriptFault) (result : ReplayEnd) → Driven seen old new None start end r0 r1 v0 v1 → SavesEnd end (seen new) result w0 w1 → Saves result r0 r1 w0 w1
+    pub saves-concluded : (end : End ScriptFault) (result : ReplayEnd) → Drives (Advanced seen) (Wrong seen) end old new r0 r1 v0 v1 → SavesEnd end (seen new) result w0 w1 → Saves result r0 r1 w0 w1
     saves-concluded (ends.Last line) result d f = by (seen new) refl f
       where
         by : (m : Machine) → seen new ≡ m → SavesEnd (ends.Last line) m result w0 w1 → Saves result r0 r1 w0 w1

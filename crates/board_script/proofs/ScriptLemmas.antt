@@ -15,7 +15,7 @@ use Rattle.text_base.specs.Fields.{fields_of}
 use Rattle.text_driver.specs.Judging.{Judges}
 use Rattle.text_driver.specs.declared.judge.Taken.{Taken}
 use Rattle.text_driver.specs.declared.judge.Taken.TheVariants as taken
-use Rattle.board_script.specs.inside.Judging.{after_maybe, answer_maybe, AnswersItem, IsAnswered, IsFaulty}
+use Rattle.board_script.specs.inside.Judging.{after_maybe, answer_maybe, AnswersItem, PassesItem, IsAnswered, Advances, IsFaulty}
 use Rattle.text_lines.specs.declared.fault.ScriptFault.{ScriptFault}
 use Rattle.text_lines.specs.declared.fault.ScriptFault.TheVariants as faults
 
@@ -69,24 +69,33 @@ pub first_fault-bad : (k : ℕ) (opened : Bool) (line : List ℕ) (lines : List 
     first_fault k opened (line ∷ lines) rest ≡ Some (k, fault)
 first_fault-bad k opened line lines rest fault e = rw e refl
 
-item-at : (line : List ℕ) (fields : Fields) → fields_of line ≡ fields → item_at line ≡ parse_item fields
-unfolding item_at
-item-at line fields e = ap parse_item e
-
 judged : (opened : Bool) (line : List ℕ) (item : Option Item) → length line ≤ 640 → is_skipped line ≡ false → item_at line ≡ item →
     (line_fault opened line ≡ item_fault opened item) × (item_in line ≡ item)
 judged opened line item short not is = rw (le-ltb 640 (length line) short, not, is) (refl, refl)
 
+judged-line : (opened : Bool) (line : List ℕ) → length line ≤ 640 → is_skipped line ≡ false →
+    (line_fault opened line ≡ item_fault opened (parse_item (fields_of line))) × (item_in line ≡ parse_item (fields_of line))
+unfolding item_at
+judged-line opened line short not = judged opened line (parse_item (fields_of line)) short not refl
+
 -- the answer to the item is the answer to the line
-pub answers-line : (result : Taken ScriptFault) (line : List ℕ) (fields : Fields) (old new : Machine) (out : List ℕ) → length line ≤ 640 → is_skipped line ≡ false →
-    fields_of line ≡ fields → AnswersItem result (parse_item fields) old new out → Judges IsAnswered IsFaulty result old new line out
-answers-line taken.Good line fields old new out short not is h =
-    let j = judged (is_some old) line (parse_item fields) short not (item-at line fields is) in
-    rw (j.0, j.1) h
-answers-line (taken.Wrong fault) line fields old new out short not is h =
-    let j = judged (is_some old) line (parse_item fields) short not (item-at line fields is) in
-    rw j.0 h
-answers-line taken.Memory line fields old new out short not is h = tt
+pub answers-line : (result : Taken ScriptFault) (line : List ℕ) (old new : Machine) (out : List ℕ) → length line ≤ 640 → is_skipped line ≡ false →
+    AnswersItem result (parse_item (fields_of line)) old new out → Judges IsAnswered IsFaulty result old new line out
+answers-line taken.Good line old new out short not h = let j = judged-line (is_some old) line short not in rw (j.0, j.1) h
+answers-line (taken.Wrong fault) line old new out short not h = let j = judged-line (is_some old) line short not in rw j.0 h
+answers-line taken.Memory line old new out short not h = tt
+
+-- an answered item is one that passes
+pub passes-answered : (result : Taken ScriptFault) (item : Option Item) (old new : Machine) (out : List ℕ) → AnswersItem result item old new out → PassesItem result item old new
+passes-answered taken.Good item old new out h = (h.0, h.1)
+passes-answered (taken.Wrong fault) item old new out h = h
+passes-answered taken.Memory item old new out h = h
+
+pub passes-line : (result : Taken ScriptFault) (line : List ℕ) (old new : Machine) → length line ≤ 640 → is_skipped line ≡ false →
+    PassesItem result (parse_item (fields_of line)) old new → Judges (λ before text answer after. Advances before text after) IsFaulty result old new line []
+passes-line taken.Good line old new short not h = let j = judged-line (is_some old) line short not in rw (j.0, j.1) h
+passes-line (taken.Wrong fault) line old new short not h = let j = judged-line (is_some old) line short not in rw j.0 h
+passes-line taken.Memory line old new short not h = tt
 
 -- a first item that is not a board line
 other : (t : Bool) (fs : Fields) (r : Option Event) → item_fault false (cond t (none_left Summary fs) (option_map Performs r)) ≡ Some faults.First

@@ -1,7 +1,7 @@
-// The judge for the lines of a script.
-ghost use Rattle.board_script.specs.inside.Judging.{IsAnswered, IsFaulty, machine_of};
+// The judges for the lines of a script.
+ghost use Rattle.board_script.specs.inside.Judging.{IsAnswered, Advances, IsFaulty, machine_of};
 
-use crate::respond::respond;
+use crate::respond::{advance, respond};
 use board_terms::Notices;
 use std::alloc::Global;
 use synic_board::Board;
@@ -30,3 +30,23 @@ impl Judge for ScriptJudge {
     }
 }
 // README text_driver: end
+
+/// Validates and performs the lines of a script in the same way, and forms no answers.
+#[derive(Drop)]
+pub(crate) struct SaveJudge {
+    pub(crate) script: ScriptJudge,
+}
+
+impl Judge for SaveJudge {
+    type Fault = ScriptFault;
+
+    ghost good = { λ old line answer new. Advances (machine_of old.script.board) line (machine_of new.script.board) };
+
+    ghost wrong = { λ judge line fault. IsFaulty (machine_of judge.script.board) line fault };
+
+    #[inline(always)]
+    fn take(&mut self, line: &[u8], _: &mut Vec<u8>) -> Taken<ScriptFault> {
+        let script = &mut self.script;
+        advance(script.alloc, &mut script.board, line, &mut script.notices)
+    }
+}

@@ -1,8 +1,12 @@
 // Performing a line, and its answer.
-ghost use Rattle.std.specs.Prelude.{◌≡◌, ◌≤◌, [], ◌∷◌, ◌++◌, length, map, OnOk, None, Some};
+ghost use Rattle.std.specs.Prelude.{◌≡◌, ◌≤◌, ℕ, List, [], ◌∷◌, ◌++◌, length, map, MatchBool, OnOk, true, None, Some};
+ghost use Rattle.text_base.specs.Fields.{fields_of};
+ghost use Rattle.text_lines.specs.Items.{Summary};
 ghost use Rattle.text_lines.specs.Reading.{opening_item, parse_event, parse_item};
 ghost use Rattle.text_lines.specs.Printing.{text_of, reply_fields, notice_fields};
-ghost use Rattle.board_script.specs.inside.Judging.{IsAnswered, IsFaulty, AnswersItem, machine_of};
+ghost use Rattle.text_lines.specs.declared.fault.ScriptFault.TheVariants.{Form};
+ghost use Rattle.board_script.specs.Script.{item_fault};
+ghost use Rattle.board_script.specs.inside.Judging.{IsAnswered, Advances, IsFaulty, AnswersItem, PassesItem, machine_of};
 ghost use Rattle.text_driver.specs.Judging.{Judges};
 
 use board_terms::{Notice, Notices};
@@ -30,21 +34,40 @@ pub(crate) fn respond(
     if skips(line) {
         return Taken::Good;
     }
-    let fields = Fields::new(line);
     match board {
-        Some(board) => take_line(board, &fields, notices, out),
-        None => open(alloc, board, &fields),
+        Some(board) => take_line(board, line, notices, out),
+        None => open(alloc, board, line),
+    }
+}
+
+/// Validates a line and performs it, without an answer.
+#[inline(always)]
+pub(crate) fn advance(
+    alloc: Global,
+    board: &mut Option<Board>,
+    line: &[u8],
+    notices: &mut Notices,
+) -> Taken<ScriptFault>
+    requires short { length line.now ≤ 640 }
+    ensures { Judges (λ old text answer new. Advances old text new) IsFaulty result (machine_of board.old) (machine_of board.new) line.now [] }
+{
+    if skips(line) {
+        return Taken::Good;
+    }
+    match board {
+        Some(board) => pass_line(board, line, notices),
+        None => open(alloc, board, line),
     }
 }
 
 /// Takes the first item, which must be a board line. Out of line, since it has a board on its stack: other
 /// lines need not make room for one.
 #[inline(never)]
-fn open(alloc: Global, board: &mut Option<Board>, fields: &Fields<'_>) -> Taken<ScriptFault>
+fn open(alloc: Global, board: &mut Option<Board>, line: &[u8]) -> Taken<ScriptFault>
     requires { board.old ≡ None }
-    ensures { AnswersItem result (parse_item fields.now) None (machine_of board.new) [] }
+    ensures { AnswersItem result (parse_item (fields_of line.now)) None (machine_of board.new) [] }
 {
-    match fields.after(b"board") {
+    match Fields::new(line).after(b"board") {
         Some(mut sizes) => open_sized(alloc, board, &mut sizes),
         None => Taken::Wrong(ScriptFault::First),
     }
@@ -76,18 +99,18 @@ fn open_sized(
 #[inline(always)]
 fn take_line(
     board: &mut Board,
-    fields: &Fields<'_>,
+    line: &[u8],
     notices: &mut Notices,
     out: &mut Vec<u8>,
 ) -> Taken<ScriptFault>
     requires { out.old.items ≡ [] }
-    ensures { AnswersItem result (parse_item fields.now) (Some board.old.state) (Some board.new.state) out.new.items }
+    ensures { AnswersItem result (parse_item (fields_of line.now)) (Some board.old.state) (Some board.new.state) out.new.items }
 {
     // README text_lines: begin
-    let performed = perform_event(fields, board, notices);
+    let performed = perform_event(&Fields::new(line), board, notices, |reply| reply);
     // By reference, since a reply that is moved is copied.
     let Some(reply) = &performed else {
-        return take_summary(board, fields, out);
+        return take_summary(board, line, out);
     };
     match put_outcome(out, reply, notices.as_slice()) {
         Ok(()) => Taken::Good,
@@ -96,21 +119,42 @@ fn take_line(
     // README text_lines: end
 }
 
-/// Takes the line `summary`, or a line that has no event.
-fn take_summary(board: &Board, fields: &Fields<'_>, out: &mut Vec<u8>) -> Taken<ScriptFault>
-    requires empty { out.old.items ≡ [] }
-    requires none { parse_event fields.now ≡ None }
-    ensures { AnswersItem result (parse_item fields.now) (Some board.now.state) (Some board.now.state) out.new.items }
+/// Takes the same lines without an answer.
+#[inline(always)]
+fn pass_line(board: &mut Board, line: &[u8], notices: &mut Notices) -> Taken<ScriptFault>
+    ensures { PassesItem result (parse_item (fields_of line.now)) (Some board.old.state) (Some board.new.state) }
 {
-    let Some(rest) = fields.after(b"summary") else {
-        return Taken::Wrong(ScriptFault::Form);
-    };
-    if !rest.is_empty() {
+    match perform_event(&Fields::new(line), board, notices, |_| ()) {
+        Some(()) => Taken::Good,
+        None if is_summary(line) => Taken::Good,
+        None => Taken::Wrong(ScriptFault::Form),
+    }
+}
+
+/// Takes the line `summary`, or a line that has no event.
+#[inline(never)]
+fn take_summary(board: &Board, line: &[u8], out: &mut Vec<u8>) -> Taken<ScriptFault>
+    requires empty { out.old.items ≡ [] }
+    requires none { parse_event (fields_of line.now) ≡ None }
+    ensures { AnswersItem result (parse_item (fields_of line.now)) (Some board.now.state) (Some board.now.state) out.new.items }
+{
+    if !is_summary(line) {
         return Taken::Wrong(ScriptFault::Form);
     }
     match put_summary(out, board.summary(), board.processors(), board.pages()) {
         Ok(()) => Taken::Good,
         Err(_) => Taken::Memory,
+    }
+}
+
+/// Whether a line that has no event is the line `summary`.
+fn is_summary(line: &[u8]) -> bool
+    requires { parse_event (fields_of line.now) ≡ None }
+    ensures { MatchBool result (parse_item (fields_of line.now) ≡ Some Summary) (item_fault true (parse_item (fields_of line.now)) ≡ Some Form) }
+{
+    match Fields::new(line).after(b"summary") {
+        Some(rest) => rest.is_empty(),
+        None => false,
     }
 }
 

@@ -4,7 +4,7 @@ ghost use Rattle.std.specs.Prelude.{Some};
 ghost use Rattle.board_script.specs.Streams.{Replays, ReplaysOn, Saves, most_read, StopsNear};
 ghost use Rattle.board_script.specs.inside.Judging.{machine_of, conclusion, Concludes, Finishes, SavesEnd, SavesImage};
 
-use crate::judge::ScriptJudge;
+use crate::judge::{SaveJudge, ScriptJudge};
 use board_terms::Notices;
 use std::alloc::Global;
 use std::io::{self, Read, Write};
@@ -137,14 +137,15 @@ pub fn save_script<R: Read, W: Write>(alloc: Global, reader: &mut R, writer: &mu
     let Ok(notices) = Notices::open(alloc) else {
         return ReplayEnd::Memory;
     };
-    let mut judge = ScriptJudge {
+    let script = ScriptJudge {
         alloc,
         board: None,
         notices,
     };
+    let mut judge = SaveJudge { script };
     let mut out = Vec::new(alloc);
     let end = drive(alloc, reader, &mut io::sink(), &mut judge, &mut out);
-    conclude_save(writer, &mut out, end, &judge.board)
+    conclude_save(writer, &mut out, end, &judge.script.board)
 }
 
 /// Writes the image of the board, or the fault's line. It is separate from `save_script`, so that one

@@ -1,5 +1,5 @@
 // The cached summary of the state.
-ghost use Rattle.std.specs.Prelude.{◌≡◌, ◌≢◌, ◌==◌, ℕ, ◌+◌, ◌*◌, ◌<◌, ◌≤◌, replicate, false, None, IfOk, slice_index_or};
+ghost use Rattle.std.specs.Prelude.{◌≡◌, ◌≢◌, ℕ, ◌+◌, ◌*◌, ◌<◌, ◌≤◌, replicate, false, None, IfOk, slice_index_or};
 ghost use Rattle.std.specs.FinSet as set;
 ghost use Rattle.std.specs.Int.{bit_at};
 ghost use Rattle.board_terms.specs.declared.pages.Owner.TheVariants.{Guest, Nothing};
@@ -23,8 +23,10 @@ pub(crate) enum Entry {
     Auto(Vp, VectorSet),
     /// Which page a guest sees at a page number.
     Owns(u8, Owner),
-    /// How many messages are queued for a source of a processor.
-    Queued(Vp, Sint, u16),
+    /// How many messages are queued for a source of a processor, after one was appended.
+    Appended(Vp, Sint, u16),
+    /// How many messages are queued for a source of a processor, after some were taken away.
+    Reduced(Vp, Sint, u16),
     /// The earliest timer, with its deadline.
     Earliest(Option<(u128, TimerId)>),
 }
@@ -111,10 +113,18 @@ impl Summary {
             Entry::Next(vp, next) => self.nexts[vp.number() as usize] = next,
             Entry::Auto(vp, auto) => self.autos[vp.number() as usize] = auto,
             Entry::Owns(page, owner) => self.owners[page as usize] = owner,
-            Entry::Queued(vp, sint, count) => {
+            Entry::Appended(vp, sint, count) => {
                 let at = vp.number() as usize;
                 self.queued[source_number(vp, sint)] = count;
-                self.waiting[at] = with_source(self.waiting[at], sint, count > 0);
+                self.waiting[at] = with_source(self.waiting[at], sint);
+            }
+            Entry::Reduced(vp, sint, count) => {
+                let at = vp.number() as usize;
+                self.queued[source_number(vp, sint)] = count;
+                // If messages are left, there were some before, and the bit is set.
+                if count == 0 {
+                    self.waiting[at] = without_source(self.waiting[at], sint);
+                }
             }
             Entry::Earliest(earliest) => match earliest {
                 Some(first) => {
@@ -193,11 +203,18 @@ impl Summary {
     }
 }
 
-/// A word with the bit of a source set or cleared; its other bits stay.
-fn with_source(word: u16, sint: Sint, waits: bool) -> u16
-    ensures here { (bit_at result sint == 1) ≡ waits }
+/// A word with the bit of a source set; its other bits stay.
+fn with_source(word: u16, sint: Sint) -> u16
+    ensures here { bit_at result sint ≡ 1 }
     ensures others { (i : ℕ) → i < 16 → i ≢ sint → bit_at result i ≡ bit_at word i }
 {
-    let bit = 1 << sint.number();
-    if waits { word | bit } else { word & !bit }
+    word | 1 << sint.number()
+}
+
+/// A word with the bit of a source cleared; its other bits stay.
+fn without_source(word: u16, sint: Sint) -> u16
+    ensures here { bit_at result sint ≡ 0 }
+    ensures others { (i : ℕ) → i < 16 → i ≢ sint → bit_at result i ≡ bit_at word i }
+{
+    word & !(1 << sint.number())
 }

@@ -6,7 +6,7 @@ use Rattle.std.proofs.lemmas.List.Elements.{All-head, All-tail, All-push}
 use Rattle.text_base.proofs.DigitLemmas.{glyph-injective}
 use Rattle.text_base.proofs.PlainWords.{glyph-plain}
 use Rattle.text_base.specs.Numbers.{spelled, IsByte, AreBytes}
-use Rattle.text_base.specs.inside.Parsing.{IsBytesFront}
+use Rattle.text_base.specs.inside.Parsing.{IsBytesField}
 
 -- what follows bytes is a space, or nothing
 abbrev IsEnd : List ℕ → Type 0
@@ -54,33 +54,50 @@ pub record Next (xs r bytes : List ℕ) : Type 0 where
   pub high : get_or r 0 0 ≡ digit_glyph false (b / 16)
   pub low : get_or r 1 0 ≡ digit_glyph false (b % 16)
 
-pub next-byte : (text xs r bytes : List ℕ) (count : ℕ) → text ≡ spelled xs ++ r → AreBytes xs → IsBytesFront text bytes count → 0 < length r → get_or r 0 0 ≢ 32 → Next xs r bytes
-next-byte text xs r bytes count split h front some digit = by (spelled-front xs r bytes s h front.3 end (sym split ∙ whole))
+-- what follows decoded bytes, where a field of bytes goes on or ends
+goes-on : (text xs r bytes : List ℕ) (count : ℕ) → text ≡ spelled xs ++ r → AreBytes xs → IsBytesField text bytes count →
+    GoesOn xs r bytes (drop count text) × IsEnd (drop count text)
+goes-on text xs r bytes count split h field = (spelled-front xs r bytes (drop count text) h field.0.2 end (sym split ∙ whole), end)
+  where
+    end : IsEnd (drop count text)
+    end more =
+        let here : count + 0 ≡ count = omega arith in
+        get_or-drop count text 0 0 ∙ ap (λ (i : ℕ). get_or text i 0) here ∙ field.1 (omega (arith, more, length-drop count text))
+
+    whole : text ≡ spelled bytes ++ drop count text
+    whole = sym (take-append-drop count text) ∙ ap (λ (y : List ℕ). y ++ drop count text) field.0.1
+
+next-of : (xs r bytes s more : List ℕ) → bytes ≡ xs ++ more → r ≡ spelled more ++ s → AreBytes more → more ≢ [] → Next xs r bytes
+next-of xs r bytes s [] same rest all some = absurd (some refl)
+next-of xs r bytes s (b ∷ more) same rest all some = record {
+  b = b;
+  more = more;
+  small = All-head IsByte b more all;
+  whole = same;
+  two = omega (arith, ap length rest);
+  high = ap (λ (y : List ℕ). get_or y 0 0) rest;
+  low = ap (λ (y : List ℕ). get_or y 1 0) rest;
+}
+
+pub next-byte : (text xs r bytes : List ℕ) (count : ℕ) → text ≡ spelled xs ++ r → AreBytes xs → IsBytesField text bytes count → 0 < length r → get_or r 0 0 ≢ 32 → Next xs r bytes
+next-byte text xs r bytes count split h field some digit =
+    let on = goes-on text xs r bytes count split h field in
+    next-of xs r bytes (drop count text) on.0.more on.0.whole on.0.rest on.0.all (λ none.
+    let rest : r ≡ drop count text = rw none at on.0.rest in
+    digit (ap (λ (y : List ℕ). get_or y 0 0) rest ∙ on.1 (omega (arith, some, ap length rest))))
+
+-- where no byte can be decoded, a field of bytes ends
+pub ended : (text xs r bytes : List ℕ) (count : ℕ) → text ≡ spelled xs ++ r → AreBytes xs → IsBytesField text bytes count → (Next xs r bytes → ⊥) → count + length r ≡ length text
+ended text xs r bytes count split h field never = by (goes-on text xs r bytes count split h field).0
   where
     s : List ℕ
     s = drop count text
 
-    end : IsEnd s
-    end more =
-        let here : count + 0 ≡ count = omega arith in
-        get_or-drop count text 0 0 ∙ ap (λ (i : ℕ). get_or text i 0) here ∙ front.2 (omega (arith, more, length-drop count text))
+    at : (more : List ℕ) → bytes ≡ xs ++ more → r ≡ spelled more ++ s → AreBytes more → count + length r ≡ length text
+    at [] same rest all = omega (arith, ap length rest, length-drop count text, field.0.0)
+    at (b ∷ more) same rest all = absurd (never (next-of xs r bytes s (b ∷ more) same rest all (λ none. cc)))
 
-    whole : text ≡ spelled bytes ++ s
-    whole = sym (take-append-drop count text) ∙ ap (λ (y : List ℕ). y ++ s) front.1
-
-    at : (more : List ℕ) → bytes ≡ xs ++ more → r ≡ spelled more ++ s → AreBytes more → Next xs r bytes
-    at [] none rest all = absurd (digit (ap (λ (y : List ℕ). get_or y 0 0) rest ∙ end (omega (arith, some, ap length rest))))
-    at (b ∷ more) same rest all = record {
-      b = b;
-      more = more;
-      small = All-head IsByte b more all;
-      whole = same;
-      two = omega (arith, ap length rest);
-      high = ap (λ (y : List ℕ). get_or y 0 0) rest;
-      low = ap (λ (y : List ℕ). get_or y 1 0) rest;
-    }
-
-    by : GoesOn xs r bytes s → Next xs r bytes
+    by : GoesOn xs r bytes s → count + length r ≡ length text
     by g = at g.more g.whole g.rest g.all
 
 -- a digit is no space

@@ -1,5 +1,5 @@
 -- The fields of a text.
-use Rattle.std.proofs.Common.{◌≡◌, ◌≢◌, ◌<◌, subst, ne_eqb, ◌+◌, ◌-◌, ◌∷◌, ◌++◌, [], ℕ, List, Bool, nat_eq, false, true, cond, take, drop, length, get_or, arith, sym, ap, ◌∙◌, drop-cons, suc, refl}
+use Rattle.std.proofs.Common.{◌≡◌, ◌≢◌, ◌<◌, subst, ne_eqb, ◌+◌, ◌-◌, ◌∷◌, ◌++◌, ◌≤◌, [], ℕ, List, Option, None, Some, Bool, nat_eq, false, true, cond, take, drop, length, get_or, arith, sym, ap, ◌∙◌, drop-cons, suc, refl}
 use native.Mathlib.Numerals.{unary_clauses}
 use Rattle.std.specs.Fmt.{digits}
 use Rattle.std.specs.List.{All, onto_first}
@@ -8,8 +8,9 @@ use Rattle.std.proofs.Math.Seq.{take-append_seam, get_or-append_seam}
 use Rattle.std.proofs.lemmas.List.Splits.{slice_split_at, join_with_byte-slice_split}
 use Rattle.std.proofs.lemmas.List.Elements.{All-nil, All-cons}
 use Rattle.text_base.specs.Fields.{fields_of, spaced}
-use Rattle.text_base.specs.Numbers.{spelled, AreBytes}
-use Rattle.text_base.specs.inside.Parsing.{IsFront, IsBytesFront, HasNoSpace}
+use Rattle.text_base.specs.Numbers.{spelled, two_digits, byte_at, AreBytes}
+use Rattle.text_base.specs.inside.Parsing.{IsFront, IsBytesFront, IsBytesField, HasNoSpace}
+use Rattle.text_base.proofs.NumberLemmas.{byte_at-only}
 use Rattle.text_base.proofs.PlainWords.{IsPlain, digits-plain, spelled-plain}
 
 pub at_space : (text : List ℕ) (i : ℕ) → i < length text → All (λ (x : ℕ). nat_eq x 32 ≡ false) (take i text) → get_or text i 0 ≡ 32 →
@@ -73,8 +74,24 @@ first-ends text word (field ∷ fields) e more =
     ap (λ (t : List ℕ). get_or t (length word) 0) (first-is text word (field ∷ fields) e) ∙ get_or-append_seam word 32 (spaced (field ∷ fields)) 0
 
 -- a first field of bytes
-pub bytes-front : (text bytes : List ℕ) (rest : List (List ℕ)) → AreBytes bytes → fields_of text ≡ spelled bytes ∷ rest → IsBytesFront text bytes (length (spelled bytes))
+pub bytes-front : (text bytes : List ℕ) (rest : List (List ℕ)) → AreBytes bytes → fields_of text ≡ spelled bytes ∷ rest → IsBytesField text bytes (length (spelled bytes))
 bytes-front text bytes rest all is =
     let begins = first-begins text (spelled bytes) rest is in
     let long : length (take (length (spelled bytes)) text) ≡ length (spelled bytes) = ap length begins in
-    (omega (arith, long, length-take (length (spelled bytes)) text), begins, λ within. first-ends text (spelled bytes) rest is (λ same. omega (arith, same, within)), all)
+    ((omega (arith, long, length-take (length (spelled bytes)) text), begins, all), λ within. first-ends text (spelled bytes) rest is (λ same. omega (arith, same, within)))
+
+-- a first field that is no byte in two digits
+pub no-byte_field : (text field : List ℕ) (rest : List (List ℕ)) → fields_of text ≡ field ∷ rest →
+    ((b : ℕ) → b < 256 → 2 ≤ length text → take 2 text ≡ two_digits b → (2 < length text → get_or text 2 0 ≡ 32) → ⊥) → byte_at field ≡ None
+no-byte_field text field rest is never = go (byte_at field) refl
+  where
+    go : (r : Option ℕ) → byte_at field ≡ r → byte_at field ≡ None
+    go None e = e
+    go (Some b) e =
+        let only = byte_at-only field b e in
+        let two : length field ≡ 2 = ap length only.1 in
+        let begins : take 2 text ≡ field = ap (λ (n : ℕ). take n text) (sym two) ∙ first-begins text field rest is in
+        let long : length (take 2 text) ≡ 2 = ap length begins ∙ two in
+        let ends : 2 < length text → get_or text 2 0 ≡ 32 =
+        λ more. ap (λ (n : ℕ). get_or text n 0) (sym two) ∙ first-ends text field rest is (λ same. omega (arith, same, two, more)) in
+        absurd (never b only.0 (omega (arith, long, length-take 2 text)) (begins ∙ only.1) ends)

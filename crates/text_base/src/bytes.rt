@@ -1,9 +1,10 @@
 // Bytes as two hexadecimal digits each.
-ghost use Rattle.std.specs.Prelude.{◌≡◌, ◌≢◌, ℕ, ◌+◌, List, ◌<◌, ◌≤◌, ◌++◌, length, get_or, IfSome, IfNone, OnOk};
+ghost use Rattle.std.specs.Prelude.{◌≡◌, ℕ, List, ◌<◌, ◌≤◌, ◌++◌, length, Some, IfSome, IfNone, OnOk};
 ghost use Rattle.text_base.specs.Numbers.{spelled, two_digits, byte_at};
-ghost use Rattle.text_base.specs.inside.Parsing.{IsBytesFront};
+ghost use Rattle.text_base.specs.inside.Parsing.{IsBytesFront, IsBytesField};
 
-use crate::numbers::{digit_of, glyph_of};
+use crate::numbers::digit_of;
+use crate::pairs::digits_of;
 use crate::sink::Sink;
 use arrayvec::ArrayVec;
 
@@ -22,19 +23,19 @@ pub fn byte_of(text: &[u8]) -> Option<u8>
     Some(high * 16 + low)
 }
 
-/// Decodes two digits for each byte from the front of a text into `out`, up to a space or the end of
-/// the text, and returns where that is. `None` if anything else is there, or if the bytes do not fit into
-/// `out`; then `out` holds some of them.
+/// Decodes two digits for each byte from the front of a text into `out`, as long as there are two, and
+/// returns where they end. `None` if one digit is left there, or if the bytes do not fit into `out`; then
+/// `out` holds some of them.
 #[inline(always)]
 pub(crate) fn bytes_front<const N: usize>(text: &[u8], out: &mut ArrayVec<u8, N>) -> Option<usize>
-    ensures found { IfSome result (λ count. IsBytesFront text.now out.new.items count) }
-    ensures none { IfNone result ((bytes : List ℕ) (count : ℕ) → length bytes ≤ N → IsBytesFront text.now bytes count → ⊥) }
+    ensures front { IfSome result (λ count. IsBytesFront text.now out.new.items count) }
+    ensures field { (bytes : List ℕ) (count : ℕ) → length bytes ≤ N → IsBytesField text.now bytes count → result ≡ Some count }
 {
     out.clear();
     let mut rest = text;
     while let [high, low, tail @ ..] = rest {
         let Some(high) = digit_of(*high) else {
-            return front_end(text, rest);
+            break;
         };
         let Some(low) = digit_of(*low) else {
             return None;
@@ -45,28 +46,7 @@ pub(crate) fn bytes_front<const N: usize>(text: &[u8], out: &mut ArrayVec<u8, N>
         out.push(high * 16 + low);
         rest = tail;
     }
-    front_end(text, rest)
-}
-
-/// Where the rest of a text begins, if a space or the end of the text is there.
-#[inline(always)]
-fn front_end(text: &[u8], rest: &[u8]) -> Option<usize>
-    requires { length rest.now ≤ length text.now }
-    ensures found { IfSome result (λ count. (count + length rest.now ≡ length text.now) × (0 < length rest.now → get_or rest.now 0 0 ≡ 32)) }
-    ensures none { IfNone result ((0 < length rest.now) × (get_or rest.now 0 0 ≢ 32)) }
-{
-    if !rest.is_empty() && rest[0] != b' ' {
-        return None;
-    }
     Some(text.len() - rest.len())
-}
-
-/// The two digits of a byte.
-#[inline(always)]
-pub fn digits_of(byte: u8) -> [u8; 2]
-    ensures { result ≡ two_digits byte }
-{
-    [glyph_of(byte / 16), glyph_of(byte % 16)]
 }
 
 /// Appends a byte to `out` as two digits. An error is an allocation failure.

@@ -1,11 +1,12 @@
 // The fields of a line, one at a time.
 ghost use Rattle.std.specs.Prelude.{◌≡◌, ◌≢◌, ◌↔◌, ◌<◌, ◌≤◌, ◌^◌, ℕ, List, [], ◌∷◌, take, length, get_or, Option, MatchOption, IsTrue, IfSome, IfNone};
 ghost use Rattle.std.specs.Str.{bytes_eq};
+ghost use Rattle.std.specs.Int.{to_le_bytes, w32};
 ghost use Rattle.text_base.specs.Fields.{fields_of, TakesField, ReadsField};
 ghost use Rattle.text_base.specs.inside.Parsing.{HasNoSpace, IsFieldEnd, ReadsShort};
-ghost use Rattle.text_base.specs.Numbers.{decimal_at, hex_at, spelled, AreBytes};
+ghost use Rattle.text_base.specs.Numbers.{decimal_at, hex_at, byte_at, spelled, AreBytes};
 
-use crate::bytes::bytes_front;
+use crate::bytes::{byte_of, bytes_front};
 use crate::numbers::{decimal_of, hex_of, short_number};
 use arrayvec::ArrayVec;
 use std::marker::Model;
@@ -18,8 +19,8 @@ pub fn is_word<const N: usize>(field: &[u8], word: &[u8; N]) -> bool
     field.len() == N && starts_with(field, word)
 }
 
-/// Whether a text begins with that word. `N` is constant at each caller, so the comparison compiles to
-/// no loop.
+/// Whether a text begins with that word. Four bytes are compared at once. `N` is constant at each caller,
+/// so the comparison compiles to no loop.
 #[inline(always)]
 fn starts_with<const N: usize>(text: &[u8], word: &[u8; N]) -> bool
     ensures { result ≡ bytes_eq (take N text.now) word.now }
@@ -27,12 +28,28 @@ fn starts_with<const N: usize>(text: &[u8], word: &[u8; N]) -> bool
     if text.len() < N {
         return false;
     }
-    for i in 0..N {
+    let mut begin = 0;
+    if N >= 4 {
+        if four_of(text) != four_of(word) {
+            return false;
+        }
+        begin = 4;
+    }
+    for i in begin..N {
         if text[i] != word[i] {
             return false;
         }
     }
     true
+}
+
+/// The first four bytes as one number.
+#[inline(always)]
+fn four_of(text: &[u8]) -> u32
+    requires { 4 ≤ length text.now }
+    ensures { to_le_bytes w32 result ≡ take 4 text.now }
+{
+    u32::from_le_bytes([text[0], text[1], text[2], text[3]])
 }
 
 /// The fields of a line that were not yet taken. Single spaces separate them, so an empty line has
@@ -159,6 +176,20 @@ impl<'a> Fields<'a> {
         }
         *self = Fields::past(rest, count)?;
         Some(n)
+    }
+
+    /// Takes the next field, if it is a byte in two digits. `None` otherwise; then some fields are left.
+    #[inline(always)]
+    pub fn byte(&mut self) -> Option<u8>
+        ensures { ReadsField byte_at result self.old self.new }
+    {
+        let rest = self.rest?;
+        if rest.len() < 2 {
+            return None;
+        }
+        let byte = byte_of(&rest[..2])?;
+        *self = Fields::past(rest, 2)?;
+        Some(byte)
     }
 
     /// Takes the next field, if it is two digits for each byte, and decodes it into `out`. `None` if it is

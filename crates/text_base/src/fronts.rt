@@ -3,7 +3,7 @@
 ghost use Rattle.std.specs.Prelude.{◌≡◌, ◌+◌, ◌≤◌, ◌<◌, ◌++◌, ◌*◌, ◌/◌, ◌%◌, ◌∷◌, [], decimal, drop, length};
 ghost use Rattle.text_base.specs.Numbers.{two_digits, spelled};
 
-use crate::numbers::glyph_of;
+use crate::pairs::{decimal_pair, digits_of};
 
 /// The capacity of the buffer.
 pub const ROOM: usize = 48;
@@ -34,11 +34,11 @@ pub fn decimal_before(room: &mut [u8; ROOM], at: usize, n: u64) -> usize
     let mut start = at;
     let mut rest = n;
     while rest >= 100 {
-        start = text_before(room, start, &pair_of((rest % 100) as usize));
+        start = text_before(room, start, &decimal_pair((rest % 100) as usize));
         rest /= 100;
     }
     if rest >= 10 {
-        return text_before(room, start, &pair_of(rest as usize));
+        return text_before(room, start, &decimal_pair(rest as usize));
     }
     text_before(room, start, &[b'0' + rest as u8])
 }
@@ -69,7 +69,7 @@ pub fn small_before(room: &mut [u8; ROOM], at: usize, n: u8) -> usize
     if n < 10 {
         return digit_before(room, at, n);
     }
-    let start = text_before(room, at, &pair_of((n % 100) as usize));
+    let start = text_before(room, at, &decimal_pair((n % 100) as usize));
     if n < 100 {
         return start;
     }
@@ -85,8 +85,10 @@ pub fn byte_before(room: &mut [u8; ROOM], at: usize, byte: u8) -> usize
     ensures begins { result + 2 ≡ at }
     ensures written { drop result room.new ≡ two_digits byte ++ drop at room.old }
 {
-    room[at - 1] = glyph_of(byte % 16);
-    room[at - 2] = glyph_of(byte / 16);
+    // Not copied as a slice, which tests whether its places overlap.
+    let [high, low] = digits_of(byte);
+    room[at - 2] = high;
+    room[at - 1] = low;
     at - 2
 }
 
@@ -106,15 +108,4 @@ pub fn bytes_before(room: &mut [u8; ROOM], at: usize, bytes: &[u8]) -> usize
         start = byte_before(room, start, bytes[left]);
     }
     start
-}
-
-/// The two decimal digits of a number below 100.
-#[inline(always)]
-fn pair_of(n: usize) -> [u8; 2]
-    requires { n < 100 }
-    ensures { result ≡ (48 + n / 10) ∷ (48 + n % 10) ∷ [] }
-{
-    let pairs =
-        b"00010203040506070809101112131415161718192021222324252627282930313233343536373839404142434445464748495051525354555657585960616263646566676869707172737475767778798081828384858687888990919293949596979899";
-    [pairs[2 * n], pairs[2 * n + 1]]
 }

@@ -4,3 +4,4 @@ pub mod ByteFields
 pub mod ReadLemmas
 pub mod SizeLemmas
 pub mod WrittenLemmas
+pub mod PerformLemmas

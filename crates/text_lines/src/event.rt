@@ -2,7 +2,7 @@
 ghost use Rattle.std.specs.Prelude.{◌≡◌, [], ◌∷◌};
 ghost use Rattle.std.specs.Option.{option_map};
 ghost use Rattle.synic_board.specs.declared.event.Event.TheVariants.{Post, Store};
-ghost use Rattle.text_lines.specs.Performing.{PerformsLine};
+ghost use Rattle.text_lines.specs.Performing.{MakesOfLine};
 ghost use Rattle.text_lines.specs.Reading.{parse_event, parse_open, parse_messages, parse_flags, parse_close, parse_write, parse_read, parse_post, parse_signal, parse_assert, parse_absorb, parse_store, parse_load, parse_tick, parse_processor, parse_take, parse_suspend, parse_resume, parse_reset};
 
 use crate::numbers::{hex_u32_of, hex_u64_of, read_bytes, u8_of, u16_of, u64_of, vector_of};
@@ -64,96 +64,127 @@ pub fn event_of(word: &[u8], fields: &mut Fields<'_>) -> Option<Event>
     None
 }
 
-/// Performs the event that the fields denote on a board, and returns its reply; `None` if they denote
-/// no event, and then the board is unchanged. Each kind of event is performed where it is parsed, so
-/// none is written to memory. The most frequent ones are first.
-pub fn perform_event(fields: &Fields<'_>, board: &mut Board, notices: &mut Notices) -> Option<Reply>
-    ensures { PerformsLine result (parse_event fields.now) board.old board.new notices.new }
+/// Performs the event that the fields denote on a board, and returns what `make` makes of its reply;
+/// `None` if they denote no event, and then the board is unchanged. Each kind of event is performed where
+/// it is parsed, so none is written to memory. The most frequent ones are first. Each closure has an
+/// instance of its own, which its only caller takes in.
+pub fn perform_event<T, F: FnOnce(Reply) -> T>(
+    fields: &Fields<'_>,
+    board: &mut Board,
+    notices: &mut Notices,
+    make: F,
+) -> Option<T>
+    requires { F.IsAlwaysCallable make }
+    ensures { MakesOfLine (F.post make) result (parse_event fields.now) board.old board.new notices.new }
 {
     if let Some(mut rest) = fields.after(b"write") {
-        return perform(board, write_of(&mut rest), notices);
+        return perform(board, write_of(&mut rest), notices, make);
     }
     if let Some(mut rest) = fields.after(b"store") {
-        return perform_store(&mut rest, board, notices);
+        return perform_store(&mut rest, board, notices, make);
     }
     if let Some(mut rest) = fields.after(b"take") {
-        return perform(board, take_of(&mut rest), notices);
+        return perform(board, take_of(&mut rest), notices, make);
     }
     if let Some(mut rest) = fields.after(b"assert") {
-        return perform(board, assert_of(&mut rest), notices);
+        return perform(board, assert_of(&mut rest), notices, make);
     }
     if let Some(mut rest) = fields.after(b"tick") {
-        return perform(board, tick_of(&mut rest), notices);
+        return perform(board, tick_of(&mut rest), notices, make);
     }
     if let Some(mut rest) = fields.after(b"signal") {
-        return perform(board, signal_of(&mut rest), notices);
+        return perform(board, signal_of(&mut rest), notices, make);
     }
     if let Some(mut rest) = fields.after(b"post") {
-        return perform_post(&mut rest, board, notices);
+        return perform_post(&mut rest, board, notices, make);
     }
     if let Some(mut rest) = fields.after(b"load") {
-        return perform(board, load_of(&mut rest), notices);
+        return perform(board, load_of(&mut rest), notices, make);
     }
     if let Some(mut rest) = fields.after(b"read") {
-        return perform(board, read_of(&mut rest), notices);
+        return perform(board, read_of(&mut rest), notices, make);
     }
     if let Some(rest) = fields.after(b"open") {
-        return perform_open(rest, board, notices);
+        return perform_open(rest, board, notices, make);
     }
     if let Some(mut rest) = fields.after(b"close") {
-        return perform(board, close_of(&mut rest), notices);
+        return perform(board, close_of(&mut rest), notices, make);
     }
     if let Some(mut rest) = fields.after(b"absorb") {
-        return perform(board, absorb_of(&mut rest), notices);
+        return perform(board, absorb_of(&mut rest), notices, make);
     }
     if let Some(mut rest) = fields.after(b"suspend") {
-        return perform(board, suspend_of(&mut rest), notices);
+        return perform(board, suspend_of(&mut rest), notices, make);
     }
     if let Some(mut rest) = fields.after(b"resume") {
-        return perform(board, resume_of(&mut rest), notices);
+        return perform(board, resume_of(&mut rest), notices, make);
     }
     if let Some(mut rest) = fields.after(b"reset") {
-        return perform(board, reset_of(&mut rest), notices);
+        return perform(board, reset_of(&mut rest), notices, make);
     }
     None
 }
 
 /// Performs an event, if there is one.
 #[inline(always)]
-fn perform(board: &mut Board, event: Option<Event>, notices: &mut Notices) -> Option<Reply>
-    ensures { PerformsLine result event board.old board.new notices.new }
+fn perform<T, F: FnOnce(Reply) -> T>(
+    board: &mut Board,
+    event: Option<Event>,
+    notices: &mut Notices,
+    make: F,
+) -> Option<T>
+    requires { F.IsAlwaysCallable make }
+    ensures { MakesOfLine (F.post make) result event board.old board.new notices.new }
 {
     let event = event?;
-    Some(board.perform(&event, notices))
+    Some(make(board.perform(&event, notices)))
 }
 
 /// Performs the opening of a port. Out of line: an event of two shapes is formed in memory, and other lines
 /// need not clear its place.
 #[inline(never)]
-fn perform_open(mut fields: Fields<'_>, board: &mut Board, notices: &mut Notices) -> Option<Reply>
-    ensures { PerformsLine result (parse_open fields.entry) board.old board.new notices.new }
+fn perform_open<T, F: FnOnce(Reply) -> T>(
+    mut fields: Fields<'_>,
+    board: &mut Board,
+    notices: &mut Notices,
+    make: F,
+) -> Option<T>
+    requires { F.IsAlwaysCallable make }
+    ensures { MakesOfLine (F.post make) result (parse_open fields.entry) board.old board.new notices.new }
 {
-    perform(board, open_of(&mut fields), notices)
+    perform(board, open_of(&mut fields), notices, make)
 }
 
 /// Performs a post, from the payload that is parsed.
 #[inline(always)]
-fn perform_post(fields: &mut Fields<'_>, board: &mut Board, notices: &mut Notices) -> Option<Reply>
-    ensures { PerformsLine result (parse_post fields.old) board.old board.new notices.new }
+fn perform_post<T, F: FnOnce(Reply) -> T>(
+    fields: &mut Fields<'_>,
+    board: &mut Board,
+    notices: &mut Notices,
+    make: F,
+) -> Option<T>
+    requires { F.IsAlwaysCallable make }
+    ensures { MakesOfLine (F.post make) result (parse_post fields.old) board.old board.new notices.new }
 {
     let mut payload = ArrayVec::new();
     let (port, kind) = read_post(fields, &mut payload)?;
-    Some(board.post(port, kind, payload.as_slice(), notices))
+    Some(make(board.post(port, kind, payload.as_slice(), notices)))
 }
 
 /// Performs a store, from the bytes that are parsed.
 #[inline(always)]
-fn perform_store(fields: &mut Fields<'_>, board: &mut Board, notices: &mut Notices) -> Option<Reply>
-    ensures { PerformsLine result (parse_store fields.old) board.old board.new notices.new }
+fn perform_store<T, F: FnOnce(Reply) -> T>(
+    fields: &mut Fields<'_>,
+    board: &mut Board,
+    notices: &mut Notices,
+    make: F,
+) -> Option<T>
+    requires { F.IsAlwaysCallable make }
+    ensures { MakesOfLine (F.post make) result (parse_store fields.old) board.old board.new notices.new }
 {
     let mut bytes = ArrayVec::new();
     let address = read_store(fields, &mut bytes)?;
-    Some(board.store(address, bytes.as_slice(), notices))
+    Some(make(board.store(address, bytes.as_slice(), notices)))
 }
 
 #[inline(always)]

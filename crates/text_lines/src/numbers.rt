@@ -4,7 +4,7 @@ ghost use Rattle.text_lines.specs.Reading.{TakesNumber, TakesBytes, u8_at, u16_a
 
 use arrayvec::ArrayVec;
 use board_terms::{Ticket, Vector};
-use text_base::{Fields, byte_of};
+use text_base::Fields;
 
 /// A decimal number up to 255.
 #[inline(always)]
@@ -60,10 +60,7 @@ pub fn hex_u64_of(fields: &mut Fields<'_>) -> Option<u64>
 pub fn vector_of(fields: &mut Fields<'_>) -> Option<Vector>
     ensures { TakesNumber vector_at result fields.old fields.new }
 {
-    let Some(field) = fields.next() else {
-        return None;
-    };
-    let Some(number) = byte_of(field) else {
+    let Some(number) = fields.byte() else {
         return None;
     };
     Vector::new(number)

@@ -302,5 +302,5 @@ fn perform_entry(
     if !format.has_fields(&fields) {
         return None;
     }
-    perform_event(&fields, board, notices)
+    perform_event(&fields, board, notices, |reply| reply)
 }

@@ -53,7 +53,7 @@ impl Machine {
     {
         let tickets = self.queues.withdraw_port(vp, sint, port);
         let left = self.queues.count(vp, sint);
-        self.summary.write(Entry::Queued(vp, sint, left));
+        self.summary.write(Entry::Reduced(vp, sint, left));
         emit_withdrawn(vp, sint, tickets.as_slice(), notices);
     }
 

@@ -86,7 +86,7 @@ impl Machine {
         ensures in_all { sum_by length self.old.state.queues ≤ 288 }
     {
         let tickets = self.queues.withdraw_all(vp, sint);
-        self.summary.write(Entry::Queued(vp, sint, 0));
+        self.summary.write(Entry::Reduced(vp, sint, 0));
         emit_withdrawn(vp, sint, tickets.as_slice(), notices);
     }
 

@@ -89,7 +89,7 @@ impl Machine {
     {
         self.queues.append(vp, sint, message);
         let count = self.queues.count(vp, sint);
-        self.summary.write(Entry::Queued(vp, sint, count));
+        self.summary.write(Entry::Appended(vp, sint, count));
     }
 
     /// Sets the ticket in a slot.

@@ -10,9 +10,13 @@ use Rattle.std.specs.Borrow.{Bor}
 abbrev pub IsFront : ℕ → List ℕ → ℕ → ℕ → Type 0
 IsFront base text n count = (count ≤ length text) × (take count text ≡ digits base false n)
 
--- the first `count` bytes spell these bytes, and a space or the end of the text follows
+-- the first `count` bytes spell these bytes
 abbrev pub IsBytesFront : List ℕ → List ℕ → ℕ → Type 0
-IsBytesFront text bytes count = (count ≤ length text) × (take count text ≡ spelled bytes) × (count < length text → get_or text count 0 ≡ 32) × AreBytes bytes
+IsBytesFront text bytes count = (count ≤ length text) × (take count text ≡ spelled bytes) × AreBytes bytes
+
+-- the same, and a space or the end of the text follows
+abbrev pub IsBytesField : List ℕ → List ℕ → ℕ → Type 0
+IsBytesField text bytes count = IsBytesFront text bytes count × (count < length text → get_or text count 0 ≡ 32)
 
 -- no space is in a text
 abbrev pub HasNoSpace : List ℕ → Type 0

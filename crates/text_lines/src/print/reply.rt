@@ -17,7 +17,7 @@ pub fn put_reply(out: &mut Vec<u8>, reply: &Reply) -> Result<(), AllocError>
     ensures { OnOk result (out.new.items ≡ out.old.items ++ line_of (reply_fields reply.now)) }
 {
     match reply {
-        Reply::Done => put(out, b"= done\n"),
+        Reply::Done => put_constant(out, b"= done\n"),
         Reply::Value(value) => {
             put(out, b"= value ")?;
             put_hex(out, *value)?;
@@ -25,17 +25,26 @@ pub fn put_reply(out: &mut Vec<u8>, reply: &Reply) -> Result<(), AllocError>
         }
         Reply::Bytes(bytes) => put_loaded(out, bytes),
         Reply::Taken(Some(vector)) => put_taken(out, vector.number()),
-        Reply::Taken(None) => put(out, b"= taken none\n"),
+        Reply::Taken(None) => put_constant(out, b"= taken none\n"),
         Reply::Accepted(ticket) => put_accepted(out, *ticket),
-        Reply::FlagWasClear => put(out, b"= clear\n"),
-        Reply::FlagWasSet => put(out, b"= set\n"),
-        Reply::GeneralProtection => put(out, b"= general protection\n"),
+        Reply::FlagWasClear => put_constant(out, b"= clear\n"),
+        Reply::FlagWasSet => put_constant(out, b"= set\n"),
+        Reply::GeneralProtection => put_constant(out, b"= general protection\n"),
         Reply::Refused(refusal) => {
             put(out, b"= refused ")?;
             put_decimal(out, refusal.number())?;
             put(out, b"\n")
         }
     }
+}
+
+/// Appends a constant. It is copied first, so that the compiler sees that it does not overlap `out`.
+#[inline(always)]
+fn put_constant<const N: usize>(out: &mut Vec<u8>, text: &[u8; N]) -> Result<(), AllocError>
+    ensures { OnOk result (out.new.items ≡ out.old.items ++ text.now) }
+{
+    let copy = *text;
+    put(out, &copy)
 }
 
 /// Appends the line of the vector that was taken.

@@ -1,12 +1,12 @@
 use Rattle.std.proofs.Common.{refl}
 use Rattle.board_script.specs.Output.{Machine}
 use Rattle.board_script.specs.inside.Judging.{machine_of}
-use Rattle.board_script.specs.declared.judge.ScriptJudge.{ScriptJudge}
+use Rattle.board_script.specs.declared.judge.SaveJudge.{SaveJudge}
 use Rattle.board_script.proofs.SaveLemmas.{saves-concluded, saved-within, saved-near}
 use Rattle.board_script.proofs.stream.save_script.Goals as goal
 
-abbrev seen : ScriptJudge → Machine
-seen judge = machine_of judge.board
+abbrev seen : SaveJudge → Machine
+seen judge = machine_of judge.script.board
 
 pub returns-clause-text : goal.returns-clause-text
 returns-clause-text g c = saves-concluded seen _ _ refl _ _ _ _ _ _ c.drive-end.result c.conclude_save.result c.drive-end.ensures.lines c.conclude_save.ensures

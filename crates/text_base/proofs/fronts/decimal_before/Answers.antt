@@ -16,7 +16,7 @@ loop-rest-preserved c =
     let rest : ℕ = l.rest / 100 in
     let after : List ℕ = (48 + l.rest % 100 / 10) ∷ (48 + l.rest % 100 % 10) ∷ drop l.start l.room in
     let written : drop next c.text_before-start.new.room ≡ after =
-    c.text_before-start.ensures.written ∙ ap (λ (pair : List ℕ). pair ++ drop l.start l.room) c.pair_of.ensures in
+    c.text_before-start.ensures.written ∙ ap (λ (pair : List ℕ). pair ++ drop l.start l.room) c.decimal_pair.ensures in
     let step = decimal-step_two (44 + left) l.rest (drop l.start l.room) (omega arith) c.loop-rest-test.true in (
       omega (arith, l.invariant.0, begins),
       omega (arith, three, begins),
@@ -43,7 +43,7 @@ returns-then-rest-ge10-clause-written c =
     let l = c.loop-rest in
     let left : ℕ = l.start + 20 - c.args.at in
     c.text_before.ensures.written
-    ∙ ap (λ (pair : List ℕ). pair ++ drop l.start l.room) c.pair_of-then-rest-ge10.ensures
+    ∙ ap (λ (pair : List ℕ). pair ++ drop l.start l.room) c.decimal_pair-then-rest-ge10.ensures
     ∙ sym (decimal-last_two (44 + left) l.rest (drop l.start l.room) (omega arith) c.if-rest-ge10.true c.loop-rest-test.false)
     ∙ l.invariant.4
     ∙ decimal-whole c.args.n (drop c.args.at c.args.room.now)

@@ -3,7 +3,7 @@ use Rattle.text_lines.proofs.ReadLemmas.{no-event}
 use Rattle.text_lines.proofs.event.perform_event.Goals as goal
 
 pub returns : goal.returns
-returns c = (
+returns g c = (
   no-event c.args.fields.now (record {
     not_open = c.in_default-after-9.ensures.none;
     not_close = c.in_default-after-10.ensures.none;
