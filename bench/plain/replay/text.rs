@@ -31,7 +31,17 @@ const LEAST: [u64; 20] = {
     least
 };
 
-const DIGITS: &[u8; 16] = b"0123456789abcdef";
+/// The two hexadecimal digits of all bytes, one after another.
+const BYTES: [u8; 512] = {
+    let mut bytes = [0; 512];
+    let mut at = 0;
+    while at < 512 {
+        bytes[at] = b"0123456789abcdef"[at / 32];
+        bytes[at + 1] = b"0123456789abcdef"[at / 2 % 16];
+        at += 2;
+    }
+    bytes
+};
 
 pub struct Text {
     output: File,
@@ -128,7 +138,8 @@ impl Text {
     /// Two hexadecimal digits.
     #[inline(always)]
     pub fn put_byte(&mut self, byte: u8) {
-        self.put(&[DIGITS[byte as usize / 16], DIGITS[byte as usize % 16]]);
+        let at = 2 * byte as usize;
+        self.put(&[BYTES[at], BYTES[at + 1]]);
     }
 }
 
