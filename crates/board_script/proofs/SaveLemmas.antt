@@ -15,7 +15,7 @@ use Rattle.synic_board.specs.State.{State}
 use Rattle.text_image.specs.Image.{image}
 use Rattle.board_script.specs.Output.{Machine, machine_after_lines, machine_at_end, fault_of, fault_text, saved_of, saved_text}
 use Rattle.board_script.specs.Script.{item_in}
-use Rattle.board_script.specs.Streams.{BegunText, Saves, StopsNear, most_read}
+use Rattle.board_script.specs.Streams.{Saves, StopsNear, most_read}
 use Rattle.board_script.specs.inside.Judging.{answer_maybe, Advances, Finishes, SavesEnd, SavesImage}
 use Rattle.board_script.specs.declared.stream.ReplayEnd.{ReplayEnd}
 use Rattle.board_script.specs.declared.stream.ReplayEnd.TheVariants.{Done, Script, Memory, Reading, Writing}
@@ -39,7 +39,8 @@ module _ {J : Type 0} (seen : J → Machine) where
       let answer : List ℕ = answer_maybe (seen old) (item_in line) in
       (answer ++ on.0, (answer, on.0, h.2, h.3, (h.4.0, h.4.1, refl), on.1, refl))
 
-  stopped-so : (old new : J) (end : End ScriptFault) (sent text : List ℕ) → Stops Advanced (Wrong seen) end old new sent text → (answers : List ℕ) × Stops (Good seen) (Wrong seen) end old new answers text
+  stopped-so : (old new : J) (end : End ScriptFault) (sent text : List ℕ) → Stops Advanced (Wrong seen) end old new sent text →
+      (answers : List ℕ) × Stops (Good seen) (Wrong seen) end old new answers text
   stopped-so old new end sent text h =
       let on = answered-so old h.state h.lines sent h.follows in
       (on.0, record { lines = h.lines; left = h.left; state = h.state; split = h.split; follows = on.1; ends = h.ends })
@@ -79,11 +80,17 @@ module _ {J : Type 0} (seen : J → Machine) (old new : J) (start : seen old ≡
       (k.1, ap (λ (f : Option (ℕ × ScriptFault)). saved_of f (machine_at_end text)) k.1 ∙ ap (saved_of None) (at-end line answers text h ∙ is))
 
   module _ (r0 r1 v0 v1 w0 w1 : Option (List ℕ)) where
-    fault-saved : (end : End ScriptFault) (line : ℕ) (g : ScriptFault) (result : ReplayEnd) → FaultAt end (is_some (seen new)) (Some (line, g)) → Drives (Advanced seen) (Wrong seen) end old new r0 r1 v0 v1 →
+    abbrev Driven : End ScriptFault → Type 0
+    Driven end = Drives (Advanced seen) (Wrong seen) end old new r0 r1 v0 v1
+
+    fault-saved : (end : End ScriptFault) (line : ℕ) (g : ScriptFault) (result : ReplayEnd) → FaultAt end (is_some (seen new)) (Some (line, g)) → Driven end →
         Finishes result (Some (line, g)) w0 w1 → Saves result r0 r1 w0 w1
     fault-saved end line g Done is d f = let off = f.0 in cc
     fault-saved end line g (Script l h) is d f =
-        some-map r0 _ _ (λ input k. let s = stopped-so seen old new end d.answers input k in let b = saved-fault end line g s.0 input is s.1 in (b.0 ∙ f.0, subst (Appends w0 w1) (sym b.1) f.1)) d.whole
+        some-map r0 _ _ (λ input k.
+        let s = stopped-so seen old new end d.answers input k in
+        let b = saved-fault end line g s.0 input is s.1 in
+        (b.0 ∙ f.0, subst (Appends w0 w1) (sym b.1) f.1)) d.whole
     fault-saved end line g Memory is d f = rw f (Appends-nil w0)
     fault-saved end line g Reading is d f = absurd f
     fault-saved end line g Writing is d f =
@@ -91,9 +98,12 @@ module _ {J : Type 0} (seen : J → Machine) (old new : J) (start : seen old ≡
         let b = saved-fault end line g s.0 d.taken is s.1 in
         record { taken = d.taken; sent = f.0; unsent = f.1; reads = d.reads; writes = f.2; begins = b.1 ∙ f.3 }
 
-    image-saved : (line : ℕ) (s : State) (result : ReplayEnd) → seen new ≡ Some s → Drives (Advanced seen) (Wrong seen) (ends.Last line) old new r0 r1 v0 v1 → SavesImage result s w0 w1 → Saves result r0 r1 w0 w1
+    image-saved : (line : ℕ) (s : State) (result : ReplayEnd) → seen new ≡ Some s → Driven (ends.Last line) → SavesImage result s w0 w1 → Saves result r0 r1 w0 w1
     image-saved line s Done is d f =
-        some-map r0 _ _ (λ input k. let p = stopped-so seen old new (ends.Last line) d.answers input k in let b = saved-image line s p.0 input is p.1 in (b.0, subst (Appends w0 w1) (sym b.1) f)) d.whole
+        some-map r0 _ _ (λ input k.
+        let p = stopped-so seen old new (ends.Last line) d.answers input k in
+        let b = saved-image line s p.0 input is p.1 in
+        (b.0, subst (Appends w0 w1) (sym b.1) f)) d.whole
     image-saved line s (Script l h) is d f = absurd f
     image-saved line s Memory is d f = absurd f
     image-saved line s Reading is d f = absurd f
@@ -103,7 +113,7 @@ module _ {J : Type 0} (seen : J → Machine) (old new : J) (start : seen old ≡
         record { taken = d.taken; sent = f.0; unsent = f.1; reads = d.reads; writes = f.2; begins = b.1 ∙ f.3 }
 
     -- a drive, and what is written after it
-    pub saves-concluded : (end : End ScriptFault) (result : ReplayEnd) → Drives (Advanced seen) (Wrong seen) end old new r0 r1 v0 v1 → SavesEnd end (seen new) result w0 w1 → Saves result r0 r1 w0 w1
+    pub saves-concluded : (end : End ScriptFault) (result : ReplayEnd) → Driven end → SavesEnd end (seen new) result w0 w1 → Saves result r0 r1 w0 w1
     saves-concluded (ends.Last line) result d f = by (seen new) refl f
       where
         by : (m : Machine) → seen new ≡ m → SavesEnd (ends.Last line) m result w0 w1 → Saves result r0 r1 w0 w1

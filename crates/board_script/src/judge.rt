@@ -1,4 +1,4 @@
-// The judges for the lines of a script.
+// What `drive` calls for the lines of a script.
 ghost use Rattle.board_script.specs.inside.Judging.{IsAnswered, Advances, IsFaulty, machine_of};
 
 use crate::respond::{advance, respond};

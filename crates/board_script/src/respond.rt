@@ -1,5 +1,5 @@
 // Performing a line, and its answer.
-ghost use Rattle.std.specs.Prelude.{◌≡◌, ◌≤◌, ℕ, List, [], ◌∷◌, ◌++◌, length, map, MatchBool, OnOk, true, None, Some};
+ghost use Rattle.std.specs.Prelude.{◌≡◌, ◌≤◌, [], ◌∷◌, ◌++◌, length, map, MatchBool, OnOk, true, None, Some};
 ghost use Rattle.text_base.specs.Fields.{fields_of};
 ghost use Rattle.text_lines.specs.Items.{Summary};
 ghost use Rattle.text_lines.specs.Reading.{opening_item, parse_event, parse_item};

@@ -1,5 +1,6 @@
 -- Bytes as two digits each.
-use Rattle.std.proofs.Common.{◌≡◌, ◌≢◌, ℕ, ◌+◌, ◌*◌, ◌/◌, ◌%◌, ◌<◌, ◌≤◌, List, [], ◌∷◌, ◌++◌, length, get_or, take, drop, ◌-◌, Option, Some, None, IfNone, refl, sym, ap, subst, ◌∙◌, arith, false, append_assoc}
+use Rattle.std.proofs.Common.{◌≡◌, ◌≢◌, ℕ, ◌+◌, ◌*◌, ◌/◌, ◌%◌, ◌<◌, ◌≤◌, ◌-◌, List, [], ◌∷◌, ◌++◌, length, get_or, take, drop}
+use Rattle.std.proofs.Common.{Option, Some, None, IfNone, refl, sym, ap, subst, ◌∙◌, arith, false, append_assoc}
 use Rattle.std.specs.Fmt.{digit_glyph}
 use Rattle.std.proofs.lemmas.List.{take_all, take-append-drop, get_or-drop, length-drop}
 use Rattle.std.proofs.lemmas.List.Elements.{All-head, All-tail, All-push}
@@ -54,7 +55,7 @@ pub record Next (xs r bytes : List ℕ) : Type 0 where
   pub high : get_or r 0 0 ≡ digit_glyph false (b / 16)
   pub low : get_or r 1 0 ≡ digit_glyph false (b % 16)
 
--- what follows decoded bytes, where a field of bytes goes on or ends
+-- what follows decoded bytes: more bytes of the field, and then its end
 goes-on : (text xs r bytes : List ℕ) (count : ℕ) → text ≡ spelled xs ++ r → AreBytes xs → IsBytesField text bytes count →
     GoesOn xs r bytes (drop count text) × IsEnd (drop count text)
 goes-on text xs r bytes count split h field = (spelled-front xs r bytes (drop count text) h field.0.2 end (sym split ∙ whole), end)

@@ -1,5 +1,6 @@
 -- The fields of a text.
-use Rattle.std.proofs.Common.{◌≡◌, ◌≢◌, ◌<◌, subst, ne_eqb, ◌+◌, ◌-◌, ◌∷◌, ◌++◌, ◌≤◌, [], ℕ, List, Option, None, Some, Bool, nat_eq, false, true, cond, take, drop, length, get_or, arith, sym, ap, ◌∙◌, drop-cons, suc, refl}
+use Rattle.std.proofs.Common.{◌≡◌, ◌≢◌, ◌<◌, subst, ne_eqb, ◌+◌, ◌-◌, ◌∷◌, ◌++◌, ◌≤◌, [], ℕ, List}
+use Rattle.std.proofs.Common.{Option, None, Some, Bool, nat_eq, false, true, cond, take, drop, length, get_or, arith, sym, ap, ◌∙◌, drop-cons, suc, refl}
 use native.Mathlib.Numerals.{unary_clauses}
 use Rattle.std.specs.Fmt.{digits}
 use Rattle.std.specs.List.{All, onto_first}

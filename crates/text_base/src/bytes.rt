@@ -24,8 +24,8 @@ pub fn byte_of(text: &[u8]) -> Option<u8>
 }
 
 /// Decodes two digits for each byte from the front of a text into `out`, as long as there are two, and
-/// returns where they end. `None` if one digit is left there, or if the bytes do not fit into `out`; then
-/// `out` holds some of them.
+/// returns where they end. `None` if a digit is followed by a byte that is none, or if the bytes do not fit
+/// into `out`; then `out` holds some of them.
 #[inline(always)]
 pub(crate) fn bytes_front<const N: usize>(text: &[u8], out: &mut ArrayVec<u8, N>) -> Option<usize>
     ensures front { IfSome result (λ count. IsBytesFront text.now out.new.items count) }

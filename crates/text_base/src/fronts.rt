@@ -1,6 +1,6 @@
 // Short texts written from the end to the front, so that a number needs no count of its digits, and
 // a line is formed in one buffer.
-ghost use Rattle.std.specs.Prelude.{◌≡◌, ◌+◌, ◌≤◌, ◌<◌, ◌++◌, ◌*◌, ◌/◌, ◌%◌, ◌∷◌, [], decimal, drop, length};
+ghost use Rattle.std.specs.Prelude.{◌≡◌, ◌+◌, ◌≤◌, ◌<◌, ◌++◌, ◌*◌, decimal, drop, length};
 ghost use Rattle.text_base.specs.Numbers.{two_digits, spelled};
 
 use crate::pairs::{decimal_pair, digits_of};

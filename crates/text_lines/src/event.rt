@@ -66,8 +66,8 @@ pub fn event_of(word: &[u8], fields: &mut Fields<'_>) -> Option<Event>
 
 /// Performs the event that the fields denote on a board, and returns what `make` makes of its reply;
 /// `None` if they denote no event, and then the board is unchanged. Each kind of event is performed where
-/// it is parsed, so none is written to memory. The most frequent ones are first. Each closure has an
-/// instance of its own, which its only caller takes in.
+/// it is parsed, so none is written to memory. The most frequent ones are first. This is compiled for each
+/// closure, so that it can be in line where the closure is.
 pub fn perform_event<T, F: FnOnce(Reply) -> T>(
     fields: &Fields<'_>,
     board: &mut Board,
