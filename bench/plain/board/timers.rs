@@ -66,8 +66,9 @@ impl Timer {
     }
 }
 
-/// A key and the number of its timer.
-type Least = (u64, u8);
+/// A key and the number of its timer. The number has four bytes: it is written and read as such, so that the
+/// read does not wait for the write.
+type Least = (u64, u32);
 
 pub struct Timers {
     timers: [Timer; 32],
@@ -86,7 +87,7 @@ impl Timers {
         Timers {
             timers: [Timer::default(); 32],
             keys: [[NEVER; 4]; 8],
-            least: std::array::from_fn(|vp| (NEVER, 4 * vp as u8)),
+            least: std::array::from_fn(|vp| (NEVER, 4 * vp as u32)),
             first: (NEVER, 0),
             aside: 0,
         }
@@ -95,7 +96,7 @@ impl Timers {
     pub fn earliest(&self) -> Option<(u128, u8)> {
         let (key, number) = self.first;
         if key != NEVER {
-            return Some((u128::from(key) + 1, number));
+            return Some((u128::from(key) + 1, number as u8));
         }
         let beyond = (0..).zip(&self.timers);
         beyond
@@ -140,7 +141,7 @@ impl Timers {
     /// The first of the timers that are due and not set aside.
     pub fn first_due(&self, moment: u64) -> Option<u8> {
         let (key, number) = self.first;
-        (key < moment).then_some(number)
+        (key < moment).then_some(number as u8)
     }
 
     /// Returns a timer that was tried in a tick to the table, unless it is still due.
@@ -187,7 +188,7 @@ impl Timers {
         let (vp, index) = (number as usize / 4 % 8, number as usize % 4);
         self.keys[vp][index] = key;
         let [first, second, third, fourth] = self.keys[vp];
-        let base = 4 * vp as u8;
+        let base = 4 * vp as u32;
         self.least[vp] = lesser(
             lesser((first, base), (second, base + 1)),
             lesser((third, base + 2), (fourth, base + 3)),

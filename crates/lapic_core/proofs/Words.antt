@@ -151,23 +151,22 @@ pub low_zero : NoneBelow16 (0 ∷ 0 ∷ 0 ∷ 0 ∷ [])
 low_zero q low = no_bits (0 ∷ 0 ∷ 0 ∷ 0 ∷ []) q zero_words (omega arith)
 
 -- the words are 0 if their bits together are
-pub or_zero : (words : List ℕ) (two three : ℕ) → two ≡ bit_or (slice_index_or words 0 0) (slice_index_or words 1 0)
-    → three ≡ bit_or two (slice_index_or words 2 0) → (bit_or three (slice_index_or words 3 0) == 0) ≡ true → ZeroFrom words 0
-or_zero words two three is_two is_three tested =
-    let none = zero_of (bit_or three (slice_index_or words 3 0)) tested in
-    let zero_three : three ≡ 0 = omega (arith, le_or_l three (slice_index_or words 3 0), none) in
-    let zero_two : two ≡ 0 = omega (arith, le_or_l two (slice_index_or words 2 0), zero_three, is_three) in
-    at none zero_two zero_three
+pub or_zero : (words : List ℕ) → bit_or (slice_index_or words 1 0) (slice_index_or words 3 0) ≡ 0
+    → (bit_or (slice_index_or words 0 0) (slice_index_or words 2 0) == 0) ≡ true → ZeroFrom words 0
+or_zero words odd tested = at
   where
     zero_of : (n : ℕ) → (n == 0) ≡ true → n ≡ 0
     zero_of n e = grind (arith, nat_tests)
 
-    at : bit_or three (slice_index_or words 3 0) ≡ 0 → two ≡ 0 → three ≡ 0 → ZeroFrom words 0
-    at _ a b zero _ _ = omega (arith, le_or_l (slice_index_or words 0 0) (slice_index_or words 1 0), is_two, a)
-    at _ a b (suc zero) _ _ = omega (arith, le_or_r (slice_index_or words 0 0) (slice_index_or words 1 0), is_two, a)
-    at _ a b (suc (suc zero)) _ _ = omega (arith, le_or_r two (slice_index_or words 2 0), is_three, b)
-    at none a b (suc (suc (suc zero))) _ _ = omega (arith, le_or_r three (slice_index_or words 3 0), none)
-    at _ a b (suc (suc (suc (suc k)))) _ h = absurd (omega (arith, h))
+    even : bit_or (slice_index_or words 0 0) (slice_index_or words 2 0) ≡ 0
+    even = zero_of (bit_or (slice_index_or words 0 0) (slice_index_or words 2 0)) tested
+
+    at : ZeroFrom words 0
+    at zero _ _ = omega (arith, le_or_l (slice_index_or words 0 0) (slice_index_or words 2 0), even)
+    at (suc zero) _ _ = omega (arith, le_or_l (slice_index_or words 1 0) (slice_index_or words 3 0), odd)
+    at (suc (suc zero)) _ _ = omega (arith, le_or_r (slice_index_or words 0 0) (slice_index_or words 2 0), even)
+    at (suc (suc (suc zero))) _ _ = omega (arith, le_or_r (slice_index_or words 1 0) (slice_index_or words 3 0), odd)
+    at (suc (suc (suc (suc k)))) _ h = absurd (omega (arith, h))
 
 -- all words are 0
 pub no_greatest : (words : List ℕ) (value : Vectors) → word_members words ≡ value → ZeroFrom words 0 → None ≡ greatest value

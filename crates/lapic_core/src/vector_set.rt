@@ -112,7 +112,9 @@ impl VectorSet {
     pub(crate) fn is_empty(&self) -> bool
         ensures { result ≡ true → None ≡ greatest self.now }
     {
-        self.words[0] | self.words[1] | self.words[2] | self.words[3] == 0
+        // Words that are not adjacent: adjacent ones are read as one value of 16 bytes, which waits for
+        // the store of a word.
+        self.words[1] | self.words[3] == 0 && self.words[0] | self.words[2] == 0
     }
 
     /// The same as `greatest`. Out of line, since an empty set, the usual case, needs no search.
