@@ -60,10 +60,10 @@ module _ {J : Type 0} (seen : J → Machine) where
       rw (h.0, h.1, same) (record { output = refl; fault = refl })
   answered old new (line ∷ lines) left answers rest k j count h =
       let on = answered h.2 new lines left h.1 rest (k + 1) j (omega (arith, count)) h.5 in
-      let next = h.4.1 in
+      let next = h.4.0.1 in
       record {
-        output = output_from-line (seen old) line (lines ++ left) h.4.0 ∙ rw (sym h.4.2, sym next, on.output, h.6) (sym (append_assoc h.0 h.1 (output_from (seen new) left)));
-        fault = first_fault-line k (seen old) line (lines ++ left) rest h.4.0 ∙ rw (sym next) on.fault;
+        output = output_from-line (seen old) line (lines ++ left) h.4.0.0 ∙ rw (sym h.4.1, sym next, on.output, h.6) (sym (append_assoc h.0 h.1 (output_from (seen new) left)));
+        fault = first_fault-line k (seen old) line (lines ++ left) rest h.4.0.0 ∙ rw (sym next) on.fault;
       }
 
 all-sent : (end : End ScriptFault) (opened : Bool) (fault : Option (ℕ × ScriptFault)) (answers sent : List ℕ) → FaultAt end opened fault → Sends end answers sent → answers ≡ sent

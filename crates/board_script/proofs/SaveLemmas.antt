@@ -37,7 +37,7 @@ module _ {J : Type 0} (seen : J → Machine) where
   answered-so old new (line ∷ lines) sent h =
       let on = answered-so h.2 new lines h.1 h.5 in
       let answer : List ℕ = answer_maybe (seen old) (item_in line) in
-      (answer ++ on.0, (answer, on.0, h.2, h.3, (h.4.0, h.4.1, refl), on.1, refl))
+      (answer ++ on.0, (answer, on.0, h.2, h.3, (h.4, refl), on.1, refl))
 
   stopped-so : (old new : J) (end : End ScriptFault) (sent text : List ℕ) → Stops Advanced (Wrong seen) end old new sent text →
       (answers : List ℕ) × Stops (Good seen) (Wrong seen) end old new answers text
@@ -50,8 +50,8 @@ reached : {J : Type 0} (seen : J → Machine) (old new : J) (lines left : List (
     machine_after_lines (seen old) (lines ++ left) ≡ machine_after_lines (seen new) left
 reached seen old new [] left answers h = ap (λ s. machine_after_lines (seen s) left) (sym h.1)
 reached seen old new (line ∷ lines) left answers h =
-    machine-line (seen old) line (lines ++ left) h.4.0
-    ∙ ap (λ (m : Machine). machine_after_lines m (lines ++ left)) (sym h.4.1)
+    machine-line (seen old) line (lines ++ left) h.4.0.0
+    ∙ ap (λ (m : Machine). machine_after_lines m (lines ++ left)) (sym h.4.0.1)
     ∙ reached seen h.2 new lines left h.1 h.5
 
 module _ {J : Type 0} (seen : J → Machine) (old new : J) (start : seen old ≡ None) where

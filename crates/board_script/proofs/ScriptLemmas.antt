@@ -1,5 +1,5 @@
 -- The output of one more line.
-use Rattle.std.proofs.Common.{◌≡◌, ◌≤◌, le-ltb, ap, sym, ◌∙◌, codes, ℕ, ◌+◌, List, [], ◌∷◌, ◌++◌, length, refl, cond, Bool, true, false, not, ◌||◌, nat_lt, Option, None, Some, is_some}
+use Rattle.std.proofs.Common.{◌≡◌, ◌≤◌, le-ltb, ap, ◌∙◌, codes, ℕ, ◌+◌, List, [], ◌∷◌, ◌++◌, length, refl, cond, Bool, true, false, not, ◌||◌, nat_lt, Option, None, Some, is_some}
 use Rattle.std.specs.List.{cons_option}
 use Rattle.std.specs.Option.{option_map}
 use Rattle.std.specs.Str.{bytes_eq}
@@ -87,7 +87,7 @@ answers-line taken.Memory line old new out short not h = tt
 
 -- an answered item is one that passes
 pub passes-answered : (result : Taken ScriptFault) (item : Option Item) (old new : Machine) (out : List ℕ) → AnswersItem result item old new out → PassesItem result item old new
-passes-answered taken.Good item old new out h = (h.0, h.1)
+passes-answered taken.Good item old new out h = h.0
 passes-answered (taken.Wrong fault) item old new out h = h
 passes-answered taken.Memory item old new out h = h
 

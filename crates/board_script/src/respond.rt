@@ -108,8 +108,7 @@ fn take_line(
 {
     // README text_lines: begin
     let performed = perform_event(&Fields::new(line), board, notices, |reply| reply);
-    // By reference, since a reply that is moved is copied.
-    let Some(reply) = &performed else {
+    let Some(reply) = performed else {
         return take_summary(board, line, out);
     };
     match put_outcome(out, reply, notices.as_slice()) {
@@ -159,8 +158,9 @@ fn is_summary(line: &[u8]) -> bool
 }
 
 /// Appends a reply, and a line for each notice, to `out`.
-fn put_outcome(out: &mut Vec<u8>, reply: &Reply, notices: &[Notice]) -> Result<(), AllocError>
-    ensures { OnOk result (out.new.items ≡ out.old.items ++ text_of (reply_fields reply.now ∷ map notice_fields notices.now)) }
+#[inline(always)]
+fn put_outcome(out: &mut Vec<u8>, reply: Reply, notices: &[Notice]) -> Result<(), AllocError>
+    ensures { OnOk result (out.new.items ≡ out.old.items ++ text_of (reply_fields reply ∷ map notice_fields notices.now)) }
 {
     put_reply(out, reply)?;
     put_notices(out, notices)

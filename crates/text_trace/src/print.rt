@@ -127,7 +127,7 @@ pub fn put_entry(out: &mut Vec<u8>, entry: &Entry) -> Result<(), AllocError>
     out.extend_from_slice(b" ")?;
     put_event(out, &entry.event)?;
     out.extend_from_slice(b"\n")?;
-    put_reply(out, &entry.reply)
+    put_reply(out, entry.reply.copy())
 }
 
 /// Appends the end line, without a line feed: the number of entries, and the next ticket.

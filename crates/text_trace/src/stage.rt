@@ -235,12 +235,9 @@ fn run_line(
     requires bound { entries.old < 2 ^ 64 - 1 }
     ensures { Runs result format board.old.state entries.old due.old board.new.state entries.new due.new line.now }
 {
-    if let Some(reply) = due {
+    if let Some(reply) = due.take() {
         return match is_reply(reply, line, out) {
-            Ok(true) => {
-                *due = None;
-                Ran::On
-            }
+            Ok(true) => Ran::On,
             Ok(false) => Ran::Wrong,
             Err(_) => Ran::Memory,
         };
@@ -259,8 +256,8 @@ fn run_line(
 }
 
 /// Whether a line is the line of this reply.
-fn is_reply(reply: &Reply, line: &[u8], out: &mut Vec<u8>) -> Result<bool, AllocError>
-    ensures { IfOk result (λ is. is ≡ bytes_eq line.now (spaced (reply_fields reply.now))) }
+fn is_reply(reply: Reply, line: &[u8], out: &mut Vec<u8>) -> Result<bool, AllocError>
+    ensures { IfOk result (λ is. is ≡ bytes_eq line.now (spaced (reply_fields reply))) }
 {
     out.clear();
     put_reply(out, reply)?;

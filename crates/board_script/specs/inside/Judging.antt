@@ -64,25 +64,24 @@ abbrev pub answer_maybe : Machine → Option Item → List ℕ
 answer_maybe machine None = []
 answer_maybe machine (Some item) = answer machine item
 
--- an item was valid at its place and its answer is ready, or it has a fault
-abbrev pub AnswersItem : Taken ScriptFault → Option Item → Machine → Machine → List ℕ → Type 0
-AnswersItem taken.Good item old new out = (item_fault (is_some old) item ≡ None) × (new ≡ after_maybe old item) × (out ≡ answer_maybe old item)
-AnswersItem (taken.Wrong fault) item old new out = item_fault (is_some old) item ≡ Some fault
-AnswersItem taken.Memory item old new out = Unit {0}
-
--- the same without the answer
+-- an item was valid at its place, or it has a fault
 abbrev pub PassesItem : Taken ScriptFault → Option Item → Machine → Machine → Type 0
 PassesItem taken.Good item old new = (item_fault (is_some old) item ≡ None) × (new ≡ after_maybe old item)
 PassesItem (taken.Wrong fault) item old new = item_fault (is_some old) item ≡ Some fault
 PassesItem taken.Memory item old new = Unit {0}
 
--- a line without a fault leads to another state, with this answer
-abbrev pub IsAnswered : Machine → List ℕ → List ℕ → Machine → Type 0
-IsAnswered old line out new = (line_fault (is_some old) line ≡ None) × (new ≡ after_maybe old (item_in line)) × (out ≡ answer_maybe old (item_in line))
+-- the same, and the answer to a valid item is ready
+abbrev pub AnswersItem : Taken ScriptFault → Option Item → Machine → Machine → List ℕ → Type 0
+AnswersItem taken.Good item old new out = PassesItem taken.Good item old new × (out ≡ answer_maybe old item)
+AnswersItem result item old new out = PassesItem result item old new
 
 -- a line without a fault leads to another state
 abbrev pub Advances : Machine → List ℕ → Machine → Type 0
 Advances old line new = (line_fault (is_some old) line ≡ None) × (new ≡ after_maybe old (item_in line))
+
+-- the same, with this answer
+abbrev pub IsAnswered : Machine → List ℕ → List ℕ → Machine → Type 0
+IsAnswered old line out new = Advances old line new × (out ≡ answer_maybe old (item_in line))
 
 -- a line with this fault
 abbrev pub IsFaulty : Machine → List ℕ → ScriptFault → Type 0

@@ -1,5 +1,5 @@
 // Prints replies.
-ghost use Rattle.std.specs.Prelude.{◌≡◌, ◌++◌, ◌≤◌, ◌∷◌, [], OnOk, codes, decimal};
+ghost use Rattle.std.specs.Prelude.{◌≡◌, ◌++◌, ◌∷◌, [], OnOk, codes, decimal};
 ghost use Rattle.text_base.specs.Fields.{line_of};
 ghost use Rattle.text_base.specs.Numbers.{two_digits};
 ghost use Rattle.text_lines.specs.Events.{bytes_text};
@@ -13,20 +13,20 @@ use text_base::{ROOM, bytes_before, decimal_before, digits_of, put_decimal, put_
 
 /// Appends the line of a reply to `out`.
 #[inline(always)]
-pub fn put_reply(out: &mut Vec<u8>, reply: &Reply) -> Result<(), AllocError>
-    ensures { OnOk result (out.new.items ≡ out.old.items ++ line_of (reply_fields reply.now)) }
+pub fn put_reply(out: &mut Vec<u8>, reply: Reply) -> Result<(), AllocError>
+    ensures { OnOk result (out.new.items ≡ out.old.items ++ line_of (reply_fields reply)) }
 {
     match reply {
         Reply::Done => put_constant(out, b"= done\n"),
         Reply::Value(value) => {
             put(out, b"= value ")?;
-            put_hex(out, *value)?;
+            put_hex(out, value)?;
             put(out, b"\n")
         }
-        Reply::Bytes(bytes) => put_loaded(out, bytes),
+        Reply::Bytes(bytes) => put_loaded(out, &bytes),
         Reply::Taken(Some(vector)) => put_taken(out, vector.number()),
         Reply::Taken(None) => put_constant(out, b"= taken none\n"),
-        Reply::Accepted(ticket) => put_accepted(out, *ticket),
+        Reply::Accepted(ticket) => put_accepted(out, ticket),
         Reply::FlagWasClear => put_constant(out, b"= clear\n"),
         Reply::FlagWasSet => put_constant(out, b"= set\n"),
         Reply::GeneralProtection => put_constant(out, b"= general protection\n"),

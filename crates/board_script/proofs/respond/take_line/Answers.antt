@@ -22,4 +22,4 @@ returns-in-Ok c =
     let told = ap (λ (ns : List Notice). outcome_text (s, c.in-Some.reply, ns)) c.as_slice.ensures.value ∙ ap (λ (o : Outcome). outcome_text o) is in
     let written = c.in-Ok.ensures ∙ ap (λ (out : List ℕ). out ++ outcome_text (s, c.in-Some.reply, c.as_slice.result.now)) c.requires ∙ told in
     subst (λ (r : Option Item). AnswersItem Good r (Some c.args.board.now.state) (Some s) c.put_outcome.new.out.items) (sym item)
-    (refl, ap (λ (o : Outcome). Some o.0) is, written)
+    ((refl, ap (λ (o : Outcome). Some o.0) is), written)

@@ -1,6 +1,4 @@
-use Rattle.std.proofs.Common.{length, sym, ap, ◌∙◌, ◌==◌, ℕ, List, None, Some, if◌then◌else◌, Bool, Option, subst, arith}
-use Rattle.arrayvec.specs.ArrayVec.{ArrayVec}
-use Rattle.text_lines.specs.Reading.{TakesBytes}
+use Rattle.std.proofs.Common.{length, ap, ◌∙◌, ◌==◌, ℕ, List, arith}
 use Rattle.text_lines.proofs.ByteFields.{no-bytes, takes-bytes, decoded, not-decoded}
 use Rattle.text_lines.proofs.numbers.read_bytes.Goals as goal
 
