@@ -3,7 +3,6 @@ ghost use Rattle.std.specs.Prelude.{◌≡◌, ◌∷◌, ◌<◌, ◌≤◌, �
 ghost use Rattle.std.specs.Global.{Global};
 ghost use Rattle.posted_words.specs.Words.{Token};
 ghost use Rattle.posted_words.specs.declared.line.Raised.{Raised};
-ghost use Rattle.board_threads.specs.Sharing.{Acting};
 ghost use Rattle.board_threads.specs.declared.script.Step.{Step};
 ghost use Rattle.std.specs.List.{AllZip};
 ghost use Rattle.std.specs.Thread.{IsSync};

@@ -1,6 +1,6 @@
 // Inspecting a local APIC.
-ghost use Rattle.std.specs.Prelude.{◌≡◌, ◌<◌};
-ghost use Rattle.synic_board.specs.State.{processors, apic_of};
+ghost use Rattle.std.specs.Prelude.{◌≡◌};
+ghost use Rattle.synic_board.specs.State.{processors};
 ghost use Rattle.c_calls.specs.Inspected.{words_of, processor_priority, lapic_to_c, no_lapic, lapic_on, lapic_at};
 
 use board_terms::Vp;

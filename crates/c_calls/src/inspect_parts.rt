@@ -1,6 +1,5 @@
 // Inspecting timers and slots.
 ghost use Rattle.std.specs.Prelude.{◌≡◌};
-ghost use Rattle.stimer_bank.specs.declared.timer.Timer.{Timer};
 ghost use Rattle.c_calls.specs.Inspected.{timer_to_c, no_timer, timer_on, timer_at, slot_on, slot_at, StoresTicket};
 
 use board_terms::{Sint, Ticket, TimerId, Vp};

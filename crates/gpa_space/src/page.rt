@@ -1,5 +1,5 @@
 // A page of 4096 bytes.
-ghost use Rattle.std.specs.Prelude.{◌≡◌, ◌<◌, ◌+◌, ◌≤◌, length, take, drop, replicate, not, IfOk};
+ghost use Rattle.std.specs.Prelude.{◌≡◌, ◌<◌, ◌+◌, ◌≤◌, length, take, drop, not, IfOk};
 ghost use Rattle.board_terms.specs.Ranges.{AreBytes};
 ghost use Rattle.gpa_space.specs.Page.{zero_page, overwritten, with_slot, message_bytes, is_set, with_bit};
 

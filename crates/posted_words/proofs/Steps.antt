@@ -1,11 +1,8 @@
 -- A raise and a sweep preserve the rule.
-use Rattle.std.proofs.Common.{◌≡◌, ℕ, ◌+◌, ◌<◌, ◌≤◌, Bool, List, [], ◌∷◌, ◌++◌, length, set, refl, sym, ap, ◌∙◌, subst, ⊎_elim, arith, length-set}
+use Rattle.std.proofs.Common.{◌≡◌, ℕ, ◌+◌, ◌<◌, ◌≤◌, Bool, List, [], ◌∷◌, ◌++◌, length, set, refl, sym, ap, ◌∙◌, subst, arith, length-set}
 use Rattle.std.specs.Prelude.{◌==◌, if◌then◌else◌, bit_or, slice_index}
 use Rattle.std.specs.Int.{bit_at}
-use Rattle.std.proofs.lemmas.Bool.Decides.{nat_tests}
 use Rattle.std.proofs.lemmas.List.Elements.{All-nil, All-cons, All-head, All-set, All-weaker}
-use mathlib.Core.Logic.{dite}
-use native.Mathlib.Decide.{ℕ_discrete}
 use mathlib.Core.Option.{none, some}
 use lib.ListN.{get_elem?}
 use Rattle.atomic_table.specs.Table.{State, Me, step, keeps, Allows}
@@ -16,7 +13,7 @@ use Rattle.posted_words.specs.Action.{is_fresh_at, takes_at, times_taken, fresh,
 use Rattle.posted_words.specs.Settled.{all_fresh, all_taken, Bounded}
 use Rattle.posted_words.specs.inside.Posted.{view_of, views_fresh, views_taken, IsIdle, IsBounded, Posted, mask_of, raised_as, swept_as}
 use Rattle.posted_words.proofs.Lists.{All-found, sum_by-set_found, found-le-sum_by}
-use Rattle.posted_words.proofs.Bits.{same_bit, raised_stands, raised-bit, mask_of-injective, swept_is_clear, swept-bit}
+use Rattle.posted_words.proofs.Bits.{raised_stands, raised-bit, mask_of-injective, swept_is_clear, swept-bit}
 
 -- a token without steps
 pub Bounded-nil : (F T : ℕ → ℕ → ℕ) → Bounded F T []

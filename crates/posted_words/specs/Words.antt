@@ -1,5 +1,5 @@
 -- The abstract state of the words and of a token.
-use Rattle.std.specs.Prelude.{◌≡◌, ℕ, ◌+◌, ◌*◌, ◌/◌, ◌%◌, ◌≤◌, Bool, List, [], ◌∷◌}
+use Rattle.std.specs.Prelude.{◌≡◌, ℕ, ◌+◌, ◌*◌, ◌/◌, ◌%◌, ◌≤◌, Bool, List, ◌∷◌}
 use Rattle.atomic_table.specs.Seated.{TableId}
 use Rattle.posted_words.specs.declared.rule.Action.{Action}
 use Rattle.posted_words.specs.declared.rule.Action.TheVariants.{Raise, Sweep}

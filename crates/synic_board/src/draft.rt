@@ -1,7 +1,5 @@
 // A board that is being restored.
-ghost use Rattle.std.specs.Prelude.{◌≡◌, ◌↔◌, ◌<◌, ◌≤◌, ◌+◌, IsTrue, IfOk, OnErr, IsErrOf, Some, None, [], ℕ, length, if◌then◌else◌};
-ghost use Rattle.event_ports.specs.Ports.{open_refusal};
-ghost use Rattle.lapic_core.specs.Apic.{Apic};
+ghost use Rattle.std.specs.Prelude.{◌≡◌, ◌↔◌, ◌<◌, ◌≤◌, ◌+◌, IsTrue, IfOk, OnErr, IsErrOf, Some, [], length, if◌then◌else◌};
 ghost use Rattle.stimer_bank.specs.Timer.{IsSoundTimer};
 ghost use Rattle.synic_regs.specs.Regs.{after_write, with_value};
 ghost use Rattle.synic_regs.specs.declared.register.Register.TheVariants as register;
@@ -11,7 +9,6 @@ ghost use Rattle.synic_board.specs.Posts.{opened_port};
 ghost use Rattle.synic_board.specs.Timers.{at_moment};
 ghost use Rattle.synic_board.specs.Sound.{IsMessage};
 ghost use Rattle.synic_board.specs.Buffers.{IsHome};
-ghost use Rattle.synic_board.specs.Locations.{times, locations};
 ghost use Rattle.synic_board.specs.Restoring.{overlay_register, with_processor, with_saved_timer, with_own_bytes, with_guest_bytes, with_message, HasNoTickets, IsUnplaced, MayJoin, MayOccupy};
 
 use crate::board::{Board, OpenFault};

@@ -1,7 +1,5 @@
 // The parts of a board, which together implement the reference model.
 ghost use Rattle.std.specs.Prelude.{◌≡◌, ◌<◌, ◌≤◌, ◌+◌, ◌↔◌, length, replicate, None, IfOk, IsSome, IfSome};
-ghost use Rattle.lapic_core.specs.Apic.{empty_apic};
-ghost use Rattle.synic_regs.specs.Regs.{reset_regs};
 ghost use Rattle.synic_board.specs.declared.event.Event.TheVariants.{Post, Store};
 ghost use Rattle.synic_board.specs.State.{opened, processors};
 ghost use Rattle.synic_board.specs.Summaries.{summary_of, stored_summary, HasSizes};

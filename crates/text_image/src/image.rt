@@ -1,11 +1,10 @@
 // The lines of an image, section by section. Each function appends to `out`; an error is an
 // allocation failure.
-ghost use Rattle.std.specs.Prelude.{◌≡◌, ◌++◌, ◌≤◌, OnOk, Some};
+ghost use Rattle.std.specs.Prelude.{◌≡◌, ◌++◌, OnOk, Some};
 ghost use Rattle.text_base.specs.Fields.{line_of};
 ghost use Rattle.text_lines.specs.Items.{Opening, item_fields};
 ghost use Rattle.text_lines.specs.Printing.{text_of};
-ghost use Rattle.event_ports.specs.Ports.{port_at};
-ghost use Rattle.synic_board.specs.State.{processors, ports_of};
+ghost use Rattle.synic_board.specs.State.{processors};
 ghost use Rattle.text_image.specs.Image.{image, each_below, moment_lines, head_lines, port_lines};
 
 use crate::messages::{put_queues, put_slots};

@@ -1,5 +1,5 @@
 // The queued messages, and the tickets of those in slots.
-ghost use Rattle.std.specs.Prelude.{◌≡◌, ◌<◌, ◌++◌, ◌∷◌, [], OnOk};
+ghost use Rattle.std.specs.Prelude.{◌≡◌, ◌<◌, ◌++◌, ◌∷◌, OnOk};
 ghost use Rattle.text_base.specs.Fields.{spaced, line_of};
 ghost use Rattle.text_lines.specs.Printing.{text_of};
 ghost use Rattle.synic_board.specs.State.{processors};

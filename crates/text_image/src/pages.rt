@@ -1,6 +1,5 @@
 // The guest pages, and the message and event flags pages, visible or not.
-ghost use Rattle.std.specs.Prelude.{◌≡◌, ◌<◌, ◌*◌, ◌++◌, ◌∷◌, [], ◌&&◌, ◌==◌, OnOk, length, slice_index_or, take, drop};
-ghost use Rattle.std.specs.List.{list_all};
+ghost use Rattle.std.specs.Prelude.{◌≡◌, ◌<◌, ◌*◌, ◌++◌, ◌∷◌, [], ◌==◌, OnOk, length};
 ghost use Rattle.text_lines.specs.Printing.{text_of};
 ghost use Rattle.text_base.specs.Numbers.{hex, spelled};
 ghost use Rattle.text_base.specs.Fields.{spaced, line_of};
@@ -11,7 +10,7 @@ ghost use Rattle.text_image.specs.Image.{each_below, name_fields, kind_word, blo
 use crate::numbers::vp_of;
 use board_terms::{Kind, Vp};
 use synic_board::Board;
-use text_base::{Sink, put_bytes, put_decimal};
+use text_base::{Sink, put_bytes};
 use text_lines::{put_decimal_field, put_hex_field};
 
 /// The number of bytes of a line, and of lines of a page.

@@ -1,12 +1,9 @@
 // The local APICs and the SynIC registers.
-ghost use Rattle.std.specs.Prelude.{◌≡◌, ◌<◌, ◌≤◌, ◌++◌, ◌∷◌, [], IfSome, IsTrue, OnOk, codes, decimal};
-ghost use Rattle.text_base.specs.Numbers.{hex};
+ghost use Rattle.std.specs.Prelude.{◌≡◌, ◌<◌, ◌++◌, ◌∷◌, [], OnOk};
 ghost use Rattle.text_base.specs.Fields.{spaced};
-ghost use Rattle.lapic_core.specs.Vectors.{Vectors};
 ghost use Rattle.text_lines.specs.Printing.{text_of};
-ghost use Rattle.synic_regs.specs.Regs.{stores, value_of};
-ghost use Rattle.synic_board.specs.State.{processors, apic_of, regs_of};
-ghost use Rattle.text_image.specs.Image.{each_below, lapic_lines, lapic_line, words, status_word, register_lines, source_lines, changed_line};
+ghost use Rattle.synic_board.specs.State.{processors};
+ghost use Rattle.text_image.specs.Image.{each_below, lapic_lines, words, status_word, register_lines, source_lines, changed_line};
 
 use crate::numbers::{sint_of, vp_of};
 use board_terms::{Sint, Vp};

@@ -1,6 +1,6 @@
 // The order of the pieces of an image.
 ghost use Rattle.std.specs.Prelude.{◌≡◌, ◌↔◌, ◌<◌, IsTrue};
-ghost use Rattle.text_restore.specs.Restoring.{place, overlay_place, page_place, place_of, IsLater, IsInTurn, lapics_after};
+ghost use Rattle.text_restore.specs.Restoring.{place, place_of, IsLater, IsInTurn, lapics_after};
 
 use board_terms::Kind;
 use text_image::Piece;

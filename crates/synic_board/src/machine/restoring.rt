@@ -1,6 +1,5 @@
 // Setting and reading the parts of a machine, for a board that is restored or saved.
 ghost use Rattle.std.specs.Prelude.{◌≡◌, ◌≢◌, ℕ, slice_index_or, ◌↔◌, ◌<◌, ◌≤◌, ◌+◌, IsTrue, Some, None, slice_get, length, if◌then◌else◌};
-ghost use Rattle.lapic_core.specs.Apic.{Apic};
 ghost use Rattle.message_queues.specs.Queues.{HasBuffer};
 ghost use Rattle.stimer_bank.specs.Timer.{IsSoundTimer};
 ghost use Rattle.std.specs.List.{All};

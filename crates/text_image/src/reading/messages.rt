@@ -1,6 +1,5 @@
 // Parses a queued message, or the ticket in a slot.
 ghost use Rattle.std.specs.Prelude.{◌≡◌};
-ghost use Rattle.text_lines.specs.Reading.{first_read};
 ghost use Rattle.text_image.specs.Parsing.{parse_message, parse_origin, parse_posted, parse_expired, parse_slot, read_timer};
 ghost use Rattle.text_image.specs.inside.Taking.{Takes};
 

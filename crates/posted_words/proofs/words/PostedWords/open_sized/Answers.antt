@@ -1,4 +1,4 @@
-use Rattle.std.proofs.Common.{rules, ◌≡◌, ◌+◌, ◌*◌, ◌<◌, ◌≤◌, [], ◌∷◌, replicate, sym, ◌∙◌, subst, arith, List, ℕ}
+use Rattle.std.proofs.Common.{rules, ◌≡◌, ◌+◌, ◌*◌, ◌<◌, [], ◌∷◌, replicate, sym, subst, arith, List, ℕ}
 use Rattle.atomic_table.specs.Table.{opening}
 use Rattle.posted_words.specs.inside.Posted.{Posted, view_of}
 use Rattle.posted_words.proofs.Seats.{opens}
