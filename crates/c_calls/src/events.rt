@@ -116,7 +116,7 @@ pub extern "C" fn synicboard_post(
     match handle.board_mut() {
         Some(board) => {
             let reply = board.post(port, message_type, payload);
-            reply_to_c(&reply, board.notices.as_slice().len() as u16)
+            reply_to_c(reply, board.notices.as_slice().len() as u16)
         }
         None => fault_to_c(Fault::Closed),
     }
@@ -160,7 +160,7 @@ pub extern "C" fn synicboard_store(handle: &mut BoardHandle, address: u64, bytes
     match handle.board_mut() {
         Some(board) => {
             let reply = board.store(address, bytes);
-            reply_to_c(&reply, board.notices.as_slice().len() as u16)
+            reply_to_c(reply, board.notices.as_slice().len() as u16)
         }
         None => fault_to_c(Fault::Closed),
     }
@@ -238,7 +238,7 @@ pub extern "C" fn synicboard_perform(handle: &mut BoardHandle, plain: &CEvent) -
         return fault_to_c(Fault::Closed);
     };
     match perform_c(&mut board.board, &mut board.notices, plain) {
-        Some(reply) => reply_to_c(&reply, board.notices.as_slice().len() as u16),
+        Some(reply) => reply_to_c(reply, board.notices.as_slice().len() as u16),
         None => fault_to_c(Fault::NoEvent),
     }
 }

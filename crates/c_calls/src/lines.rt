@@ -125,6 +125,6 @@ pub extern "C" fn synicboard_absorb_line(
     let reply = board.perform(&Event::Absorb { vp, part, bits });
     CReply {
         value: bits,
-        ..reply_to_c(&reply, board.notices.as_slice().len() as u16)
+        ..reply_to_c(reply, board.notices.as_slice().len() as u16)
     }
 }

@@ -16,7 +16,7 @@ pub(crate) fn perform_on(handle: &mut BoardHandle, event: &Event) -> CReply
     match handle.board_mut() {
         Some(board) => {
             let reply = board.perform(event);
-            reply_to_c(&reply, board.notices.as_slice().len() as u16)
+            reply_to_c(reply, board.notices.as_slice().len() as u16)
         }
         None => fault_to_c(Fault::Closed),
     }

@@ -113,7 +113,7 @@ fn act_on(
         Ok(reply) => {
             let notices = board.notices.as_slice();
             put_plain(notices, room);
-            reply_to_c(&reply, notices.len() as u16)
+            reply_to_c(reply, notices.len() as u16)
         }
         Err(_) => fault_to_c(Fault::NoMemory),
     }
@@ -170,7 +170,7 @@ fn absorb_on(
             put_plain(notices, room);
             CReply {
                 value,
-                ..reply_to_c(&reply, notices.len() as u16)
+                ..reply_to_c(reply, notices.len() as u16)
             }
         }
         Err(_) => fault_to_c(Fault::NoMemory),

@@ -71,7 +71,7 @@ pub fn perform_batch(
             };
         };
         let given = board.notices.as_slice();
-        replies[done] = reply_to_c(&reply, given.len() as u16);
+        replies[done] = reply_to_c(reply, given.len() as u16);
         put_plain(given, &mut notices[emitted..]);
         // README c_terms: end
         emitted += given.len();

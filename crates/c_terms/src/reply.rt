@@ -73,18 +73,18 @@ pub fn fault_to_c(fault: Fault) -> CReply
 }
 
 /// Encodes a reply, with a number of notices.
-pub fn reply_to_c(reply: &Reply, notices: u16) -> CReply
-    ensures { result ≡ reply_to_c reply.now notices }
+pub fn reply_to_c(reply: Reply, notices: u16) -> CReply
+    ensures { result ≡ reply_to_c reply notices }
 {
     match reply {
         Reply::Done => of_kind(1, notices),
         Reply::Value(value) => CReply {
-            value: *value,
+            value,
             ..of_kind(2, notices)
         },
         Reply::Bytes(bytes) => CReply {
             length: bytes.len() as u8,
-            bytes: padded(bytes),
+            bytes: padded(&bytes),
             ..of_kind(3, notices)
         },
         Reply::Taken(Some(vector)) => CReply {
@@ -93,7 +93,7 @@ pub fn reply_to_c(reply: &Reply, notices: u16) -> CReply
         },
         Reply::Taken(None) => of_kind(5, notices),
         Reply::Accepted(ticket) => CReply {
-            ticket: *ticket,
+            ticket,
             ..of_kind(6, notices)
         },
         Reply::FlagWasClear => of_kind(7, notices),
