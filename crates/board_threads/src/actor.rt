@@ -113,12 +113,15 @@ impl Actor {
     {
         let has_room = self.calls.reserve(1).is_ok();
         let number = self.number;
+        // In one place from the beginning, so that the event is copied once, to the list.
+        let mut call = (event, Reply::Done);
         let reply = {
             let mut guard = board.lock(rt);
             let recorded = &mut *guard;
-            recorded.enter(has_room, number, &event)?
+            recorded.enter(has_room, number, &call.0)?
         };
-        self.calls.push_reserved((event, reply.copy()));
+        call.1 = reply.copy();
+        self.calls.push_reserved(call);
         Ok(reply)
     }
 
