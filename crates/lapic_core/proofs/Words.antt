@@ -14,7 +14,7 @@ use Rattle.std.proofs.lemmas.Nat.{leading_top, le_or_l, le_or_r}
 use Rattle.std.proofs.lemmas.Nat.Bits.{bit_at_set_same, bit_at_set_other, bit_at_clear_same, bit_at_clear_other, shr_and_one, bit_at-zero, bit_at_above}
 use Rattle.lapic_core.specs.Vectors.{Vectors, greatest}
 use Rattle.lapic_core.specs.inside.Words.{word_members, holds, NoneBelow16}
-use Rattle.lapic_core.proofs.Members.{greatest_is, greatest_none, contains-numbers_where}
+use Rattle.lapic_core.proofs.Members.{Tells, greatest_is, greatest_none, greatest_tells, contains-numbers_where}
 
 -- a word with the bit of a place set, and with it cleared
 abbrev bits_set : ℕ → ℕ → ℕ
@@ -152,21 +152,12 @@ low_zero q low = no_bits (0 ∷ 0 ∷ 0 ∷ 0 ∷ []) q zero_words (omega arith)
 
 -- the words are 0 if their bits together are
 pub or_zero : (words : List ℕ) → bit_or (slice_index_or words 1 0) (slice_index_or words 3 0) ≡ 0
-    → (bit_or (slice_index_or words 0 0) (slice_index_or words 2 0) == 0) ≡ true → ZeroFrom words 0
-or_zero words odd tested = at
-  where
-    zero_of : (n : ℕ) → (n == 0) ≡ true → n ≡ 0
-    zero_of n e = grind (arith, nat_tests)
-
-    even : bit_or (slice_index_or words 0 0) (slice_index_or words 2 0) ≡ 0
-    even = zero_of (bit_or (slice_index_or words 0 0) (slice_index_or words 2 0)) tested
-
-    at : ZeroFrom words 0
-    at zero _ _ = omega (arith, le_or_l (slice_index_or words 0 0) (slice_index_or words 2 0), even)
-    at (suc zero) _ _ = omega (arith, le_or_l (slice_index_or words 1 0) (slice_index_or words 3 0), odd)
-    at (suc (suc zero)) _ _ = omega (arith, le_or_r (slice_index_or words 0 0) (slice_index_or words 2 0), even)
-    at (suc (suc (suc zero))) _ _ = omega (arith, le_or_r (slice_index_or words 1 0) (slice_index_or words 3 0), odd)
-    at (suc (suc (suc (suc k)))) _ h = absurd (omega (arith, h))
+    → bit_or (slice_index_or words 0 0) (slice_index_or words 2 0) ≡ 0 → ZeroFrom words 0
+or_zero words odd even zero _ _ = omega (arith, le_or_l (slice_index_or words 0 0) (slice_index_or words 2 0), even)
+or_zero words odd even (suc zero) _ _ = omega (arith, le_or_l (slice_index_or words 1 0) (slice_index_or words 3 0), odd)
+or_zero words odd even (suc (suc zero)) _ _ = omega (arith, le_or_r (slice_index_or words 0 0) (slice_index_or words 2 0), even)
+or_zero words odd even (suc (suc (suc zero))) _ _ = omega (arith, le_or_r (slice_index_or words 1 0) (slice_index_or words 3 0), odd)
+or_zero words odd even (suc (suc (suc (suc k)))) _ h = absurd (omega (arith, h))
 
 -- all words are 0
 pub no_greatest : (words : List ℕ) (value : Vectors) → word_members words ≡ value → ZeroFrom words 0 → None ≡ greatest value
@@ -248,3 +239,25 @@ word_greatest words value at n o is low h zeros some fits e valid exact =
       | true ↦ λ e. let f = low v (grind (arith, nat_tests)) in absurd (cc)
       | false ↦ λ e. grind (arith, nat_tests)
     ] refl
+
+-- where there is no greatest member, each word is 0
+zero_word : (words : List ℕ) (value : Vectors) (at : ℕ) → word_members words ≡ value → at < 4 → slice_index_or words at 0 < 18446744073709551616 →
+    None ≡ greatest value → slice_index_or words at 0 ≡ 0
+zero_word words value at is h fits none =
+    elim (nat_lt 0 (slice_index_or words at 0)) as (λ b. nat_lt 0 (slice_index_or words at 0) ≡ b → slice_index_or words at 0 ≡ 0) [
+      | true ↦ λ e.
+          let some : 0 < slice_index_or words at 0 = grind (arith, nat_tests) in
+          let top = leading_top 64 (slice_index_or words at 0) some fits in
+          let j : ℕ = top.0 in
+          let count = top.1 in
+          let inside : j < 64 = omega arith in
+          let member = member_at words (64 * at + j) (omega (arith, h, inside)) (at_top words at j inside top.2 top.3) in
+          let nobody = subst (Tells (word_members words)) (ap greatest is ∙ sym none) (greatest_tells (word_members words)) (64 * at + j) in
+          absurd (cc)
+      | false ↦ λ e. grind (arith, nat_tests)
+    ] refl
+
+-- so are two words together
+pub both_zero : (words : List ℕ) (value : Vectors) (at next : ℕ) → word_members words ≡ value → at < 4 → next < 4 → slice_index_or words at 0 < 18446744073709551616 →
+    slice_index_or words next 0 < 18446744073709551616 → None ≡ greatest value → bit_or (slice_index_or words at 0) (slice_index_or words next 0) ≡ 0
+both_zero words value at next is h k fits fit none = rw (zero_word words value at is h fits none, zero_word words value next is k fit none) refl

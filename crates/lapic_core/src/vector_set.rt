@@ -1,5 +1,5 @@
 // A set of vectors, as four words of 64 bits.
-ghost use Rattle.std.specs.Prelude.{◌≡◌, ◌<◌, None, true};
+ghost use Rattle.std.specs.Prelude.{◌≡◌, ◌<◌, ◌↔◌, None, IsTrue};
 ghost use Rattle.std.specs.FinSet as set;
 ghost use Rattle.lapic_core.specs.Vectors.{greatest, word_of};
 ghost use Rattle.lapic_core.specs.Words.{from_words};
@@ -110,7 +110,7 @@ impl VectorSet {
     /// Whether the set is empty, which needs no search.
     #[inline(always)]
     pub(crate) fn is_empty(&self) -> bool
-        ensures { result ≡ true → None ≡ greatest self.now }
+        ensures { IsTrue result ↔ (None ≡ greatest self.now) }
     {
         // Words that are not adjacent: adjacent ones are read as one value of 16 bytes, which waits for
         // the store of a word.
