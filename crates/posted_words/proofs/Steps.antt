@@ -1,6 +1,6 @@
 -- A raise and a sweep preserve the rule.
 use Rattle.std.proofs.Common.{◌≡◌, ℕ, ◌+◌, ◌<◌, ◌≤◌, Bool, List, [], ◌∷◌, ◌++◌, length, set, refl, sym, ap, ◌∙◌, subst, arith, length-set}
-use Rattle.std.specs.Prelude.{◌==◌, if◌then◌else◌, bit_or, slice_index}
+use Rattle.std.specs.Prelude.{◌==◌, bit_or, slice_index}
 use Rattle.std.specs.Int.{bit_at}
 use Rattle.std.proofs.lemmas.List.Elements.{All-nil, All-cons, All-head, All-set, All-weaker}
 use mathlib.Core.Option.{none, some}
