@@ -1,6 +1,6 @@
 // The value of STIMERn_CONFIG.
-ghost use Rattle.std.specs.Prelude.{◌≡◌, ◌<◌, bit_and};
-ghost use Rattle.stimer_bank.specs.Timer.{is_enabled, is_periodic, is_lazy, enables_itself, is_direct, vector_of, sint_of, has_no_target, disabled, normalized, written_count};
+ghost use Rattle.std.specs.Prelude.{◌≡◌, ◌↔◌, ◌<◌, IsTrue, bit_and};
+ghost use Rattle.stimer_bank.specs.Timer.{is_enabled, is_periodic, is_lazy, enables_itself, is_direct, vector_of, sint_of, has_no_target, disabled, enabled, normalized, written_count, IsStored};
 
 use bitflags::{Flag, Flags, bitflag_items};
 
@@ -61,9 +61,17 @@ impl ConfigWord {
 
     /// What is stored of a written value.
     pub fn stored(value: u64) -> ConfigWord
-        ensures { result.0 ≡ bit_and value 0xf1fff }
+        ensures value { result.0 ≡ bit_and value 0xf1fff }
+        ensures stored { IsStored result.0 }
     {
         ConfigWord(value & KEPT)
+    }
+
+    /// Whether all its bits are stored.
+    pub fn is_stored(self) -> bool
+        ensures { IsTrue result ↔ IsStored self.0 }
+    {
+        self.0 & KEPT == self.0
     }
 
     /// Whether the timer is enabled.
@@ -130,14 +138,24 @@ impl ConfigWord {
 
     /// The same configuration, not enabled.
     pub fn disabled(self) -> ConfigWord
-        ensures { result.0 ≡ disabled self.0 }
+        ensures value { result.0 ≡ disabled self.0 }
+        ensures stored { IsStored self.0 → IsStored result.0 }
     {
         ConfigWord(self.0 - self.0 % 2)
     }
 
+    /// The same configuration, enabled.
+    fn enabled(self) -> ConfigWord
+        ensures value { result.0 ≡ enabled self.0 }
+        ensures stored { IsStored self.0 → IsStored result.0 }
+    {
+        ConfigWord(self.disabled().0 + 1)
+    }
+
     /// The same configuration, disabled if the timer cannot signal.
     pub fn normalized(self) -> ConfigWord
-        ensures { result.0 ≡ normalized self.0 }
+        ensures value { result.0 ≡ normalized self.0 }
+        ensures stored { IsStored self.0 → IsStored result.0 }
     {
         if self.has_no_target() {
             self.disabled()
@@ -148,12 +166,13 @@ impl ConfigWord {
 
     /// The configuration after a write of the count.
     pub fn after_count(self, count: u64) -> ConfigWord
-        ensures { result.0 ≡ written_count self.0 count }
+        ensures value { result.0 ≡ written_count self.0 count }
+        ensures stored { IsStored self.0 → IsStored result.0 }
     {
         if count == 0 {
             self.disabled()
         } else if self.enables_itself() {
-            ConfigWord(self.disabled().0 + 1).normalized()
+            self.enabled().normalized()
         } else {
             self
         }

@@ -64,19 +64,25 @@ impl Timer {
         }
     }
 
-    /// Whether this is the state of a timer: one that is enabled has a target; one with a deadline is
-    /// enabled and has a count, and a periodic one is due no earlier than at the end of its first period.
+    /// Whether events can leave a timer so: `IsSoundTimer` has the list.
     pub(crate) fn is_sound(self) -> bool
         ensures { IsTrue result ↔ IsSoundTimer self }
     {
         let word = ConfigWord::new(self.config);
-        if word.normalized().bits() != self.config {
+        if !word.is_stored() || word.normalized().bits() != self.config {
             return false;
         }
+        let starts = word.is_enabled() && self.count > 0;
         let Some(due) = self.due else {
-            return true;
+            return !starts;
         };
-        word.is_enabled() && self.count > 0 && (!word.is_periodic() || self.count as u128 <= due)
+        let first = self.count as u128;
+        starts
+            && (if word.is_periodic() {
+                first <= due
+            } else {
+                first == due
+            })
     }
 
     /// What holds for the numbers of every timer. Does nothing.
