@@ -210,11 +210,13 @@ synicboard_reply synicboard_assert(synicboard *board, uint8_t vp, uint8_t vector
 synicboard_reply synicboard_absorb(synicboard *board, uint8_t vp, uint8_t part, uint64_t bits);
 
 /* A guest stores `length` bytes, 1 to 8, within one page. SYNICBOARD_NO_EVENT if `length` is above 8.
- * Replies: DONE, REFUSED (BAD_LENGTH, OUTSIDE_SPACE, CROSSES_PAGE). */
+ * Replies: DONE, REFUSED (BAD_LENGTH, OUTSIDE_SPACE, CROSSES_PAGE; on a sparse board ELSEWHERE where no
+ * overlay is visible: the caller stores in the guest's memory). */
 synicboard_reply synicboard_store(synicboard *board, uint64_t address, const uint8_t *bytes, size_t length);
 
 /* A guest loads `length` bytes, 1 to 8, from within one page.
- * Replies: BYTES, REFUSED (BAD_LENGTH, OUTSIDE_SPACE, CROSSES_PAGE). */
+ * Replies: BYTES, REFUSED (BAD_LENGTH, OUTSIDE_SPACE, CROSSES_PAGE; on a sparse board ELSEWHERE where no
+ * overlay is visible: the caller loads from the guest's memory). */
 synicboard_reply synicboard_load(synicboard *board, uint64_t address, uint8_t length);
 
 /* Moves the clock to `moment`, in units of 100 ns. If that is later than the present time, tries the timers
@@ -502,8 +504,10 @@ typedef struct synicboard_owners {
     synicboard_page_owner page[64];
 } synicboard_owners;
 
-/* Updates the owners, and returns which differ from before: bit i iff the owner of page i does (map the
- * page again). A write of SIMP or SIEFP, or a reset, may change owners. */
+/* Updates the owners of pages 0 to 63, and returns which differ from before: bit i iff the owner of page i
+ * does (map the page again). A write of SIMP or SIEFP, or a reset, may change owners. The guest of a sparse
+ * board may move an overlay to a page above 63, which is not among these: there use synicboard_next_overlay,
+ * which returns each page with an overlay. */
 uint64_t synicboard_update_owners(const synicboard *board, synicboard_owners *owners);
 
 /* Store the address of a page of 4096 bytes in `*page`, for reading. Each returns whether there is such a

@@ -95,7 +95,8 @@ pub struct Timer {
     pub due: Option<u128>,
 }
 
-/// The interrupt side of a partition with 1 to 8 processors and 1 to 64 guest pages.
+/// The interrupt side of a partition with 1 to 8 processors and 1 to 64 guest pages, or, if it is sparse,
+/// with 2^52 guest pages that the caller holds.
 ///
 /// Each method with `&mut self` performs an event and returns a [`Reply`]; then
 /// [`notices`](Board::notices) returns the notices of the event. An event that is refused or raises

@@ -16,8 +16,9 @@ use Rattle.synic_board.specs.State.{State, processors}
 use Rattle.synic_board.specs.Locations.{times, locations}
 use Rattle.synic_board.specs.Sound.{IsMessage, IsSound}
 use Rattle.synic_board.specs.Buffers.{IsHome, HasBuffers}
-use Rattle.synic_board.specs.Restoring.{with_message, MayJoin}
+use Rattle.synic_board.specs.Restoring.{with_message, IsWithinShare, MayJoin}
 use Rattle.synic_board.proofs.keeping.Counts.{in_queue, one, times-locations, in_queue-push}
+use Rattle.synic_board.proofs.keeping.Emptied.{port-below}
 use Rattle.synic_board.proofs.keeping.Placements.{queue-good}
 use Rattle.synic_board.proofs.keeping.Uses.{found_in}
 
@@ -30,11 +31,12 @@ one-itself t = grind (arith, nat_tests)
 abbrev one_if : Bool → ℕ
 one_if b = cond b 1 0
 
-pub may-join : (s : State) (p i : ℕ) (m : Message) → p < processors s → i < 16 → IsSound s → IsSound (with_message s p i m) → HasBuffers (with_message s p i m) → MayJoin s p m
+pub may-join : (s : State) (p i : ℕ) (m : Message) → p < processors s → i < 16 → IsSound s → IsSound (with_message s p i m) → HasBuffers (with_message s p i m) → MayJoin s p i m
 may-join s p i m below under before sound buffers = record {
   message = last IsMessage (queue-good (processors s) now p i sound.whole below under);
   home = home;
   buffer = room m refl home;
+  share = share m refl;
   ticket = record { given = given (cases_lt (ticket_of m) s.next_ticket); nowhere = omega (arith, moved (ticket_of m), one-itself (ticket_of m), sound.tickets.once (ticket_of m)) };
 }
   where
@@ -53,18 +55,22 @@ may-join s p i m below under before sound buffers = record {
     last : (P : Message → Type 0) → All P (queue_of now.queues p i) → P m
     last P all = (All-pop P q (queue_of s.queues p i) (Some m) refl (subst (All P) (get_or-set_same s.queues j q [] inside) all)).1
 
-    home : IsHome p m
-    home = last (IsHome p) (buffers.home p i under)
+    home : IsHome s.ports p i m
+    home = last (IsHome s.ports p i) (buffers.home p i under)
 
     more : (f : Message → Bool) → f m ≡ true → found_in f now.queues ≡ found_in f s.queues + 1
     more f e = omega (arith, sum_by-set (count_by f) s.queues j q [] inside, sum_by_push (λ x. cond (f x) 1 0) (queue_of s.queues p i) m, ap one_if e)
 
-    room : (x : Message) → m ≡ x → IsHome p x → HasBuffer s.queues x
-    room (FromPort ticket port kind payload) is at = (at, omega (arith, buffers.room port, more (is_from_port port) (ap (is_from_port port) is ∙ itself port)))
+    room : (x : Message) → m ≡ x → IsHome s.ports p i x → HasBuffer s.queues x
+    room (FromPort ticket port kind payload) is at = (port-below s port _ buffers.ports at.1.1, omega (arith, buffers.room port, more (is_from_port port) (ap (is_from_port port) is ∙ itself port)))
     room (FromTimer ticket t expiration) is at =
         let found : is_from_timer t m ≡ true = ap (is_from_timer t) is ∙ (λ k. itself t.0 k && itself t.1 k) in
         let none : timer_used s.queues t ≡ 0 = omega (arith, buffers.one_each t, more (is_from_timer t) found) in
         ap (λ n. n == 0) none
+
+    share : (x : Message) → m ≡ x → IsWithinShare s x
+    share (FromPort ticket port kind payload) is = λ k e. omega (arith, buffers.within port k e, more (is_from_port port) (ap (is_from_port port) is ∙ itself port))
+    share (FromTimer ticket t expiration) is = tt
 
     moved : (t : ℕ) → times t (locations now) ≡ times t (locations s) + one (ticket_of m) t
     moved t = omega (arith, times-locations t s, times-locations t now, sum_by-set (in_queue t) s.queues j q [] inside, in_queue-push t (queue_of s.queues p i) m)

@@ -207,5 +207,5 @@ pub fn a_last_change_is_saved_last()
 /// With a message that a draft refuses, no state would be sound.
 pub fn a_refused_message_fits_no_sound_board()
     ensures { (s : State) (p i : ℕ) (m : Message) → p < processors s → i < 16 → IsSound s
-        → IsSound (with_message s p i m) → HasBuffers (with_message s p i m) → MayJoin s p m }
+        → IsSound (with_message s p i m) → HasBuffers (with_message s p i m) → MayJoin s p i m }
 {}

@@ -1,6 +1,6 @@
 -- A board that is being restored is sound at each moment.
 use Rattle.std.proofs.Common.{◌≡◌, ◌≢◌, ◌⊎◌, inl, inr, ℕ, ◌+◌, ◌*◌, ◌<◌, ◌≤◌, Bool, true, false, cond, List, [], ◌∷◌, ◌++◌, ◌||◌, IsTrue, length, length-set, refl, ap, sym, subst, ◌∙◌, arith}
-use Rattle.std.specs.Prelude.{◌==◌, not, count_by, Option, None, Some}
+use Rattle.std.specs.Prelude.{◌==◌, ◌↔◌, nat_lt, not, count_by, Option, None, Some}
 use Rattle.std.specs.List.{All, list_any}
 use Rattle.std.specs.Option.{option_map_or}
 use Rattle.std.proofs.lemmas.Bool.{cases_eq}
@@ -9,18 +9,20 @@ use Rattle.std.proofs.lemmas.List.{get_or-set_other}
 use Rattle.std.proofs.lemmas.List.Elements.{All-set, All-append, All-cons, All-nil}
 use Rattle.std.proofs.lemmas.List.Sums.{sum_by-set, sum_by-cons, sum_by_push}
 use Rattle.board_terms.specs.declared.messages.Message.{Message}
+use Rattle.board_terms.specs.declared.messages.PortShape.TheVariants.{Messages}
 use Rattle.board_terms.specs.declared.messages.Message.TheVariants.{FromPort, FromTimer}
 use Rattle.board_terms.specs.Messages.{ticket_of}
 use Rattle.board_terms.specs.Sources.{source_number}
 use Rattle.lapic_core.specs.Apic.{Apic}
-use Rattle.message_queues.specs.Queues.{queue_of, HasBuffer}
+use Rattle.message_queues.specs.Queues.{queue_of, port_used, HasBuffer}
 use Rattle.stimer_bank.specs.declared.timer.Timer.{Timer}
 use Rattle.stimer_bank.specs.Bank.{with_suspension as bank_with_suspension}
 use Rattle.board_terms.specs.declared.messages.PortShape.{PortShape}
 use Rattle.board_terms.specs.declared.pages.Kind.{Kind}
 use Rattle.board_terms.specs.declared.pages.Kind.TheVariants.{Sim, Sief}
 use Rattle.board_terms.specs.declared.refusal.Refusal.{Refusal}
-use Rattle.event_ports.specs.Ports.{open_refusal}
+use Rattle.event_ports.specs.declared.ports.Port.{Port}
+use Rattle.event_ports.specs.Ports.{open_refusal, port_at}
 use Rattle.gpa_space.specs.Page.{overwritten}
 use Rattle.gpa_space.specs.Space.{own_page, overlay_of}
 use Rattle.synic_regs.specs.Regs.{Regs, with_value, is_refused}
@@ -28,7 +30,7 @@ use Rattle.synic_regs.specs.declared.register.Register.{Register}
 use Rattle.synic_board.specs.declared.event.Event.TheVariants.{OpenPort}
 use Rattle.synic_board.specs.declared.event.Reply.TheVariants.{Done}
 use Rattle.synic_board.specs.Effects.{Outcome, refused, unchanged}
-use Rattle.synic_board.specs.Posts.{with_port, opened_port}
+use Rattle.synic_board.specs.Posts.{with_port, opened_port, buffers_of}
 use Rattle.synic_board.specs.Registers.{stored}
 use Rattle.synic_board.specs.Step.{step}
 use Rattle.synic_board.specs.State.{State, processors, opened, regs_of, with_regs, space_of, ports_of, bank_of, with_apic, slot_of, with_slot_ticket}
@@ -36,9 +38,9 @@ use Rattle.synic_board.specs.Timers.{at_moment}
 use Rattle.synic_board.specs.Delivery.{is_slot_empty, accepted}
 use Rattle.synic_board.specs.Locations.{times, locations, AreTickets}
 use Rattle.synic_board.specs.Sound.{IsMessage, IsFree}
-use Rattle.synic_board.specs.Buffers.{IsHome}
+use Rattle.synic_board.specs.Buffers.{IsHome, SendsTo}
 use Rattle.synic_board.specs.Settled.{IsSettled}
-use Rattle.synic_board.specs.Restoring.{with_processor, with_saved_timer, with_own_bytes, with_guest_bytes, with_message, HasNoTickets, IsUnplaced, MayJoin, MayOccupy}
+use Rattle.synic_board.specs.Restoring.{with_processor, with_saved_timer, with_own_bytes, with_guest_bytes, with_message, HasNoTickets, IsUnplaced, HasFreeBuffer, IsWithinShare, MayJoin, MayOccupy}
 use Rattle.synic_board.specs.inside.Drafts.{IsDraft}
 use Rattle.synic_board.proofs.Clocks.{idle-marked}
 use Rattle.synic_board.proofs.keeping.Counts.{in_queue, in_queues, in_slot, in_slots, one, times-locations, in_queue-push}
@@ -196,16 +198,52 @@ listed-joined : (s now : State) (tickets : List ℕ) (x : ℕ) → ((t : ℕ) �
     ((t : ℕ) → times t tickets ≡ times t (locations s)) → (t : ℕ) → times t (tickets ++ x ∷ []) ≡ times t (locations now)
 listed-joined s now tickets x more h t = omega (arith, more t, h t, sum_by_push (λ y. one y t) tickets x)
 
--- a message joins a queue
-fits-of : (s : State) (p i : ℕ) (m : Message) → i < 16 → IsHome p m → HasBuffer s.queues m → Fits s p i m
-fits-of s p i (FromPort ticket port kind payload) under home buffer = port-fits s p i ticket port kind payload buffer.0 buffer.1
-fits-of s p i (FromTimer ticket t expiration) under home buffer = subst (λ q. Fits s q i (FromTimer ticket t expiration)) home.0 (timer-fits s t i ticket expiration under home.1 buffer)
+-- a port that is open for messages to a source
+pub has-free : (s : State) (port p i buffers used : ℕ) (at : Port) → port_at (ports_of s) port ≡ Some at → at.vp ≡ p → at.sint ≡ i → at.shape ≡ Messages buffers → used ≡ port_used s.queues port →
+    IsTrue (nat_lt used buffers) ↔ (SendsTo s.ports port p i × HasFreeBuffer s port)
+has-free s port p i buffers used at is vp sint shape same = (
+  λ low. (sends, λ q e. let now : buffers_of q.shape ≡ buffers = share q e in omega (arith, below low, same, now)),
+  λ free. (let now : port_used s.queues port < buffers_of at.shape = free.1 at is in let few : used < buffers = omega (arith, now, same, ap buffers_of shape) in above few),
+)
+  where
+    target : Port
+    target = record { vp = p; sint = i; shape = Messages buffers }
 
-pub draft-message : (s : State) (p i : ℕ) (m : Message) (tickets : List ℕ) → p < processors s → i < 16 → MayJoin s p m → IsDraft s tickets →
+    is_target : at ≡ target
+    is_target = ap (λ n. with_vp n) vp ∙ ap (λ n. with_sint n) sint ∙ ap (λ (x : PortShape). with_shape x) shape
+      where
+        with_vp : ℕ → Port
+        with_vp n = record { vp = n; sint = at.sint; shape = at.shape }
+
+        with_sint : ℕ → Port
+        with_sint n = record { vp = p; sint = n; shape = at.shape }
+
+        with_shape : PortShape → Port
+        with_shape x = record { vp = p; sint = i; shape = x }
+
+    sends : SendsTo s.ports port p i
+    sends = (buffers, is ∙ ap (λ (x : Port). Some x) is_target)
+
+    share : (q : Port) → port_at (ports_of s) port ≡ Some q → buffers_of q.shape ≡ buffers
+    share q e = ap (λ (o : Option Port). option_map_or (λ (x : Port). buffers_of x.shape) o 0) (sym e ∙ sends.1)
+
+    below : IsTrue (nat_lt used buffers) → used < buffers
+    below low = grind (arith, nat_tests)
+
+    above : used < buffers → IsTrue (nat_lt used buffers)
+    above low = grind (arith, nat_tests)
+
+-- a message joins a queue
+fits-of : (s : State) (p i : ℕ) (m : Message) → i < 16 → IsHome s.ports p i m → HasBuffer s.queues m → IsWithinShare s m → Fits s p i m
+fits-of s p i (FromPort ticket port kind payload) under home buffer share =
+    port-fits s p i ticket port kind payload under home.0 home.1 buffer.1 (share (record { vp = p; sint = i; shape = Messages home.1.0 }) home.1.1)
+fits-of s p i (FromTimer ticket t expiration) under home buffer share = subst (λ q. Fits s q i (FromTimer ticket t expiration)) home.0 (timer-fits s t i ticket expiration under home.1 buffer)
+
+pub draft-message : (s : State) (p i : ℕ) (m : Message) (tickets : List ℕ) → p < processors s → i < 16 → MayJoin s p i m → IsDraft s tickets →
     IsDraft (with_message s p i m) (tickets ++ ticket_of m ∷ [])
 draft-message s p i m tickets below under may h = record {
   sound = sound_from_kept n now intact (tickets-joined s now (ticket_of m) refl may.ticket moved h.sound.tickets);
-  buffers = alike (accepted s p i m).0 now refl refl (buffers-accepted s p i m (fits-of s p i m under may.home may.buffer) h.buffers);
+  buffers = alike (accepted s p i m).0 now refl refl (buffers-accepted s p i m (fits-of s p i m under may.home may.buffer may.share) h.buffers);
   settled = settled-same s now refl refl refl h.settled;
   listed = listed-joined s now tickets (ticket_of m) moved h.listed;
 }

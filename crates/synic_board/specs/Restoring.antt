@@ -1,8 +1,9 @@
 -- The pieces of a board that is being restored.
-use Rattle.std.specs.Prelude.{◌≡◌, ◌<◌, ℕ, false, None, List, [], slice_index_or}
-use Rattle.board_terms.specs.Quantities.{Processor, Source, Ticket, TimerId, PageNumber}
+use Rattle.std.specs.Prelude.{◌≡◌, ◌<◌, ℕ, false, None, Some, List, [], slice_index_or}
+use Rattle.board_terms.specs.Quantities.{Processor, Source, PortNumber, Ticket, TimerId, PageNumber}
 use Rattle.board_terms.specs.Messages.{ticket_of}
 use Rattle.board_terms.specs.declared.messages.Message.{Message}
+use Rattle.board_terms.specs.declared.messages.Message.TheVariants.{FromPort, FromTimer}
 use Rattle.board_terms.specs.declared.pages.Kind.{Kind}
 use Rattle.board_terms.specs.declared.pages.Kind.TheVariants as kind
 use Rattle.synic_regs.specs.declared.register.Register.{Register}
@@ -10,10 +11,13 @@ use Rattle.synic_regs.specs.declared.register.Register.TheVariants as register
 use Rattle.lapic_core.specs.Apic.{Apic}
 use Rattle.gpa_space.specs.Page.{overwritten}
 use Rattle.gpa_space.specs.Space.{own_page, with_own_page, with_guest_page}
-use Rattle.message_queues.specs.Queues.{HasBuffer, appended}
+use Rattle.event_ports.specs.declared.ports.Port.{Port}
+use Rattle.event_ports.specs.Ports.{port_at}
+use Rattle.message_queues.specs.Queues.{HasBuffer, appended, port_used}
 use Rattle.stimer_bank.specs.declared.timer.Timer.{Timer}
 use Rattle.stimer_bank.specs.Bank.{with_timer, with_suspension as bank_with_suspension}
-use Rattle.synic_board.specs.State.{State, with_apic, with_bank, with_space, space_of, bank_of, slot_of}
+use Rattle.synic_board.specs.State.{State, with_apic, with_bank, with_space, space_of, bank_of, slot_of, ports_of}
+use Rattle.synic_board.specs.Posts.{buffers_of}
 use Rattle.synic_board.specs.Delivery.{is_slot_empty}
 use Rattle.synic_board.specs.Locations.{times, locations}
 use Rattle.synic_board.specs.Sound.{IsMessage}
@@ -52,11 +56,20 @@ pub record IsUnplaced (s : State) (t : Ticket) : Type 0 where
   pub given : t < s.next_ticket
   pub nowhere : times t (locations s) ≡ 0
 
--- a message can be queued for processor p
-pub record MayJoin (s : State) (p : Processor) (m : Message) : Type 0 where
+-- a port, if it is open, has a free buffer of those that it was opened with
+abbrev pub HasFreeBuffer : State → PortNumber → Type 0
+HasFreeBuffer s port = (p : Port) → port_at (ports_of s) port ≡ Some p → port_used s.queues port < buffers_of p.shape
+
+abbrev pub IsWithinShare : State → Message → Type 0
+IsWithinShare s (FromPort ticket port kind payload) = HasFreeBuffer s port
+IsWithinShare s (FromTimer ticket timer expiration) = Unit {0}
+
+-- a message can be queued at source i of processor p
+pub record MayJoin (s : State) (p : Processor) (i : Source) (m : Message) : Type 0 where
   pub message : IsMessage m
-  pub home : IsHome p m
+  pub home : IsHome s.ports p i m
   pub buffer : HasBuffer s.queues m
+  pub share : IsWithinShare s m
   pub ticket : IsUnplaced s (ticket_of m)
 
 -- a slot can hold a ticket: it holds a message, and no ticket yet

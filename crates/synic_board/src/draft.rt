@@ -3,21 +3,26 @@ ghost use Rattle.std.specs.Prelude.{◌≡◌, ◌↔◌, ◌<◌, ◌≤◌, �
 ghost use Rattle.stimer_bank.specs.Timer.{IsSoundTimer};
 ghost use Rattle.synic_regs.specs.Regs.{after_write, with_value};
 ghost use Rattle.synic_regs.specs.declared.register.Register.TheVariants as register;
+ghost use Rattle.event_ports.specs.Ports.{is_posted_type};
 ghost use Rattle.synic_board.specs.Registers.{stored};
 ghost use Rattle.synic_board.specs.State.{IsWithinLimits, opened, processors, regs_of, with_regs, with_slot_ticket};
 ghost use Rattle.synic_board.specs.Posts.{opened_port};
 ghost use Rattle.synic_board.specs.Timers.{at_moment};
 ghost use Rattle.synic_board.specs.Sound.{IsMessage};
-ghost use Rattle.synic_board.specs.Buffers.{IsHome};
-ghost use Rattle.synic_board.specs.Restoring.{overlay_register, with_processor, with_saved_timer, with_own_bytes, with_guest_bytes, with_message, HasNoTickets, IsUnplaced, MayJoin, MayOccupy};
+ghost use Rattle.synic_board.specs.Buffers.{IsHome, SendsTo};
+ghost use Rattle.synic_board.specs.Restoring.{overlay_register, with_processor, with_saved_timer, with_own_bytes, with_guest_bytes, with_message, HasNoTickets, IsUnplaced, HasFreeBuffer, IsWithinShare, MayJoin, MayOccupy};
 
 use crate::board::{Board, OpenFault};
 use crate::event::Reply;
 use crate::machine::Machine;
 use board_terms::{Kind, Message, Moment, PortShape, Sint, Ticket, TimerId, Vp};
+use event_ports::Port;
 use lapic_core::Lapic;
 use std::alloc::{AllocError, Global};
 use std::marker::Model;
+
+/// From here on a message type is reserved for the hypervisor (TLFS, "Message Types").
+const RESERVED: u32 = 0x8000_0000;
 
 /// A board that is being restored, piece by piece. It is the state of a board at any time, so a piece
 /// that no board can have together with the earlier pieces is refused, and then nothing changes. The
@@ -166,11 +171,11 @@ impl Draft {
     /// Appends a message to a queue, if it can be queued there, and returns whether it can.
     pub fn push_message(&mut self, vp: Vp, sint: Sint, message: Message) -> Result<bool, AllocError>
         requires { vp < processors self.old }
-        ensures valid { IfOk result (λ taken. IsTrue taken ↔ MayJoin self.old vp message) }
+        ensures valid { IfOk result (λ taken. IsTrue taken ↔ MayJoin self.old vp sint message) }
         ensures restored { IfOk result (λ taken. self.new ≡ (if taken then with_message self.old vp sint message else self.old)) }
         ensures err { OnErr result (self.new ≡ self.old) }
     {
-        if !self.may_join(vp, &message) {
+        if !self.may_join(vp, sint, &message) {
             return Ok(false);
         }
         self.tickets.push(message.ticket())?;
@@ -193,17 +198,49 @@ impl Draft {
         Ok(true)
     }
 
-    /// Whether a message can be queued for a processor.
-    fn may_join(&self, vp: Vp, message: &Message) -> bool
-        ensures { IsTrue result ↔ MayJoin self.now vp message.now }
+    /// Whether a message can be queued at a source.
+    fn may_join(&self, vp: Vp, sint: Sint, message: &Message) -> bool
+        ensures { IsTrue result ↔ MayJoin self.now vp sint message.now }
     {
-        if !is_at_home(message, vp) {
+        if !is_message(message) || !self.is_home(vp, sint, message) {
             return false;
         }
         if !self.machine.has_buffer(message) {
             return false;
         }
         self.is_unplaced(message.ticket())
+    }
+
+    /// Whether a message is from a port that sends to this source and leaves it within its buffers,
+    /// or from a timer of this processor.
+    fn is_home(&self, vp: Vp, sint: Sint, message: &Message) -> bool
+        ensures { IsTrue result ↔ (IsHome self.now.ports vp sint message.now × IsWithinShare self.now message.now) }
+    {
+        match message {
+            Message::FromPort { port, kind, .. } => {
+                if !is_posted_type(*kind) {
+                    return false;
+                }
+                self.has_buffer_for(vp, sint, *port)
+            }
+            Message::FromTimer { timer, .. } => timer.index() < 4 && timer.vp() == vp,
+        }
+    }
+
+    /// Whether a port is open for messages to this source, and has a free buffer.
+    fn has_buffer_for(&self, vp: Vp, sint: Sint, number: u8) -> bool
+        ensures { IsTrue result ↔ (SendsTo self.now.ports number vp sint × HasFreeBuffer self.now number) }
+    {
+        let Some(port) = self.machine.port(number) else {
+            return false;
+        };
+        let PortShape::Messages { buffers } = port.shape else {
+            return false;
+        };
+        if !targets(port, vp, sint) {
+            return false;
+        }
+        self.machine.port_used(number) < buffers
     }
 
     /// Whether a slot can hold a ticket.
@@ -231,18 +268,26 @@ impl Draft {
     }
 }
 
-/// Whether a message can be queued for a processor, provided that it has a buffer and its ticket is
-/// unplaced.
-fn is_at_home(message: &Message, vp: Vp) -> bool
-    ensures { IsTrue result ↔ (IsMessage message.now × IsHome vp message.now) }
+/// Whether a post may have this message type.
+fn is_posted_type(kind: u32) -> bool
+    ensures { result ≡ is_posted_type kind }
+{
+    kind != 0 && kind < RESERVED
+}
+
+/// Whether a port's target is this source.
+fn targets(port: Port, vp: Vp, sint: Sint) -> bool
+    ensures { IsTrue result ↔ ((port.vp ≡ vp) × (port.sint ≡ sint)) }
+{
+    port.vp == vp && port.sint == sint
+}
+
+/// Whether the type of a message is not 0, and its payload fits a slot.
+fn is_message(message: &Message) -> bool
+    ensures { IsTrue result ↔ IsMessage message.now }
 {
     match message {
-        Message::FromPort {
-            port,
-            kind,
-            payload,
-            ..
-        } => payload.as_slice().len() <= 240 && *port < 16 && *kind != 0,
-        Message::FromTimer { timer, .. } => timer.index() < 4 && timer.vp() == vp,
+        Message::FromPort { kind, payload, .. } => payload.as_slice().len() <= 240 && *kind != 0,
+        Message::FromTimer { .. } => true,
     }
 }

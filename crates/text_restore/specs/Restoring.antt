@@ -76,7 +76,7 @@ Restores s (piece.Port n p i shape) new = (new, Done, []) ≡ opened_port s n p 
 Restores s (piece.Timer p i config count due) new =
     (p < processors s) × (i < 4) × ((config == 0) && ((count == 0) && is_none due) ≡ false)
     × IsSoundTimer (record { config = config; count = count; due = due }) × (new ≡ with_saved_timer s (p, i) (record { config = config; count = count; due = due }))
-Restores s (piece.Queued p i m) new = (p < processors s) × (i < 16) × MayJoin s p m × (new ≡ with_message s p i m)
+Restores s (piece.Queued p i m) new = (p < processors s) × (i < 16) × MayJoin s p i m × (new ≡ with_message s p i m)
 Restores s (piece.Slot p i ticket) new = (p < processors s) × (i < 16) × MayOccupy s p i ticket × (new ≡ with_slot_ticket s p i (Some ticket))
 Restores s piece.End new = new ≡ s
 

@@ -1,6 +1,6 @@
 -- The queued messages.
 use Rattle.std.proofs.Common.{◌≡◌, ◌⊎◌, inl, inr, ℕ, zero, suc, ◌+◌, ◌*◌, ◌<◌, ◌≤◌, Bool, true, List, [], ◌∷◌, ◌++◌, cond, length, get_or, set, take, replicate, refl, sym, ap, subst, ◌∙◌, arith}
-use Rattle.std.specs.Prelude.{◌==◌, Option, None, Some, slice_get, sum_by, count_by}
+use Rattle.std.specs.Prelude.{◌==◌, Option, None, Some, slice_get, slice_index_or, sum_by, count_by}
 use Rattle.std.specs.Option.{option_map_or}
 use Rattle.std.proofs.lemmas.Bool.{cases_lt}
 use Rattle.std.proofs.lemmas.Bool.Decides.{nat_tests}
@@ -10,13 +10,15 @@ use Rattle.board_terms.specs.declared.messages.Message.{Message}
 use Rattle.board_terms.specs.declared.messages.Message.TheVariants.{FromPort, FromTimer}
 use Rattle.board_terms.specs.Messages.{ticket_of}
 use Rattle.board_terms.specs.Ranges.{HasMessageRanges}
-use Rattle.message_queues.specs.Queues.{Queues, HasBuffer, is_from_port, is_from_timer, queue_of}
+use Rattle.message_queues.specs.Queues.{Queues, HasBuffer, is_from_port, is_from_timer, port_used, queue_of}
+use Rattle.event_ports.specs.declared.ports.Port.{Port}
 use Rattle.synic_board.specs.State.{State, processors}
 use Rattle.synic_board.specs.Locations.{times, locations}
 use Rattle.synic_board.specs.Sound.{IsMessage}
 use Rattle.synic_board.specs.Buffers.{IsHome}
-use Rattle.synic_board.specs.Restoring.{MayJoin}
+use Rattle.synic_board.specs.Restoring.{IsWithinShare, MayJoin}
 use Rattle.synic_board.proofs.keeping.Counts.{one, in_queue, in_queues, in_slots, in_queue-cons, times-locations}
+use Rattle.synic_board.proofs.keeping.Emptied.{port-below}
 use Rattle.text_image.specs.declared.piece.Piece.TheVariants as pieces
 use Rattle.text_image.specs.Image.{each_below, message_fields, queue_lines, queues_lines, queued_lines}
 use Rattle.text_restore.specs.Restoring.{place}
@@ -81,11 +83,11 @@ module _ (qs : Queues) (j k : ℕ) (m : Message) (inside : j < length qs) (g : G
       part = omega (arith, last, in_queue-sum t (take k q), in_queue-sum t q, sum_by_more_le (λ (x : Message). one (ticket_of x) t) q k m g.within)
 
 -- a message of a board has a buffer before it is queued
-has-buffer : (s : State) → IsBoardState s → (p j k : ℕ) (m : Message) (inside : j < length s.queues) (g : Got (get_or s.queues j []) k m) → IsHome p m →
+has-buffer : (s : State) → IsBoardState s → (p j k : ℕ) (m : Message) (inside : j < length s.queues) (g : Got (get_or s.queues j []) k m) → (i : ℕ) → IsHome s.ports p i m →
     HasBuffer (drafted s.queues j k m inside g) m
-has-buffer s h p j k (FromPort ticket port kind payload) inside g home =
-    (home, omega (arith, more-counted s.queues j k (FromPort ticket port kind payload) inside g (is_from_port port) (test-same port), h.buffers.room port))
-has-buffer s h p j k (FromTimer ticket timer expiration) inside g home = free _
+has-buffer s h p j k (FromPort ticket port kind payload) inside g i home =
+    (port-below s port _ h.buffers.ports home.1.1, omega (arith, more-counted s.queues j k (FromPort ticket port kind payload) inside g (is_from_port port) (test-same port), h.buffers.room port))
+has-buffer s h p j k (FromTimer ticket timer expiration) inside g i home = free _
     (omega (arith, more-counted s.queues j k (FromTimer ticket timer expiration) inside g (is_from_timer timer) itself, h.buffers.one_each timer))
   where
     itself : is_from_timer timer (FromTimer ticket timer expiration) ≡ true
@@ -94,25 +96,34 @@ has-buffer s h p j k (FromTimer ticket timer expiration) inside g home = free _
     free : (n : ℕ) → n ≡ 0 → (n == 0) ≡ true
     free n e = grind (arith, nat_tests)
 
-module _ (s : State) (h : IsBoardState s) (t : State) (full : processors t ≡ processors s) (next : t.next_ticket ≡ s.next_ticket) (no_slots : (x : ℕ) → in_slots x t.slots ≡ 0) where
+-- and its port has one of those that it was opened with
+has-share : (s : State) → IsBoardState s → (j k : ℕ) (m : Message) (inside : j < length s.queues) (g : Got (get_or s.queues j []) k m) (now : State) →
+    now.queues ≡ drafted s.queues j k m inside g → now.ports ≡ s.ports → IsWithinShare now m
+has-share s h j k (FromPort ticket port kind payload) inside g now queues ports = λ p e.
+    omega (arith, ap (λ (qs : Queues). port_used qs port) queues, more-counted s.queues j k (FromPort ticket port kind payload) inside g (is_from_port port) (test-same port),
+      h.buffers.within port p (ap (λ (ps : List (Option Port)). slice_index_or ps port None) (sym ports) ∙ e))
+has-share s h j k (FromTimer ticket timer expiration) inside g now queues ports = tt
+
+module _ (s : State) (h : IsBoardState s) (t : State) (full : processors t ≡ processors s) (same_ports : t.ports ≡ s.ports) (next : t.next_ticket ≡ s.next_ticket) (no_slots : (x : ℕ) → in_slots x t.slots ≡ 0) where
   abbrev with_queues : Queues → State
   with_queues queues = record t { queues = queues }
 
   -- a message of a board may be queued before it is
   joins : (p i k : ℕ) (m : Message) → i < 16 → (inside : 16 * p + i < length s.queues) (g : Got (get_or s.queues (16 * p + i) []) k m) →
-      MayJoin (with_queues (drafted s.queues (16 * p + i) k m inside g)) p m
+      MayJoin (with_queues (drafted s.queues (16 * p + i) k m inside g)) p i m
   joins p i k m low inside g = record {
     message = subst IsMessage (g.is m) (h.sound.whole.messages j [] inside k m g.within);
-    home = home;
-    buffer = has-buffer s h p j k m inside g home;
+    home = subst (λ (ports : List (Option Port)). IsHome ports p i m) (sym same_ports) home;
+    buffer = has-buffer s h p j k m inside g i home;
+    share = has-share s h j k m inside g board refl same_ports;
     ticket = record { given = given; nowhere = nowhere };
   }
     where
       j : ℕ
       j = 16 * p + i
 
-      home : IsHome p m
-      home = subst (IsHome p) (g.is m) (h.buffers.home p i low k m g.within)
+      home : IsHome s.ports p i m
+      home = subst (IsHome s.ports p i) (g.is m) (h.buffers.home p i low k m g.within)
 
       board : State
       board = with_queues (drafted s.queues j k m inside g)

@@ -15,7 +15,9 @@ use Rattle.board_terms.specs.declared.messages.Message.TheVariants.{FromPort, Fr
 use Rattle.board_terms.specs.declared.notices.Notice.TheVariants.{Withdrawn}
 use Rattle.board_terms.specs.Sources.{source_number}
 use Rattle.message_queues.specs.Queues.{Queues, is_from_port, is_from_timer, queue_of}
-use Rattle.synic_board.specs.State.{State, slot_of}
+use Rattle.event_ports.specs.declared.ports.Port.{Port}
+use Rattle.event_ports.specs.Ports.{port_at}
+use Rattle.synic_board.specs.State.{State, slot_of, ports_of}
 use Rattle.synic_board.specs.Effects.{Effect, nothing}
 use Rattle.synic_board.specs.Resetting.{withdrawn_ticket, slot_emptied, queue_emptied, emptied_below, emptied, reset}
 use Rattle.synic_board.specs.Buffers.{IsHome, HasBuffers}
@@ -92,18 +94,26 @@ homes p qs = found_in (is_of_ports 16) qs + found_in (is_of_timers p 4) qs
 homes-bound : (s : State) (p : ℕ) → HasBuffers s → homes p s.queues ≤ 260
 homes-bound s p h = omega (arith, ports-bound s 16 h, timers-bound s p 4 h)
 
-home-found : (p : ℕ) (m : Message) → IsHome p m → 1 ≤ one_if (is_of_ports 16 m) + one_if (is_of_timers p 4 m)
-home-found p (FromPort ticket port kind payload) home = grind (arith, nat_tests)
-home-found p (FromTimer ticket t expiration) home = let same = home.0 in let below = home.1 in grind (arith, nat_tests)
+-- an open port is one of the sixteen
+pub port-below : (s : State) (port : ℕ) (p : Port) → length s.ports ≡ 16 → port_at (ports_of s) port ≡ Some p → port < 16
+port-below s port p ports is = split (cases_lt port 16)
+  where
+    split : (port < 16) ⊎ (16 ≤ port) → port < 16
+    split (inl low) = low
+    split (inr high) = let none : port_at (ports_of s) port ≡ None = get_or-eq_default s.ports None (omega (arith, ports, high)) in absurd (cc)
+
+home-found : (s : State) (p i : ℕ) (m : Message) → HasBuffers s → IsHome s.ports p i m → 1 ≤ one_if (is_of_ports 16 m) + one_if (is_of_timers p 4 m)
+home-found s p i (FromPort ticket port kind payload) h home = let low : port < 16 = port-below s port _ h.ports home.1.1 in grind (arith, nat_tests)
+home-found s p i (FromTimer ticket t expiration) h home = let same = home.0 in let below = home.1 in grind (arith, nat_tests)
 
 -- they are all the messages of one of its queues
-all-found : (p : ℕ) (q : List Message) → All (IsHome p) q → length q ≤ count_by (is_of_ports 16) q + count_by (is_of_timers p 4) q
-all-found p [] h = omega arith
-all-found p (m ∷ q) h =
+all-found : (s : State) (p i : ℕ) (q : List Message) → HasBuffers s → All (IsHome s.ports p i) q → length q ≤ count_by (is_of_ports 16) q + count_by (is_of_timers p 4) q
+all-found s p i [] b h = omega arith
+all-found s p i (m ∷ q) b h =
     omega (
       arith,
-      home-found p m (All-head (IsHome p) m q h),
-      all-found p q (All-tail (IsHome p) m q h),
+      home-found s p i m b (All-head (IsHome s.ports p i) m q h),
+      all-found s p i q b (All-tail (IsHome s.ports p i) m q h),
       sum_by-cons (λ x. cond (is_of_ports 16 x) 1 0) m q,
       sum_by-cons (λ x. cond (is_of_timers p 4 x) 1 0) m q,
     )
@@ -120,7 +130,7 @@ queue-emitted s p i below h = by (cases_lt (source_number p i) (length s.queues)
         omega (
           arith,
           emitted,
-          all-found p (queue_of s.queues p i) (h.home p i below),
+          all-found s p i (queue_of s.queues p i) h (h.home p i below),
           sum_by-set (count_by (is_of_ports 16)) s.queues (source_number p i) [] [] inside,
           sum_by-set (count_by (is_of_timers p 4)) s.queues (source_number p i) [] [] inside,
         )

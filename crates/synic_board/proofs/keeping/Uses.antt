@@ -1,32 +1,39 @@
 -- How many buffers are in use after a queue is written.
-use Rattle.std.proofs.Common.{◌≡◌, ◌≢◌, ◌⊎◌, inl, inr, ℕ, zero, suc, ◌+◌, ◌<◌, ◌≤◌, Bool, true, false, cond, ◌&&◌, List, [], ◌∷◌, ◌++◌, length, set, get_or, refl, ap, sym, ◌∙◌, subst, arith}
+use Rattle.std.proofs.Common.{◌≡◌, ◌≢◌, ◌⊎◌, inl, inr, ℕ, zero, suc, ◌+◌, ◌*◌, ◌/◌, ◌%◌, ◌<◌, ◌≤◌, Bool, true, false, cond, ◌&&◌, List, [], ◌∷◌, ◌++◌, length, set, get_or, refl, ap, sym, ◌∙◌, subst, arith}
 use Rattle.std.specs.Prelude.{Option, None, Some, not, ◌==◌, sum_by, count_by, slice_index_or}
 use Rattle.std.specs.Option.{option_map_or}
 use Rattle.std.specs.List.{All}
 use Rattle.std.proofs.lemmas.Bool.{cases_lt, cases_eq}
 use Rattle.std.proofs.lemmas.Bool.Decides.{nat_tests}
 use Rattle.std.proofs.lemmas.List.{set_past, get_or-set_same, get_or-set_other}
-use Rattle.std.proofs.lemmas.List.Elements.{All-nil, All-tail, All-push, All-filter}
+use Rattle.std.proofs.lemmas.List.Elements.{All-nil, All-head, All-tail, All-push, All-filter}
 use Rattle.std.proofs.lemmas.List.Sums.{sum_by-set, sum_by-cons, sum_by_push}
 use Rattle.arrayvec.specs.ArrayVec.{ArrayVec}
 use Rattle.board_terms.specs.declared.messages.Message.{Message}
 use Rattle.board_terms.specs.declared.messages.Message.TheVariants.{FromPort, FromTimer}
 use Rattle.board_terms.specs.Sources.{source_number}
 use Rattle.message_queues.specs.Queues.{Queues, is_from_port, is_from_timer, port_used, timer_used, is_timer_free, queue_of, left_of}
-use Rattle.synic_board.specs.State.{State, slot_of}
+use Rattle.board_terms.specs.declared.messages.PortShape.TheVariants.{Messages}
+use Rattle.event_ports.specs.declared.ports.Port.{Port}
+use Rattle.event_ports.specs.Ports.{port_at, is_posted_type}
+use Rattle.synic_board.specs.State.{State, slot_of, ports_of}
+use Rattle.synic_board.specs.Posts.{buffers_of}
 use Rattle.synic_board.specs.Effects.{Effect, nothing}
 use Rattle.synic_board.specs.Delivery.{accepted}
 use Rattle.synic_board.specs.Resetting.{withdrawn_ticket, slot_emptied, queue_emptied, emptied_below}
-use Rattle.synic_board.specs.Buffers.{IsHome, HasBuffers}
+use Rattle.synic_board.specs.Buffers.{SendsTo, IsHome, HasBuffers}
 use Rattle.synic_board.proofs.keeping.Requests.{either}
 
 pub alike : (s now : State) → now.queues ≡ s.queues → now.ports ≡ s.ports → HasBuffers s → HasBuffers now
 alike s now queues ports h = record {
   room = λ k. omega (arith, ap (λ qs. port_used qs k) queues, h.room k);
   one_each = λ t. omega (arith, ap (λ qs. timer_used qs t) queues, h.one_each t);
-  home = λ p i below. subst (λ qs. All (IsHome p) (queue_of qs p i)) (sym queues) (h.home p i below);
+  within = λ k p e. omega (arith, ap (λ qs. port_used qs k) queues, h.within k p (ap (λ xs. slice_index_or xs k None) (sym ports) ∙ e));
+  home = λ p i below. subst (λ qs. All (IsHome now.ports p i) (queue_of qs p i)) (sym queues)
+      (subst (λ ps. All (IsHome ps p i) (queue_of s.queues p i)) (sym ports) (h.home p i below));
   ports = ap length ports ∙ h.ports;
   shapes = λ k p e. h.shapes k p (ap (λ xs. slice_index_or xs k None) (sym ports) ∙ e);
+  sources = λ k p e. h.sources k p (ap (λ xs. slice_index_or xs k None) (sym ports) ∙ e);
 }
 
 -- how many queued messages satisfy a predicate
@@ -41,27 +48,61 @@ used-set f qs j d q bound = split (cases_lt j (length qs))
     split (inl inside) = omega (arith, bound, sum_by-set (count_by f) qs j q [] inside)
     split (inr past) = omega (arith, ap (λ xs. found_in f xs) (set_past qs j q past))
 
-abbrev AreHome : Queues → Type 0
-AreHome qs = (p i : ℕ) → i < 16 → All (IsHome p) (queue_of qs p i)
+-- each message of each source
+abbrev pub Each : (ℕ → ℕ → Message → Type 0) → Queues → Type 0
+Each P qs = (p i : ℕ) → i < 16 → All (P p i) (queue_of qs p i)
 
-home-set : (qs : Queues) (j : ℕ) (q : List Message) → ((p i : ℕ) → i < 16 → source_number p i ≡ j → All (IsHome p) q) → AreHome qs → AreHome (set qs j q)
-home-set qs j q new home p i below = split (cases_eq (source_number p i) j) (cases_lt j (length qs))
+pub each-set : (P : ℕ → ℕ → Message → Type 0) (qs : Queues) (j : ℕ) (q : List Message) → ((p i : ℕ) → i < 16 → source_number p i ≡ j → All (P p i) q) →
+    ((p i : ℕ) → i < 16 → (source_number p i ≢ j) ⊎ (length qs ≤ j) → All (P p i) (queue_of qs p i)) → Each P (set qs j q)
+each-set P qs j q new old p i below = split (cases_eq (source_number p i) j) (cases_lt j (length qs))
   where
-    split : (source_number p i ≡ j) ⊎ (source_number p i ≢ j) → (j < length qs) ⊎ (length qs ≤ j) → All (IsHome p) (queue_of (set qs j q) p i)
-    split (inl same) (inl inside) = subst (All (IsHome p)) (sym (ap (λ k. get_or (set qs j q) k []) same ∙ get_or-set_same qs j q [] inside)) (new p i below same)
-    split (inr other) _ = subst (All (IsHome p)) (sym (get_or-set_other qs j (source_number p i) q [] other)) (home p i below)
-    split _ (inr past) = subst (λ xs. All (IsHome p) (queue_of xs p i)) (sym (set_past qs j q past)) (home p i below)
+    split : (source_number p i ≡ j) ⊎ (source_number p i ≢ j) → (j < length qs) ⊎ (length qs ≤ j) → All (P p i) (queue_of (set qs j q) p i)
+    split (inl same) (inl inside) = subst (All (P p i)) (sym (ap (λ k. get_or (set qs j q) k []) same ∙ get_or-set_same qs j q [] inside)) (new p i below same)
+    split (inr other) _ = subst (All (P p i)) (sym (get_or-set_other qs j (source_number p i) q [] other)) (old p i below (inl other))
+    split _ (inr past) = subst (λ xs. All (P p i) (queue_of xs p i)) (sym (set_past qs j q past)) (old p i below (inr past))
+
+abbrev one_if : Bool → ℕ
+one_if b = cond b 1 0
+
+-- no message from a port that is not open
+count-none : (ports : List (Option Port)) (p i port : ℕ) (q : List Message) → get_or ports port None ≡ None → All (IsHome ports p i) q → count_by (is_from_port port) q ≡ 0
+count-none ports p i port [] closed h = omega arith
+count-none ports p i port (m ∷ q) closed h =
+    omega (arith, sum_by-cons (λ x. cond (is_from_port port x) 1 0) m q, count-none ports p i port q closed (All-tail (IsHome ports p i) m q h), none m (All-head (IsHome ports p i) m q h))
+  where
+    none : (x : Message) → IsHome ports p i x → one_if (is_from_port port x) ≡ 0
+    none (FromTimer ticket t expiration) home = refl
+    none (FromPort ticket n kind payload) home = split (cases_eq n port)
+      where
+        split : (n ≡ port) ⊎ (n ≢ port) → one_if (n == port) ≡ 0
+        split (inl same) = let open_at = home.1.1 in let both : get_or ports n None ≡ None = ap (λ k. get_or ports k None) same ∙ closed in absurd (cc)
+        split (inr other) = grind (arith, nat_tests)
+
+sum-none : (f : List Message → ℕ) (qs : Queues) → ((j : ℕ) → j < length qs → f (get_or qs j []) ≡ 0) → sum_by f qs ≡ 0
+sum-none f [] none = omega arith
+sum-none f (q ∷ qs) none =
+    let first : f q ≡ 0 = none 0 (omega (arith, length-cons q qs)) in
+    omega (arith, sum_by-cons f q qs, first, sum-none f qs (λ j below. none (suc j) (omega (arith, length-cons q qs, below))))
+  where
+    length-cons : (x : List Message) (xs : Queues) → length (x ∷ xs) ≡ suc (length xs)
+    length-cons x xs = refl
+
+pub none-used : (s : State) (port : ℕ) → slice_index_or s.ports port None ≡ None → HasBuffers s → port_used s.queues port ≡ 0
+none-used s port closed h = sum-none (count_by (is_from_port port)) s.queues (λ j below.
+    let place : source_number (j / 16) (j % 16) ≡ j = omega arith in
+    subst (λ k. count_by (is_from_port port) (get_or s.queues k []) ≡ 0) place
+    (count-none s.ports (j / 16) (j % 16) port (queue_of s.queues (j / 16) (j % 16)) closed (h.home (j / 16) (j % 16) (omega arith))))
 
 -- messages of a queue, of which some may be missing
 pub record IsPart (q whole : List Message) : Type 0 where
   pub counts : (f : Message → Bool) → count_by f q ≤ count_by f whole
-  pub home : (p : ℕ) → All (IsHome p) whole → All (IsHome p) q
+  pub home : (ports : List (Option Port)) (p i : ℕ) → All (IsHome ports p i) whole → All (IsHome ports p i) q
 
 pub part-rest : (m : Message) (q : List Message) → IsPart q (m ∷ q)
-part-rest m q = record { counts = λ f. omega (arith, sum_by-cons (λ x. cond (f x) 1 0) m q); home = λ p h. All-tail (IsHome p) m q h }
+part-rest m q = record { counts = λ f. omega (arith, sum_by-cons (λ x. cond (f x) 1 0) m q); home = λ ports p i h. All-tail (IsHome ports p i) m q h }
 
 pub part-none : (q : List Message) → IsPart [] q
-part-none q = record { counts = λ f. omega arith; home = λ p h. All-nil (IsHome p) }
+part-none q = record { counts = λ f. omega arith; home = λ ports p i h. All-nil (IsHome ports p i) }
 
 count-left : (f : Message → Bool) (port : ℕ) (q : List Message) → count_by f (left_of port q) ≤ count_by f q
 count-left f port [] = omega arith
@@ -72,15 +113,18 @@ count-left f port (m ∷ q) =
     (λ _. omega (arith, more, sum_by-cons (λ x. cond (f x) 1 0) m q))
 
 pub part-left : (port : ℕ) (q : List Message) → IsPart (left_of port q) q
-part-left port q = record { counts = λ f. count-left f port q; home = λ p h. All-filter (λ m. not (is_from_port port m)) (IsHome p) q h }
+part-left port q = record { counts = λ f. count-left f port q; home = λ ports p i h. All-filter (λ m. not (is_from_port port m)) (IsHome ports p i) q h }
 
 pub fewer-queued : (s now : State) (j : ℕ) (q : List Message) → now.queues ≡ set s.queues j q → now.ports ≡ s.ports → IsPart q (get_or s.queues j []) → HasBuffers s → HasBuffers now
 fewer-queued s now j q is ports part h = alike written now is ports (record {
   room = λ k. omega (arith, fewer (is_from_port k), h.room k);
   one_each = λ t. omega (arith, fewer (is_from_timer t), h.one_each t);
-  home = home-set s.queues j q (λ p i below same. part.home p (subst (λ k. All (IsHome p) (get_or s.queues k [])) same (h.home p i below))) h.home;
+  within = λ k p e. omega (arith, fewer (is_from_port k), h.within k p e);
+  home = each-set (IsHome s.ports) s.queues j q
+      (λ p i below same. part.home s.ports p i (subst (λ k. All (IsHome s.ports p i) (get_or s.queues k [])) same (h.home p i below))) (λ p i below _. h.home p i below);
   ports = h.ports;
   shapes = h.shapes;
+  sources = h.sources;
 })
   where
     written : State
@@ -93,19 +137,29 @@ fewer-queued s now j q is ports part h = alike written now is ports (record {
 pub record Fits (s : State) (p i : ℕ) (m : Message) : Type 0 where
   pub ports : (k : ℕ) → is_from_port k m ≡ true → port_used s.queues k < 16
   pub timers : (t : ℕ × ℕ) → is_from_timer t m ≡ true → timer_used s.queues t < 1
-  pub home : (q j : ℕ) → j < 16 → source_number q j ≡ source_number p i → IsHome q m
+  pub share : (k : ℕ) (x : Port) → is_from_port k m ≡ true → port_at (ports_of s) k ≡ Some x → port_used s.queues k < buffers_of x.shape
+  pub home : (q j : ℕ) → j < 16 → source_number q j ≡ source_number p i → IsHome s.ports q j m
 
-pub port-fits : (s : State) (p i ticket port kind : ℕ) (payload : ArrayVec ℕ) → port < 16 → port_used s.queues port < 16 → Fits s p i (FromPort ticket port kind payload)
-port-fits s p i ticket port kind payload below low = record {
+pub port-fits : (s : State) (p i ticket port kind : ℕ) (payload : ArrayVec ℕ) → i < 16 → is_posted_type kind ≡ true → (sends : SendsTo s.ports port p i) → port_used s.queues port < 16 →
+    port_used s.queues port < sends.0 → Fits s p i (FromPort ticket port kind payload)
+port-fits s p i ticket port kind payload under typed sends low share = record {
   ports = λ k f. let same : port ≡ k = grind (arith, nat_tests) in omega (arith, ap (port_used s.queues) same, low);
   timers = λ t f. absurd (cc);
-  home = λ q j _ _. below;
+  share = λ k x f e.
+      let same : port ≡ k = grind (arith, nat_tests) in
+      let at : Some x ≡ Some (record { vp = p; sint = i; shape = Messages sends.0 }) = sym e ∙ ap (λ n. get_or s.ports n None) (sym same) ∙ sends.1 in
+      omega (arith, ap (port_used s.queues) same, ap (λ (o : Option Port). option_map_or (λ y. buffers_of y.shape) o 0) at, share);
+  home = λ q j below same.
+      let processor : p ≡ q = omega (arith, under, below, same) in
+      let source : i ≡ j = omega (arith, under, below, same) in
+      (typed, subst (λ x. SendsTo s.ports port x j) processor (subst (λ y. SendsTo s.ports port p y) source sends));
 }
 
 pub timer-fits : (s : State) (t : ℕ × ℕ) (i ticket expiration : ℕ) → i < 16 → t.1 < 4 → is_timer_free s.queues t ≡ true → Fits s t.0 i (FromTimer ticket t expiration)
 timer-fits s t i ticket expiration under index free = record {
   ports = λ k f. absurd (cc);
   timers = λ u f. used u (both (t.0 == u.0) (t.1 == u.1) f);
+  share = λ k x f e. absurd (cc);
   home = λ q j below same. (omega (arith, under, below, same), index);
 }
   where
@@ -124,9 +178,6 @@ timer-fits s t i ticket expiration under index free = record {
         let same : timer_used s.queues t ≡ timer_used s.queues u = ap (λ n. timer_used s.queues (n, t.1)) first ∙ ap (λ n. timer_used s.queues (u.0, n)) second in
         omega (arith, none, same)
 
-abbrev one_if : Bool → ℕ
-one_if b = cond b 1 0
-
 -- one more message that satisfies the predicate, if the new one does
 more-found : (f : Message → Bool) (s : State) (p i : ℕ) (m : Message) (d : ℕ) → found_in f s.queues ≤ d → (f m ≡ true → found_in f s.queues < d) → found_in f (accepted s p i m).0.queues ≤ d
 more-found f s p i m d bound free = elim (f m) as (λ b. f m ≡ b → found_in f (accepted s p i m).0.queues ≤ d) [
@@ -141,10 +192,13 @@ pub buffers-accepted : (s : State) (p i : ℕ) (m : Message) → Fits s p i m �
 buffers-accepted s p i m fit h = record {
   room = λ k. more-found (is_from_port k) s p i m 16 (h.room k) (fit.ports k);
   one_each = λ t. more-found (is_from_timer t) s p i m 1 (h.one_each t) (fit.timers t);
-  home = home-set s.queues (source_number p i) (queue_of s.queues p i ++ m ∷ [])
-      (λ q j below same. All-push (IsHome q) (queue_of s.queues p i) m (subst (λ k. All (IsHome q) (get_or s.queues k [])) same (h.home q j below)) (fit.home q j below same)) h.home;
+  within = λ k x e. more-found (is_from_port k) s p i m (buffers_of x.shape) (h.within k x e) (λ f. fit.share k x f e);
+  home = each-set (IsHome s.ports) s.queues (source_number p i) (queue_of s.queues p i ++ m ∷ [])
+      (λ q j below same. All-push (IsHome s.ports q j) (queue_of s.queues p i) m (subst (λ k. All (IsHome s.ports q j) (get_or s.queues k [])) same (h.home q j below)) (fit.home q j below same))
+      (λ q j below _. h.home q j below);
   ports = h.ports;
   shapes = h.shapes;
+  sources = h.sources;
 }
 
 -- emptying the slots and queues of a processor

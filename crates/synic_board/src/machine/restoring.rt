@@ -1,6 +1,6 @@
 // Setting and reading the parts of a machine, for a board that is restored or saved.
 ghost use Rattle.std.specs.Prelude.{◌≡◌, ◌≢◌, ℕ, slice_index_or, ◌↔◌, ◌<◌, ◌≤◌, ◌+◌, IsTrue, Some, None, slice_get, length, if◌then◌else◌};
-ghost use Rattle.message_queues.specs.Queues.{HasBuffer};
+ghost use Rattle.message_queues.specs.Queues.{HasBuffer, port_used};
 ghost use Rattle.stimer_bank.specs.Timer.{IsSoundTimer};
 ghost use Rattle.std.specs.List.{All};
 ghost use Rattle.std.specs.Option.{option_copied};
@@ -97,6 +97,13 @@ impl Machine {
         ensures { self.new.state ≡ with_slot_ticket self.old.state vp sint (Some ticket) }
     {
         self.slots[source_number(vp, sint)] = Some(ticket);
+    }
+
+    /// How many messages of a port are queued.
+    pub(crate) fn port_used(&self, port: u8) -> u8
+        ensures { result ≡ port_used self.now.state.queues port }
+    {
+        self.queues.port_used(port)
     }
 
     /// Whether there is a free buffer for a message.

@@ -1,0 +1,112 @@
+"""The fullest board: each of its parts as many times as there can be, and each field as wide as it can
+be. Its image is written here by docs/FORMATS.md alone."""
+
+import os
+import subprocess
+import tempfile
+
+PROCESSORS, PAGES, SOURCES, PORTS, BUFFERS = 8, 64, 16, 16, 16
+
+BLOCKS = range(0, 4096, 256)
+
+# as many bytes as a payload can have
+PAYLOAD = "5a" * 240
+
+MOST = (1 << 64) - 1
+
+# the source to which a port, and each timer of a processor, sends
+FIRST_SINT, TIMER_SINT = 2, 4
+
+SECONDS = 120
+
+
+def target(port):
+    """The processor and the source of a port: two ports for each processor."""
+    return port % PROCESSORS, FIRST_SINT + port // PROCESSORS
+
+
+def words(first):
+    return " ".join(["%x" % first] + ["f" * 16] * 3)
+
+
+def queued(vp, sint, tickets):
+    """The messages of a source: those of its port, or those of all timers of its processor."""
+    for port in range(PORTS):
+        if target(port) == (vp, sint):
+            for _ in range(BUFFERS):
+                yield "message %d %d %d port %d 7fffffff %s" % (vp, sint, next(tickets), port, PAYLOAD)
+    if sint == TIMER_SINT:
+        for timer in range(4):
+            yield "message %d %d %d timer %d %d %d" % (vp, sint, next(tickets), vp, timer, MOST)
+
+
+def lines():
+    tickets = iter(range(MOST - 1, 0, -1))
+    yield "image 1"
+    yield "board %d %d %d" % (PROCESSORS, PAGES, MOST)
+    yield "moment %d" % MOST
+    for vp in range(PROCESSORS):
+        yield "lapic %d %s %s ff suspended" % (vp, words(MOST - 0xffff), words(MOST - 0xffff))
+    for vp in range(PROCESSORS):
+        for name in ["scontrol", "siefp", "simp"] + ["sint%d" % sint for sint in range(SOURCES)]:
+            yield "register %d %s %x" % (vp, name, MOST)
+    for page in range(PAGES):
+        for offset in BLOCKS:
+            yield "page %d %x %s" % (page, offset, "a5" * 256)
+    for vp in range(PROCESSORS):
+        for kind in ["sim", "sief"]:
+            for offset in BLOCKS:
+                yield "own %d %s %x %s" % (vp, kind, offset, "c3" * 256)
+    for port in range(PORTS):
+        yield "open %d message %d %d %d" % (port, *target(port), BUFFERS)
+    for vp in range(PROCESSORS):
+        for timer in range(4):
+            yield "timer %d %d f1fff %x due %x %x" % (vp, timer, MOST, MOST, MOST)
+    for vp in range(PROCESSORS):
+        for sint in range(SOURCES):
+            yield from queued(vp, sint, tickets)
+    for vp in range(PROCESSORS):
+        for sint in range(SOURCES):
+            yield "slot %d %d %d" % (vp, sint, next(tickets))
+    yield "end"
+
+
+def image():
+    return "".join(line + "\n" for line in lines())
+
+
+def script_and_output():
+    """Events on that board: port 0 has no buffer left, and closing it withdraws its messages."""
+    vp, sint = target(0)
+    first = MOST - 1
+    withdrawn = "".join(". withdrawn %d %d %d\n" % (first - k, vp, sint) for k in range(BUFFERS))
+    return ("post 0 1 -\nclose 0\npost 0 1 -\n",
+            "= refused 8\n= done\n%s= refused 1\n" % withdrawn)
+
+
+def ran(binary, arguments, text):
+    return subprocess.run([binary, *arguments], input=text.encode(), stdout=subprocess.PIPE,
+                          stderr=subprocess.PIPE, timeout=SECONDS)
+
+
+def complaints(binary):
+    """It is restored, performs events, and is the start of a crew and of a trace, whose image is the
+    same text."""
+    text = image()
+    script, output = script_and_output()
+    with tempfile.TemporaryDirectory() as folder:
+        path = os.path.join(folder, "image")
+        with open(path, "w") as file:
+            file.write(text)
+        replayed = ran(binary, ["replay", "--from", path], script)
+        if (replayed.returncode, replayed.stdout.decode()) != (0, output):
+            yield "replay: %r" % ((replayed.returncode, replayed.stdout[:400], replayed.stderr),)
+        crew = ran(binary, ["crew", "--from", path], "actor\npost 0 1 -\n")
+        trace = crew.stdout.decode()
+        if crew.returncode != 0 or not trace.startswith("trace 3\n%s0 post 0 1 -\n" % text):
+            yield "crew: %r" % ((crew.returncode, trace[:100], crew.stderr),)
+        # the post, and the last absorbs: one for each part of each processor
+        entries = 1 + 4 * PROCESSORS
+        checked = ran(binary, ["check"], trace)
+        if (checked.returncode, checked.stdout) != (0, b"legal %d\n" % entries):
+            yield "check: %r" % ((checked.returncode, checked.stdout, checked.stderr),)
