@@ -1,5 +1,5 @@
 -- One more step of a worker.
-use Rattle.std.proofs.Common.{◌≡◌, ℕ, ◌+◌, ◌/◌, ◌%◌, List, [], ◌∷◌, ◌++◌, map, length, length-append, refl, sym, ap, ◌∙◌, subst, arith, append_assoc, reverse}
+use Rattle.std.proofs.Common.{◌≡◌, ℕ, ◌+◌, ◌/◌, ◌%◌, true, List, [], ◌∷◌, ◌++◌, map, length, length-append, refl, sym, ap, ◌∙◌, subst, arith, append_assoc, reverse}
 use mathlib.Core.List.{map-append}
 use Rattle.std.specs.List.{AllZip, range_with_len}
 use Rattle.std.proofs.lemmas.List.{reverse-append}
@@ -13,6 +13,7 @@ use Rattle.posted_words.specs.Answers.{is_fresh}
 use Rattle.posted_words.specs.Words.{raise_of}
 use Rattle.board_threads.specs.History.{Call}
 use Rattle.board_threads.specs.Sharing.{Acting, acting}
+use Rattle.board_threads.specs.Sweeps.{is_refusal}
 use Rattle.board_threads.specs.Crew.{IsStep, AreSteps, acts, last_step, raises_of, log_of}
 use Rattle.board_threads.specs.declared.script.Step.{Step}
 use Rattle.board_threads.specs.declared.script.Step.TheVariants.{Act, Sweep}
@@ -43,10 +44,31 @@ pub acted : (front more : List Step) (s : Step) (start old new : Acting) (e e' :
     → new ≡ acting old.of old.number (old.calls ++ (e, r) ∷ []) actions → GoesOn more start new
 acted front more s start old new e e' r actions is was step same goes = went_on front more s start old new e r actions is was goes (subst (λ (x : Step). IsStep x (e, r)) (sym step) same)
 
+abbrev bits_of : Event → ℕ
+bits_of (Absorb vp part bits) = bits
+bits_of _ = 0
+
+abbrev bits_first : List Call → ℕ
+bits_first [] = 0
+bits_first (c ∷ calls) = bits_of c.0
+
+abbrev rest_of : List Call → List Call
+rest_of [] = []
+rest_of (c ∷ calls) = calls
+
+-- two absorbs that are the same call have the same bits
+same-bits : (calls : List Call) (vp part a b : ℕ) (r : Reply) → calls ++ (Absorb vp part a, r) ∷ [] ≡ calls ++ (Absorb vp part b, r) ∷ [] → a ≡ b
+same-bits [] vp part a b r is = ap bits_first is
+same-bits (c ∷ calls) vp part a b r is = same-bits calls vp part a b r (ap rest_of is)
+
+no-bits : (old new : Acting) (vp part bits : ℕ) (r : Reply) (actions : List Action) → new ≡ acting old.of old.number (old.calls ++ (Absorb vp part bits, r) ∷ []) actions
+    → (is_refusal r ≡ true → new.calls ≡ old.calls ++ (Absorb vp part 0, r) ∷ []) → is_refusal r ≡ true → bits ≡ 0
+no-bits old new vp part bits r actions goes none refused = same-bits old.calls vp part bits 0 r (sym (ap (λ (a : Acting). a.calls) goes) ∙ none refused)
+
 pub swept_on : (front more : List Step) (s : Step) (start old new : Acting) (vp part bits : ℕ) (r : Reply) (actions : List Action) → more ≡ front ++ s ∷ [] → GoesOn front start old → s ≡ Sweep vp part
-    → new ≡ acting old.of old.number (old.calls ++ (Absorb vp part bits, r) ∷ []) actions → GoesOn more start new
-swept_on front more s start old new vp part bits r actions is was step goes =
-    went_on front more s start old new (Absorb vp part bits) r actions is was goes (subst (λ (x : Step). IsStep x (Absorb vp part bits, r)) (sym step) (bits, refl))
+    → new ≡ acting old.of old.number (old.calls ++ (Absorb vp part bits, r) ∷ []) actions → (is_refusal r ≡ true → new.calls ≡ old.calls ++ (Absorb vp part 0, r) ∷ []) → GoesOn more start new
+swept_on front more s start old new vp part bits r actions is was step goes none =
+    went_on front more s start old new (Absorb vp part bits) r actions is was goes (subst (λ (x : Step). IsStep x (Absorb vp part bits, r)) (sym step) (bits, refl, no-bits old new vp part bits r actions goes none))
 
 -- by an event of the setup
 pub performed : (front more : List Event) (e e' : Event) (start old new : Acting) (r : Reply) (actions : List Action) → more ≡ front ++ e ∷ [] → GoesOn (acts front) start old
@@ -56,13 +78,13 @@ performed front more e e' start old new r actions is was goes same = went_on (ac
 
 -- by one of the last absorbs
 pub absorbed : (k : ℕ) (start old new : Acting) (calls more : List Call) (bits : ℕ) (r : Reply) (actions : List Action) → old.calls ≡ calls ++ more → AreSteps (map last_step (range_with_len 0 k)) more
-    → new ≡ acting old.of old.number (old.calls ++ (Absorb (k / 4) (k % 4) bits, r) ∷ []) actions
+    → new ≡ acting old.of old.number (old.calls ++ (Absorb (k / 4) (k % 4) bits, r) ∷ []) actions → (is_refusal r ≡ true → new.calls ≡ old.calls ++ (Absorb (k / 4) (k % 4) 0, r) ∷ [])
     → (new.calls ≡ calls ++ (more ++ (Absorb (k / 4) (k % 4) bits, r) ∷ [])) × AreSteps (map last_step (range_with_len 0 (k + 1))) (more ++ (Absorb (k / 4) (k % 4) bits, r) ∷ [])
-absorbed k start old new calls more bits r actions was follows goes =
+absorbed k start old new calls more bits r actions was follows goes none =
     let c : Call = (Absorb (k / 4) (k % 4) bits, r) in (
       ap (λ (a : Acting). a.calls) goes ∙ ap (λ (l : List Call). l ++ c ∷ []) was ∙ append_assoc calls more (c ∷ []),
       subst (λ (l : List Step). AreSteps l (more ++ c ∷ [])) (sym (map-range_with_len_more last_step 0 k k (omega arith)))
-          (zip-push IsStep (map last_step (range_with_len 0 k)) more (last_step k) c follows (bits, refl)),
+          (zip-push IsStep (map last_step (range_with_len 0 k)) more (last_step k) c follows (bits, refl, no-bits old new (k / 4) (k % 4) bits r actions goes none)),
     )
 
 raises-push : (script : List (ℕ × ℕ)) (answers : List Raised) (s : ℕ × ℕ) (a : Raised) → length answers ≡ length script →

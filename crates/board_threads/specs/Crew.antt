@@ -1,5 +1,5 @@
 -- The history of a crew.
-use Rattle.std.specs.Prelude.{◌≡◌, ℕ, ◌+◌, ◌*◌, ◌/◌, ◌%◌, List, [], ◌∷◌, ◌++◌, All, length, map, reverse, Vec, vec_len}
+use Rattle.std.specs.Prelude.{◌≡◌, ℕ, ◌+◌, ◌*◌, ◌/◌, ◌%◌, List, [], ◌∷◌, ◌++◌, All, true, length, map, reverse, Vec, vec_len}
 use Rattle.std.specs.Global.{Global}
 use Rattle.std.specs.List.{AllZip, range_with_len, sum_by}
 use Rattle.synic_board.specs.State.{State}
@@ -11,6 +11,7 @@ use Rattle.posted_words.specs.declared.line.Raised.{Raised}
 use Rattle.posted_words.specs.Answers.{is_fresh}
 use Rattle.posted_words.specs.Words.{raise_of}
 use Rattle.board_threads.specs.History.{Call, call_of, calls_by}
+use Rattle.board_threads.specs.Sweeps.{is_refusal}
 use Rattle.board_threads.specs.Settling.{AreAbsorbed, IsSettled}
 use Rattle.board_threads.specs.declared.crew.CrewEnd.{CrewEnd}
 use Rattle.board_threads.specs.declared.script.Scripts.{Scripts}
@@ -19,10 +20,10 @@ use Rattle.board_threads.specs.declared.script.Step.{Step}
 use Rattle.board_threads.specs.declared.script.Step.TheVariants.{Act, Sweep}
 use Rattle.board_threads.specs.declared.settling.ActorCalls.{ActorCalls}
 
--- a call performs a step of a script: a sweep appears as the absorb of the bits that it took
+-- a call performs a step of a script: a sweep appears as the absorb of the bits that it took, and a refused one took none
 abbrev pub IsStep : Step → Call → Type 0
 IsStep (Act e) c = c.0 ≡ e
-IsStep (Sweep vp part) c = (bits : ℕ) × (c.0 ≡ Absorb vp part bits)
+IsStep (Sweep vp part) c = (bits : ℕ) × (c.0 ≡ Absorb vp part bits) × (is_refusal c.1 ≡ true → bits ≡ 0)
 
 -- calls perform a script, step by step
 abbrev pub AreSteps : List Step → List Call → Type 0

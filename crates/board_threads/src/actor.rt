@@ -110,6 +110,7 @@ impl Actor {
         ensures ok { IfOk result (λ r. self.new ≡ acting self.old.of self.old.number (self.old.calls ++ (event, r) ∷ []) self.old.actions) }
         ensures fault { OnErr result (self.new ≡ self.old) }
         ensures event { ¬ (IsErrOf result CallFault.AbsorbEvent) }
+        ensures board { ¬ (IsErrOf result CallFault.WrongBoard) }
     {
         let has_room = self.calls.reserve(1).is_ok();
         let number = self.number;

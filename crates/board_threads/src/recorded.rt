@@ -113,6 +113,7 @@ impl Recorded {
         ensures room { OnOk result (has_room ≡ true) }
         ensures full { IsErrOf result CallFault.Full ↔ 65536 ≤ length self.old.history.entries }
         ensures event { ¬ (IsErrOf result CallFault.AbsorbEvent) }
+        ensures board { ¬ (IsErrOf result CallFault.WrongBoard) }
     {
         self.make_room(has_room)?;
         Ok(self.perform(actor, event))
@@ -220,6 +221,7 @@ impl Recorded {
         ensures opening { self.new.opening ≡ self.old.opening }
         ensures full { IsErrOf result CallFault.Full ↔ 65536 ≤ length self.old.history.entries }
         ensures event { ¬ (IsErrOf result CallFault.AbsorbEvent) }
+        ensures own_board { ¬ (IsErrOf result CallFault.WrongBoard) }
     {
         if self.history.len() >= MOST {
             return Err(CallFault::Full);

@@ -154,6 +154,7 @@ impl SharedBoard {
         ensures ok { IfOk result (λ r. actor.new ≡ acting actor.old.of actor.old.number (actor.old.calls ++ (event, r) ∷ []) actor.old.actions) }
         ensures fault { OnErr result (actor.new ≡ actor.old) }
         ensures absorb { IsErrOf result CallFault.AbsorbEvent ↔ is_absorb event ≡ true }
+        ensures board { ¬ (IsErrOf result CallFault.WrongBoard) }
     {
         if matches!(event, Event::Absorb { .. }) {
             return Err(CallFault::AbsorbEvent);
