@@ -15,7 +15,7 @@ PAYLOAD = "5a" * 240
 MOST = (1 << 64) - 1
 
 # the source to which a port, and each timer of a processor, sends
-FIRST_SINT, TIMER_SINT = 2, 4
+FIRST_SINT, TIMER_SINT = 10, 15
 
 SECONDS = 120
 
