@@ -109,6 +109,14 @@ void write_config(unsigned vp, unsigned index, uint64_t value);
 void write_count(unsigned vp, unsigned index, uint64_t value);
 void try_due(void);
 
+/* kvm_timers.c: in place of timers.c in the model of KVM */
+void kvm_reset_timers(unsigned vp);
+void kvm_write_config(unsigned vp, unsigned index, uint64_t value);
+void kvm_write_count(unsigned vp, unsigned index, uint64_t value);
+void kvm_try_due(void);
+void kvm_end_of_message(unsigned vp);
+void kvm_end_of_interrupt(unsigned vp, unsigned vector);
+
 /* registers.c */
 void clear_processor(unsigned vp);
 struct peer_reply write_register(unsigned vp, uint32_t msr, uint64_t value);

@@ -182,6 +182,11 @@ enum fault {
 
 extern enum fault chosen;
 
-#define IS(name) (chosen == FAULT_##name)
+/* The model of KVM: these rules together, and the timers of kvm_timers.c. */
+extern bool is_kvm, is_bare;
+
+bool is_rule_of_kvm(enum fault rule);
+
+#define IS(name) (chosen == FAULT_##name || (is_kvm && is_rule_of_kvm(FAULT_##name)))
 
 #endif

@@ -110,6 +110,8 @@ void end_of_interrupt(unsigned vp)
     int vector = end_of(p->serving, !IS(eoi_ends_least));
     if (vector >= 0)
         p->serving[vector] = false;
+    if (is_kvm && vector >= 0)
+        kvm_end_of_interrupt(vp, (unsigned)vector);
     if (IS(eoi_delivers))
         end_of_message(vp);
 }

@@ -2,6 +2,7 @@
  *
  *   faulty            without a fault
  *   faulty NAME       with the fault of this name
+ *   faulty --kvm      the model of KVM as QEMU sets it up; --kvm --bare: with the first SynIC capability
  *   faulty --bare     without the calls that an implementation may leave out
  *   faulty --faults   lists the faults: the name, whether KVM has it, what it does */
 #include <stdio.h>
@@ -12,6 +13,7 @@
 
 struct board board;
 enum fault chosen = NO_FAULT;
+bool is_kvm, is_bare;
 
 static const struct {
     const char *name;
@@ -23,6 +25,9 @@ static const struct {
     FAULTS(F)
 #undef F
 };
+
+/* The model of KVM has no greater times, as `kvm-peer --guarded` has none. */
+enum { KVM_LAST = 20000 };
 
 enum { FAULT_COUNT = sizeof faults / sizeof *faults };
 
@@ -88,7 +93,7 @@ static struct peer_reply absorb_posted(unsigned vp, unsigned part, uint64_t bits
 
 static struct peer_reply advance_time(uint64_t time)
 {
-    if (time < board.now && !IS(clock_back))
+    if ((time < board.now && !IS(clock_back)) || (is_kvm && time > KVM_LAST))
         return refused(10);
     bool is_later = time > board.now;
     board.now = time;
@@ -199,6 +204,32 @@ static bool choose(const char *name)
     return chosen != NO_FAULT;
 }
 
+/* The faults that are rules of KVM for a guest without ports. Timers have theirs in kvm_timers.c. */
+bool is_rule_of_kvm(enum fault rule)
+{
+    switch (rule) {
+    case FAULT_polling_raises:
+    case FAULT_no_overlays:
+    case FAULT_high_bits_fault: return true;
+    case FAULT_synic_on_at_reset:
+    case FAULT_enabling_zeroes: return is_bare;
+    default: return false;
+    }
+}
+
+/* Leaves out ports and suspension, which are user space's. */
+static void choose_kvm(struct peer *peer, bool bare)
+{
+    is_kvm = true;
+    is_bare = bare;
+    peer->open_message_port = NULL;
+    peer->open_event_port = NULL;
+    peer->close_port = NULL;
+    peer->post_message = NULL;
+    peer->signal_event = NULL;
+    peer->suspend = peer->resume = NULL;
+}
+
 static int list_faults(void)
 {
     for (int at = 1; at < FAULT_COUNT; at++)
@@ -217,7 +248,9 @@ int main(int count, char **words)
     };
     if (count == 2 && strcmp(words[1], "--faults") == 0)
         return list_faults();
-    if (count == 2 && strcmp(words[1], "--bare") == 0) {
+    if ((count == 2 || (count == 3 && strcmp(words[2], "--bare") == 0)) && strcmp(words[1], "--kvm") == 0) {
+        choose_kvm(&peer, count == 3);
+    } else if (count == 2 && strcmp(words[1], "--bare") == 0) {
         peer.absorb_posted = NULL;
         peer.suspend = peer.resume = peer.reset = NULL;
     } else if (count > 2 || (count == 2 && !choose(words[1]))) {

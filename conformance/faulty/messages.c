@@ -170,6 +170,10 @@ static void repeat(unsigned vp, unsigned sint)
 
 void end_of_message(unsigned vp)
 {
+    if (is_kvm) {
+        kvm_end_of_message(vp);
+        return;
+    }
     for (unsigned at = 0; at < SOURCES; at++) {
         unsigned s = IS(eom_backwards) ? SOURCES - 1 - at : at;
         repeat(vp, s);

@@ -4,7 +4,7 @@
 #include "board.h"
 
 enum { COUNTER = 0x40000020, EOI = 0x40000070, TPR = 0x40000072, SCONTROL = 0x40000080, SVERSION, SIEFP, SIMP, EOM };
-enum { SINT0 = 0x40000090, STIMER0 = 0x400000b0, VP_INDEX = 0x40000002, APIC_BASE = 0x1b };
+enum { SINT0 = 0x40000090, STIMER0 = 0x400000b0, VP_INDEX = 0x40000002, ICR = 0x40000071, VP_ASSIST = 0x40000073, APIC_BASE = 0x1b };
 
 static struct peer_reply fault(void)
 {
@@ -31,6 +31,7 @@ void clear_processor(unsigned vp)
     memset(p->sim, 0, sizeof p->sim);
     memset(p->sief, 0, sizeof p->sief);
     p->suspended = false;
+    kvm_reset_timers(vp);
 }
 
 static struct peer_reply write_source(unsigned vp, unsigned s, uint64_t word)
@@ -58,6 +59,8 @@ static struct peer_reply write_page(unsigned vp, uint32_t msr, uint64_t word)
 {
     if (msr == SCONTROL)
         board.vps[vp].scontrol = IS(scontrol_drops_bits) ? word & 1 : word;
+    else if (is_bare && (word & 1) && word >> 12 >= board.pages)
+        return fault();
     else
         page_register(vp, msr == SIMP, word);
     if (IS(enabling_delivers))
@@ -70,7 +73,7 @@ static struct peer_reply write_apic(unsigned vp, uint32_t msr, uint64_t word)
     if (IS(high_bits_fault) && word >> 32)
         return fault();
     if (msr == TPR)
-        board.vps[vp].tpr = IS(tpr_keeps_bits) ? word : word & 0xff;
+        board.vps[vp].tpr = is_kvm ? word & 0xf0 : IS(tpr_keeps_bits) ? word : word & 0xff;
     else if (IS(eoi_needs_zero) && word != 0)
         return fault();
     else
@@ -88,8 +91,16 @@ static struct peer_reply write_eom(unsigned vp, uint64_t word)
     return done();
 }
 
+/* Registers next to the SynIC that KVM has, and the model has not. */
+static bool is_left_out(uint32_t msr)
+{
+    return is_kvm && (msr == 0 || msr == APIC_BASE || msr == VP_INDEX || msr == ICR || msr == VP_ASSIST);
+}
+
 struct peer_reply write_register(unsigned vp, uint32_t msr, uint64_t word)
 {
+    if (is_left_out(msr))
+        return refused(99);
     if (msr >= SINT0 && msr < SINT0 + SOURCES)
         return write_source(vp, msr - SINT0, word);
     if (msr >= STIMER0 && msr < STIMER0 + 2 * TIMERS) {
@@ -118,6 +129,8 @@ struct peer_reply write_register(unsigned vp, uint32_t msr, uint64_t word)
 struct peer_reply read_register(unsigned vp, uint32_t msr)
 {
     const struct processor *p = &board.vps[vp];
+    if (is_left_out(msr))
+        return refused(99);
     if (msr >= SINT0 && msr < SINT0 + SOURCES)
         return value(p->sint[msr - SINT0]);
     if (msr >= STIMER0 && msr < STIMER0 + 2 * TIMERS) {

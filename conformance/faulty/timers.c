@@ -193,6 +193,10 @@ static int compare(const void *left, const void *right)
 
 void try_due(void)
 {
+    if (is_kvm) {
+        kvm_try_due();
+        return;
+    }
     struct due list[PROCESSORS * TIMERS];
     size_t count = 0;
     for (unsigned vp = 0; vp < board.processors; vp++)
@@ -237,6 +241,10 @@ static void start(unsigned vp, unsigned index, bool was_running)
 
 void write_config(unsigned vp, unsigned index, uint64_t value)
 {
+    if (is_kvm) {
+        kvm_write_config(vp, index, value);
+        return;
+    }
     struct timer *t = &board.vps[vp].timers[index];
     bool was_running = t->has_deadline;
     t->config = IS(config_keeps_bits) ? value : value & 0xf1fff;
@@ -247,6 +255,10 @@ void write_config(unsigned vp, unsigned index, uint64_t value)
 
 void write_count(unsigned vp, unsigned index, uint64_t value)
 {
+    if (is_kvm) {
+        kvm_write_count(vp, index, value);
+        return;
+    }
     struct timer *t = &board.vps[vp].timers[index];
     bool was_running = t->has_deadline;
     t->count = IS(count_of_32_bits) ? value & UINT32_MAX : value;
