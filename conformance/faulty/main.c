@@ -2,7 +2,8 @@
  *
  *   faulty            without a fault
  *   faulty NAME       with the fault of this name
- *   faulty --kvm      the model of KVM as QEMU sets it up; --kvm --bare: with the first SynIC capability
+ *   faulty --kvm      the model of KVM as QEMU sets it up; then --bare: with the first SynIC capability;
+ *                     --guarded: refuses the times that it leaves out, as kvm-peer --guarded does
  *   faulty --bare     without the calls that an implementation may leave out
  *   faulty --faults   lists the faults: the name, whether KVM has it, what it does */
 #include <stdio.h>
@@ -14,6 +15,7 @@
 struct board board;
 enum fault chosen = NO_FAULT;
 bool is_kvm, is_bare;
+static bool is_guarded;
 
 static const struct {
     const char *name;
@@ -93,8 +95,10 @@ static struct peer_reply absorb_posted(unsigned vp, unsigned part, uint64_t bits
 
 static struct peer_reply advance_time(uint64_t time)
 {
-    if ((time < board.now && !IS(clock_back)) || (is_kvm && time > KVM_LAST))
+    if (time < board.now && !IS(clock_back))
         return refused(10);
+    if (is_kvm && time > KVM_LAST)
+        return is_guarded ? refused(10) : peer_reply(PEER_UNSUPPORTED, 0);
     bool is_later = time > board.now;
     board.now = time;
     if (is_later || IS(same_time_retries))
@@ -217,17 +221,21 @@ bool is_rule_of_kvm(enum fault rule)
     }
 }
 
-/* Leaves out ports and suspension, which are user space's. */
-static void choose_kvm(struct peer *peer, bool bare)
+/* Leaves out ports and suspension, which are user space's. Whether there are such options. */
+static bool choose_kvm(struct peer *peer, int count, char **words)
 {
     is_kvm = true;
-    is_bare = bare;
+    for (int at = 0; at < count; at++) {
+        is_bare |= strcmp(words[at], "--bare") == 0;
+        is_guarded |= strcmp(words[at], "--guarded") == 0;
+    }
     peer->open_message_port = NULL;
     peer->open_event_port = NULL;
     peer->close_port = NULL;
     peer->post_message = NULL;
     peer->signal_event = NULL;
     peer->suspend = peer->resume = NULL;
+    return count == is_bare + is_guarded;
 }
 
 static int list_faults(void)
@@ -248,8 +256,9 @@ int main(int count, char **words)
     };
     if (count == 2 && strcmp(words[1], "--faults") == 0)
         return list_faults();
-    if ((count == 2 || (count == 3 && strcmp(words[2], "--bare") == 0)) && strcmp(words[1], "--kvm") == 0) {
-        choose_kvm(&peer, count == 3);
+    if (count >= 2 && strcmp(words[1], "--kvm") == 0) {
+        if (!choose_kvm(&peer, count - 2, words + 2))
+            return 2;
     } else if (count == 2 && strcmp(words[1], "--bare") == 0) {
         peer.absorb_posted = NULL;
         peer.suspend = peer.resume = peer.reset = NULL;

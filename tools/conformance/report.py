@@ -24,7 +24,7 @@ def explanation(result):
     yield from words.explained(result.case.lines, result.reference, result.peer, result.at)
 
 
-def table(results):
+def table(results, names_passing=True):
     by_topic = counts(results)
     for result in results:
         if result.verdict == "failed":
@@ -38,9 +38,18 @@ def table(results):
     missing = sorted({result.detail for result in results if result.verdict == "skipped"})
     for detail in missing:
         yield "skipped: %s" % detail
-    for result in results:
+    for result in results if names_passing else ():
         if result.verdict == "passed" and result.detail:
             yield "%s is known to fail, but passed" % result.case.full_name
+
+
+def two_counts(results):
+    """How many cases of the standard passed, and how many of the profile."""
+    parts = []
+    for name, is_profile in (("standard", False), ("profile", True)):
+        some = [result for result in results if result.case.is_profile == is_profile and result.verdict != "skipped"]
+        parts.append("%s: %d of %d" % (name, sum(result.verdict == "passed" for result in some), len(some)))
+    return "; ".join(parts)
 
 
 def tap(results):

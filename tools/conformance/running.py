@@ -71,16 +71,28 @@ def results(cases, peer, reference, see, known):
         yield verdict_of(case, wanted, got, see, known)
 
 
-def run(given, peer, reference):
+def known_cases(given, cases):
+    """The deviations that are accepted, by the file and by the profile."""
     known = suite.known(given.known) if given.known else {}
+    if given.profile == "tlfs":
+        known.update({case.full_name: "a choice of the profile" for case in cases if case.is_profile})
+    elif given.profile == "kvm":
+        known.update(suite.known(suite.KVM))
+    return known
+
+
+def run(given, peer, reference):
     cases = list(suite.cases(wanted=given.topic or ()))
+    known = known_cases(given, cases)
     names = {case.full_name for case in suite.cases()}
     for name in known:
         if name not in names:
-            raise suite.BadSuite("%s: there is no case %s" % (given.known, name))
+            raise suite.BadSuite("%s: there is no case %s" % (given.known or suite.KVM, name))
     found = list(results(cases, peer, reference, given.see, known))
     if given.junit:
         report.write_junit(given.junit, found)
-    lines = report.tap(found) if given.tap else report.table(found)
+    lines = report.tap(found) if given.tap else report.table(found, given.profile != "tlfs")
     print("\n".join(lines))
+    if given.profile != "board" and not given.tap:
+        print(report.two_counts(found))
     return 1 if any(result.verdict == "failed" for result in found) else 0

@@ -10,6 +10,11 @@ ROOT = os.path.dirname(os.path.dirname(os.path.dirname(os.path.abspath(__file__)
 FIELDS = ("Tests", "Source", "Guest")
 
 
+# What a peer is compared with: the standard, all that the board does, or what KVM was measured to do.
+PROFILES = ("tlfs", "board", "kvm")
+KVM = os.path.join(ROOT, "conformance", "known", "kvm-6.1")
+
+
 class BadSuite(Exception):
     """A case without a field, or a stored answer that is not the reference's."""
 
@@ -39,6 +44,11 @@ class Case:
     @property
     def full_name(self):
         return "%s/%s" % (self.topic, self.name)
+
+    @property
+    def is_profile(self):
+        """Whether its rule, or a part of it, is this project's choice, and not that of the TLFS or the SDM."""
+        return "(profile)" in self.header["Source"]
 
     def stored(self):
         """The stored answers."""
