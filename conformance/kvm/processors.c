@@ -14,7 +14,7 @@ static void sleep_until(uint64_t clock)
 
 struct peer_reply advance_time(uint64_t time)
 {
-    if (time < vm.time)
+    if (time < vm.time || vm.processors == 0)
         return refused(10);
     if (time > setting.last)
         return setting.is_guarded ? refused(10) : peer_reply(PEER_UNSUPPORTED, 0);
