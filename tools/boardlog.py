@@ -12,7 +12,8 @@ TITLES = (["trace 1"], ["trace 2"], ["trace 4"])
 TITLE_OF_AN_IMAGE = ["trace 3"]
 NO_IMAGES = "a trace of format 3 begins with an image, which this tool does not read; `synicboard check` does"
 
-NO_SPARSE = "the summaries of a sparse board name no pages, which this tool needs; give the board 1 to 64 pages"
+# the registers that make an overlay visible, by the number that a script has, and the kind of its page
+OVERLAYS = {"40000083": "sim", "40000082": "sief"}
 
 
 class Fault(Exception):
@@ -60,8 +61,6 @@ def events_of(text):
     if lines[:1] == TITLE_OF_AN_IMAGE:
         raise Fault(NO_IMAGES)
     board = lines[1:2] if lines[:1] in TITLES else lines[:1]
-    if board and board[0].split(" ")[2:3] == ["sparse"]:
-        raise Fault(NO_SPARSE)
     if lines[:1] in TITLES:
         numbered = [line.split(" ", 1) for line in lines[2:] if line[0].isdigit()]
         return lines[1], [(event, int(actor)) for actor, event in numbered]
@@ -87,7 +86,25 @@ def steps_of(program, text):
     output = answers(program, "\n".join(script) + "\n")
     starts = [i for i, line in enumerate(output) if line.startswith("= ")] + [len(output)]
     steps = [Step(event, actor, output[starts[i]:starts[i + 1]]) for i, (event, actor) in enumerate(events)]
-    return int(board.split()[1]), steps
+    processors, pages = board.split()[1:3]
+    if pages == "sparse":
+        show_overlays(steps)
+    return int(processors), steps
+
+
+def show_overlays(steps):
+    """The summaries of a sparse board name no pages, so those with an overlay follow from the writes of SIMP
+    and SIEFP. Of several overlays at one page the first is visible, by processor, SIMP before SIEFP."""
+    enabled = {}
+    for step in steps:
+        words = step.words
+        if words[0] == "write" and words[2] in OVERLAYS and step.reply == "done":
+            enabled[int(words[1]), OVERLAYS[words[2]]] = int(words[3], 16)
+        elif words[0] == "reset" and step.reply == "done":
+            enabled = {place: value for place, value in enabled.items() if place[0] != int(words[1])}
+        for (vp, kind), value in sorted(enabled.items(), key=lambda one: (one[0][0], one[0][1] != "sim")):
+            if value & 1:
+                step.summary.pages.setdefault(value >> 12, (kind, vp))
 
 
 class State:

@@ -16,6 +16,9 @@ ENABLED, PERIODIC, AUTO_ENABLE, DIRECT = 1, 2, 8, 1 << 12
 
 TIMER_TYPE = 0x80000010
 
+# the guest pages of a sparse board
+SPARSE_PAGES = 1 << 52
+
 
 class Message:
     """A message that was accepted: what its image will hold, and who sent it."""
@@ -57,14 +60,14 @@ class Machine:
 
     def __init__(self, board):
         _, processors, pages, ticket = board.split()
-        self.time, self.ticket, self.page_count = 0, int(ticket), int(pages)
+        self.time, self.ticket = 0, int(ticket)
         self.processors = [Processor() for _ in range(int(processors))]
         self.ports, self.messages, self.owners = {}, {}, {}
         self.state, self.changed = {}, {}
         self.number, self.actor = 0, None
         self.put("time", "0")
         self.put("ticket", ticket)
-        self.put("pages", int(pages))
+        self.put("pages", SPARSE_PAGES if pages == "sparse" else int(pages))
         for vp in range(len(self.processors)):
             self.put("p%d.suspended" % vp, False)
             self.put("p%d.next" % vp, None)
