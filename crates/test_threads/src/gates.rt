@@ -1,4 +1,5 @@
-// A gate that watches, and one that has a call looked at before its worker continues.
+// A gate that watches, one that has a call looked at before its worker continues, and one at which
+// the workers meet.
 ghost use Rattle.std.specs.Prelude.{◌<◌};
 
 use board_threads::{Gate, Worker};
@@ -135,4 +136,51 @@ impl Gate for Look {
             self.wait(rt, &self.has_looked);
         }
     }
+}
+
+/// Holds the first call of each worker until `count` workers have entered theirs.
+#[derive(Drop)]
+pub(crate) struct Meet {
+    count: u64,
+    entered: Mutex<u64>,
+    given_up: Mutex<bool>,
+}
+
+impl Meet {
+    pub(crate) fn of(count: u64) -> Meet {
+        Meet {
+            count,
+            entered: Mutex::new(0),
+            given_up: Mutex::new(false),
+        }
+    }
+
+    /// Whether a worker gave up before all had entered.
+    pub(crate) fn has_given_up<R: Wait>(&self, rt: &R) -> bool {
+        *self.given_up.lock(rt)
+    }
+
+    fn count_one<R: Wait>(&self, rt: &R) {
+        let mut guard = self.entered.lock(rt);
+        let entered = &mut *guard;
+        *entered = entered.saturating_add(1);
+    }
+}
+
+impl Gate for Meet {
+    fn enter<R: Wait>(&self, rt: &R, _: Worker, call: u64) {
+        if call != 0 {
+            return;
+        }
+        self.count_one(rt);
+        for _ in 0..TURNS {
+            if *self.entered.lock(rt) >= self.count || self.has_given_up(rt) {
+                return;
+            }
+            yield_now();
+        }
+        *self.given_up.lock(rt) = true;
+    }
+
+    fn leave<R: Wait>(&self, _: &R, _: Worker, _: u64) {}
 }

@@ -14,6 +14,8 @@ mod given;
 #[cfg(test)]
 mod leaving;
 #[cfg(test)]
+mod lines;
+#[cfg(test)]
 mod scenes;
 #[cfg(test)]
 mod scripts;

@@ -63,3 +63,15 @@ pub(crate) fn post_look_and_raise(alloc: Global) -> Result<Scripts, AllocError> 
         lines: Vec::from_array(alloc, [raises])?,
     })
 }
+
+/// Three lines and no actor: the first raises two vectors, each other line one of them.
+pub(crate) fn only_lines(alloc: Global) -> Result<Scripts, AllocError> {
+    let vp = Vp::new(0).unwrap();
+    let both = Vec::from_array(alloc, [raise_60(vp), raise_61(vp)])?;
+    let one = Vec::from_array(alloc, [raise_60(vp)])?;
+    let other = Vec::from_array(alloc, [raise_61(vp)])?;
+    Ok(Scripts {
+        actors: Vec::new(alloc),
+        lines: Vec::from_array(alloc, [both, one, other])?,
+    })
+}
