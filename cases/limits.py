@@ -23,6 +23,18 @@ def with_memory(binary, arguments, data, most):
                           stderr=subprocess.PIPE, preexec_fn=narrow, timeout=SECONDS)
 
 
+def long_trace(binary):
+    """A trace with more entries than a crew can have, and the same with a wrong count at its end."""
+    entries = 1_100_000
+    trace = b"trace 1\nboard 1 1 0\n" + b"0 take 0\n= taken none\n" * entries
+    for count, status, answer in ((entries, 0, b"legal %d\n" % entries),
+                                  (entries - 1, 3, b"refused %d\n" % (2 * entries + 3))):
+        ended = subprocess.run([binary, "check"], input=trace + b"end %d\n" % count, stdout=subprocess.PIPE,
+                               stderr=subprocess.PIPE, timeout=SECONDS)
+        if (ended.returncode, ended.stdout, ended.stderr) != (status, answer, b""):
+            yield "with `end %d`: %r" % (count, (ended.returncode, ended.stdout, ended.stderr))
+
+
 def out_of_memory(binary):
     """As the address space shrinks, the program first does its work, then reports that it is out of
     memory, and then cannot be loaded. It writes nothing else."""

@@ -6,6 +6,7 @@
 #include <stddef.h>
 #include <stdint.h>
 #include <stdio.h>
+#include <stdlib.h>
 #include <string.h>
 
 #include "checks.h"
@@ -300,6 +301,34 @@ static void act_without_memory(size_t number)
     close_shared(&shared);
 }
 
+/* A history of 140,000 entries with some 16 MiB of payloads. */
+static void test_a_long_history(void)
+{
+    enum { TURNS = 70000 };
+    static synicboard_event post = { .kind = SYNICBOARD_POST, .port = PORT, .message_type = 1, .length = 240 };
+    synicboard_shared shared = SYNICBOARD_SHARED_CLOSED;
+    unsigned performed = 0;
+    CHECK_NUMBER(synicboard_open_shared(&shared, 1, 1, 0), SYNICBOARD_OK);
+    for (unsigned turn = 1; turn <= TURNS; turn++) {
+        synicboard_event tick = { .kind = SYNICBOARD_TICK, .moment = turn };
+        performed += act(&shared, (uint8_t)turn, tick).kind == SYNICBOARD_DONE;
+        performed += act(&shared, 0, post).kind == SYNICBOARD_REFUSED;
+    }
+    CHECK_NUMBER(performed, 2 * TURNS);
+    size_t length = synicboard_settle(&shared, NULL, 0).length;
+    uint8_t *whole = malloc(length);
+    CHECK(whole != NULL);
+    if (whole != NULL) {
+        synicboard_settled settled = synicboard_settle(&shared, whole, length);
+        CHECK_NUMBER(settled.kind, SYNICBOARD_OK);
+        CHECK_NUMBER(settled.entries, 2 * TURNS);
+        CHECK_NUMBER(settled.length, length);
+        CHECK_NUMBER(synicboard_check(whole, length).entries, 2 * TURNS);
+    }
+    free(whole);
+    close_shared(&shared);
+}
+
 static void test_acting_without_memory(void)
 {
     act_without_memory(1);
@@ -455,6 +484,7 @@ int main(void)
         { "trace", test_trace },
         { "lengths", test_lengths },
         { "opening without memory", test_opening_without_memory },
+        { "a long history", test_a_long_history },
         { "acting without memory", test_acting_without_memory },
         { "absorbing without memory", test_absorbing_without_memory },
         { "settling without memory", test_settling_without_memory },

@@ -613,8 +613,10 @@ impl Board {
         Changes(ask!(self, synicboard_update, &mut view.0))
     }
 
-    /// Updates the owners, and returns the pages whose owner differs from before, for a host to map
-    /// again: bit i for page i. A write of SIMP or SIEFP, or a reset, may change owners.
+    /// Updates the owners of pages 0 to 63, and returns those whose owner differs from before, for a
+    /// host to map again: bit i for page i. A write of SIMP or SIEFP, or a reset, may change owners.
+    /// An overlay of a sparse board may be at a page above 63: use
+    /// [`next_overlay`](Board::next_overlay) there.
     pub fn update_owners(&self, owners: &mut Owners) -> u64 {
         ask!(self, synicboard_update_owners, &mut owners.0)
     }
