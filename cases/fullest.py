@@ -103,7 +103,7 @@ def complaints(binary):
             yield "replay: %r" % ((replayed.returncode, replayed.stdout[:400], replayed.stderr),)
         crew = ran(binary, ["crew", "--from", path], "actor\npost 0 1 -\n")
         trace = crew.stdout.decode()
-        if crew.returncode != 0 or not trace.startswith("trace 3\n%s0 post 0 1 -\n" % text):
+        if crew.returncode != 0 or not trace.startswith("trace 3\n%s1 post 0 1 -\n= refused 8\n" % text):
             yield "crew: %r" % ((crew.returncode, trace[:100], crew.stderr),)
         # the post, and the last absorbs: one for each part of each processor
         entries = 1 + 4 * PROCESSORS
