@@ -100,8 +100,12 @@ has-buffer s h p j k (FromTimer ticket timer expiration) inside g i home = free 
 has-share : (s : State) → IsBoardState s → (j k : ℕ) (m : Message) (inside : j < length s.queues) (g : Got (get_or s.queues j []) k m) (now : State) →
     now.queues ≡ drafted s.queues j k m inside g → now.ports ≡ s.ports → IsWithinShare now m
 has-share s h j k (FromPort ticket port kind payload) inside g now queues ports = λ p e.
-    omega (arith, ap (λ (qs : Queues). port_used qs port) queues, more-counted s.queues j k (FromPort ticket port kind payload) inside g (is_from_port port) (test-same port),
-      h.buffers.within port p (ap (λ (ps : List (Option Port)). slice_index_or ps port None) (sym ports) ∙ e))
+    omega (
+      arith,
+      ap (λ (qs : Queues). port_used qs port) queues,
+      more-counted s.queues j k (FromPort ticket port kind payload) inside g (is_from_port port) (test-same port),
+      h.buffers.within port p (ap (λ (ps : List (Option Port)). slice_index_or ps port None) (sym ports) ∙ e),
+    )
 has-share s h j k (FromTimer ticket timer expiration) inside g now queues ports = tt
 
 module _ (s : State) (h : IsBoardState s) (t : State) (full : processors t ≡ processors s) (same_ports : t.ports ≡ s.ports) (next : t.next_ticket ≡ s.next_ticket) (no_slots : (x : ℕ) → in_slots x t.slots ≡ 0) where
