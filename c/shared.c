@@ -1,30 +1,91 @@
-/* Shared boards: a lock around each proved call on a board with its history. A closed handle is a closed board. */
+/* Shared boards: a lock around each proved call. A closed handle is a closed board. */
 #include <pthread.h>
 #include <stdlib.h>
 #include "nulls.h"
 #include "recorded.h"
 
-/* What the handle of a shared board points to. */
-struct shared { pthread_mutex_t lock; recorded recorded; };
+/* What the handle of a shared board points to. A board that is not recorded has no history. */
+struct shared { pthread_mutex_t lock; bool is_recorded; recorded recorded; };
 
-#define LOCKED(handle) (synicboard_hold(handle) ? &((struct shared *)handle->at)->recorded : &(recorded){ 0 })
-
-uint8_t synicboard_open_shared(synicboard_shared *handle, uint8_t processors, uint8_t pages, uint64_t first_ticket)
+/* What is under the lock of a handle, which this acquires; null if the handle is closed. */
+static struct shared *locked(synicboard_shared *handle)
 {
-    recorded opened = { 0 };
-    if (handle == NULL || handle->is_open)
-        return handle == NULL ? SYNICBOARD_NO_HANDLE : SYNICBOARD_IS_OPEN;
-    uint8_t answer = proved_synicboard_recorded_open(&opened, processors, pages, first_ticket);
-    if (answer != SYNICBOARD_OK)
-        return answer;
+    if (handle == NULL || !handle->is_open)
+        return NULL;
+    struct shared *shared = handle->at;
+    pthread_mutex_lock(&shared->lock);
+    return shared;
+}
+
+/* Puts an open board behind a lock. */
+static uint8_t share(synicboard_shared *handle, recorded opened, bool is_recorded)
+{
     struct shared *shared = malloc(sizeof *shared);
     if (shared == NULL || pthread_mutex_init(&shared->lock, NULL) != 0) {
         free(shared);
-        proved_synicboard_recorded_close(&opened);
         return SYNICBOARD_NO_MEMORY;
     }
+    shared->is_recorded = is_recorded;
     shared->recorded = opened;
     *handle = (synicboard_shared){ shared, true };
+    return SYNICBOARD_OK;
+}
+
+/* Whether a shared board may be opened in a handle. */
+static uint8_t is_free(const synicboard_shared *handle)
+{
+    if (handle == NULL)
+        return SYNICBOARD_NO_HANDLE;
+    return handle->is_open ? SYNICBOARD_IS_OPEN : SYNICBOARD_OK;
+}
+
+uint8_t synicboard_open_recorded(synicboard_shared *handle, uint8_t processors, uint8_t pages, uint64_t first_ticket)
+{
+    recorded opened = { 0 };
+    uint8_t answer = is_free(handle);
+    if (answer == SYNICBOARD_OK)
+        answer = proved_synicboard_recorded_open(&opened, processors, pages, first_ticket);
+    if (answer == SYNICBOARD_OK && (answer = share(handle, opened, true)) != SYNICBOARD_OK)
+        proved_synicboard_recorded_close(&opened);
+    return answer;
+}
+
+uint8_t synicboard_open_shared(synicboard_shared *handle, uint8_t processors, uint8_t pages, uint64_t first_ticket)
+{
+    synicboard board = SYNICBOARD_CLOSED;
+    uint8_t answer = is_free(handle);
+    if (answer == SYNICBOARD_OK)
+        answer = synicboard_open(&board, processors, pages, first_ticket);
+    if (answer == SYNICBOARD_OK && (answer = synicboard_share(handle, &board)) != SYNICBOARD_OK)
+        synicboard_close(&board);
+    return answer;
+}
+
+uint8_t synicboard_share(synicboard_shared *handle, synicboard *board)
+{
+    uint8_t answer = is_free(handle);
+    if (answer != SYNICBOARD_OK)
+        return answer;
+    if (board == NULL || !board->is_open)
+        return SYNICBOARD_IS_CLOSED;
+    answer = share(handle, (recorded){ .board = *board }, false);
+    if (answer == SYNICBOARD_OK)
+        *board = (synicboard)SYNICBOARD_CLOSED;
+    return answer;
+}
+
+uint8_t synicboard_unshare(synicboard_shared *handle, synicboard *board)
+{
+    if (board == NULL)
+        return SYNICBOARD_NO_HANDLE;
+    if (board->is_open)
+        return SYNICBOARD_IS_OPEN;
+    if (handle == NULL || !handle->is_open)
+        return SYNICBOARD_IS_CLOSED;
+    struct shared *shared = handle->at;
+    *board = shared->recorded.board;
+    shared->recorded.board = (synicboard)SYNICBOARD_CLOSED;
+    synicboard_close_shared(handle);
     return SYNICBOARD_OK;
 }
 
@@ -34,18 +95,18 @@ void synicboard_close_shared(synicboard_shared *handle)
         return;
     struct shared *shared = handle->at;
     pthread_mutex_destroy(&shared->lock);
-    proved_synicboard_recorded_close(&shared->recorded);
+    if (shared->is_recorded)
+        proved_synicboard_recorded_close(&shared->recorded);
+    else
+        synicboard_close(&shared->recorded.board);
     free(shared);
     *handle = (synicboard_shared)SYNICBOARD_SHARED_CLOSED;
 }
 
 synicboard *synicboard_hold(synicboard_shared *handle)
 {
-    if (handle == NULL || !handle->is_open)
-        return NULL;
-    struct shared *shared = handle->at;
-    pthread_mutex_lock(&shared->lock);
-    return &shared->recorded.board;
+    struct shared *shared = locked(handle);
+    return shared != NULL ? &shared->recorded.board : NULL;
 }
 
 void synicboard_release(synicboard_shared *handle)
@@ -54,10 +115,22 @@ void synicboard_release(synicboard_shared *handle)
         pthread_mutex_unlock(&((struct shared *)handle->at)->lock);
 }
 
+/* The reply of a board that is not recorded, with the notices of its event. */
+static synicboard_reply with_notices(const synicboard *board, synicboard_reply reply, synicboard_notice *notices, size_t room)
+{
+    if (reply.notices != 0)
+        synicboard_notices(board, notices, room);
+    return reply;
+}
+
 synicboard_reply synicboard_act(synicboard_shared *handle, uint8_t actor, const synicboard_event *event, synicboard_notice *notices, size_t room)
 {
     EVENT(event) ROOM(notices, room, synicboard_notice)
-    synicboard_reply reply = proved_synicboard_recorded_act(LOCKED(handle), actor, event, notices, room);
+    struct shared *shared = locked(handle);
+    recorded *recorded = shared != NULL ? &shared->recorded : &(struct recorded){ 0 };
+    synicboard_reply reply = shared != NULL && !shared->is_recorded
+        ? with_notices(&recorded->board, synicboard_perform(&recorded->board, event), notices, room)
+        : proved_synicboard_recorded_act(recorded, actor, event, notices, room);
     synicboard_release(handle);
     return reply;
 }
@@ -65,7 +138,11 @@ synicboard_reply synicboard_act(synicboard_shared *handle, uint8_t actor, const 
 synicboard_reply synicboard_act_absorb(synicboard_shared *handle, uint8_t actor, synicboard_line *line, uint8_t vp, uint8_t part, synicboard_notice *notices, size_t room)
 {
     LINE(line) ROOM(notices, room, synicboard_notice)
-    synicboard_reply reply = proved_synicboard_recorded_absorb(LOCKED(handle), actor, line, vp, part, notices, room);
+    struct shared *shared = locked(handle);
+    recorded *recorded = shared != NULL ? &shared->recorded : &(struct recorded){ 0 };
+    synicboard_reply reply = shared != NULL && !shared->is_recorded
+        ? with_notices(&recorded->board, synicboard_absorb_line(&recorded->board, line, vp, part), notices, room)
+        : proved_synicboard_recorded_absorb(recorded, actor, line, vp, part, notices, room);
     synicboard_release(handle);
     return reply;
 }
@@ -73,7 +150,10 @@ synicboard_reply synicboard_act_absorb(synicboard_shared *handle, uint8_t actor,
 synicboard_settled synicboard_settle(synicboard_shared *handle, uint8_t *room, size_t length)
 {
     ROOM(room, length, uint8_t)
-    synicboard_settled settled = proved_synicboard_recorded_settle(LOCKED(handle), room, length);
+    struct shared *shared = locked(handle);
+    synicboard_settled settled = { .kind = SYNICBOARD_NOT_RECORDED };
+    if (shared == NULL || shared->is_recorded)
+        settled = proved_synicboard_recorded_settle(shared != NULL ? &shared->recorded : &(recorded){ 0 }, room, length);
     synicboard_release(handle);
     return settled;
 }

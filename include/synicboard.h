@@ -7,7 +7,7 @@
  * specifies both; docs/EMBEDDING.md shows the run loop of a host.
  *
  * Handles. A `synicboard` is a board. A `synicboard_line` raises vectors of posted words without the
- * board's lock. A `synicboard_shared` is a board with a lock and a history, for several threads. A
+ * board's lock. A `synicboard_shared` is a board with a lock, for several threads. A
  * handle with all bytes zero is closed. The caller owns the struct and may move it, but must not copy
  * it or access its fields. The open and split calls below open a handle; its close call frees it.
  *
@@ -17,7 +17,7 @@
  * it is opened or closed. Calls on different handles may run at the same time.
  *
  * Memory. Only these calls allocate: the open and split calls, the calls on texts, and the calls that
- * append to the history of a shared board or write it. No event on a `synicboard` allocates. No call
+ * share a board, append to the history of a recorded board or write it. No event on a `synicboard` allocates. No call
  * ends the program.
  *
  * Null pointers. Each call checks its pointers for null:
@@ -43,7 +43,7 @@ extern "C" {
 #endif
 
 /* The version of these declarations. The Rust bindings have the same version. */
-#define SYNICBOARD_VERSION_MAJOR 2
+#define SYNICBOARD_VERSION_MAJOR 3
 #define SYNICBOARD_VERSION_MINOR 0
 
 /* A handle of a board. */
@@ -70,7 +70,8 @@ enum {
     SYNICBOARD_NO_ROOM = 9,             /* one more reply, or SYNICBOARD_MOST_NOTICES more notices, might not fit */
     SYNICBOARD_WRONG_LINE = 10,         /* `line` is the first wrong line, counted from 1 */
     SYNICBOARD_TOO_LONG = 11,           /* more than 1,073,741,824 bytes, and no line of these is wrong */
-    SYNICBOARD_NO_TEXT = 12             /* the text is null, and its length is not 0 */
+    SYNICBOARD_NO_TEXT = 12,            /* the text is null, and its length is not 0 */
+    SYNICBOARD_NOT_RECORDED = 13        /* the shared board has no history */
 };
 
 /* Opens a board at time 0. The first message that it accepts gets the ticket `first_ticket`. Allocates
@@ -96,7 +97,7 @@ void synicboard_close(synicboard *board);
 /* Kinds of replies. The comment names the fields of synicboard_reply that the kind uses. */
 enum {
     SYNICBOARD_NOT_PERFORMED = 0,       /* `fault` is the outcome: IS_CLOSED, NO_LINE, NO_EVENT, or NO_MEMORY if the
-                                           history of a shared board cannot grow; nothing has changed */
+                                           history of a recorded board cannot grow; nothing has changed */
     SYNICBOARD_DONE = 1,
     SYNICBOARD_VALUE = 2,               /* `value` */
     SYNICBOARD_BYTES = 3,               /* the first `length` of `bytes` */
@@ -572,12 +573,14 @@ synicboard_end synicboard_format_entry(uint8_t actor, const synicboard_event *ev
 
 /* ---- Shared boards ----
  *
- * A board with a lock and a history, for several threads. The history has an entry for each event, with
- * its actor and its reply, in the order in which the events were performed. An actor is a number that
- * the caller gives to each thread. Devices raise through lines, without the lock.
+ * A board with a lock, for several threads, for as long as they run. Nothing is recorded, and no call takes
+ * memory. Devices raise through lines, without the lock. A board that is opened as recorded also has a
+ * history: an entry for each event, with its actor and its reply, in the order in which the events were
+ * performed. An actor is a number that the caller gives to each thread.
  *
  * Any number of threads may be in these calls at the same time, with one handle, except while it is
- * opened or closed. The calls block on the lock. Each entry allocates memory. */
+ * opened, shared, taken back or closed. The calls block on the lock. They copy the notices of an event to the
+ * caller: kick processors and arm timers after the call, when the lock is free. */
 
 /* A handle of a shared board. */
 typedef struct synicboard_shared {
@@ -588,27 +591,44 @@ typedef struct synicboard_shared {
 /* The initial value of a handle of a shared board: closed. */
 #define SYNICBOARD_SHARED_CLOSED { 0, false }
 
-/* Opens a shared board at time 0, with an empty history. Arguments and results are those of
- * synicboard_open. */
+/* Opens a shared board at time 0. Arguments and results are those of synicboard_open. */
 uint8_t synicboard_open_shared(synicboard_shared *shared, uint8_t processors, uint8_t pages, uint64_t first_ticket);
+
+/* Puts a board behind a lock, in the state that it is in: one that was opened, also as a sparse one, or
+ * restored. Closes the handle `board`, whose board is in `shared` then. Returns SYNICBOARD_OK;
+ * SYNICBOARD_NO_HANDLE if `shared` is null; SYNICBOARD_IS_OPEN if it is open; SYNICBOARD_IS_CLOSED if
+ * `board` is closed; or SYNICBOARD_NO_MEMORY. Unless it returns SYNICBOARD_OK, nothing changes. */
+uint8_t synicboard_share(synicboard_shared *shared, synicboard *board);
+
+/* Takes the board back, and closes the handle `shared`. A history is lost. Returns SYNICBOARD_OK;
+ * SYNICBOARD_NO_HANDLE if `board` is null; SYNICBOARD_IS_OPEN if it is open; SYNICBOARD_IS_CLOSED if
+ * `shared` is closed. No other call may use `shared` at the same time. */
+uint8_t synicboard_unshare(synicboard_shared *shared, synicboard *board);
+
+/* Opens a shared board at time 0 that records each event of synicboard_act and synicboard_act_absorb, with
+ * an empty history. Arguments and results are those of synicboard_open. An entry takes 40 bytes and those of
+ * a payload, a store or a load, in lists that double; nothing limits them but memory, so record for tests and
+ * traces, not for years. */
+uint8_t synicboard_open_recorded(synicboard_shared *shared, uint8_t processors, uint8_t pages, uint64_t first_ticket);
 
 /* Frees the shared board and its history, and closes its handle. Does nothing if the handle is closed.
  * No other call may use the handle at the same time. */
 void synicboard_close_shared(synicboard_shared *shared);
 
-/* Performs an event for an actor, as synicboard_perform does, appends the event and its reply to the
- * history, and copies the notices of the event, as many as fit into `room` elements. If the history
- * cannot grow, the fault is SYNICBOARD_NO_MEMORY, and no event is performed; an invalid event has its own
- * fault first. */
+/* Performs an event for an actor, as synicboard_perform does, and copies the notices of the event, as many as
+ * fit into `room` elements. A recorded board appends the event and its reply to the history: if that cannot
+ * grow, the fault is SYNICBOARD_NO_MEMORY, and no event is performed; an invalid event has its own fault
+ * first. A board that is not recorded ignores `actor`. */
 synicboard_reply synicboard_act(synicboard_shared *shared, uint8_t actor, const synicboard_event *event, synicboard_notice *notices, size_t room);
 
 /* The same for synicboard_absorb_line. Other threads may raise through other lines at the same time. */
 synicboard_reply synicboard_act_absorb(synicboard_shared *shared, uint8_t actor, synicboard_line *line, uint8_t vp, uint8_t part, synicboard_notice *notices, size_t room);
 
-/* Acquires the lock and returns the board, for queries and synicboard_save; null if the handle is closed, and then no lock is
- * held. The pointer is valid until the thread calls synicboard_release. Until then, the thread must
- * make no other call on the shared board. It must not close the board, and must perform no event on it,
- * since the history would lack that event, and would be legal no longer. */
+/* Acquires the lock and returns the board; null if the handle is closed, and then no lock is held. The
+ * pointer is valid until the thread calls synicboard_release. Until then, the thread may make any call on the
+ * board, such as all events of one exit of the guest, except to close it, and must make no other call on the
+ * shared board. On a recorded board it must perform no event so, since the history would lack that event,
+ * and would be legal no longer. */
 synicboard *synicboard_hold(synicboard_shared *shared);
 
 /* Releases the lock. Does nothing if the handle is closed. */
@@ -624,7 +644,8 @@ typedef struct synicboard_settled {
 
 /* Writes the whole history as a trace to `room`, as much as fits. It is the trace of a legal history of
  * `entries` entries, so synicboard_check need not check it. Changes nothing, so it may be called at any time
- * and repeatedly. SYNICBOARD_NO_MEMORY if an allocation fails; SYNICBOARD_IS_CLOSED if the handle is closed. */
+ * and repeatedly. SYNICBOARD_NO_MEMORY if an allocation fails; SYNICBOARD_IS_CLOSED if the handle is closed;
+ * SYNICBOARD_NOT_RECORDED if the board is not recorded. */
 synicboard_settled synicboard_settle(synicboard_shared *shared, uint8_t *room, size_t length);
 
 #ifdef __cplusplus

@@ -60,7 +60,7 @@ static unsigned run_device(void)
 
 static bool open_all(struct processor *processors)
 {
-    bool is_open = synicboard_open_shared(&board, PROCESSORS, 1, 0) == SYNICBOARD_OK
+    bool is_open = synicboard_open_recorded(&board, PROCESSORS, 1, 0) == SYNICBOARD_OK
         && synicboard_open_line(&device_line, PROCESSORS) == SYNICBOARD_OK;
     for (uint8_t vp = 0; is_open && vp < PROCESSORS; vp++) {
         processors[vp].vp = vp;

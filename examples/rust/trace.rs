@@ -5,7 +5,7 @@
 use std::error::Error;
 use std::thread;
 use synicboard::msr::EOI;
-use synicboard::{Event, Line, NoEntry, NoticeRoom, Raised, SharedBoard, Vector};
+use synicboard::{Event, Line, NoEntry, NoticeRoom, Raised, RecordedBoard, Vector};
 
 const PROCESSORS: u8 = 2;
 const TURNS: usize = 500;
@@ -13,14 +13,14 @@ const RAISES: usize = 2000;
 const PART: u8 = 1;
 
 /// A processor absorbs its raised vectors. Returns how many there were.
-fn absorb(board: &SharedBoard, line: &mut Line, vp: u8) -> Result<u64, NoEntry> {
+fn absorb(board: &RecordedBoard, line: &mut Line, vp: u8) -> Result<u64, NoEntry> {
     let (_, bits) = board.absorb(vp, line, vp, PART, &mut NoticeRoom::new())?;
     Ok(bits.count_ones().into())
 }
 
 /// The loop of a processor's thread, the actor of its own number. Returns how many vectors it
 /// absorbed.
-fn run_processor(board: &SharedBoard, line: &mut Line, vp: u8) -> Result<u64, NoEntry> {
+fn run_processor(board: &RecordedBoard, line: &mut Line, vp: u8) -> Result<u64, NoEntry> {
     let end = Event::Write {
         vp,
         register: EOI,
@@ -50,7 +50,7 @@ fn run_device(line: &mut Line) -> u64 {
 }
 
 fn main() -> Result<(), Box<dyn Error>> {
-    let board = SharedBoard::open(PROCESSORS, 1, 0)?;
+    let board = RecordedBoard::open(PROCESSORS, 1, 0)?;
     let mut device_line = Line::open(PROCESSORS)?;
     let mut lines = [device_line.split()?, device_line.split()?];
     let (fresh, in_turns) = thread::scope(|scope| {

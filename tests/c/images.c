@@ -338,7 +338,7 @@ static void test_shared_board(void)
     synicboard_shared shared = SYNICBOARD_SHARED_CLOSED;
     synicboard restored = SYNICBOARD_CLOSED;
     synicboard_event event = { .kind = SYNICBOARD_ASSERT, .vp = 1, .vector = 0x61 };
-    synicboard_open_shared(&shared, 2, 1, 0);
+    synicboard_open_recorded(&shared, 2, 1, 0);
     CHECK_REPLY(synicboard_act(&shared, 3, &event, NULL, 0), SYNICBOARD_DONE);
     size_t length = save(synicboard_hold(&shared), first);
     synicboard_release(&shared);

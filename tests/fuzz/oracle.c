@@ -74,7 +74,7 @@ struct fuzz *fuzz_open(uint8_t processors, uint8_t pages, uint64_t ticket, bool 
     fuzz->sparse.memory = allocate((size_t)pages * PAGE);
     memset(fuzz->sparse.memory, 0, (size_t)pages * PAGE);
     if (is_shared)
-        DEMAND(synicboard_open_shared(&fuzz->shared, processors, pages, ticket) == SYNICBOARD_OK);
+        DEMAND(synicboard_open_recorded(&fuzz->shared, processors, pages, ticket) == SYNICBOARD_OK);
     DEMAND(synicboard_open_line(&fuzz->lines[0], processors) == SYNICBOARD_OK);
     int length = snprintf(head, sizeof head, "trace 2\nboard %u %u %" PRIu64 "\n", processors, pages, ticket);
     add(fuzz, head, (size_t)length);

@@ -5,8 +5,8 @@
 //! These are bindings for the C library `libsynicboard.a`, whose code is proved to meet the
 //! specification that `docs/MACHINE.md` states in words. The host performs events on a [`Board`],
 //! which returns a [`Reply`] and emits [`Notices`]. The board has no clock, no thread and no
-//! callback. Threads that share a board put it under a lock, or use a [`SharedBoard`], which also
-//! records its history. Devices raise vectors without the lock through a [`Line`].
+//! callback. Threads that share a board put it in a `Mutex<Board>`; a [`RecordedBoard`] has a lock
+//! and also records its history, for traces. Devices raise vectors without the lock through a [`Line`].
 //! `docs/EMBEDDING.md` describes the run loop of a host, and `examples/rust/loop.rs` is one.
 //!
 //! Times are in units of 100 ns. Processors, sources, ports, registers and pages are plain integers
@@ -26,8 +26,8 @@ mod event;
 mod line;
 pub mod msr;
 mod notice;
+mod recorded;
 mod reply;
-mod shared;
 pub mod sys;
 mod terms;
 mod text;
@@ -37,8 +37,8 @@ pub use board::{Board, LocalApic, OpenFault, RestoreFault, Timer, PAGE_BYTES};
 pub use event::{Bytes, Bytes8, Event, PayloadBytes, PortShape};
 pub use line::{Line, Raised, SplitFault};
 pub use notice::{Notice, Notices, MOST_NOTICES};
+pub use recorded::{NoEntry, NoticeRoom, RecordedBoard, Settled};
 pub use reply::{Refusal, Reply};
-pub use shared::{NoEntry, NoticeRoom, Settled, SharedBoard};
 pub use terms::{Moment, Owner, Sint, Ticket, TimerId, Vector, Vp};
 pub use text::{check, format_entry, replay, End, FormatFault, Verdict};
 pub use view::{Changes, Owners, View};

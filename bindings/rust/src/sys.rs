@@ -9,7 +9,7 @@ use core::ffi::c_void;
 use core::ptr;
 
 /// The first number of the version of these declarations.
-pub const SYNICBOARD_VERSION_MAJOR: u32 = 2;
+pub const SYNICBOARD_VERSION_MAJOR: u32 = 3;
 /// The second number of the version of these declarations.
 pub const SYNICBOARD_VERSION_MINOR: u32 = 0;
 
@@ -52,6 +52,7 @@ pub const SYNICBOARD_WRONG_LINE: u8 = 10;
 pub const SYNICBOARD_TOO_LONG: u8 = 11;
 /// Outcome: the text is null, and its length is not 0.
 pub const SYNICBOARD_NO_TEXT: u8 = 12;
+pub const SYNICBOARD_NOT_RECORDED: u8 = 13;
 
 /// Reply: no event was performed, for the reason in `fault`; nothing changed.
 pub const SYNICBOARD_NOT_PERFORMED: u8 = 0;
@@ -632,9 +633,20 @@ extern "C" {
         pages: u8,
         first_ticket: u64,
     ) -> u8;
+    /// Puts an open board behind a lock, and closes its handle.
+    pub fn synicboard_share(shared: *mut synicboard_shared, board: *mut synicboard) -> u8;
+    /// Takes the board back, and closes the handle of the shared board.
+    pub fn synicboard_unshare(shared: *mut synicboard_shared, board: *mut synicboard) -> u8;
+    /// Opens a shared board at time 0 that records each event.
+    pub fn synicboard_open_recorded(
+        shared: *mut synicboard_shared,
+        processors: u8,
+        pages: u8,
+        first_ticket: u64,
+    ) -> u8;
     /// Frees the shared board and closes its handle.
     pub fn synicboard_close_shared(shared: *mut synicboard_shared);
-    /// Performs an event for an actor, appends it to the history, and copies its notices.
+    /// Performs an event for an actor, and copies its notices; a recorded board appends it to its history.
     pub fn synicboard_act(
         shared: *mut synicboard_shared,
         actor: u8,
@@ -652,7 +664,7 @@ extern "C" {
         notices: *mut synicboard_notice,
         room: usize,
     ) -> synicboard_reply;
-    /// Acquires the lock and returns the board for queries; null if the handle is closed.
+    /// Acquires the lock and returns the board; null if the handle is closed.
     pub fn synicboard_hold(shared: *mut synicboard_shared) -> *mut synicboard;
     /// Releases the lock.
     pub fn synicboard_release(shared: *mut synicboard_shared);

@@ -4,7 +4,7 @@ ghost use Rattle.bench_threads.specs.Own.{IsOwn};
 
 use crate::workload::Job;
 use board_terms::{Moment, Vector, Vp};
-use board_threads::{Actor, CallFault, Line, Raised, SharedBoard};
+use board_threads::{Actor, CallFault, Line, Raised, RecordedBoard};
 use std::sync::Wait;
 use synic_board::msr::EOI;
 use synic_board::{Event, Reply};
@@ -30,7 +30,7 @@ pub(crate) struct Worker {
 /// Does a job, call by call.
 pub(crate) fn work<R: Wait>(
     rt: &R,
-    board: &SharedBoard,
+    board: &RecordedBoard,
     job: Job,
     calls: u32,
     worker: Worker,
@@ -49,7 +49,7 @@ pub(crate) fn work<R: Wait>(
 #[inline(never)]
 fn raise_all<R: Wait>(
     rt: &R,
-    board: &SharedBoard,
+    board: &RecordedBoard,
     calls: u32,
     worker: Worker,
 ) -> Result<Worker, CallFault>
@@ -96,7 +96,7 @@ fn vector_at(turn: u32) -> Vector {
 #[inline(never)]
 fn perform_calls<R: Wait>(
     rt: &R,
-    board: &SharedBoard,
+    board: &RecordedBoard,
     calls: u32,
     worker: Worker,
 ) -> Result<Worker, CallFault>

@@ -6,7 +6,7 @@ ghost use Rattle.bench_threads.specs.Own.{IsOwn, IsOwnActor, IsOwnLine};
 use crate::faults::Fault;
 use crate::worker::{PROCESSORS, Worker, work};
 use crate::workload::Job;
-use board_threads::{Actor, CallFault, Line, OpenFault, SharedBoard};
+use board_threads::{Actor, CallFault, Line, OpenFault, RecordedBoard};
 use std::alloc::{AllocError, Global};
 use std::sync::Wait;
 use std::thread::{Threads, join};
@@ -23,7 +23,7 @@ pub(crate) struct Parts {
 }
 
 /// A board with that many workers.
-pub(crate) fn open(alloc: Global, count: u8) -> Result<(SharedBoard, Vec<Worker>), Fault>
+pub(crate) fn open(alloc: Global, count: u8) -> Result<(RecordedBoard, Vec<Worker>), Fault>
     ensures eight { IfOk result (λ r. r.0.words.processors ≡ 8) }
     ensures own { IfOk result (λ r. All (IsOwn r.0) r.1.items) }
 {
@@ -33,12 +33,12 @@ pub(crate) fn open(alloc: Global, count: u8) -> Result<(SharedBoard, Vec<Worker>
 }
 
 /// A board with that many actors and lines.
-fn open_parts(alloc: Global, count: u8) -> Result<(SharedBoard, Vec<Actor>, Vec<Line>), OpenFault>
+fn open_parts(alloc: Global, count: u8) -> Result<(RecordedBoard, Vec<Actor>, Vec<Line>), OpenFault>
     ensures eight { IfOk result (λ r. r.0.words.processors ≡ 8) }
     ensures actors { IfOk result (λ r. All (IsOwnActor r.0) r.1.items) }
     ensures lines { IfOk result (λ r. All (IsOwnLine r.0) r.2.items) }
 {
-    match SharedBoard::open(alloc, PROCESSORS, PAGES, 0, count, count) {
+    match RecordedBoard::open(alloc, PROCESSORS, PAGES, 0, count, count) {
         Ok(opened) => Ok(opened),
         Err(fault) => Err(fault),
     }
@@ -47,7 +47,7 @@ fn open_parts(alloc: Global, count: u8) -> Result<(SharedBoard, Vec<Actor>, Vec<
 /// A worker of each actor, with a line.
 fn pair(
     alloc: Global,
-    board: &SharedBoard,
+    board: &RecordedBoard,
     actors: Vec<Actor>,
     mut lines: Vec<Line>,
 ) -> Result<Vec<Worker>, AllocError>
@@ -71,7 +71,7 @@ fn pair(
 /// Runs the job of each worker in a thread of its own, started by halves.
 pub(crate) fn run<R: Threads + Wait + Sync>(
     rt: &R,
-    board: &SharedBoard,
+    board: &RecordedBoard,
     job: Job,
     calls: u32,
     mut workers: Vec<Worker>,
@@ -116,7 +116,7 @@ pub(crate) fn run<R: Threads + Wait + Sync>(
 /// Takes workers apart.
 pub(crate) fn split(
     alloc: Global,
-    board: &SharedBoard,
+    board: &RecordedBoard,
     workers: Vec<Worker>,
 ) -> Result<Parts, AllocError>
     requires { All (IsOwn board.now) workers.items }

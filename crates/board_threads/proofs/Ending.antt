@@ -22,15 +22,19 @@ use Rattle.board_threads.specs.declared.settling.Ended.{Ended}
 use Rattle.board_threads.proofs.Placing.{crewed, stand, each-stands, numbers-are, calls-add-up, steps-add-up, StandsIn}
 use Rattle.board_threads.proofs.Crewing.{logs-are, each-answered}
 
--- a consequence of three facts about a value, if there is one
-of-three : {A F : Type 0} (P Q R S : A → Type 0) → ((a : A) → P a → Q a → R a → S a) → (r : Result A F) → IfOk r P → IfOk r Q → IfOk r R → IfOk r S
-of-three P Q R S f (Ok a) p q r = f a p q r
-of-three P Q R S f (Err e) p q r = tt
+-- a consequence of four facts about a value, if there is one
+of-four : {A F : Type 0} (P Q R C S : A → Type 0) → ((a : A) → P a → Q a → R a → C a → S a) → (r : Result A F) → IfOk r P → IfOk r Q → IfOk r R → IfOk r C → IfOk r S
+of-four P Q R C S f (Ok a) p q r c = f a p q r c
+of-four P Q R C S f (Err e) p q r c = tt
+
+-- no bit is left
+abbrev pub IsClear : List ℕ → Type 0
+IsClear words = All (λ (word : ℕ). word ≡ 0) words
 
 -- actors and lines that worked, and what settling promises of them
 module _ (begun : State) (name : TableId) (setup : Setup) (scripts : Scripts) (actors : List Acting) (lines : List Token) (raised : Vec (Vec Raised Global) Global)
     (w : HaveWorked name setup scripts actors lines raised.items) (e : Ended) (settled : IsSettled begun e) (given : map calls_given e.actors.items ≡ map calls_held actors)
-    (place : InPlace (length setup.events.items) (4 * setup.processors) e.history.items) where
+    (place : InPlace (length setup.events.items) (4 * setup.processors) e.history.items) (empty : IsClear e.standing) where
   history : IsCrewHistory setup.processors setup.events.items (lists scripts.actors.items) e.history.items
   history =
       let h = e.history.items in
@@ -59,6 +63,7 @@ module _ (begun : State) (name : TableId) (setup : Setup) (scripts : Scripts) (a
             (subst (λ (x : Ended). AreAbsorbed (4 * setup.processors) (logs_of (lists scripts.lines.items) (lists raised.items)) x.history.items x.standing) (sym is)
             (subst (λ l. AreAbsorbed (4 * setup.processors) l e.history.items e.standing) (logs-are _ _ _ _ _ _ w)
             (subst (λ m. AreAbsorbed (4 * m) (map actions_of lines) e.history.items e.standing) same absorbed)));
+        clear = subst (λ (x : Ended). IsClear x.standing) (sym is) empty;
       }
 
 -- the same of a result whose calls are in place
@@ -66,7 +71,7 @@ pub finishes : (begun : State) (name : TableId) (setup : Setup) (scripts : Scrip
     HaveWorked name setup scripts actors lines raised.items → (e : Ended) → IsSettled begun e → map calls_given e.actors.items ≡ map calls_held actors →
     (n : ℕ) → n ≡ setup.processors → AreAbsorbed (4 * n) (map actions_of lines) e.history.items e.standing → (r : Result CrewEnd WorkFault) →
     IfOk r (λ c. c.ended ≡ e) → IfOk r (λ c. c.raised ≡ raised) → IfOk r (λ _. InPlace (length setup.events.items) (4 * setup.processors) e.history.items) →
-    IfOk r (IsCrewEnd begun setup scripts)
+    IfOk r (λ _. IsClear e.standing) → IfOk r (IsCrewEnd begun setup scripts)
 finishes begun name setup scripts actors lines raised w e settled given n same absorbed =
-    of-three (λ c. c.ended ≡ e) (λ c. c.raised ≡ raised) (λ _. InPlace (length setup.events.items) (4 * setup.processors) e.history.items) (IsCrewEnd begun setup scripts)
-    (λ c is answers place. crew-ends begun name setup scripts actors lines raised w e settled given place n same absorbed c is answers)
+    of-four (λ c. c.ended ≡ e) (λ c. c.raised ≡ raised) (λ _. InPlace (length setup.events.items) (4 * setup.processors) e.history.items) (λ _. IsClear e.standing) (IsCrewEnd begun setup scripts)
+    (λ c is answers place empty. crew-ends begun name setup scripts actors lines raised w e settled given place empty n same absorbed c is answers)

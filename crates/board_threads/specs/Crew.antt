@@ -87,10 +87,11 @@ pub record IsCrewHistory (processors : ℕ) (setup : List Event) (scripts : List
   pub all : length history ≡ length setup + sum_by (λ (s : List Step). length s) scripts + 4 * processors
 
 -- the result of a crew whose board was in a state when it began: the board is settled, the numbers of its actors are 0, 1, ..,
--- its history is one of the crew, each raise has a result, and each fresh one was absorbed once or its bit is set
+-- its history is one of the crew, each raise has a result, each fresh one was absorbed once, and no bit is left
 pub record IsCrewEnd (begun : State) (setup : Setup) (scripts : Scripts) (c : CrewEnd) : Type 0 where
   pub settled : IsSettled begun c.ended
   pub numbers : map (λ (a : ActorCalls). a.number) c.ended.actors.items ≡ range_with_len 0 (vec_len scripts.actors + 1)
   pub crewed : IsCrewHistory setup.processors setup.events.items (lists scripts.actors.items) c.ended.history.items
   pub each : AllZip HasEach (lists scripts.lines.items) (lists c.raised.items)
   pub raises : AreAbsorbed (4 * setup.processors) (logs_of (lists scripts.lines.items) (lists c.raised.items)) c.ended.history.items c.ended.standing
+  pub clear : All (λ (word : ℕ). word ≡ 0) c.ended.standing

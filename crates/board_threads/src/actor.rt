@@ -27,7 +27,7 @@ pub enum CallFault {
     #[error("the history is full")]
     Full = 3,
     /// The board under the lock has another number of processors than the posted words.
-    /// `SharedBoard::open` and `share` put both together, so this does not occur; but the contract of
+    /// `RecordedBoard::open` and `share` put both together, so this does not occur; but the contract of
     /// a lock keeps no fact from its creation, so `absorb` checks it.
     #[error("the board under the lock is another one")]
     WrongBoard = 4,

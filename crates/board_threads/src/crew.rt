@@ -6,9 +6,9 @@ ghost use Rattle.board_threads.specs.Crew.{IsCrewEnd};
 
 use crate::fault::WorkFault;
 use crate::gate::Gate;
+use crate::recorded_board::RecordedBoard;
 use crate::script::{Scripts, Setup, has_bad, is_sized, is_sized_on};
 use crate::settling::Ended;
-use crate::shared::SharedBoard;
 use crate::working::{finish, finish_on, work};
 use posted_words::Raised;
 use std::alloc::Global;
@@ -116,7 +116,7 @@ fn run_judged<R: Threads + Wait + Sync, G: Gate + Sync>(
     requires step { has_bad_step setup.now scripts.now ≡ false }
     ensures { IfOk result (IsCrewEnd (opened setup.now.processors setup.now.pages setup.now.first_ticket) setup.now scripts.now) }
 {
-    let Ok((board, actors, lines)) = SharedBoard::open(
+    let Ok((board, actors, lines)) = RecordedBoard::open(
         alloc,
         setup.processors,
         setup.pages,
@@ -145,7 +145,7 @@ fn run_judged_on<R: Threads + Wait + Sync, G: Gate + Sync>(
     requires step { has_bad_step setup.now scripts.now ≡ false }
     ensures { IfOk result (IsCrewEnd start.state setup.now scripts.now) }
 {
-    let Ok((board, actors, lines)) = SharedBoard::share(
+    let Ok((board, actors, lines)) = RecordedBoard::share(
         alloc,
         board,
         scripts.actors.len() as u8 + 1,

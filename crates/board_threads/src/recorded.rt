@@ -1,8 +1,8 @@
 // The state under the lock.
 ghost use base.Stored.{Coded-set};
 ghost use mathlib.Core.HLevel.{Π_prop};
-ghost use Rattle.std.specs.Prelude.{◌≡◌, ◌↔◌, ◌≤◌, length, true, false, [], ◌∷◌, ◌++◌, IfOk, OnOk, OnErr, IsErrOf, if◌then◌else◌, nat_lt, nat_le, ◌&&◌};
-ghost use Rattle.posted_words.specs.Words.{token, sweep_of};
+ghost use Rattle.std.specs.Prelude.{◌≡◌, ◌↔◌, ◌≤◌, length, true, false, [], ◌∷◌, ◌++◌, IfOk, OnOk, OnErr, IsErrOf};
+ghost use Rattle.posted_words.specs.Words.{token};
 ghost use Rattle.synic_board.specs.declared.event.Event.TheVariants.{Absorb};
 ghost use Rattle.board_threads.specs.Sweeps.{is_refusal, sweep_in};
 ghost use Rattle.synic_board.specs.State.{AreSizes, opened, processors};
@@ -16,7 +16,7 @@ ghost use Rattle.board_threads.specs.inside.Ending.{IsEnd};
 use crate::actor::CallFault;
 use crate::replaying::follow;
 use crate::settling::{ActorCalls, Ended, SettleFault, are_all_of};
-use board_terms::{Notices, Ticket, Vp};
+use board_terms::{Notices, Ticket};
 use entry_log::EntryLog;
 use posted_words::{PostedWords, Standing, Sweeper};
 use std::alloc::{AllocError, Global};
@@ -145,7 +145,8 @@ impl Recorded {
         if self.board.processors() != words.processors() {
             return Err(CallFault::WrongBoard);
         }
-        let bits = sweep_if_there(words, sweeper, vp, part);
+        // An absorb of a word that does not exist is refused, so its bits would be lost.
+        let bits = words.sweep_if_there(sweeper, vp, part);
         let reply = self.perform(actor, &Event::Absorb { vp, part, bits });
         Ok((bits, reply))
     }
@@ -243,19 +244,5 @@ impl Recorded {
         let reply = self.board.perform(event, &mut self.notices);
         self.history.push(actor, event, &reply);
         reply
-    }
-}
-
-/// Sweeps a word, if it exists, and returns its bits. An absorb of any other word would be refused,
-/// so its bits would be lost.
-fn sweep_if_there(words: &PostedWords, sweeper: &mut Sweeper, vp: u8, part: u8) -> u64
-    requires { sweeper.old.of ≡ words.now.name }
-    ensures swept { sweeper.new ≡ token sweeper.old.of (if nat_lt vp words.now.processors && nat_le part 3 then sweep_of vp part result ∷ sweeper.old.actions else sweeper.old.actions) }
-    ensures none { (nat_lt vp words.now.processors && nat_le part 3) ≡ false → result ≡ 0 }
-{
-    let processors = words.processors();
-    match Vp::new(vp) {
-        Some(vp) if vp.number() < processors && part <= 3 => words.sweep(sweeper, vp, part),
-        _ => 0,
     }
 }

@@ -12,8 +12,8 @@ ghost use Rattle.board_threads.specs.inside.Work.{IsNewActor, IsNewLine, IsThere
 use crate::actor::Actor;
 use crate::fault::WorkFault;
 use crate::gate::{Gate, Worker};
+use crate::recorded_board::RecordedBoard;
 use crate::script::{Scripts, Step};
-use crate::shared::SharedBoard;
 use crate::workers::{act, raise};
 use board_terms::{Vector, Vp};
 use posted_words::{Line, Raised};
@@ -25,7 +25,7 @@ use std::thread::{Promise, PromisedHandle, Scope, Threads};
 /// The result of an actor's thread: the actor, after its script.
 #[derive(Drop)]
 pub(crate) struct Acts<'a> {
-    board: &'a SharedBoard,
+    board: &'a RecordedBoard,
     number: u8,
     script: &'a [Step],
 }
@@ -40,7 +40,7 @@ impl<'a> Promise<Result<Actor, WorkFault>> for Acts<'a> {
 /// The result of a line's thread: the line, after its raises, and their results.
 #[derive(Drop)]
 pub(crate) struct Raises<'a> {
-    board: &'a SharedBoard,
+    board: &'a RecordedBoard,
     script: &'a [(Vp, Vector)],
 }
 
@@ -79,7 +79,7 @@ type RaisingThread<'s> = PromisedHandle<Result<(Line, Vec<Raised>), WorkFault>, 
 fn start_actor<'s, E, R: Threads + Wait + Sync, G: Gate + Sync>(
     rt: &'s R,
     scope: &Scope<'s, E>,
-    board: &'s SharedBoard,
+    board: &'s RecordedBoard,
     gate: &'s G,
     actor: Actor,
     script: &'s [Step],
@@ -110,7 +110,7 @@ fn start_line<'s, E, R: Threads + Wait + Sync, G: Gate + Sync>(
     rt: &'s R,
     alloc: Global,
     scope: &Scope<'s, E>,
-    board: &'s SharedBoard,
+    board: &'s RecordedBoard,
     gate: &'s G,
     number: u8,
     line: Line,
@@ -139,7 +139,7 @@ fn start_actors<'s, E, R: Threads + Wait + Sync, G: Gate + Sync>(
     rt: &'s R,
     alloc: Global,
     scope: &Scope<'s, E>,
-    board: &'s SharedBoard,
+    board: &'s RecordedBoard,
     gate: &'s G,
     actors: Vec<Actor>,
     scripts: &'s [Vec<Step>],
@@ -169,7 +169,7 @@ fn start_lines<'s, E, R: Threads + Wait + Sync, G: Gate + Sync>(
     rt: &'s R,
     alloc: Global,
     scope: &Scope<'s, E>,
-    board: &'s SharedBoard,
+    board: &'s RecordedBoard,
     gate: &'s G,
     first: u8,
     lines: Vec<Line>,
@@ -205,7 +205,7 @@ type Ran = (Vec<Actor>, Vec<(Line, Vec<Raised>)>);
 pub(crate) fn run_all<R: Threads + Wait + Sync, G: Gate + Sync>(
     rt: &R,
     alloc: Global,
-    board: &SharedBoard,
+    board: &RecordedBoard,
     gate: &G,
     scripts: &Scripts,
     actors: Vec<Actor>,
@@ -235,7 +235,7 @@ pub(crate) fn run_all<R: Threads + Wait + Sync, G: Gate + Sync>(
 fn run_lines<R: Threads + Wait + Sync, G: Gate + Sync>(
     rt: &R,
     alloc: Global,
-    board: &SharedBoard,
+    board: &RecordedBoard,
     gate: &G,
     scripts: &[Vec<(Vp, Vector)>],
     lines: Vec<Line>,
@@ -256,7 +256,7 @@ fn run_lines<R: Threads + Wait + Sync, G: Gate + Sync>(
 fn run_with_actor<R: Threads + Wait + Sync, G: Gate + Sync>(
     rt: &R,
     alloc: Global,
-    board: &SharedBoard,
+    board: &RecordedBoard,
     gate: &G,
     own: &Vec<Step>,
     acts: &[Vec<Step>],
@@ -291,7 +291,7 @@ fn run_with_actor<R: Threads + Wait + Sync, G: Gate + Sync>(
 fn act_beside<R: Threads + Wait + Sync, G: Gate + Sync>(
     rt: &R,
     alloc: Global,
-    board: &SharedBoard,
+    board: &RecordedBoard,
     gate: &G,
     own: &Vec<Step>,
     acts: &[Vec<Step>],
@@ -334,7 +334,7 @@ fn act_beside<R: Threads + Wait + Sync, G: Gate + Sync>(
 fn run_with_line<R: Threads + Wait + Sync, G: Gate + Sync>(
     rt: &R,
     alloc: Global,
-    board: &SharedBoard,
+    board: &RecordedBoard,
     gate: &G,
     own: &Vec<(Vp, Vector)>,
     raises: &[Vec<(Vp, Vector)>],
@@ -365,7 +365,7 @@ fn run_with_line<R: Threads + Wait + Sync, G: Gate + Sync>(
 fn raise_beside<R: Threads + Wait + Sync, G: Gate + Sync>(
     rt: &R,
     alloc: Global,
-    board: &SharedBoard,
+    board: &RecordedBoard,
     gate: &G,
     own: &Vec<(Vp, Vector)>,
     raises: &[Vec<(Vp, Vector)>],

@@ -7,8 +7,8 @@ ghost use Rattle.board_threads.specs.inside.Work.{IsThere, HasActed, HasRaised};
 use crate::actor::{Actor, CallFault};
 use crate::fault::WorkFault;
 use crate::gate::{Gate, Worker};
+use crate::recorded_board::RecordedBoard;
 use crate::script::Step;
-use crate::shared::SharedBoard;
 use board_terms::{Vector, Vp};
 use posted_words::{Line, Raised};
 use std::alloc::Global;
@@ -18,7 +18,7 @@ use synic_board::Event;
 /// The setup: actor 0 performs its events.
 pub(crate) fn perform_setup<R: Wait>(
     rt: &R,
-    board: &SharedBoard,
+    board: &RecordedBoard,
     mut actor: Actor,
     events: &[Event],
 ) -> Result<Actor, CallFault>
@@ -36,7 +36,7 @@ pub(crate) fn perform_setup<R: Wait>(
 /// The last absorbs: actor 0 absorbs parts 0 to 3 of each processor, in order.
 pub(crate) fn absorb_all<R: Wait>(
     rt: &R,
-    board: &SharedBoard,
+    board: &RecordedBoard,
     mut actor: Actor,
 ) -> Result<Actor, CallFault>
     requires own { actor.of ≡ board.now.words.name }
@@ -54,7 +54,7 @@ pub(crate) fn absorb_all<R: Wait>(
 /// An actor runs its script, each call between the two hooks of the gate.
 pub(crate) fn act<R: Wait, G: Gate>(
     rt: &R,
-    board: &SharedBoard,
+    board: &RecordedBoard,
     gate: &G,
     mut actor: Actor,
     script: &[Step],
@@ -81,7 +81,7 @@ pub(crate) fn act<R: Wait, G: Gate>(
 pub(crate) fn raise<R: Wait, G: Gate>(
     rt: &R,
     alloc: Global,
-    board: &SharedBoard,
+    board: &RecordedBoard,
     gate: &G,
     who: Worker,
     mut line: Line,

@@ -15,9 +15,9 @@ use crate::crew::CrewEnd;
 use crate::fault::WorkFault;
 use crate::gate::Gate;
 use crate::places::are_in_place;
+use crate::recorded_board::RecordedBoard;
 use crate::script::{Scripts, Setup};
 use crate::settling::Ended;
-use crate::shared::SharedBoard;
 use crate::threads::run_all;
 use crate::workers::{absorb_all, perform_setup};
 use posted_words::{Line, Raised};
@@ -38,7 +38,7 @@ pub(crate) struct Worked {
 pub(crate) fn work<R: Threads + Wait + Sync, G: Gate + Sync>(
     rt: &R,
     alloc: Global,
-    board: &SharedBoard,
+    board: &RecordedBoard,
     setup: &Setup,
     scripts: &Scripts,
     gate: &G,
@@ -95,7 +95,7 @@ fn split_lines(
 
 /// Settles a board that was opened, and checks where the calls of actor 0 are in its history.
 pub(crate) fn finish(
-    board: SharedBoard,
+    board: RecordedBoard,
     setup: &Setup,
     scripts: &Scripts,
     worked: Worked,
@@ -115,7 +115,7 @@ pub(crate) fn finish(
 
 /// Settles a board on another one, and checks where the calls of actor 0 are in its history.
 pub(crate) fn finish_on(
-    board: SharedBoard,
+    board: RecordedBoard,
     start: Board,
     setup: &Setup,
     scripts: &Scripts,
@@ -134,14 +134,18 @@ pub(crate) fn finish_on(
     place(setup, ended, raised)
 }
 
-/// The result of a crew, if the first and the last entries of its history are by actor 0.
+/// The result of a crew, if the first and the last entries of its history are by actor 0, and the
+/// last absorbs left no bit.
 fn place(setup: &Setup, ended: Ended, raised: Vec<Vec<Raised>>) -> Result<CrewEnd, WorkFault>
     ensures ended { IfOk result (λ c. c.ended ≡ ended) }
     ensures raised { IfOk result (λ c. c.raised ≡ raised) }
     ensures placed { IfOk result (λ _. InPlace (length setup.now.events.items) (4 * setup.now.processors) ended.history.items) }
+    ensures clear { IfOk result (λ _. All (λ word. word ≡ 0) ended.standing) }
 {
     let ends = 4 * usize::from(setup.processors);
-    if !are_in_place(ended.history.as_slice(), setup.events.len(), ends) {
+    if !are_in_place(ended.history.as_slice(), setup.events.len(), ends)
+        || !ended.standing.is_clear()
+    {
         return Err(WorkFault::Unsettled);
     }
     Ok(CrewEnd { ended, raised })

@@ -1,5 +1,5 @@
 // The bits that no sweep took.
-ghost use Rattle.std.specs.Prelude.{◌≡◌, ◌<◌, length, slice_index};
+ghost use Rattle.std.specs.Prelude.{◌≡◌, ◌<◌, ◌↔◌, IsTrue, All, length, slice_index};
 ghost use Rattle.posted_words.specs.Words.{word_of};
 
 use crate::words::place_of;
@@ -29,5 +29,18 @@ impl Standing {
         ensures { result ≡ slice_index self.now (word_of vp part) }
     {
         self.words[place_of(vp, part)]
+    }
+
+    /// Whether no bit is set.
+    pub fn is_clear(&self) -> bool
+        ensures { IsTrue result ↔ All (λ word. word ≡ 0) self.now }
+    {
+        let words = self.words.as_slice();
+        for word in words {
+            if *word != 0 {
+                return false;
+            }
+        }
+        true
     }
 }

@@ -1,5 +1,5 @@
 // The words, and the four kinds of steps on them.
-ghost use Rattle.std.specs.Prelude.{◌≡◌, ◌+◌, ◌*◌, ◌-◌, ◌<◌, ◌≤◌, ◌⊎◌, ◌↔◌, [], ◌∷◌, ◌++◌, map, replicate, All, IfOk, IsErrOf, vec_len, length};
+ghost use Rattle.std.specs.Prelude.{◌≡◌, ◌+◌, ◌*◌, ◌-◌, ◌<◌, ◌≤◌, ◌⊎◌, ◌↔◌, [], ◌∷◌, ◌++◌, map, replicate, All, IfOk, IsErrOf, vec_len, length, false, if◌then◌else◌, nat_lt, nat_le, ◌&&◌};
 ghost use Rattle.std.specs.Mem.Slots.{slots_items, IsFull};
 ghost use Rattle.posted_words.specs.inside.Posted.{view_of};
 ghost use Rattle.posted_words.specs.Settled.{Settled};
@@ -223,6 +223,19 @@ impl PostedWords {
         self.table
             .shared
             .swap::<Sweeps>(&mut sweeper.seat, place_of(vp, part), 0)
+    }
+
+    /// Sweeps a part of a processor, if the words have both, and returns its bits; otherwise does
+    /// nothing, and returns 0. Requires a sweeper of these words.
+    pub fn sweep_if_there(&self, sweeper: &mut Sweeper, vp: u8, part: u8) -> u64
+        requires { sweeper.old.of ≡ self.now.name }
+        ensures swept { sweeper.new ≡ token sweeper.old.of (if nat_lt vp self.now.processors && nat_le part 3 then sweep_of vp part result ∷ sweeper.old.actions else sweeper.old.actions) }
+        ensures none { (nat_lt vp self.now.processors && nat_le part 3) ≡ false → result ≡ 0 }
+    {
+        match Vp::new(vp) {
+            Some(vp) if vp.number() < self.processors && part <= 3 => self.sweep(sweeper, vp, part),
+            _ => 0,
+        }
     }
 
     /// The bits that are set when all tokens are gathered: each `Fresh` raise was taken by one

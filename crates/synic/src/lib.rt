@@ -30,8 +30,8 @@ pub use board_terms::{
     TimerId, Vector, Vp,
 };
 pub use board_threads::{
-    Actor, ActorCalls, CallFault, CrewEnd, CrewFault, Ended, Gate, Line, OpenGate, Raised, Scripts,
-    SettleFault, Setup, SharedBoard, Standing, Step, Worker, run_crew,
+    Actor, ActorCalls, CallFault, CrewEnd, CrewFault, Ended, Gate, Line, OpenGate, Raised,
+    RecordedBoard, Scripts, SettleFault, Setup, Standing, Step, Worker, run_crew,
 };
 pub use synic_board::{Board, Entry, Event, OpenFault, Reply, Stopped, Summary, msr, run};
 pub use text_trace::{Format, put_sparse_trace, put_trace, put_trace_from_image};

@@ -5,19 +5,19 @@ ghost use Rattle.board_threads.specs.Settling.{only_raises};
 
 use crate::stopped::{Stopped, ended};
 use board_terms::{Vector, Vp};
-use board_threads::{Actor, CallFault, Ended, Line, SharedBoard};
+use board_threads::{Actor, CallFault, Ended, Line, RecordedBoard};
 use std::alloc::Global;
 use std::sync::Wait;
 use synic_board::{Entry, Event, Reply};
 
 pub(crate) fn opened(alloc: Global) -> Result<bool, Stopped> {
-    let (board, actors, lines) = SharedBoard::open(alloc, 8, 64, 7, 16, 16)?;
+    let (board, actors, lines) = RecordedBoard::open(alloc, 8, 64, 7, 16, 16)?;
     ended(board.processors() == 8 && (actors.len(), lines.len()) == (16, 16))
 }
 
 /// Settles a board of many actors and lines that did nothing.
 pub(crate) fn settled(alloc: Global) -> Result<bool, Stopped> {
-    let (board, actors, lines) = SharedBoard::open(alloc, 8, 1, 7, 16, 16)?;
+    let (board, actors, lines) = RecordedBoard::open(alloc, 8, 1, 7, 16, 16)?;
     let settled = board.settle(actors, lines)?;
     ended(
         settled.history.is_empty()
@@ -30,7 +30,7 @@ pub(crate) fn settled(alloc: Global) -> Result<bool, Stopped> {
 /// failed.
 fn tick<R: Wait>(
     rt: &R,
-    board: &SharedBoard,
+    board: &RecordedBoard,
     actor: &mut Actor,
     moment: u64,
     again: bool,
@@ -52,7 +52,7 @@ fn tick<R: Wait>(
 /// Absorbs part 1 of processor 0, in the same way.
 fn absorb<R: Wait>(
     rt: &R,
-    board: &SharedBoard,
+    board: &RecordedBoard,
     actor: &mut Actor,
     again: bool,
 ) -> Result<usize, CallFault>
@@ -75,7 +75,7 @@ fn absorb<R: Wait>(
 /// often an allocation failed.
 fn take_turns<R: Wait>(
     rt: &R,
-    board: &SharedBoard,
+    board: &RecordedBoard,
     actor: &mut Actor,
     line: &mut Line,
     again: bool,
@@ -103,7 +103,7 @@ fn take_turns<R: Wait>(
 fn settled_turns<R: Wait>(rt: &R, alloc: Global, again: bool) -> Result<(Ended, usize), Stopped>
     ensures { IfOk result (λ r. length r.0.standing ≡ 4) }
 {
-    let (board, mut actors, mut lines) = SharedBoard::open(alloc, 1, 1, 0, 1, 1)?;
+    let (board, mut actors, mut lines) = RecordedBoard::open(alloc, 1, 1, 0, 1, 1)?;
     let (Some(mut actor), Some(mut line)) = (actors.pop(), lines.pop()) else {
         return Err(Stopped::Otherwise);
     };

@@ -4,7 +4,7 @@ ghost use Rattle.synic_board.specs.State.{processors};
 ghost use Rattle.posted_words.specs.Words.{IsOf};
 ghost use Rattle.board_threads.specs.Settling.{only_raises};
 
-use board_threads::{Actor, Line, SharedBoard};
+use board_threads::{Actor, Line, RecordedBoard};
 use std::alloc::Global;
 use synic_board::Board;
 
@@ -14,13 +14,13 @@ pub(crate) fn opened(
     processors: u8,
     actors: u8,
     lines: u8,
-) -> Option<(SharedBoard, Vec<Actor>, Vec<Line>)>
+) -> Option<(RecordedBoard, Vec<Actor>, Vec<Line>)>
     ensures processors { IfSome result (λ r. r.0.words.processors ≡ processors) }
     ensures actors { IfSome result (λ r. All (λ a. a.of ≡ r.0.words.name) r.1.items) }
     ensures lines { IfSome result (λ r. All (IsOf r.0.words.name) r.2.items) }
     ensures raises { IfSome result (λ r. All (λ l. only_raises l.actions ≡ true) r.2.items) }
 {
-    match SharedBoard::open(alloc, processors, 1, 0, actors, lines) {
+    match RecordedBoard::open(alloc, processors, 1, 0, actors, lines) {
         Ok(opened) => Some(opened),
         Err(_) => None,
     }
@@ -32,20 +32,20 @@ pub(crate) fn shared(
     board: Board,
     actors: u8,
     lines: u8,
-) -> Option<(SharedBoard, Vec<Actor>, Vec<Line>)>
+) -> Option<(RecordedBoard, Vec<Actor>, Vec<Line>)>
     ensures processors { IfSome result (λ r. r.0.words.processors ≡ processors board.state) }
     ensures actors { IfSome result (λ r. All (λ a. a.of ≡ r.0.words.name) r.1.items) }
     ensures lines { IfSome result (λ r. All (IsOf r.0.words.name) r.2.items) }
     ensures raises { IfSome result (λ r. All (λ l. only_raises l.actions ≡ true) r.2.items) }
 {
-    match SharedBoard::share(alloc, board, actors, lines) {
+    match RecordedBoard::share(alloc, board, actors, lines) {
         Ok(shared) => Some(shared),
         Err(_) => None,
     }
 }
 
 /// The last of a board's actors.
-pub(crate) fn take_actor(board: &SharedBoard, actors: &mut Vec<Actor>) -> Option<Actor>
+pub(crate) fn take_actor(board: &RecordedBoard, actors: &mut Vec<Actor>) -> Option<Actor>
     requires { All (λ a. a.of ≡ board.now.words.name) actors.old.items }
     ensures taken { IfSome result (λ a. a.of ≡ board.now.words.name) }
     ensures others { All (λ a. a.of ≡ board.now.words.name) actors.new.items }
@@ -54,7 +54,7 @@ pub(crate) fn take_actor(board: &SharedBoard, actors: &mut Vec<Actor>) -> Option
 }
 
 /// The last of a board's lines.
-pub(crate) fn take_line(board: &SharedBoard, lines: &mut Vec<Line>) -> Option<Line>
+pub(crate) fn take_line(board: &RecordedBoard, lines: &mut Vec<Line>) -> Option<Line>
     requires own { All (IsOf board.now.words.name) lines.old.items }
     requires raises { All (λ l. only_raises l.actions ≡ true) lines.old.items }
     ensures own { IfSome result (IsOf board.now.words.name) }

@@ -7,7 +7,7 @@ use crate::scenes::{ALL, Answer, Back, Call, Scene};
 use crate::scripts::{raise_60, say, with_port};
 use board_terms::{Notices, Vp};
 use board_threads::{
-    CrewEnd, CrewFault, OpenGate, Raised, Scripts, SettleFault, Setup, SharedBoard, Step,
+    CrewEnd, CrewFault, OpenGate, Raised, Scripts, SettleFault, Setup, RecordedBoard, Step,
     run_crew_on,
 };
 use std::alloc::{AllocError, Global};
@@ -196,7 +196,7 @@ fn the_sizes_of_a_board_that_is_given_are_checked(rt: HostRuntime) -> Result<(),
         (1, 17, Some(OpenFault::BadSize)),
     ] {
         let board = in_state(rt.alloc(), State::New)?;
-        let shared = SharedBoard::share(rt.alloc(), board, actors, lines).err();
+        let shared = RecordedBoard::share(rt.alloc(), board, actors, lines).err();
         assert_eq!(rt; shared, fault, "{actors} {lines}");
     }
     Ok(())

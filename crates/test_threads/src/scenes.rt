@@ -6,7 +6,7 @@ ghost use Rattle.board_threads.specs.Settling.{only_raises};
 
 use crate::boards::{opened, shared, take_actor, take_line};
 use board_terms::{Refusal, Vector, Vp};
-use board_threads::{Actor, CallFault, Ended, Line, Raised, SettleFault, SharedBoard};
+use board_threads::{Actor, CallFault, Ended, Line, Raised, SettleFault, RecordedBoard};
 use std::alloc::Global;
 use std::sync::Wait;
 use synic_board::{Board, Event, Reply};
@@ -14,7 +14,7 @@ use synic_board::{Board, Event, Reply};
 /// A board with one processor, one page and first ticket 0.
 #[derive(Drop)]
 pub(crate) struct Scene {
-    board: SharedBoard,
+    board: RecordedBoard,
     /// Number 0.
     actor: Actor,
     /// Number 1.
@@ -87,7 +87,7 @@ impl Scene {
         Scene::of(board, actors, lines)
     }
 
-    fn of(board: SharedBoard, mut actors: Vec<Actor>, mut lines: Vec<Line>) -> Option<Scene>
+    fn of(board: RecordedBoard, mut actors: Vec<Actor>, mut lines: Vec<Line>) -> Option<Scene>
         requires processor { board.words.processors ≡ 1 }
         requires actors { All (λ a. a.of ≡ board.words.name) actors.items }
         requires lines { All (IsOf board.words.name) lines.items }

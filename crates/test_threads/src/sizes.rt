@@ -1,5 +1,5 @@
 // Sizes of shared boards.
-use board_threads::{OpenFault, SharedBoard};
+use board_threads::{OpenFault, RecordedBoard};
 use std::alloc::Global;
 
 #[derive(Clone, Copy)]
@@ -110,7 +110,7 @@ fn open(alloc: Global, sizes: Sizes) -> Result<Opened, OpenFault> {
         actors,
         lines,
     } = sizes;
-    match SharedBoard::open(alloc, processors, pages, 0, actors, lines) {
+    match RecordedBoard::open(alloc, processors, pages, 0, actors, lines) {
         Ok((board, actors, lines)) => Ok(Opened {
             processors: board.processors(),
             actors: actors.len(),

@@ -16,4 +16,4 @@ pub returns : goal.returns
 returns c =
     finishes (start c.args.board) c.args.board.words.name c.args.setup.now c.args.scripts.now c.args.worked.actors.items c.args.worked.lines.items c.args.worked.raised c.requires.worked
     c.in_ok-ended.ended c.in_ok-ended.ensures.settled c.in_ok-ended.ensures.actors c.args.board.words.processors c.requires.processors c.in_ok-ended.ensures.raises
-    c.place.result c.place.ensures.ended c.place.ensures.raised c.place.ensures.placed
+    c.place.result c.place.ensures.ended c.place.ensures.raised c.place.ensures.placed c.place.ensures.clear

@@ -1,0 +1,265 @@
+// The shared board.
+ghost use Rattle.std.specs.Prelude.{◌≡◌, ◌↔◌, ℕ, ◌*◌, ◌<◌, true, List, [], ◌∷◌, ◌++◌, IfOk, OnErr, IsErrOf, map, All, replicate, length};
+ghost use Rattle.std.specs.List.{range_with_len};
+ghost use Rattle.synic_board.specs.State.{processors};
+ghost use Rattle.synic_board.specs.declared.event.Event.TheVariants.{Absorb};
+ghost use Rattle.synic_board.specs.declared.history.Entry.{Entry};
+ghost use Rattle.posted_words.specs.Words.{AreWordSizes, shared_words, token, with_last_step, raise_of, actions_of};
+ghost use Rattle.posted_words.specs.Answers.{is_fresh};
+ghost use Rattle.board_threads.specs.Sharing.{AreSharedSizes, sharing, start, acting, new_actor};
+ghost use Rattle.board_threads.specs.Sweeps.{is_absorb, is_refusal, sweep_in};
+ghost use Rattle.board_threads.specs.Settling.{IsSettled, AreAllOf, AreAbsorbed, only_raises, calls_held, calls_given};
+
+use crate::actor::{Actor, CallFault};
+use crate::opening::{are_sizes, are_word_sizes, number_all};
+use crate::recorded::{Opening, Recorded};
+use crate::settling::{ActorCalls, Ended, SettleFault, split_all};
+use board_terms::{Ticket, Vector, Vp};
+use posted_words::{Line, PostedWords, Raised, Standing};
+use std::alloc::Global;
+use std::marker::Model;
+use std::sync::{Mutex, Wait};
+use synic_board::{Board, Event, OpenFault, Reply};
+
+/// A board that threads share by reference. Events are performed under a lock, one at a time;
+/// vectors are raised without the lock. Its contract shows the posted words and the arguments of
+/// the opening; for a board that was given, its pages and its next ticket then.
+#[derive(Drop)]
+pub struct RecordedBoard {
+    alloc: Global,
+    opening: Opening,
+    words: PostedWords,
+    recorded: Mutex<Recorded>,
+}
+
+impl Model for RecordedBoard {
+    ghost use Rattle.std.specs.Prelude.{◌≡◌};
+    ghost use Rattle.board_threads.specs.Sharing.{Sharing, sharing};
+
+    ghost Value = { Sharing };
+
+    ghost view = { λ s. sharing s.words s.opening.pages s.opening.first_ticket };
+
+    ghost invariant = { λ s. s.words.processors ≡ s.opening.processors };
+}
+
+impl RecordedBoard {
+    /// Opens a board with that many processors and guest pages, whose first accepted message gets
+    /// the ticket `first_ticket`, with its actors, numbered from 0, and its lines. `BadSize` unless
+    /// there are 1 to 8 processors, 1 to 64 pages, 1 to 16 actors and at most 16 lines.
+    pub fn open(
+        alloc: Global,
+        processors: u8,
+        pages: u8,
+        first_ticket: Ticket,
+        actors: u8,
+        lines: u8,
+    ) -> Result<(RecordedBoard, Vec<Actor>, Vec<Line>), OpenFault>
+        ensures size { IsErrOf result OpenFault.BadSize ↔ (¬ AreSharedSizes processors pages actors lines) }
+        ensures board { IfOk result (λ r. r.0 ≡ sharing (shared_words r.0.words.name processors actors lines) pages first_ticket) }
+        ensures actors { IfOk result (λ r. r.1.items ≡ map (new_actor r.0.words.name) (range_with_len 0 actors)) }
+        ensures lines { IfOk result (λ r. r.2.items ≡ replicate lines (token r.0.words.name [])) }
+    {
+        if !are_sizes(processors, pages, actors, lines) {
+            return Err(OpenFault::BadSize);
+        }
+        let opening = Opening {
+            processors,
+            pages,
+            first_ticket,
+            is_given: false,
+        };
+        let Ok(recorded) = Recorded::open(alloc, opening) else {
+            return Err(OpenFault::Memory);
+        };
+        RecordedBoard::around(alloc, recorded, actors, lines)
+    }
+
+    /// Shares a board in the state that it is in, with its actors, numbered from 0, and its lines.
+    /// `BadSize` unless there are 1 to 16 actors and at most 16 lines. `settle_on` ends it.
+    pub fn share(
+        alloc: Global,
+        board: Board,
+        actors: u8,
+        lines: u8,
+    ) -> Result<(RecordedBoard, Vec<Actor>, Vec<Line>), OpenFault>
+        ensures size { IsErrOf result OpenFault.BadSize ↔ (¬ AreWordSizes (processors board.state) actors lines) }
+        ensures board { IfOk result (λ r. r.0 ≡ sharing (shared_words r.0.words.name (processors board.state) actors lines) (length board.state.pages) board.state.next_ticket) }
+        ensures actors { IfOk result (λ r. r.1.items ≡ map (new_actor r.0.words.name) (range_with_len 0 actors)) }
+        ensures lines { IfOk result (λ r. r.2.items ≡ replicate lines (token r.0.words.name [])) }
+    {
+        if !are_word_sizes(board.processors(), actors, lines) {
+            return Err(OpenFault::BadSize);
+        }
+        let Ok(recorded) = Recorded::given(alloc, board) else {
+            return Err(OpenFault::Memory);
+        };
+        RecordedBoard::around(alloc, recorded, actors, lines)
+    }
+
+    /// Puts a board under a lock, next to its posted words.
+    fn around(
+        alloc: Global,
+        recorded: Recorded,
+        actors: u8,
+        lines: u8,
+    ) -> Result<(RecordedBoard, Vec<Actor>, Vec<Line>), OpenFault>
+        ensures size { ¬ (IsErrOf result OpenFault.BadSize) }
+        ensures board { IfOk result (λ r. r.0 ≡ sharing (shared_words r.0.words.name recorded.opening.processors actors lines) recorded.opening.pages recorded.opening.first_ticket) }
+        ensures actors { IfOk result (λ r. r.1.items ≡ map (new_actor r.0.words.name) (range_with_len 0 actors)) }
+        ensures lines { IfOk result (λ r. r.2.items ≡ replicate lines (token r.0.words.name [])) }
+    {
+        let opening = recorded.opening;
+        let Ok((words, sweepers, lines)) = PostedWords::open(
+            alloc,
+            opening.processors,
+            actors,
+            lines,
+        ) else {
+            return Err(OpenFault::Memory);
+        };
+        let Ok(actors) = number_all(alloc, actors, sweepers) else {
+            return Err(OpenFault::Memory);
+        };
+        let recorded = Mutex::new(recorded);
+        let board = RecordedBoard {
+            alloc,
+            opening,
+            words,
+            recorded,
+        };
+        Ok((board, actors, lines))
+    }
+
+    /// The number of processors of the board.
+    pub fn processors(&self) -> u8
+        ensures { result ≡ self.now.words.processors }
+    {
+        self.opening.processors
+    }
+
+    /// Performs an event under the lock, and appends it to the history and to the actor's calls. A
+    /// refused event is appended like any other. A fault changes nothing: `AbsorbEvent` for an
+    /// absorb; `Full` if the history has 65,536 entries; `Memory` if an allocation fails.
+    ///
+    /// This does not check that the actor belongs to this board. `settle` finds a call on another
+    /// board only where the lists of calls or their totals then differ: two boards whose actors 0
+    /// each performed the same call on the other both settle.
+    pub fn perform<R: Wait>(
+        &self,
+        rt: &R,
+        actor: &mut Actor,
+        event: Event,
+    ) -> Result<Reply, CallFault>
+        ensures ok { IfOk result (λ r. actor.new ≡ acting actor.old.of actor.old.number (actor.old.calls ++ (event, r) ∷ []) actor.old.actions) }
+        ensures fault { OnErr result (actor.new ≡ actor.old) }
+        ensures absorb { IsErrOf result CallFault.AbsorbEvent ↔ is_absorb event ≡ true }
+        ensures board { ¬ (IsErrOf result CallFault.WrongBoard) }
+    {
+        if matches!(event, Event::Absorb { .. }) {
+            return Err(CallFault::AbsorbEvent);
+        }
+        actor.perform(rt, &self.recorded, event)
+    }
+
+    /// Sweeps a word of the board's posted words, and performs the absorb of its bits, under the
+    /// lock. If the absorb is refused, since the board has no processor `vp` or `part` is above 3,
+    /// nothing is swept and its bits are 0. The sweep happens under the lock, so the history has
+    /// the sweeps of a word in the order in which they happened. The faults are `Full`, `Memory` and
+    /// `WrongBoard`. Requires an actor of this board.
+    pub fn absorb<R: Wait>(
+        &self,
+        rt: &R,
+        actor: &mut Actor,
+        vp: u8,
+        part: u8,
+    ) -> Result<Reply, CallFault>
+        requires own { actor.old.of ≡ self.now.words.name }
+        ensures ok { IfOk result (λ r. (bits : ℕ)
+            × (actor.new ≡ acting actor.old.of actor.old.number (actor.old.calls ++ (Absorb vp part bits, r) ∷ []) (sweep_in (Absorb vp part bits) r ++ actor.old.actions))) }
+        ensures refused { IfOk result (λ r. is_refusal r ≡ true → actor.new.calls ≡ actor.old.calls ++ (Absorb vp part 0, r) ∷ []) }
+        ensures fault { OnErr result (actor.new ≡ actor.old) }
+        ensures event { ¬ (IsErrOf result CallFault.AbsorbEvent) }
+    {
+        actor.absorb(rt, &self.recorded, &self.words, vp, part)
+    }
+
+    /// Raises a vector of a processor, by one atomic step without the lock. `Fresh` if its bit was
+    /// clear; `PostedWords::raise` says what is proved of this. Requires a line of this board, and
+    /// a processor on the board.
+    pub fn raise(&self, line: &mut Line, vp: Vp, vector: Vector) -> Raised
+        requires own { line.old.of ≡ self.now.words.name }
+        requires there { vp < self.now.words.processors }
+        ensures { line.new ≡ with_last_step line.old (raise_of vp vector (is_fresh result)) }
+    {
+        self.words.raise(line, vp, vector)
+    }
+
+    /// Ends the board, and returns a run of one thread: each actor's calls are in its history, in
+    /// order, and each `Fresh` raise was absorbed once or its bit is set. `Mismatch` if an actor or
+    /// a line is missing, or if the history is not exactly the calls of these actors; then
+    /// everything is dropped. Always `Mismatch` for a board that was given to `share`, which
+    /// `settle_on` settles. Requires actors and lines of this board.
+    pub fn settle(self, actors: Vec<Actor>, lines: Vec<Line>) -> Result<Ended, SettleFault>
+        requires actors { All (λ a. a.of ≡ self.words.name) actors.items }
+        requires lines { All (λ l. l.of ≡ self.words.name) lines.items }
+        requires raises { All (λ l. only_raises l.actions ≡ true) lines.items }
+        ensures settled { IfOk result (IsSettled (start self)) }
+        ensures actors { IfOk result (λ e. map calls_given e.actors.items ≡ map calls_held actors.items) }
+        ensures raises { IfOk result (λ e. AreAbsorbed (4 * self.words.processors) (map actions_of lines.items) e.history.items e.standing) }
+    {
+        let (alloc, opening) = (self.alloc, self.opening);
+        // A lock keeps no fact from its creation, so the state that was given is not known any more.
+        if opening.is_given {
+            return Err(SettleFault::Mismatch);
+        }
+        let (recorded, actors, standing) = self.gather(actors, lines)?;
+        recorded.end(alloc, opening, actors, standing)
+    }
+
+    /// Ends the board as `settle` does, also one that was given to `share`. `start` is another board,
+    /// in the state in which this one was opened or given. The whole history is performed once more
+    /// on `start`, which becomes the board of the result. `Mismatch` also if a reply differs then.
+    /// Requires actors and lines of this board.
+    pub fn settle_on(
+        self,
+        start: Board,
+        actors: Vec<Actor>,
+        lines: Vec<Line>,
+    ) -> Result<Ended, SettleFault>
+        requires actors { All (λ a. a.of ≡ self.words.name) actors.items }
+        requires lines { All (λ l. l.of ≡ self.words.name) lines.items }
+        requires raises { All (λ l. only_raises l.actions ≡ true) lines.items }
+        ensures settled { IfOk result (IsSettled start.state) }
+        ensures actors { IfOk result (λ e. map calls_given e.actors.items ≡ map calls_held actors.items) }
+        ensures raises { IfOk result (λ e. AreAbsorbed (4 * self.words.processors) (map actions_of lines.items) e.history.items e.standing) }
+    {
+        let alloc = self.alloc;
+        let (recorded, actors, standing) = self.gather(actors, lines)?;
+        recorded.end_on(alloc, start, actors, standing)
+    }
+
+    /// What was under the lock, the actors' calls, and what the lines raised and no sweep took. It is
+    /// in accordance with each history that is exactly these calls.
+    fn gather(
+        self,
+        actors: Vec<Actor>,
+        lines: Vec<Line>,
+    ) -> Result<(Recorded, Vec<ActorCalls>, Standing), SettleFault>
+        requires actors { All (λ a. a.of ≡ self.words.name) actors.items }
+        requires lines { All (λ l. l.of ≡ self.words.name) lines.items }
+        requires raises { All (λ l. only_raises l.actions ≡ true) lines.items }
+        ensures actors { IfOk result (λ r. map calls_given r.1.items ≡ map calls_held actors.items) }
+        ensures raises { IfOk result (λ r. (history : List Entry) → AreAllOf history r.1.items → AreAbsorbed (4 * self.words.processors) (map actions_of lines.items) history r.2) }
+    {
+        let RecordedBoard {
+            alloc,
+            words,
+            recorded,
+            ..
+        } = self;
+        let (sweepers, actors) = split_all(alloc, actors)?;
+        let standing = words.gather(sweepers, lines)?;
+        Ok((recorded.into_inner(), actors, standing))
+    }
+}

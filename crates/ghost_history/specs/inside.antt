@@ -1,0 +1,2 @@
+-- How rows are encoded. Callers do not need it.
+pub mod Codes

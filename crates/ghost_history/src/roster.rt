@@ -1,0 +1,82 @@
+// The parts of all actors.
+ghost use Rattle.std.specs.Prelude.{◌≡◌, List, [], ◌∷◌, ◌++◌, ℕ};
+ghost use base.Fml.{fex};
+ghost use base.Share.{three_quarters};
+ghost use Rattle.atomic_table.specs.Seated.{roster, seen};
+ghost use Rattle.ghost_history.specs.Rows.{Row, row, IsExtended};
+ghost use Rattle.ghost_history.specs.inside.Codes.{row_coded, rows_coded};
+
+use crate::history::History;
+use std::marker::{Model, PhantomData};
+
+/// A row for each actor: its number and its entries. Only an actor's own part changes its row, so a
+/// roster under a lock and the parts outside agree. It takes no bytes.
+pub struct Roster {
+    marker: PhantomData<()>,
+    pub ghost name: { ℕ },
+    pub ghost rows: { List Row } by { rows_coded },
+}
+
+impl Model for Roster {
+    ghost also_owns = { λ r. roster row_coded.code r.name 0 r.rows };
+}
+
+/// The row of one actor, which the actor holds. It takes no bytes.
+pub struct Part {
+    marker: PhantomData<()>,
+    pub ghost name: { ℕ },
+    pub ghost row: { Row } by { row_coded },
+}
+
+impl Model for Part {
+    ghost also_owns = { λ p. fex ℕ (λ k. seen row_coded.code p.name k three_quarters p.row) };
+}
+
+impl Roster {
+    /// A roster without rows.
+    pub fn new() -> Roster
+        ensures { result.rows ≡ [] }
+    {
+        Roster {
+            marker: PhantomData,
+        }
+    }
+
+    /// Adds the row of an actor with this number, which has no entries.
+    pub fn enroll(&mut self, number: u64) -> Part
+        ensures names { (self.new.name ≡ self.old.name) × (result.name ≡ self.old.name) }
+        ensures rows { self.new.rows ≡ self.old.rows ++ row number [] ∷ [] }
+        ensures part { result.row ≡ row number [] }
+    {
+        let _ = number;
+        Part {
+            marker: PhantomData,
+        }
+    }
+
+    /// Appends entries to the row of a part. The roster has that row, and changes no other.
+    pub fn extend(&mut self, part: &mut Part, more: &History)
+        requires { part.old.name ≡ self.old.name }
+        ensures names { (self.new.name ≡ self.old.name) × (part.new.name ≡ self.old.name) }
+        ensures rows { IsExtended self.old.rows part.old.row more.now.entries self.new.rows part.new.row }
+    {
+        let _ = more;
+    }
+}
+
+impl Drop for Roster {
+    fn drop(self) {
+        let Self { marker: _ } = self;
+    }
+}
+
+impl Drop for Part {
+    fn drop(self) {
+        let Self { marker: _ } = self;
+    }
+}
+
+// They have no bytes, and their ghost values do not depend on the thread.
+unsafe impl Send for Roster {}
+
+unsafe impl Send for Part {}

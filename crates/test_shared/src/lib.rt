@@ -1,0 +1,5 @@
+//! Tests of boards that threads share.
+#![tactic(auto)]
+
+#[cfg(test)]
+mod sharing;
