@@ -19,6 +19,9 @@ use std::thread::Threads;
 use synic_board::Board;
 use text_restore::{RestoreEnd, restore};
 
+/// The version of the program, which is that of `include/synicboard.h`.
+const VERSION: &str = "3.0.0";
+
 const SCRIPT_FAULT: u8 = 1;
 
 const USAGE_FAULT: u8 = 2;
@@ -75,6 +78,7 @@ fn command<'a>(alloc: Global) -> Result<Command<'a>, AllocError> {
     );
     Command::new(alloc, "synicboard")
         .about("The interrupt side of a partition: a script of events in, the board's answers out")
+        .version(VERSION)
         .after_help(EXAMPLE)
         .subcommand_required(true)
         .subcommand(replay)?

@@ -1,0 +1,102 @@
+// Running and timing a workload.
+ghost use Rattle.std.specs.Prelude.{◌≡◌, []};
+
+use crate::faults::Fault;
+use crate::worker::{Worker, perform_calls, two};
+use board_terms::Notices;
+use ghost_history::Roster;
+use shared_board::{SharedBoard, Sharing};
+use std::alloc::AllocError;
+use std::marker::Brand;
+use std::sync::Wait;
+use std::thread::{Threads, join};
+use std::time::Instant;
+use synic_board::Board;
+
+const PROCESSORS: u8 = 8;
+
+const PAGES: u8 = 4;
+
+/// How many interrupts were taken, and the time.
+#[derive(Clone, Copy)]
+pub(crate) struct Measured {
+    pub(crate) counted: u64,
+    nanoseconds: u64,
+}
+
+impl Measured {
+    /// Nanoseconds per call of one thread, and tenths of them.
+    pub(crate) fn time_per_call(&self, calls: u32) -> (u64, u64) {
+        let tenths = self.nanoseconds.saturating_mul(10);
+        let tenths = tenths.checked_div(calls as u64).unwrap_or(0);
+        (tenths / 10, tenths % 10)
+    }
+}
+
+/// Has each of 1, 2 or 4 threads make that many calls on one board.
+pub(crate) fn measure<R: Threads + Wait + Sync>(
+    rt: &HostRuntime,
+    threads: &R,
+    count: u8,
+    calls: u32,
+) -> Result<Measured, Fault> {
+    let board = Board::open(rt.alloc(), PROCESSORS, PAGES, 0)?;
+    measure_on::<Brand, R>(rt, threads, Roster::new(), board, count, calls)
+}
+
+/// An actor with its buffer.
+fn enroll<S: Sharing, R: Wait>(
+    rt: &HostRuntime,
+    threads: &R,
+    shared: &SharedBoard<S>,
+) -> Result<Worker<S>, AllocError> {
+    let Some(actor) = shared.enroll(threads) else {
+        return Err(AllocError);
+    };
+    let notices = Notices::open(rt.alloc())?;
+    Ok(Worker {
+        actor,
+        notices,
+        counted: 0,
+    })
+}
+
+/// The same on a board that is given. Only the threads' work is timed.
+fn measure_on<S: Sharing + Send + Sync, R: Threads + Wait + Sync>(
+    rt: &HostRuntime,
+    threads: &R,
+    roster: Roster,
+    board: Board,
+    count: u8,
+    calls: u32,
+) -> Result<Measured, Fault>
+    requires name { roster.name ≡ S.name }
+    requires empty { roster.rows ≡ [] }
+    requires start { board.state ≡ S.start }
+{
+    let shared = &SharedBoard::<S>::share(roster, board);
+    let first = enroll(rt, threads, shared)?;
+    let second = enroll(rt, threads, shared)?;
+    let third = enroll(rt, threads, shared)?;
+    let fourth = enroll(rt, threads, shared)?;
+    let start = Instant::now(rt)?;
+    let counted = match count {
+        1 => perform_calls(threads, shared, calls, first).counted,
+        2 => two(threads, shared, calls, (first, second)).0.counted,
+        _ => {
+            let (pair, _others) = join(
+                threads,
+                move || two(threads, shared, calls, (first, second)),
+                move || two(threads, shared, calls, (third, fourth)),
+            );
+            pair.0.counted
+        }
+    };
+    let elapsed = start.elapsed(rt)?;
+    let seconds = elapsed.as_secs().saturating_mul(1_000_000_000);
+    let nanoseconds = seconds.saturating_add(elapsed.subsec_nanos() as u64);
+    Ok(Measured {
+        counted,
+        nanoseconds,
+    })
+}
