@@ -5,7 +5,6 @@
 #include "vmm.h"
 
 synicboard board = SYNICBOARD_CLOSED;
-pthread_mutex_t lock = PTHREAD_MUTEX_INITIALIZER;
 atomic_uint board_fresh;
 uint64_t board_absorbed;
 static pthread_cond_t has_buffer = PTHREAD_COND_INITIALIZER;
@@ -74,7 +73,7 @@ void board_advance(void)
     if (due.is_due && due.high == 0 && due.low <= clock_now())
         tick(synicboard_moment(&board) + 1);
     due = synicboard_earliest_after(&board, synicboard_moment(&board));
-    clock_arm(due.is_due && due.high == 0 ? due.low : UINT64_MAX);
+    clock_want(due.is_due && due.high == 0 ? due.low : UINT64_MAX);
 }
 
 /* ---- What a guest does ---- */
@@ -162,7 +161,7 @@ synicboard_reply board_signal(uint8_t port, uint16_t flag)
 
 void board_wait_for_buffer(void)
 {
-    pthread_cond_wait(&has_buffer, &lock);
+    lock_wait(&has_buffer);
 }
 
 void board_end_waiting(void)
@@ -179,9 +178,9 @@ void board_raise(synicboard_line *line, struct vp *vp, uint8_t vector)
         return;
     atomic_fetch_add(&board_fresh, 1);
     atomic_fetch_or(&vp->posted_parts, 1u << vector / 64);
-    pthread_mutex_lock(&lock);
+    lock_acquire();
     vp_kick(vp);
-    pthread_mutex_unlock(&lock);
+    lock_release();
 }
 
 void board_absorb(struct vp *vp)

@@ -13,7 +13,8 @@ static uint64_t time_offset;    /* by which the time is ahead of the guest's TSC
 static uint32_t sequence = 1;   /* of the reference TSC page */
 static uint64_t stopped_tsc, stopped_time;      /* of the guest, when it was stopped to be saved */
 static int timer = -1;
-static uint64_t armed = UINT64_MAX;
+static pthread_mutex_t arming = PTHREAD_MUTEX_INITIALIZER;
+static _Atomic uint64_t wanted = UINT64_MAX, armed = UINT64_MAX;
 
 static uint64_t scaled(uint64_t tsc)
 {
@@ -83,10 +84,12 @@ static void *run_timer(void *unused)
     uint64_t expirations;
     (void)unused;
     while (read(timer, &expirations, sizeof expirations) == sizeof expirations) {
-        pthread_mutex_lock(&lock);
+        pthread_mutex_lock(&arming);
         armed = UINT64_MAX;
+        pthread_mutex_unlock(&arming);
+        lock_acquire();
         board_advance();
-        pthread_mutex_unlock(&lock);
+        lock_release();
     }
     return NULL;
 }
@@ -106,12 +109,19 @@ void clock_open(void)
         fail("the thread of the timer");
 }
 
-void clock_arm(uint64_t time)
+void clock_want(uint64_t time)
+{
+    wanted = time;
+}
+
+bool clock_is_late(void)
+{
+    return wanted != armed;
+}
+
+static void set_timer(uint64_t time)
 {
     struct itimerspec setting = { 0 };
-    if (time == armed)
-        return;
-    armed = time;
     if (time != UINT64_MAX) {
         uint64_t now = clock_now(), left = time > now ? time - now : 0;
         setting.it_value.tv_sec = left / 10000000;
@@ -119,4 +129,18 @@ void clock_arm(uint64_t time)
     }
     if (timerfd_settime(timer, 0, &setting, NULL) != 0)
         fail("timerfd_settime");
+}
+
+/* Whoever is last sets what was wanted last, in whatever order threads come here. */
+void clock_arm(void)
+{
+    if (!clock_is_late())
+        return;
+    pthread_mutex_lock(&arming);
+    uint64_t time = wanted;
+    if (time != armed) {
+        set_timer(time);
+        armed = time;
+    }
+    pthread_mutex_unlock(&arming);
 }

@@ -69,14 +69,14 @@ static void *run_replacing(void *unused)
 {
     struct timespec period = { .tv_sec = vm.restore_every / 1000, .tv_nsec = vm.restore_every % 1000 * 1000000L };
     (void)unused;
-    pthread_mutex_lock(&lock);
+    lock_acquire();
     while (!vm.is_stopping) {
-        pthread_mutex_unlock(&lock);
+        lock_release();
         nanosleep(&period, NULL);
-        pthread_mutex_lock(&lock);
+        lock_acquire();
         replace_board();
     }
-    pthread_mutex_unlock(&lock);
+    lock_release();
     return NULL;
 }
 

@@ -112,17 +112,17 @@ static void *run_messenger(void *unused)
 {
     uint64_t most = mailbox->messages > mailbox->signals ? mailbox->messages : mailbox->signals;
     (void)unused;
-    pthread_mutex_lock(&lock);
+    lock_acquire();
     while (!is_stopped && sent < 2 * LOAD_VPS * most) {
         if (!make_step(sent)) {
             board_wait_for_buffer();
             continue;
         }
         sent++;
-        pthread_mutex_unlock(&lock);
-        pthread_mutex_lock(&lock);
+        lock_release();
+        lock_acquire();
     }
-    pthread_mutex_unlock(&lock);
+    lock_release();
     return NULL;
 }
 
@@ -158,10 +158,10 @@ void load_continue(void)
 
 void load_stop(void)
 {
-    pthread_mutex_lock(&lock);
+    lock_acquire();
     is_stopped = true;
     board_end_waiting();
-    pthread_mutex_unlock(&lock);
+    lock_release();
     for (unsigned number = 0; mailbox != NULL && number <= RAISERS; number++)
         pthread_join(threads[number], NULL);
 }

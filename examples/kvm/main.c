@@ -125,13 +125,13 @@ int main(int count, char **words)
         boot_flat(options.flat);
     else
         boot_linux(options.kernel, options.initrd, options.command_line);
-    pthread_mutex_lock(&lock);          /* until every thread that may be kicked has been started */
+    lock_acquire();          /* until every thread that may be kicked has been started */
     for (unsigned number = 0; number < vm.vps; number++)
         vp_start(&vm.vp[number]);
     load_continue();
     image_start();
     saved_start();
-    pthread_mutex_unlock(&lock);
+    lock_release();
     for (unsigned number = 0; number < vm.vps; number++)
         pthread_join(vm.vp[number].thread, NULL);
     fflush(stdout);

