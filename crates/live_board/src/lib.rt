@@ -1,0 +1,12 @@
+//! A board whose message and event flags pages a running guest loads and stores (TLFS, "SIM Page"
+//! and "SIEF Page").
+#![tactic(auto)]
+
+mod attempt;
+mod filling;
+mod live;
+mod passing;
+mod posting;
+mod words;
+
+pub use live::LiveBoard;

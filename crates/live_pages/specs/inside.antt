@@ -1,0 +1,2 @@
+-- The rule of the words, and what a step of the host records.
+pub mod Open

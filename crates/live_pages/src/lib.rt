@@ -1,0 +1,18 @@
+//! Live pages: message and event flags pages that a running guest loads and stores at any time
+//! (TLFS, "SIM Page" and "SIEF Page"). Contracts record each access of the host, with the value that
+//! it found.
+#![tactic(auto)]
+
+mod access;
+mod flags;
+mod laws;
+mod page;
+mod slot;
+
+pub use access::Access;
+pub use laws::{
+    a_signalled_flag_stays, anybody_may_write, each_precaution_is_needed, no_wake_up_is_missed,
+    no_wake_up_is_missed_in_memory,
+};
+pub use page::{LivePage, WORDS};
+pub use slot::{Attempt, Probe, SLOT_WORDS};

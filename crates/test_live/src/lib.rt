@@ -1,0 +1,5 @@
+//! Tests of live pages.
+#![tactic(auto)]
+
+#[cfg(test)]
+mod pages;
