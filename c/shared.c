@@ -17,7 +17,7 @@ static struct shared *locked(synicboard_shared *handle)
     return shared;
 }
 
-/* Puts an open board behind a lock. */
+/* Puts an open board under a lock. */
 static uint8_t share(synicboard_shared *handle, recorded opened, bool is_recorded)
 {
     struct shared *shared = malloc(sizeof *shared);

@@ -594,7 +594,7 @@ typedef struct synicboard_shared {
 /* Opens a shared board at time 0. Arguments and results are those of synicboard_open. */
 uint8_t synicboard_open_shared(synicboard_shared *shared, uint8_t processors, uint8_t pages, uint64_t first_ticket);
 
-/* Puts a board behind a lock, in the state that it is in: one that was opened, also as a sparse one, or
+/* Puts a board under a lock, in the state that it is in: one that was opened, also as a sparse one, or
  * restored. Closes the handle `board`, whose board is in `shared` then. Returns SYNICBOARD_OK;
  * SYNICBOARD_NO_HANDLE if `shared` is null; SYNICBOARD_IS_OPEN if it is open; SYNICBOARD_IS_CLOSED if
  * `board` is closed; or SYNICBOARD_NO_MEMORY. Unless it returns SYNICBOARD_OK, nothing changes. */

@@ -1,4 +1,4 @@
-/* Shared boards: any board behind a lock, and back; the same replies, notices and pages as unshared; no memory
+/* Shared boards: any board under a lock, and back; the same replies, notices and pages as unshared; no memory
  * taken by a million calls; and threads that act, take the lock for several events, and raise. */
 #include <pthread.h>
 #include <stdbool.h>
@@ -18,7 +18,7 @@ static synicboard_reply act(synicboard_shared *shared, synicboard_event event)
     return synicboard_act(shared, 0, &event, NULL, 0);
 }
 
-/* Messages behind an occupied slot, a timer that is due, and an access of the guest's memory. */
+/* Messages after an occupied slot, a timer that is due, and an access of the guest's memory. */
 static const synicboard_event events[] = {
     { .kind = SYNICBOARD_WRITE, .msr = SCONTROL, .value = 1 },
     { .kind = SYNICBOARD_WRITE, .msr = SIMP, .value = SIMP_AT_PAGE_1 },

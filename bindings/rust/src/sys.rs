@@ -633,7 +633,7 @@ extern "C" {
         pages: u8,
         first_ticket: u64,
     ) -> u8;
-    /// Puts an open board behind a lock, and closes its handle.
+    /// Puts an open board under a lock, and closes its handle.
     pub fn synicboard_share(shared: *mut synicboard_shared, board: *mut synicboard) -> u8;
     /// Takes the board back, and closes the handle of the shared board.
     pub fn synicboard_unshare(shared: *mut synicboard_shared, board: *mut synicboard) -> u8;

@@ -1,4 +1,4 @@
-// The board behind its lock.
+// The board with its lock.
 ghost use Rattle.std.specs.Prelude.{◌≡◌, ◌<◌, ◌++◌, [], true, IfOk, IfErr, IfSome, All, length, map};
 ghost use Rattle.std.specs.List.{range_with_len};
 ghost use Rattle.posted_words.specs.Words.{token};
