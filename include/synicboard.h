@@ -42,9 +42,11 @@
 extern "C" {
 #endif
 
-/* The version of these declarations. The Rust bindings have the same version. */
+/* The version of the library, by semantic versioning. The program, the package and the Rust bindings have the
+ * same one. */
 #define SYNICBOARD_VERSION_MAJOR 3
 #define SYNICBOARD_VERSION_MINOR 0
+#define SYNICBOARD_VERSION_PATCH 0
 
 /* A handle of a board. */
 typedef struct synicboard {

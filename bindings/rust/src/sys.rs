@@ -8,10 +8,12 @@
 use core::ffi::c_void;
 use core::ptr;
 
-/// The first number of the version of these declarations.
+/// The first number of the version of the library.
 pub const SYNICBOARD_VERSION_MAJOR: u32 = 3;
-/// The second number of the version of these declarations.
+/// The second number of the version of the library.
 pub const SYNICBOARD_VERSION_MINOR: u32 = 0;
+/// The third number of the version of the library.
+pub const SYNICBOARD_VERSION_PATCH: u32 = 0;
 
 /// A handle of a board. It may be moved but not copied; its fields are private to the library.
 #[repr(C)]

@@ -114,7 +114,11 @@ fn calls_of_ours(ours: &str) -> Vec<String> {
 
 #[test]
 fn the_crate_has_the_version_of_the_header() {
-    let numbers = [("MAJOR", env!("CARGO_PKG_VERSION_MAJOR")), ("MINOR", env!("CARGO_PKG_VERSION_MINOR"))];
+    let numbers = [
+        ("MAJOR", env!("CARGO_PKG_VERSION_MAJOR")),
+        ("MINOR", env!("CARGO_PKG_VERSION_MINOR")),
+        ("PATCH", env!("CARGO_PKG_VERSION_PATCH")),
+    ];
     for header in headers() {
         for (part, number) in numbers {
             let found = between(&header, &format!("#define SYNICBOARD_VERSION_{part}"), "\n");
