@@ -54,6 +54,7 @@ pub const SYNICBOARD_WRONG_LINE: u8 = 10;
 pub const SYNICBOARD_TOO_LONG: u8 = 11;
 /// Outcome: the text is null, and its length is not 0.
 pub const SYNICBOARD_NO_TEXT: u8 = 12;
+/// Outcome: the shared board has no history.
 pub const SYNICBOARD_NOT_RECORDED: u8 = 13;
 
 /// Reply: no event was performed, for the reason in `fault`; nothing changed.
