@@ -25,6 +25,15 @@ pub(crate) struct Measured {
 }
 
 impl Measured {
+    fn new(counted: u64, elapsed: Duration) -> Measured {
+        let seconds = elapsed.as_secs().saturating_mul(1_000_000_000);
+        let nanoseconds = seconds.saturating_add(elapsed.subsec_nanos() as u64);
+        Measured {
+            counted,
+            nanoseconds,
+        }
+    }
+
     /// Nanoseconds per call of one thread, and tenths of them.
     pub(crate) fn time_per_call(&self, calls: u32) -> (u64, u64) {
         let tenths = self.nanoseconds.saturating_mul(10);
@@ -103,7 +112,7 @@ fn run_one<S: Sharing, R: Wait>(
     let worker = enroll(rt, threads, shared)?;
     let start = Instant::now(rt)?;
     let counted = perform_calls(threads, shared, calls, worker).counted;
-    Ok(measured(counted, start.elapsed(rt)?))
+    Ok(Measured::new(counted, start.elapsed(rt)?))
 }
 
 fn run_two<S: Sharing + Send + Sync, R: Threads + Wait + Sync>(
@@ -115,7 +124,7 @@ fn run_two<S: Sharing + Send + Sync, R: Threads + Wait + Sync>(
     let workers = enroll_two(rt, threads, shared)?;
     let start = Instant::now(rt)?;
     let counted = two(threads, shared, calls, workers).0.counted;
-    Ok(measured(counted, start.elapsed(rt)?))
+    Ok(Measured::new(counted, start.elapsed(rt)?))
 }
 
 fn run_four<S: Sharing + Send + Sync, R: Threads + Wait + Sync>(
@@ -128,7 +137,7 @@ fn run_four<S: Sharing + Send + Sync, R: Threads + Wait + Sync>(
     let others = enroll_two(rt, threads, shared)?;
     let start = Instant::now(rt)?;
     let counted = four(threads, shared, calls, workers, others);
-    Ok(measured(counted, start.elapsed(rt)?))
+    Ok(Measured::new(counted, start.elapsed(rt)?))
 }
 
 /// Four threads at once; how many interrupts the first one took.
@@ -145,13 +154,4 @@ fn four<S: Sharing + Send + Sync, R: Threads + Wait + Sync>(
         move || two(threads, shared, calls, others),
     );
     pair.0.counted
-}
-
-fn measured(counted: u64, elapsed: Duration) -> Measured {
-    let seconds = elapsed.as_secs().saturating_mul(1_000_000_000);
-    let nanoseconds = seconds.saturating_add(elapsed.subsec_nanos() as u64);
-    Measured {
-        counted,
-        nanoseconds,
-    }
 }
