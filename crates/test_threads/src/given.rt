@@ -7,7 +7,7 @@ use crate::scenes::{ALL, Answer, Back, Call, Scene};
 use crate::scripts::{raise_60, say, with_port};
 use board_terms::{Notices, Vp};
 use board_threads::{
-    CrewEnd, CrewFault, OpenGate, Raised, Scripts, SettleFault, Setup, RecordedBoard, Step,
+    CrewEnd, CrewFault, OpenGate, Raised, RecordedBoard, Scripts, SettleFault, Setup, Step,
     run_crew_on,
 };
 use std::alloc::{AllocError, Global};

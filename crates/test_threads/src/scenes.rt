@@ -6,7 +6,7 @@ ghost use Rattle.board_threads.specs.Settling.{only_raises};
 
 use crate::boards::{opened, shared, take_actor, take_line};
 use board_terms::{Refusal, Vector, Vp};
-use board_threads::{Actor, CallFault, Ended, Line, Raised, SettleFault, RecordedBoard};
+use board_threads::{Actor, CallFault, Ended, Line, Raised, RecordedBoard, SettleFault};
 use std::alloc::Global;
 use std::sync::Wait;
 use synic_board::{Board, Event, Reply};
