@@ -21,54 +21,25 @@
  * renames the proved calls, so that these have the public names. */
 #include "nulls.h"
 
-#ifndef __x86_64__
-#error "structs are answered here as on x86-64"
-#endif
-
 /* ---- How a call is built ---- */
 
 #define SELDOM(condition) __builtin_expect((condition), 0)
-#define APART __attribute__((cold, noinline)) static
-#define LISTED(...) __VA_ARGS__
 
-/* Calls the proved function directly, as a tail call. If a pointer is null, an out-of-line function
- * makes the call with the replacements. */
-#define CALL(answer, name, is_null, stand_ins, arguments, ...)                                          \
-    answer proved_##name(__VA_ARGS__);                                                                  \
-    APART answer null_##name(__VA_ARGS__)                                                               \
-    {                                                                                                   \
-        stand_ins                                                                                       \
-        return proved_##name arguments;                                                                 \
-    }                                                                                                   \
-    answer name(__VA_ARGS__)                                                                            \
-    {                                                                                                   \
-        if (SELDOM(is_null))                                                                            \
-            return null_##name arguments;                                                               \
-        return proved_##name arguments;                                                                 \
-    }
-
-/* The same for a call that returns a struct in memory. On x86-64 the caller passes the address of
- * the result as the first argument, and the function returns it. Both are explicit here, because
- * the compilers that were tried emit no tail call otherwise. */
-#define CALL_FOR_STRUCT(answer, name, is_null, stand_ins, arguments, ...)                               \
-    _Static_assert(__builtin_types_compatible_p(__typeof__(name), answer(__VA_ARGS__)), "as declared"); \
-    answer *proved_##name(answer *out, __VA_ARGS__);                                                   \
-    APART answer *null_##name(answer *out, __VA_ARGS__)                                                \
-    {                                                                                                   \
-        stand_ins                                                                                       \
-        return proved_##name(out, LISTED arguments);                                                   \
-    }                                                                                                   \
-    answer *out_##name(answer *out, __VA_ARGS__) __asm__(#name);                                      \
-    answer *out_##name(answer *out, __VA_ARGS__)                                                      \
-    {                                                                                                   \
-        if (SELDOM(is_null))                                                                            \
-            return null_##name(out, LISTED arguments);                                                 \
-        return proved_##name(out, LISTED arguments);                                                   \
+/* Checks the pointers, replaces those that are null, and calls the proved function. */
+#define CALL(answer, name, is_null, stand_ins, arguments, ...) \
+    answer proved_##name(__VA_ARGS__);                         \
+    answer name(__VA_ARGS__)                                   \
+    {                                                          \
+        if (SELDOM(is_null)) {                                 \
+            stand_ins                                          \
+            return proved_##name arguments;                    \
+        }                                                      \
+        return proved_##name arguments;                        \
     }
 
 /* For calls whose only pointer is the board. */
 #define EVENT_CALL(name, arguments, ...) \
-    CALL_FOR_STRUCT(synicboard_reply, name, board == NULL, BOARD(board), arguments, __VA_ARGS__)
+    CALL(synicboard_reply, name, board == NULL, BOARD(board), arguments, __VA_ARGS__)
 #define LOOK(answer, name, arguments, ...) \
     CALL(answer, name, board == NULL, CONST_BOARD(board), arguments, __VA_ARGS__)
 
@@ -82,32 +53,32 @@ EVENT_CALL(synicboard_close_port, (board, port), synicboard *board, uint8_t port
 EVENT_CALL(synicboard_write, (board, vp, msr, value),
            synicboard *board, uint8_t vp, uint32_t msr, uint64_t value)
 EVENT_CALL(synicboard_read, (board, vp, msr), synicboard *board, uint8_t vp, uint32_t msr)
-CALL_FOR_STRUCT(synicboard_reply, synicboard_post, board == NULL || payload == NULL,
-                BOARD(board) BYTES(payload, length), (board, port, message_type, payload, length),
-                synicboard *board, uint8_t port, uint32_t message_type, const uint8_t *payload, size_t length)
+CALL(synicboard_reply, synicboard_post, board == NULL || payload == NULL,
+     BOARD(board) BYTES(payload, length), (board, port, message_type, payload, length),
+     synicboard *board, uint8_t port, uint32_t message_type, const uint8_t *payload, size_t length)
 EVENT_CALL(synicboard_signal, (board, port, flag), synicboard *board, uint8_t port, uint16_t flag)
 EVENT_CALL(synicboard_assert, (board, vp, vector), synicboard *board, uint8_t vp, uint8_t vector)
 EVENT_CALL(synicboard_absorb, (board, vp, part, bits),
            synicboard *board, uint8_t vp, uint8_t part, uint64_t bits)
-CALL_FOR_STRUCT(synicboard_reply, synicboard_store, board == NULL || bytes == NULL,
-                BOARD(board) BYTES(bytes, length), (board, address, bytes, length),
-                synicboard *board, uint64_t address, const uint8_t *bytes, size_t length)
+CALL(synicboard_reply, synicboard_store, board == NULL || bytes == NULL,
+     BOARD(board) BYTES(bytes, length), (board, address, bytes, length),
+     synicboard *board, uint64_t address, const uint8_t *bytes, size_t length)
 EVENT_CALL(synicboard_load, (board, address, length), synicboard *board, uint64_t address, uint8_t length)
 EVENT_CALL(synicboard_tick, (board, moment), synicboard *board, uint64_t moment)
 EVENT_CALL(synicboard_take, (board, vp), synicboard *board, uint8_t vp)
 EVENT_CALL(synicboard_suspend, (board, vp), synicboard *board, uint8_t vp)
 EVENT_CALL(synicboard_resume, (board, vp), synicboard *board, uint8_t vp)
 EVENT_CALL(synicboard_reset, (board, vp), synicboard *board, uint8_t vp)
-CALL_FOR_STRUCT(synicboard_reply, synicboard_perform, board == NULL || event == NULL,
-                BOARD(board) EVENT(event), (board, event),
-                synicboard *board, const synicboard_event *event)
-CALL_FOR_STRUCT(synicboard_batch, synicboard_perform_all,
-                board == NULL || events == NULL || replies == NULL || notices == NULL,
-                BOARD(board) EVENTS(events, count)
-                ROOM(replies, reply_room, synicboard_reply) ROOM(notices, notice_room, synicboard_notice),
-                (board, events, count, replies, reply_room, notices, notice_room),
-                synicboard *board, const synicboard_event *events, size_t count,
-                synicboard_reply *replies, size_t reply_room, synicboard_notice *notices, size_t notice_room)
+CALL(synicboard_reply, synicboard_perform, board == NULL || event == NULL,
+     BOARD(board) EVENT(event), (board, event),
+     synicboard *board, const synicboard_event *event)
+CALL(synicboard_batch, synicboard_perform_all,
+     board == NULL || events == NULL || replies == NULL || notices == NULL,
+     BOARD(board) EVENTS(events, count)
+     ROOM(replies, reply_room, synicboard_reply) ROOM(notices, notice_room, synicboard_notice),
+     (board, events, count, replies, reply_room, notices, notice_room),
+     synicboard *board, const synicboard_event *events, size_t count,
+     synicboard_reply *replies, size_t reply_room, synicboard_notice *notices, size_t notice_room)
 
 /* ---- Queries ----
  *
@@ -123,17 +94,17 @@ LOOK(uint64_t, synicboard_moment, (board), const synicboard *board)
 LOOK(uint64_t, synicboard_next_ticket, (board), const synicboard *board)
 LOOK(synicboard_page_owner, synicboard_owner, (board, page), const synicboard *board, uint64_t page)
 LOOK(synicboard_overlay, synicboard_next_overlay, (board, from), const synicboard *board, uint64_t from)
-CALL_FOR_STRUCT(synicboard_reply, synicboard_tick_due, board == NULL || due == NULL, BOARD(board) DUE(due),
-                (board, moment, due), synicboard *board, uint64_t moment, synicboard_due *due)
-CALL_FOR_STRUCT(synicboard_timer_state, synicboard_timer, board == NULL, CONST_BOARD(board), (board, vp, timer),
-                const synicboard *board, uint8_t vp, uint8_t timer)
+CALL(synicboard_reply, synicboard_tick_due, board == NULL || due == NULL, BOARD(board) DUE(due),
+     (board, moment, due), synicboard *board, uint64_t moment, synicboard_due *due)
+CALL(synicboard_timer_state, synicboard_timer, board == NULL, CONST_BOARD(board), (board, vp, timer),
+     const synicboard *board, uint8_t vp, uint8_t timer)
 CALL(bool, synicboard_slot, board == NULL || ticket == NULL, CONST_BOARD(board) TICKET(ticket),
      (board, vp, sint, ticket), const synicboard *board, uint8_t vp, uint8_t sint, uint64_t *ticket)
-CALL_FOR_STRUCT(synicboard_local_apic, synicboard_lapic, board == NULL, CONST_BOARD(board), (board, vp),
-                const synicboard *board, uint8_t vp)
-CALL_FOR_STRUCT(synicboard_due, synicboard_earliest, board == NULL, CONST_BOARD(board), (board), const synicboard *board)
-CALL_FOR_STRUCT(synicboard_due, synicboard_earliest_after, board == NULL, CONST_BOARD(board), (board, moment),
-                const synicboard *board, uint64_t moment)
+CALL(synicboard_local_apic, synicboard_lapic, board == NULL, CONST_BOARD(board), (board, vp),
+     const synicboard *board, uint8_t vp)
+CALL(synicboard_due, synicboard_earliest, board == NULL, CONST_BOARD(board), (board), const synicboard *board)
+CALL(synicboard_due, synicboard_earliest_after, board == NULL, CONST_BOARD(board), (board, moment),
+     const synicboard *board, uint64_t moment)
 CALL(uint64_t, synicboard_update, board == NULL || view == NULL, CONST_BOARD(board) VIEW(view),
      (board, view), const synicboard *board, synicboard_view *view)
 CALL(uint64_t, synicboard_update_owners, board == NULL || owners == NULL, CONST_BOARD(board) OWNERS(owners),
@@ -149,19 +120,19 @@ CALL(bool, synicboard_guest_page, board == NULL || page == NULL, CONST_BOARD(boa
 
 CALL(uint8_t, synicboard_raise, line == NULL, LINE(line), (line, vp, vector),
      synicboard_line *line, uint8_t vp, uint8_t vector)
-CALL_FOR_STRUCT(synicboard_reply, synicboard_absorb_line, board == NULL || line == NULL,
-                BOARD(board) LINE(line), (board, line, vp, part),
-                synicboard *board, synicboard_line *line, uint8_t vp, uint8_t part)
+CALL(synicboard_reply, synicboard_absorb_line, board == NULL || line == NULL,
+     BOARD(board) LINE(line), (board, line, vp, part),
+     synicboard *board, synicboard_line *line, uint8_t vp, uint8_t part)
 
 /* ---- Texts ---- */
 
-CALL_FOR_STRUCT(synicboard_end, synicboard_save, board == NULL || room == NULL,
-                CONST_BOARD(board) ROOM(room, length, uint8_t), (board, room, length),
-                const synicboard *board, uint8_t *room, size_t length)
-CALL_FOR_STRUCT(synicboard_end, synicboard_format_entry, event == NULL || reply == NULL || room == NULL,
-                EVENT(event) REPLY(reply) ROOM(room, length, uint8_t), (actor, event, reply, room, length),
-                uint8_t actor, const synicboard_event *event, const synicboard_reply *reply,
-                uint8_t *room, size_t length)
+CALL(synicboard_end, synicboard_save, board == NULL || room == NULL,
+     CONST_BOARD(board) ROOM(room, length, uint8_t), (board, room, length),
+     const synicboard *board, uint8_t *room, size_t length)
+CALL(synicboard_end, synicboard_format_entry, event == NULL || reply == NULL || room == NULL,
+     EVENT(event) REPLY(reply) ROOM(room, length, uint8_t), (actor, event, reply, room, length),
+     uint8_t actor, const synicboard_event *event, const synicboard_reply *reply,
+     uint8_t *room, size_t length)
 
 /* ---- Calls without a replacement ---- */
 
