@@ -1,0 +1,15 @@
+pub mod Bytes
+pub mod Shown
+pub mod Passed
+pub mod Watched
+pub mod Tried
+pub mod Posted
+pub mod Counted
+pub mod Filled
+pub mod Joined
+pub mod Found
+pub mod Part
+pub mod Staying
+pub mod Shadowed
+pub mod Signalled
+pub mod Calm

@@ -1,0 +1,145 @@
+// Passes words that the host found to the board, as stores of the guest.
+ghost use Rattle.std.specs.Prelude.{◌≡◌, ◌<◌, ◌↔◌, ◌^◌, IsTrue, length};
+ghost use Rattle.gpa_space.specs.Space.{overlay_of};
+ghost use Rattle.synic_board.specs.State.{processors};
+ghost use Rattle.live_board.specs.Live.{number_at, IsShown};
+ghost use Rattle.live_board.specs.inside.Parts.{IsPassed};
+ghost use Rattle.live_board.specs.Words.{word_of};
+ghost use Rattle.live_board.specs.inside.Parts.{IsShadow, IsPassedOn, IsLook, IsMark};
+
+use crate::words::word_at;
+use board_terms::{Kind, Notices, Owner, Vp};
+use live_pages::LivePage;
+use synic_board::Board;
+use synic_regs::Register;
+
+/// The page number in the register of an overlay.
+fn number(board: &Board, vp: Vp, kind: Kind) -> u64
+    requires { vp < processors board.now.state }
+    ensures value { result ≡ number_at board.now.state vp kind }
+    ensures range { result < 2 ^ 52 }
+{
+    let register = match kind {
+        Kind::Sim => board.register(vp, Register::Sim),
+        Kind::Sief => board.register(vp, Register::Sief),
+    };
+    register / 4096
+}
+
+/// Whether a guest sees an overlay at the page number in its register.
+pub(crate) fn is_shown(board: &Board, vp: Vp, kind: Kind) -> bool
+    requires { vp < processors board.now.state }
+    ensures { IsTrue result ↔ IsShown board.now.state vp kind }
+{
+    let owner = match kind {
+        Kind::Sim => Owner::Sim(vp),
+        Kind::Sief => Owner::Sief(vp),
+    };
+    board.owner(number(board, vp, kind)) == owner
+}
+
+/// A word, 0 to 511, of an own page of the board.
+pub(crate) fn own_word(board: &Board, vp: Vp, kind: Kind, word: usize) -> u64
+    requires on { vp < processors board.now.state }
+    requires word { word < 512 }
+    ensures { result ≡ word_of board.now.state (overlay_of vp kind) word }
+{
+    board.facts();
+    let Some(page) = board.own_page(vp, kind) else {
+        unreachable!()
+    };
+    word_at(page, 8 * word)
+}
+
+/// Passes a word, 0 to 511, of an own page to the board as a store of the guest, if the board has
+/// another value there. Replaces `notices` by those of the store.
+fn store_found(
+    board: &mut Board,
+    vp: Vp,
+    kind: Kind,
+    word: usize,
+    value: u64,
+    notices: &mut Notices,
+)
+    requires on { vp < processors board.old.state }
+    requires word { word < 512 }
+    requires shown { IsShown board.old.state vp kind }
+    ensures passed { IsPassed board.old.state vp kind word value board.new.state notices.new }
+{
+    notices.clear();
+    if own_word(board, vp, kind, word) != value {
+        let address = number(board, vp, kind) * 4096 + 8 * word as u64;
+        let bytes = value.to_le_bytes();
+        board.store(address, &bytes, notices);
+    }
+}
+
+/// The same, and appends the notices of the store to those that are there, with the help of a
+/// second list.
+fn pass(
+    board: &mut Board,
+    vp: Vp,
+    kind: Kind,
+    word: usize,
+    value: u64,
+    scratch: &mut Notices,
+    notices: &mut Notices,
+)
+    requires on { vp < processors board.old.state }
+    requires word { word < 512 }
+    requires shown { IsShown board.old.state vp kind }
+    requires capacity { length notices.old < 320 }
+    ensures { IsPassedOn board.old.state vp kind word value board.new.state notices.old notices.new }
+{
+    board.facts();
+    store_found(board, vp, kind, word, value, scratch);
+    if let Some(notice) = scratch.as_slice().first() {
+        notices.push(*notice);
+    }
+}
+
+/// Loads a word, 0 to 511, of a live page that the guest sees, and passes it to the board.
+pub(crate) fn look(
+    board: &mut Board,
+    page: &mut LivePage,
+    vp: Vp,
+    kind: Kind,
+    word: usize,
+    scratch: &mut Notices,
+    notices: &mut Notices,
+) -> u64
+    requires on { vp < processors board.old.state }
+    requires word { word < 512 }
+    requires shown { IsShown board.old.state vp kind }
+    requires shadow { IsShadow board.old.state (overlay_of vp kind) page.old }
+    requires capacity { length notices.old < 320 }
+    ensures { IsLook board.old.state vp kind word page.old board.new.state page.new result notices.old notices.new }
+{
+    let found = page.load(word);
+    pass(board, vp, kind, word, found, scratch, notices);
+    found
+}
+
+/// Sets the bits of a mask in a word, 0 to 511, of a live page that the guest sees, and passes the
+/// word that was there to the board.
+pub(crate) fn mark(
+    board: &mut Board,
+    page: &mut LivePage,
+    vp: Vp,
+    kind: Kind,
+    word: usize,
+    mask: u64,
+    scratch: &mut Notices,
+    notices: &mut Notices,
+) -> u64
+    requires on { vp < processors board.old.state }
+    requires word { word < 512 }
+    requires shown { IsShown board.old.state vp kind }
+    requires shadow { IsShadow board.old.state (overlay_of vp kind) page.old }
+    requires capacity { length notices.old < 320 }
+    ensures { IsMark board.old.state vp kind word mask page.old board.new.state page.new result notices.old notices.new }
+{
+    let found = page.fetch_or(word, mask);
+    pass(board, vp, kind, word, found, scratch, notices);
+    found
+}

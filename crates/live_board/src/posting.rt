@@ -1,0 +1,218 @@
+// A post to a port whose target is a source of a live page.
+ghost use Rattle.std.specs.Prelude.{◌≡◌, ◌≢◌, ℕ, ◌<◌, ◌≤◌, ◌+◌, ◌*◌, ◌==◌, ◌++◌, [], length, Some};
+ghost use Rattle.board_terms.specs.declared.pages.Kind.TheVariants.{Sim};
+ghost use Rattle.event_ports.specs.Ports.{port_at};
+ghost use Rattle.synic_board.specs.declared.event.Event.TheVariants.{Post};
+ghost use Rattle.synic_board.specs.State.{processors, ports_of};
+ghost use Rattle.live_pages.specs.Slot.{known, type_of, is_pending};
+ghost use Rattle.live_board.specs.Words.{word_of};
+ghost use Rattle.live_board.specs.Live.{IsShown, HasLooked};
+ghost use Rattle.live_board.specs.inside.Parts.{IsShadow, IsFound, IsStep, IsInto, IsPart};
+
+use crate::attempt::is_attempted;
+use crate::filling::{fill, slot_words};
+use crate::passing::{is_shown, look, mark, own_word};
+use board_terms::{Kind, Notices};
+use event_ports::Port;
+use live_pages::LivePage;
+use synic_board::{Board, Reply};
+
+/// MessagePending, in the header of a slot.
+const PENDING: u64 = 1 << 40;
+
+/// Whether the type in a header is 0.
+pub(crate) fn is_empty(header: u64) -> bool
+    ensures { result ≡ (type_of header == 0) }
+{
+    header & 0xffff_ffff == 0
+}
+
+/// Whether MessagePending is set in a header.
+fn is_pending(header: u64) -> bool
+    ensures { result ≡ is_pending header }
+{
+    (header >> 40) & 1 == 1
+}
+
+/// Looks at the header of a port's slot, and marks it if a post would find it occupied and not
+/// marked. Returns the header as it was found last, and as the host left it.
+fn find_header(
+    board: &mut Board,
+    page: &mut LivePage,
+    port: &Port,
+    number: u8,
+    kind: u32,
+    scratch: &mut Notices,
+    notices: &mut Notices,
+) -> (u64, u64)
+    requires open { port_at (ports_of board.old.state) number ≡ Some port.now }
+    requires on { port.now.vp < processors board.old.state }
+    requires shown { IsShown board.old.state port.now.vp Sim }
+    requires shadow { IsShadow board.old.state (2 * port.now.vp) page.old }
+    requires capacity { length notices.old < 319 }
+    ensures { IsFound board.old.state number kind port.now page.old board.new.state page.new result.0 result.1 notices.old notices.new }
+{
+    let slot = 32 * usize::from(port.sint.number());
+    let found = look(board, page, port.vp, Kind::Sim, slot, scratch, notices);
+    if is_empty(found) || is_pending(found) || !is_attempted(board, number, kind, port) {
+        return (found, found);
+    }
+    let header = mark(
+        board,
+        page,
+        port.vp,
+        Kind::Sim,
+        slot,
+        PENDING,
+        scratch,
+        notices,
+    );
+    (header, header | PENDING)
+}
+
+/// Appends notices to those that are there.
+pub(crate) fn append(more: &Notices, notices: &mut Notices)
+    requires { length notices.old + length more.now ≤ 320 }
+    ensures { notices.new ≡ notices.old ++ more.now }
+{
+    for notice in more.as_slice() {
+        notices.push(*notice);
+    }
+}
+
+/// Performs a post, and appends its notices to those that are there, at most two.
+fn perform_post(
+    board: &mut Board,
+    number: u8,
+    kind: u32,
+    payload: &[u8],
+    scratch: &mut Notices,
+    notices: &mut Notices,
+) -> Reply
+    requires fits { length payload.now ≤ 240 }
+    requires capacity { length notices.old ≤ 2 }
+    ensures { IsStep board.old.state (Post number kind (record { items = payload.now })) board.new.state result notices.old notices.new }
+{
+    if notices.as_slice().is_empty() {
+        return board.post(number, kind, payload, notices);
+    }
+    let reply = board.post(number, kind, payload, scratch);
+    append(scratch, notices);
+    reply
+}
+
+/// Performs a post, and stores what it changed in the slot of the port. `left` is the header as the
+/// host left it.
+fn post_into(
+    board: &mut Board,
+    page: &mut LivePage,
+    port: &Port,
+    number: u8,
+    kind: u32,
+    payload: &[u8],
+    left: u64,
+    scratch: &mut Notices,
+    notices: &mut Notices,
+) -> Reply
+    requires on { port.now.vp < processors board.old.state }
+    requires source { port.now.sint < 16 }
+    requires fits { length payload.now ≤ 240 }
+    requires left { known page.old (32 * port.now.sint) ≡ left }
+    requires others { (x : ℕ) → x < 512 → x ≢ 32 * port.now.sint → known page.old x ≡ word_of board.old.state (2 * port.now.vp) x }
+    requires capacity { length notices.old ≤ 2 }
+    ensures { IsInto port.now left board.old.state page.old (Post number kind (record { items = payload.now })) board.new.state page.new result notices.old notices.new }
+{
+    board.facts();
+    let before = slot_words(board, port.vp, port.sint);
+    let reply = perform_post(board, number, kind, payload, scratch, notices);
+    let after = slot_words(board, port.vp, port.sint);
+    fill(page, port.sint, left, &before, &after);
+    reply
+}
+
+/// Performs a post to a port whose slot the guest sees.
+fn post_shown(
+    board: &mut Board,
+    page: &mut LivePage,
+    port: &Port,
+    number: u8,
+    kind: u32,
+    payload: &[u8],
+    scratch: &mut Notices,
+    notices: &mut Notices,
+) -> Reply
+    requires open { port_at (ports_of board.old.state) number ≡ Some port.now }
+    requires on { port.now.vp < processors board.old.state }
+    requires fits { length payload.now ≤ 240 }
+    requires shown { IsShown board.old.state port.now.vp Sim }
+    requires shadow { IsShadow board.old.state (2 * port.now.vp) page.old }
+    requires empty { notices.old ≡ [] }
+    ensures part { IsPart board.old.state port.now.vp Sim page.old (Post number kind (record { items = payload.now })) board.new.state page.new result notices.new }
+    ensures looked { HasLooked (32 * port.now.sint) page.old page.new }
+{
+    let (header, left) = find_header(board, page, port, number, kind, scratch, notices);
+    board.facts();
+    if is_empty(header) {
+        return post_into(
+            board, page, port, number, kind, payload, left, scratch, notices,
+        );
+    }
+    perform_post(board, number, kind, payload, scratch, notices)
+}
+
+/// Performs a post to a port whose slot the guest does not see.
+fn post_hidden(
+    board: &mut Board,
+    page: &mut LivePage,
+    port: &Port,
+    number: u8,
+    kind: u32,
+    payload: &[u8],
+    scratch: &mut Notices,
+    notices: &mut Notices,
+) -> Reply
+    requires open { port_at (ports_of board.old.state) number ≡ Some port.now }
+    requires on { port.now.vp < processors board.old.state }
+    requires fits { length payload.now ≤ 240 }
+    requires hidden { IsShown board.old.state port.now.vp Sim → ⊥ }
+    requires shadow { IsShadow board.old.state (2 * port.now.vp) page.old }
+    requires empty { notices.old ≡ [] }
+    ensures { IsPart board.old.state port.now.vp Sim page.old (Post number kind (record { items = payload.now })) board.new.state page.new result notices.new }
+{
+    board.facts();
+    let header = own_word(
+        board,
+        port.vp,
+        Kind::Sim,
+        32 * usize::from(port.sint.number()),
+    );
+    post_into(
+        board, page, port, number, kind, payload, header, scratch, notices,
+    )
+}
+
+/// Performs a post to a port, and brings the message page of its processor up to date.
+pub(crate) fn post_to(
+    board: &mut Board,
+    page: &mut LivePage,
+    port: &Port,
+    number: u8,
+    kind: u32,
+    payload: &[u8],
+    scratch: &mut Notices,
+    notices: &mut Notices,
+) -> Reply
+    requires open { port_at (ports_of board.old.state) number ≡ Some port.now }
+    requires on { port.now.vp < processors board.old.state }
+    requires fits { length payload.now ≤ 240 }
+    requires shadow { IsShadow board.old.state (2 * port.now.vp) page.old }
+    requires empty { notices.old ≡ [] }
+    ensures part { IsPart board.old.state port.now.vp Sim page.old (Post number kind (record { items = payload.now })) board.new.state page.new result notices.new }
+    ensures looked { IsShown board.old.state port.now.vp Sim → HasLooked (32 * port.now.sint) page.old page.new }
+{
+    if is_shown(board, port.vp, Kind::Sim) {
+        post_shown(board, page, port, number, kind, payload, scratch, notices)
+    } else {
+        post_hidden(board, page, port, number, kind, payload, scratch, notices)
+    }
+}
