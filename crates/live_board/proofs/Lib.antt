@@ -13,3 +13,4 @@ pub mod Staying
 pub mod Shadowed
 pub mod Signalled
 pub mod Calm
+pub mod Guests

@@ -46,6 +46,10 @@ IsShown s p k = owner_of (space_of s) (number_at s p k) ≡ owner_at p k
 abbrev pub store_of : State → ℕ → Kind → ℕ → ℕ → Event
 store_of s p k w value = event.Store (number_at s p k * 4096 + 8 * w) (record { items = to_le_bytes w64 value })
 
+-- a store of some word of an own page
+abbrev pub IsOwnStore : State → ℕ → Kind → Event → Type 0
+IsOwnStore s p k event = (w : ℕ) × (value : ℕ) × (event ≡ store_of s p k w value)
+
 -- the reply to each of some stores
 abbrev pub all_done : List Event → List Reply
 all_done events = map (λ _. reply.Done) events

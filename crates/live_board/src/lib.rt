@@ -4,6 +4,7 @@
 
 mod attempt;
 mod filling;
+mod laws;
 mod live;
 mod observing;
 mod passing;
@@ -12,5 +13,9 @@ mod quiet;
 mod signalling;
 mod words;
 
+pub use laws::{
+    a_guest_only_stores, a_look_changes_only_pages, a_look_conserves_messages,
+    an_event_conserves_messages,
+};
 pub use live::LiveBoard;
 pub use quiet::is_quiet;
