@@ -1,10 +1,10 @@
 -- A word depends on its eight bytes, and a bit of a word is a bit of a byte.
-use Rattle.std.proofs.Common.{◌≡◌, ◌≢◌, ◌⊎◌, inl, inr, ℕ, zero, suc, ◌+◌, ◌-◌, ◌*◌, ◌/◌, ◌%◌, ◌^◌, ◌<◌, ◌≤◌, List, [], ◌++◌, take, drop, length, get_or, set, refl, sym, ap, ◌∙◌, arith}
-use Rattle.std.specs.Prelude.{bit_or, bit_and, slice_index}
-use Rattle.std.specs.Int.{bit_at, byte_worth, sum_through, from_le_bytes, to_le_bytes, w64}
+use Rattle.std.proofs.Common.{◌≡◌, ◌≢◌, ◌⊎◌, inl, inr, ℕ, zero, suc, ◌+◌, ◌-◌, ◌*◌, ◌/◌, ◌^◌, ◌<◌, ◌≤◌, List, ◌++◌, take, drop, length, get_or, refl, sym, ap, ◌∙◌, arith}
+use Rattle.std.specs.Prelude.{bit_or}
+use Rattle.std.specs.Int.{bit_at, from_le_bytes, to_le_bytes, w64}
 use Rattle.std.specs.Int.Bits.{or_add_and}
 use Rattle.std.proofs.lemmas.List.{get_or-take, get_or-drop, get_or-set_same, get_or-set_other}
-use Rattle.std.proofs.lemmas.Nat.Bits.{and_pow, bit_at_cat_low, bit_at_cat_high, bit_at-lt}
+use Rattle.std.proofs.lemmas.Nat.Bits.{and_pow, bit_at_cat_low, bit_at_cat_high}
 use Rattle.std.proofs.Math.Nat.{mul_left_comm}
 use Rattle.std.proofs.lemmas.Nat.{pow-add, from_le_bytes-to_le_bytes_8}
 use Rattle.std.proofs.lemmas.List.{append_assoc, length-take-le}
@@ -107,8 +107,8 @@ bit-here page w j m low under fits bytes =
     let byte : ℕ = bit_or (get_or page (8 * w + j) 0) (2 ^ m) in
     word-bytes (with_bit page (8 * w + j) m) (8 * w)
     ∙ joined-set j m (λ i. get_or page (8 * w + i) 0) (λ i. get_or (with_bit page (8 * w + j) m) (8 * w + i) 0) low under bytes
-        (λ i h ne. get_or-set_other page (8 * w + j) (8 * w + i) byte 0 (λ e. ne (omega (arith, e))))
-        (get_or-set_same page (8 * w + j) byte 0 (omega arith))
+    (λ i h ne. get_or-set_other page (8 * w + j) (8 * w + i) byte 0 (λ e. ne (omega (arith, e))))
+    (get_or-set_same page (8 * w + j) byte 0 (omega arith))
     ∙ ap (λ n. bit_or n (2 ^ (8 * j + m))) (sym (word-bytes page (8 * w)))
 
 -- and no bit of another word

@@ -1,5 +1,5 @@
 -- How many messages of a port are queued.
-use Rattle.std.proofs.Common.{◌≡◌, ◌≢◌, ◌⊎◌, inl, inr, ℕ, zero, suc, ◌+◌, ◌*◌, ◌/◌, ◌%◌, ◌<◌, ◌≤◌, Bool, true, false, cond, List, [], ◌∷◌, length, get_or, set, Option, None, Some, refl, sym, ap, ◌∙◌, subst, arith, All, nat_lt}
+use Rattle.std.proofs.Common.{◌≡◌, ◌≢◌, ◌⊎◌, inl, inr, ℕ, suc, ◌/◌, ◌%◌, ◌<◌, ◌≤◌, Bool, true, false, cond, List, [], ◌∷◌, length, get_or, set, Option, None, Some, refl, sym, ap, ◌∙◌, subst, arith, All, nat_lt}
 use Rattle.std.specs.Prelude.{count_by, sum_by, ◌==◌, ◌&&◌, not, is_none, nat_le, if◌then◌else◌}
 use Rattle.std.proofs.lemmas.Bool.{cases_eq}
 use Rattle.std.proofs.lemmas.Bool.Decides.{nat_tests}
@@ -43,8 +43,12 @@ one-none ports q j number port (FromPort ticket n kind payload) is apart home = 
 queue-none : (ports : List (Option Port)) (q j number : ℕ) (port : Port) (xs : List Message) → get_or ports number None ≡ Some port → (q ≡ port.vp → j ≢ port.sint) → All (IsHome ports q j) xs → count_by (is_from_port number) xs ≡ 0
 queue-none ports q j number port [] is apart h = omega arith
 queue-none ports q j number port (x ∷ xs) is apart h =
-    omega (arith, sum_by-cons (λ y. one_if (is_from_port number y)) x xs, queue-none ports q j number port xs is apart (All-tail (IsHome ports q j) x xs h),
-    one-none ports q j number port x is apart (All-head (IsHome ports q j) x xs h))
+    omega (
+      arith,
+      sum_by-cons (λ y. one_if (is_from_port number y)) x xs,
+      queue-none ports q j number port xs is apart (All-tail (IsHome ports q j) x xs h),
+      one-none ports q j number port x is apart (All-head (IsHome ports q j) x xs h),
+    )
 
 sum-none : (f : List Message → ℕ) (qs : Queues) → ((k : ℕ) → k < length qs → f (get_or qs k []) ≡ 0) → sum_by f qs ≡ 0
 sum-none f [] none = omega arith

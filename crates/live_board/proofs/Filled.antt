@@ -1,16 +1,14 @@
 -- Filling a slot, word by word.
-use Rattle.std.proofs.Common.{◌≡◌, ◌≢◌, ◌⊎◌, inl, inr, ℕ, zero, suc, ◌+◌, ◌*◌, ◌/◌, ◌%◌, ◌^◌, ◌<◌, ◌≤◌, Bool, true, false, List, [], ◌∷◌, ◌++◌, length, get_or, refl, sym, ap, ◌∙◌, subst, arith, append-nil}
-use Rattle.std.specs.Prelude.{◌==◌, slice_index, if◌then◌else◌}
+use Rattle.std.proofs.Common.{◌≡◌, ◌≢◌, ◌⊎◌, inl, inr, ℕ, ◌+◌, ◌*◌, ◌/◌, ◌<◌, ◌≤◌, true, false, List, [], ◌∷◌, refl, sym, ap, ◌∙◌, subst, arith, append-nil}
+use Rattle.std.specs.Prelude.{◌==◌, slice_index}
 use Rattle.std.proofs.lemmas.Bool.{cases_eq}
 use Rattle.std.proofs.lemmas.Bool.Decides.{nat_tests}
 use Rattle.board_terms.specs.declared.pages.Kind.{Kind}
-use Rattle.board_terms.specs.declared.pages.Kind.TheVariants.{Sim}
-use Rattle.synic_board.specs.declared.event.Event.{Event}
 use Rattle.synic_board.specs.State.{State}
 use Rattle.live_pages.specs.Slot.{known, type_of}
 use Rattle.live_pages.specs.declared.access.Access.{Access}
 use Rattle.live_pages.specs.declared.access.Access.TheVariants.{Load, FetchOr, Store}
-use Rattle.live_board.specs.Live.{explained, AreCareful}
+use Rattle.live_board.specs.Live.{explained}
 use Rattle.live_board.specs.inside.Parts.{AreStores, IsFilled, IsFilling}
 
 same : (x h : ℕ) → x ≡ h → (x == h) ≡ true
@@ -19,10 +17,10 @@ same x h e = grind (arith, nat_tests)
 apart : (x h : ℕ) → x ≢ h → (x == h) ≡ false
 apart x h e = grind (arith, nat_tests)
 
-stored-here : (w v : ℕ) (log : List Access) (x : ℕ) → x ≡ w → known (Store w v ∷ log) x ≡ v
+pub stored-here : (w v : ℕ) (log : List Access) (x : ℕ) → x ≡ w → known (Store w v ∷ log) x ≡ v
 stored-here w v log x e = rw (same x w e) refl
 
-stored-other : (w v : ℕ) (log : List Access) (x : ℕ) → x ≢ w → known (Store w v ∷ log) x ≡ known log x
+pub stored-other : (w v : ℕ) (log : List Access) (x : ℕ) → x ≢ w → known (Store w v ∷ log) x ≡ known log x
 stored-other w v log x e = rw (apart x w e) refl
 
 -- stores show nothing
@@ -47,15 +45,15 @@ filling-start i header before after log head payload = record {
 pub filling-store : (i header : ℕ) (before after : List ℕ) (k : ℕ) (log now next : List Access) → 1 ≤ k → k < 32 → IsFilling i header before after k log now → next ≡ Store (32 * i + k) (slice_index after k) ∷ now
     → IsFilling i header before after (k + 1) log next
 filling-store i header before after k log now next some low h is = subst (IsFilling i header before after (k + 1) log) (sym is) (record {
-      news = Store w v ∷ h.news;
-      page = ap (λ l. Store w v ∷ l) h.page;
-      stores = h.stores;
-      careful = λ empty. (ap type_of (ap (λ l. known l (32 * (w / 32))) (sym h.page) ∙ ap (known now) slot ∙ h.head) ∙ empty, h.careful empty);
-      head = stored-other w v now (32 * i) (λ e. omega (arith, e, some)) ∙ h.head;
-      done = λ j above below. finish j above below (cases_eq j k);
-      left = λ j above le below. stored-other w v now (32 * i + j) (λ e. omega (arith, e, le)) ∙ h.left j above (omega arith) below;
-      others = λ x ne. stored-other w v now x (λ e. ne (omega (arith, e, low))) ∙ h.others x ne;
-    })
+  news = Store w v ∷ h.news;
+  page = ap (λ l. Store w v ∷ l) h.page;
+  stores = h.stores;
+  careful = λ empty. (ap type_of (ap (λ l. known l (32 * (w / 32))) (sym h.page) ∙ ap (known now) slot ∙ h.head) ∙ empty, h.careful empty);
+  head = stored-other w v now (32 * i) (λ e. omega (arith, e, some)) ∙ h.head;
+  done = λ j above below. finish j above below (cases_eq j k);
+  left = λ j above le below. stored-other w v now (32 * i + j) (λ e. omega (arith, e, le)) ∙ h.left j above (omega arith) below;
+  others = λ x ne. stored-other w v now x (λ e. ne (omega (arith, e, low))) ∙ h.others x ne;
+})
   where
     w : ℕ
     w = 32 * i + k
@@ -73,15 +71,15 @@ filling-store i header before after k log now next some low h is = subst (IsFill
 pub filling-skip : (i header : ℕ) (before after : List ℕ) (k : ℕ) (log now : List Access) → 1 ≤ k → k < 32 → IsFilling i header before after k log now → slice_index after k ≡ slice_index before k
     → IsFilling i header before after (k + 1) log now
 filling-skip i header before after k log now some low h is = record {
-      news = h.news;
-      page = h.page;
-      stores = h.stores;
-      careful = h.careful;
-      head = h.head;
-      done = λ j above below. finish j above below (cases_eq j k);
-      left = λ j above le below. h.left j above (omega arith) below;
-      others = h.others;
-    }
+  news = h.news;
+  page = h.page;
+  stores = h.stores;
+  careful = h.careful;
+  head = h.head;
+  done = λ j above below. finish j above below (cases_eq j k);
+  left = λ j above le below. h.left j above (omega arith) below;
+  others = h.others;
+}
   where
     finish : (j : ℕ) → 1 ≤ j → j < k + 1 → (j ≡ k) ⊎ (j ≢ k) → known now (32 * i + j) ≡ slice_index after j
     finish j above below (inl e) = ap (λ n. known now (32 * i + n)) e ∙ h.left k some (omega arith) low ∙ sym is ∙ ap (slice_index after) (sym e)
@@ -89,13 +87,13 @@ filling-skip i header before after k log now some low h is = record {
 
 pub filled-store : (i header : ℕ) (before after : List ℕ) (log now next : List Access) → IsFilling i header before after 32 log now → next ≡ Store (32 * i) (slice_index after 0) ∷ now → IsFilled i header after log next
 filled-store i header before after log now next h is = subst (IsFilled i header after log) (sym is) (record {
-      news = Store (32 * i) v ∷ h.news;
-      page = ap (λ l. Store (32 * i) v ∷ l) h.page;
-      stores = h.stores;
-      careful = λ empty. (ap type_of (ap (λ l. known l (32 * ((32 * i) / 32))) (sym h.page) ∙ ap (known now) slot ∙ h.head) ∙ empty, h.careful empty);
-      words = λ k low. finish k low (cases_eq k 0);
-      others = λ x ne. stored-other (32 * i) v now x (λ e. ne (omega (arith, e))) ∙ h.others x ne;
-    })
+  news = Store (32 * i) v ∷ h.news;
+  page = ap (λ l. Store (32 * i) v ∷ l) h.page;
+  stores = h.stores;
+  careful = λ empty. (ap type_of (ap (λ l. known l (32 * ((32 * i) / 32))) (sym h.page) ∙ ap (known now) slot ∙ h.head) ∙ empty, h.careful empty);
+  words = λ k low. finish k low (cases_eq k 0);
+  others = λ x ne. stored-other (32 * i) v now x (λ e. ne (omega (arith, e))) ∙ h.others x ne;
+})
   where
     v : ℕ
     v = slice_index after 0
@@ -109,13 +107,13 @@ filled-store i header before after log now next h is = subst (IsFilled i header 
 
 pub filled-skip : (i header : ℕ) (before after : List ℕ) (log now : List Access) → IsFilling i header before after 32 log now → slice_index after 0 ≡ header → IsFilled i header after log now
 filled-skip i header before after log now h is = record {
-      news = h.news;
-      page = h.page;
-      stores = h.stores;
-      careful = h.careful;
-      words = λ k low. finish k low (cases_eq k 0);
-      others = h.others;
-    }
+  news = h.news;
+  page = h.page;
+  stores = h.stores;
+  careful = h.careful;
+  words = λ k low. finish k low (cases_eq k 0);
+  others = h.others;
+}
   where
     finish : (k : ℕ) → k < 32 → (k ≡ 0) ⊎ (k ≢ 0) → known now (32 * i + k) ≡ slice_index after k
     finish k low (inl e) = ap (known now) (let z : 32 * i + k ≡ 32 * i = omega (arith, e) in z) ∙ h.head ∙ sym is ∙ ap (slice_index after) (sym e)

@@ -1,14 +1,14 @@
 -- The header of a port's slot, found by one look, or marked after one.
-use Rattle.std.proofs.Common.{◌≡◌, ◌≢◌, ◌⊎◌, inl, inr, ℕ, ◌+◌, ◌*◌, ◌^◌, ◌<◌, ◌≤◌, Bool, true, false, List, ◌++◌, length, refl, sym, ap, ◌∙◌, subst, arith, append_assoc, length-append}
+use Rattle.std.proofs.Common.{◌≡◌, ◌⊎◌, inl, inr, ℕ, ◌*◌, ◌^◌, ◌<◌, true, false, List, [], ◌∷◌, ◌++◌, refl, sym, ap, ◌∙◌, arith, append_assoc, length-append}
 use Rattle.std.specs.Prelude.{bit_or}
 use Rattle.board_terms.specs.declared.notices.Notice.{Notice}
 use Rattle.board_terms.specs.declared.pages.Kind.TheVariants.{Sim}
 use Rattle.event_ports.specs.declared.ports.Port.{Port}
 use Rattle.synic_board.specs.State.{State}
-use Rattle.live_pages.specs.Slot.{known, type_of, is_pending}
+use Rattle.live_pages.specs.Slot.{type_of, is_pending}
 use Rattle.live_pages.specs.declared.access.Access.{Access}
-use Rattle.live_board.specs.Words.{word_of}
-use Rattle.live_board.specs.inside.Parts.{IsShadow, IsLook, IsMark, IsFound, IsWatched, is_attempted}
+use Rattle.live_pages.specs.declared.access.Access.TheVariants.{FetchOr}
+use Rattle.live_board.specs.inside.Parts.{IsLook, IsMark, IsFound, is_attempted}
 use Rattle.live_board.proofs.Joined.{watched-then}
 
 -- whether a post makes an attempt depends on neither own pages nor tickets of slots
@@ -19,15 +19,16 @@ pub found-one : (s : State) (number kind : ℕ) (port : Port) (log : List Access
     → port.sint < 16 → IsLook s port.vp Sim (32 * port.sint) log now log-now found before after
     → (type_of found ≡ 0) ⊎ ((is_pending found ≡ true) ⊎ (is_attempted now number kind port ≡ false)) → IsFound s number kind port log now log-now found found before after
 found-one s number kind port log now log-now found before after under look exact = record {
-      emitted = look.emitted;
-      notices = look.notices;
-      few = omega (arith, look.few);
-      watched = look.watched;
-      here = look.word.here;
-      known_here = look.shadow (32 * port.sint) (omega arith) ∙ look.word.here;
-      others = λ x low _. look.shadow x low;
-      exact = inl (refl, which exact);
-    }
+  emitted = look.emitted;
+  notices = look.notices;
+  few = omega (arith, look.few);
+  watched = look.watched;
+  here = look.word.here;
+  known_here = look.shadow (32 * port.sint) (omega arith) ∙ look.word.here;
+  others = λ x low _. look.shadow x low;
+  looked = ([], found, look.page);
+  exact = inl (refl, which exact);
+}
   where
     which : (type_of found ≡ 0) ⊎ ((is_pending found ≡ true) ⊎ (is_attempted now number kind port ≡ false)) → (type_of found ≡ 0) ⊎ ((is_pending found ≡ true) ⊎ (is_attempted s number kind port ≡ false))
     which (inl empty) = inl empty
@@ -45,5 +46,6 @@ found-two s number kind port log mid now log-mid log-now first found before betw
   here = mark.word.here;
   known_here = mark.here;
   others = mark.others;
+  looked = (FetchOr (32 * port.sint) (2 ^ 40) found ∷ [], first, mark.page ∙ ap (λ l. FetchOr (32 * port.sint) (2 ^ 40) found ∷ l) look.page);
   exact = inr (refl, sym (rest-attempted s mid number kind port look.watched.rest) ∙ made);
 }

@@ -1,25 +1,23 @@
 -- Runs and accesses, one after another.
-use Rattle.std.proofs.Common.{◌≡◌, ◌≢◌, ◌⊎◌, inl, inr, ℕ, ◌+◌, ◌*◌, ◌<◌, ◌≤◌, Bool, List, [], ◌∷◌, ◌++◌, length, map, refl, sym, ap, ◌∙◌, subst, arith, append_assoc, append-nil}
+use Rattle.std.proofs.Common.{◌≡◌, ℕ, suc, ◌+◌, ◌*◌, List, [], ◌∷◌, ◌++◌, length, refl, sym, ap, ◌∙◌, subst, arith, append_assoc, append-nil, length-append}
 use Rattle.std.specs.Prelude.{◌==◌, if◌then◌else◌}
 use Rattle.std.specs.Int.{to_le_bytes, w64}
 use Rattle.std.proofs.lemmas.List.{map-append}
 use Rattle.board_terms.specs.declared.notices.Notice.{Notice}
 use Rattle.board_terms.specs.declared.pages.Kind.{Kind}
 use Rattle.board_terms.specs.declared.pages.Kind.TheVariants as kind
-use Rattle.gpa_space.specs.Space.{overlay_of}
 use Rattle.synic_board.specs.declared.event.Event.{Event}
 use Rattle.synic_board.specs.declared.event.Event.TheVariants as event
 use Rattle.synic_board.specs.declared.event.Reply.{Reply}
 use Rattle.synic_board.specs.declared.event.Reply.TheVariants.{Done}
 use Rattle.synic_board.specs.State.{State}
-use Rattle.synic_board.specs.Effects.{Outcome}
 use Rattle.synic_board.specs.Step.{step}
 use Rattle.synic_board.specs.Run.{Run, run_of, followed_by}
 use Rattle.live_pages.specs.Slot.{known}
 use Rattle.live_pages.specs.declared.access.Access.{Access}
 use Rattle.live_pages.specs.declared.access.Access.TheVariants.{Load, FetchOr, Store}
-use Rattle.live_board.specs.Live.{number_at, IsShown, owner_at, store_of, all_done, explained, shown_by, MayStore, AreCareful}
-use Rattle.live_board.specs.inside.Parts.{HasWord, IsWatched, LeavesOthers}
+use Rattle.live_board.specs.Live.{number_at, IsShown, all_done, explained, shown_by, MayStore, AreCareful, AreLooks}
+use Rattle.live_board.specs.inside.Parts.{IsWatched, IsLook, IsLooks}
 
 -- one run after another
 abbrev pub joined : Run → Run → Run
@@ -78,14 +76,14 @@ rest-shown s now p k rest shown = subst (λ t. IsShown t p k) (sym rest) (same k
 pub watched-then : (s mid now : State) (p : ℕ) (k : Kind) (log log-mid log-now : List Access) (first second : List Notice) → IsWatched s p k log mid log-mid first → IsWatched mid p k log-mid now log-now second
     → IsWatched s p k log now log-now (first ++ second)
 watched-then s mid now p k log log-mid log-now first second a b = record {
-      news = b.news ++ a.news;
-      page = b.page ∙ ap (λ l. b.news ++ l) a.page ∙ sym (append_assoc b.news a.news log);
-      run = run;
-      careful = careful-append k b.news a.news log (subst (λ l. AreCareful k b.news l) a.page b.careful) a.careful;
-      rest = b.rest ∙ ap (λ (t : State). record t { own = now.own; slots = now.slots }) a.rest;
-      count = b.count ∙ a.count;
-      others = λ j w low ne. b.others j w low ne ∙ a.others j w low ne;
-    }
+  news = b.news ++ a.news;
+  page = b.page ∙ ap (λ l. b.news ++ l) a.page ∙ sym (append_assoc b.news a.news log);
+  run = run;
+  careful = careful-append k b.news a.news log (subst (λ l. AreCareful k b.news l) a.page b.careful) a.careful;
+  rest = b.rest ∙ ap (λ (t : State). record t { own = now.own; slots = now.slots }) a.rest;
+  count = b.count ∙ a.count;
+  others = λ j w low ne. b.others j w low ne ∙ a.others j w low ne;
+}
   where
     ea : List Event
     ea = explained s p k a.news log
@@ -100,3 +98,18 @@ watched-then s mid now p k log log-mid log-now first second a b = record {
     run : run_of s (explained s p k (b.news ++ a.news) log) ≡ (now, all_done (explained s p k (b.news ++ a.news) log), first ++ second)
     run = ap (run_of s) events ∙ run-append s ea eb ∙ ap (λ (r : Run). joined r (run_of r.0 eb)) a.run ∙ ap (joined (mid, all_done ea, first)) b.run
         ∙ ap (λ (rs : List Reply). (now, rs, first ++ second)) (sym (done-append ea eb)) ∙ ap (λ (es : List Event). (now, all_done es, first ++ second)) (sym events)
+
+-- the same looks, with the same notices
+renoted : (s now : State) (p : ℕ) (log log-now : List Access) (ns other : List Notice) → ns ≡ other → IsWatched s p kind.Sim log now log-now ns → IsWatched s p kind.Sim log now log-now other
+renoted s now p log log-now ns other is w = record { news = w.news; page = w.page; run = w.run ∙ ap (λ x. (now, all_done (explained s p kind.Sim w.news log), x)) is; careful = w.careful; rest = w.rest; count = w.count; others = w.others }
+
+-- one look more at a message page
+pub look-more : (s mid now : State) (p : ℕ) (log log-mid log-now : List Access) (found : ℕ) (before after : List Notice) (n : ℕ) → IsLooks s p log mid log-mid before n → IsLook mid p kind.Sim (32 * n) log-mid now log-now found before after
+    → IsLooks s p log now log-now after (n + 1)
+unfolding renoted watched-then
+look-more s mid now p log log-mid log-now found before after n h one = record {
+  watched = renoted s now p log log-now (before ++ one.emitted) after (sym one.notices) (watched-then s mid now p kind.Sim log log-mid log-now before one.emitted h.watched one.watched);
+  shadow = one.shadow;
+  few = omega (arith, h.few, one.few, ap length one.notices, length-append before one.emitted);
+  looks = subst (λ m. AreLooks m (one.watched.news ++ h.watched.news)) (let e : suc n ≡ n + 1 = omega arith in e) (found, h.watched.news, ap (λ l. l ++ h.watched.news) one.news, h.looks);
+}

@@ -11,3 +11,6 @@ pub mod Found
 pub mod Part
 pub mod Staying
 pub mod Shadowed
+pub mod Signalled
+pub mod Calm
+pub mod Guests

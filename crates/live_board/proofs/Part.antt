@@ -1,13 +1,12 @@
 -- A post on one page.
-use Rattle.std.proofs.Common.{◌≡◌, ◌≢◌, ◌⊎◌, inl, inr, ℕ, ◌+◌, ◌*◌, ◌/◌, ◌%◌, ◌^◌, ◌<◌, ◌≤◌, Bool, true, false, List, [], ◌∷◌, ◌++◌, length, get_or, Some, refl, sym, ap, ◌∙◌, subst, arith, append_assoc, append-nil, All}
-use Rattle.std.specs.Prelude.{◌==◌, bit_or, if◌then◌else◌}
+use Rattle.std.proofs.Common.{◌≡◌, ◌≢◌, ◌⊎◌, inl, inr, ℕ, ◌+◌, ◌*◌, ◌/◌, ◌%◌, ◌^◌, ◌<◌, ◌≤◌, Bool, true, false, List, [], ◌∷◌, ◌++◌, length, get_or, Some, refl, sym, ap, ◌∙◌, subst, arith, append_assoc, append-nil}
+use Rattle.std.specs.Prelude.{◌==◌, bit_or}
 use Rattle.std.proofs.lemmas.Bool.{cases_eq}
 use Rattle.std.proofs.lemmas.Bool.Decides.{nat_tests}
 use Rattle.arrayvec.specs.ArrayVec.{ArrayVec}
 use Rattle.board_terms.specs.declared.notices.Notice.{Notice}
 use Rattle.board_terms.specs.declared.pages.Kind.{Kind}
 use Rattle.board_terms.specs.declared.pages.Kind.TheVariants.{Sim}
-use Rattle.board_terms.specs.Ranges.{AreBytes}
 use Rattle.event_ports.specs.declared.ports.Port.{Port}
 use Rattle.event_ports.specs.Ports.{port_at}
 use Rattle.message_queues.specs.Image.{slot_type}
@@ -25,10 +24,11 @@ use Rattle.synic_board.specs.Posts.{posted}
 use Rattle.synic_board.proofs.keeping.Placements.{page_of}
 use Rattle.live_pages.specs.Slot.{known, type_of, is_pending}
 use Rattle.live_pages.specs.declared.access.Access.{Access}
+use Rattle.live_pages.specs.declared.access.Access.TheVariants.{Load}
 use Rattle.live_pages.proofs.Slots.{or-set}
 use Rattle.live_board.specs.Words.{word_at, word_of}
-use Rattle.live_board.specs.Live.{explained, all_done, AreCareful, IsShown}
-use Rattle.live_board.specs.inside.Parts.{IsShadow, IsWatched, LeavesOthers, IsFound, IsStep, IsInto, IsPart, IsFilled, Attempts, is_attempted}
+use Rattle.live_board.specs.Live.{explained, all_done, AreCareful, IsShown, HasLooked}
+use Rattle.live_board.specs.inside.Parts.{IsShadow, IsWatched, IsFound, IsStep, IsInto, IsPart, IsLooks, IsViewed, Attempts, is_attempted}
 use Rattle.live_board.proofs.Bytes.{joined, word-bytes}
 use Rattle.live_board.proofs.Posted.{posted-attempts}
 use Rattle.live_board.proofs.Filled.{stores-show}
@@ -67,7 +67,7 @@ pub made : (s now : State) (number kind : ℕ) (payload : ArrayVec ℕ) (reply :
 made s now number kind payload reply ns port is there h size bytes = subst (Made s number kind port) (sym (stepped s now number kind payload reply ns is)) (posted-attempts s number kind payload port there h size bytes)
 
 -- a run of looks, and then an event
-run-then : (s mid now : State) (p : ℕ) (k : Kind) (log log-mid : List Access) (more : List Access) (event : Event) (reply : Reply) (first second : List Notice) (w : IsWatched s p k log mid log-mid first)
+pub run-then : (s mid now : State) (p : ℕ) (k : Kind) (log log-mid : List Access) (more : List Access) (event : Event) (reply : Reply) (first second : List Notice) (w : IsWatched s p k log mid log-mid first)
     → explained s p k (more ++ w.news) log ≡ explained s p k w.news log → (now, reply, second) ≡ step mid event
     → run_of s (explained s p k (more ++ w.news) log ++ event ∷ []) ≡ (now, all_done (explained s p k (more ++ w.news) log) ++ reply ∷ [], first ++ second)
 unfolding run_of
@@ -100,15 +100,15 @@ pub part-kept : (s mid now : State) (number kind : ℕ) (port : Port) (log log-m
     → port.sint < 16 → ((b : ℕ) → b < 8 → get_or (page_of mid port.vp) (8 * (32 * port.sint) + b) 0 < 256) → IsFound s number kind port log mid log-mid header left [] between → IsStep mid event now reply between after
     → Made mid number kind port now → type_of header ≢ 0 → IsPart s port.vp Sim log event now log-mid reply after
 part-kept s mid now number kind port log log-mid header left event reply between after under bytes f one m full = record {
-      news = f.watched.news;
-      page = f.watched.page;
-      run = run-then s mid now p Sim log log-mid [] event reply f.emitted one.emitted f.watched refl one.step
-          ∙ ap (λ (ns : List Notice). (now, all_done (explained s p Sim f.watched.news log) ++ reply ∷ [], ns)) (sym (one.notices ∙ ap (λ ns. ns ++ one.emitted) f.notices));
-      careful = λ _. f.watched.careful;
-      shadow = λ x low. by x low (cases_eq x h);
-      others = λ j w low ne. m.others j w low (inl ne) ∙ f.watched.others j w low ne;
-      count = m.count ∙ f.watched.count;
-    }
+  news = f.watched.news;
+  page = f.watched.page;
+  run = run-then s mid now p Sim log log-mid [] event reply f.emitted one.emitted f.watched refl one.step
+      ∙ ap (λ (ns : List Notice). (now, all_done (explained s p Sim f.watched.news log) ++ reply ∷ [], ns)) (sym (one.notices ∙ ap (λ ns. ns ++ one.emitted) f.notices));
+  careful = λ _. f.watched.careful;
+  shadow = λ x low. by x low (cases_eq x h);
+  others = λ j w low ne. m.others j w low (inl ne) ∙ f.watched.others j w low ne;
+  count = m.count ∙ f.watched.count;
+}
   where
     p : ℕ
     p = port.vp
@@ -150,15 +150,15 @@ pub part-filled : (s mid now : State) (number kind : ℕ) (port : Port) (log log
     → port.sint < 16 → (w : IsWatched s port.vp Sim log mid log-mid first) → between ≡ first → ((x : ℕ) → x < 512 → x ≢ 32 * port.sint → known log-mid x ≡ word_of mid (2 * port.vp) x)
     → IsInto port left mid log-mid event now log-now reply between after → Made mid number kind port now → (IsShown s port.vp Sim → type_of left ≡ 0) → IsPart s port.vp Sim log event now log-now reply after
 part-filled s mid now number kind port log log-mid log-now left event reply first between after under w notices known-others into m empty = record {
-      news = more ++ w.news;
-      page = into.filled.page ∙ ap (λ l. more ++ l) w.page ∙ sym (append_assoc more w.news log);
-      run = run-then s mid now p Sim log log-mid more event reply first into.step.emitted w shows into.step.step
-          ∙ ap (λ (ns : List Notice). (now, all_done (explained s p Sim (more ++ w.news) log) ++ reply ∷ [], ns)) (sym (into.step.notices ∙ ap (λ ns. ns ++ into.step.emitted) notices));
-      careful = λ shown. runs.careful-append Sim more w.news log (subst (λ l. AreCareful Sim more l) w.page (into.filled.careful (empty shown))) w.careful;
-      shadow = λ x low. by x low (cases_eq (x / 32) port.sint);
-      others = λ j x low ne. m.others j x low (inl ne) ∙ w.others j x low ne;
-      count = m.count ∙ w.count;
-    }
+  news = more ++ w.news;
+  page = into.filled.page ∙ ap (λ l. more ++ l) w.page ∙ sym (append_assoc more w.news log);
+  run = run-then s mid now p Sim log log-mid more event reply first into.step.emitted w shows into.step.step
+      ∙ ap (λ (ns : List Notice). (now, all_done (explained s p Sim (more ++ w.news) log) ++ reply ∷ [], ns)) (sym (into.step.notices ∙ ap (λ ns. ns ++ into.step.emitted) notices));
+  careful = λ shown. runs.careful-append Sim more w.news log (subst (λ l. AreCareful Sim more l) w.page (into.filled.careful (empty shown))) w.careful;
+  shadow = λ x low. by x low (cases_eq (x / 32) port.sint);
+  others = λ j x low ne. m.others j x low (inl ne) ∙ w.others j x low ne;
+  count = m.count ∙ w.count;
+}
   where
     p : ℕ
     p = port.vp
@@ -180,8 +180,28 @@ pub not-watched : (s : State) (p : ℕ) (log : List Access) → IsWatched s p Si
 unfolding run_of
 not-watched s p log = record { news = []; page = refl; run = refl; careful = tt; rest = refl; count = refl; others = λ j w _ _. refl }
 
+pub no-looks : (s : State) (p : ℕ) (log : List Access) (notices : List Notice) → notices ≡ [] → IsShadow s (2 * p) log → IsLooks s p log s log notices 0
+unfolding run_of
+no-looks s p log notices none shadow = record {
+  watched = record { news = []; page = refl; run = ap (λ (ns : List Notice). (s, [], ns)) (sym none); careful = tt; rest = refl; count = refl; others = λ j w _ _. refl };
+  shadow = shadow;
+  few = omega (arith, ap length none);
+  looks = refl;
+}
+
 -- the bytes of a header
 pub header-bytes : (s : State) (p i : ℕ) → HasShape s → HasRanges s → p < processors s → i < 16 → (b : ℕ) → b < 8 → get_or (page_of s p) (8 * (32 * i) + b) 0 < 256
 header-bytes s p i shape ranges on under b low =
     let inside : 2 * p < length s.own = omega (arith, shape.overlays, on) in
     ranges.own (2 * p) [] inside (8 * (32 * i) + b) 0 (omega (arith, shape.own (2 * p) [] inside, under, low))
+
+pub viewed-looks : (s : State) (p : ℕ) (log : List Access) (now : State) (log-now : List Access) (notices : List Notice) → IsShown s p Sim → IsLooks s p log now log-now notices 16 → IsViewed s p log now log-now notices
+viewed-looks s p log now log-now notices shown h = record { watched = h.watched; shadow = h.shadow; shown = λ _. h.looks; hidden = λ no. absurd (no shown) }
+
+pub viewed-none : (s : State) (p : ℕ) (log : List Access) (notices : List Notice) → (IsShown s p Sim → ⊥) → notices ≡ [] → IsShadow s (2 * p) log → IsViewed s p log s log notices
+unfolding no-looks
+viewed-none s p log notices hidden none shadow = record { watched = (no-looks s p log notices none shadow).watched; shadow = shadow; shown = λ shown. absurd (hidden shown); hidden = λ _. refl }
+
+-- more accesses after a look
+pub looked-more : (w : ℕ) (log mid now more : List Access) → now ≡ more ++ mid → HasLooked w log mid → HasLooked w log now
+looked-more w log mid now more is h = (more ++ h.0, h.1, is ∙ ap (λ l. more ++ l) h.2 ∙ sym (append_assoc more h.0 (Load w h.1 ∷ log)))

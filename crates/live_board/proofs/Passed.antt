@@ -1,5 +1,5 @@
 -- What a passed word leaves and changes.
-use Rattle.std.proofs.Common.{◌≡◌, ◌≢◌, ◌⊎◌, inl, inr, ℕ, ◌+◌, ◌*◌, ◌/◌, ◌%◌, ◌^◌, ◌<◌, ◌≤◌, Bool, true, false, List, [], ◌∷◌, ◌++◌, length, get_or, set, Option, None, Some, refl, sym, ap, ◌∙◌, subst, arith, length-set, append-nil}
+use Rattle.std.proofs.Common.{◌≡◌, ◌≢◌, ◌⊎◌, inl, inr, ℕ, ◌+◌, ◌*◌, ◌/◌, ◌^◌, ◌<◌, ◌≤◌, Bool, true, false, List, [], ◌∷◌, ◌++◌, length, get_or, set, Option, None, Some, refl, sym, ap, ◌∙◌, subst, arith, length-set, append-nil}
 use Rattle.std.specs.Prelude.{◌==◌, if◌then◌else◌}
 use Rattle.std.specs.Int.{to_le_bytes, w64}
 use Rattle.std.proofs.lemmas.Bool.{cases_eq, cases_lt}
@@ -10,19 +10,18 @@ use Rattle.board_terms.specs.declared.pages.Kind.{Kind}
 use Rattle.board_terms.specs.declared.pages.Kind.TheVariants as kind
 use Rattle.message_queues.specs.Image.{slot_type}
 use Rattle.gpa_space.specs.Page.{overwritten}
-use Rattle.gpa_space.specs.Space.{overlay_of, own_page}
-use Rattle.synic_board.specs.declared.event.Reply.{Reply}
-use Rattle.synic_board.specs.State.{State, processors, space_of, slot_of}
-use Rattle.synic_board.specs.Effects.{Effect, Outcome, nothing, after}
-use Rattle.synic_board.specs.Step.{step}
-use Rattle.synic_board.specs.Run.{Run, run_of, followed_by}
-use Rattle.synic_board.specs.Sound.{IsSound, HasShape, IsFree}
-use Rattle.synic_board.specs.Stores.{consumed_ticket, consumed, consumed_below, consumed_in}
+use Rattle.gpa_space.specs.Space.{overlay_of}
+use Rattle.synic_board.specs.State.{State, processors, slot_of}
+use Rattle.synic_board.specs.Effects.{Effect, Outcome}
+use Rattle.synic_board.specs.Run.{Run, run_of}
+use Rattle.synic_board.specs.Sound.{IsSound, IsFree}
+use Rattle.synic_board.specs.Stores.{consumed_ticket, consumed, consumed_in}
 use Rattle.synic_board.specs.Delivery.{is_slot_empty}
 use Rattle.synic_board.proofs.Touching.{one-consumed}
 use Rattle.synic_board.proofs.keeping.Requests.{either}
 use Rattle.synic_board.proofs.keeping.Slots.{overwritten-other}
-use Rattle.live_board.specs.Live.{IsShown, owner_at, store_of, found_stores, all_done, IsPassed}
+use Rattle.live_board.specs.Live.{IsShown, owner_at, store_of, all_done}
+use Rattle.live_board.specs.inside.Parts.{IsPassed}
 use Rattle.live_board.specs.Words.{word_of}
 use Rattle.live_board.specs.inside.Parts.{HasWord}
 use Rattle.live_board.proofs.Bytes.{word-written, word-elsewhere}
@@ -33,11 +32,11 @@ same-has s o w value is = record { rest = refl; count = refl; here = sym is; oth
 
 stored-has : (s now : State) (o w value : ℕ) → o < length s.own → length (get_or s.own o []) ≡ 4096 → w < 512 → value < 2 ^ 64 → now ≡ record (with_word s o w value) { slots = now.slots } → HasWord s o w value now
 stored-has s now o w value inside long low small is = record {
-      rest = is ∙ ap (λ l. record s { own = l; slots = now.slots }) (sym own);
-      count = ap length own ∙ length-set s.own o page;
-      here = ap (λ l. word_of (record s { own = l }) o w) own ∙ ap (λ l. word_of (record s { own = l ∷ [] }) 0 w) (get_or-set_same s.own o page [] inside) ∙ word-written (get_or s.own o []) w value (omega (arith, long, low)) small;
-      others = λ j x apart. ap (λ l. word_of (record s { own = l }) j x) own ∙ elsewhere j x (cases_eq j o) apart;
-    }
+  rest = is ∙ ap (λ l. record s { own = l; slots = now.slots }) (sym own);
+  count = ap length own ∙ length-set s.own o page;
+  here = ap (λ l. word_of (record s { own = l }) o w) own ∙ ap (λ l. word_of (record s { own = l ∷ [] }) 0 w) (get_or-set_same s.own o page [] inside) ∙ word-written (get_or s.own o []) w value (omega (arith, long, low)) small;
+  others = λ j x apart. ap (λ l. word_of (record s { own = l }) j x) own ∙ elsewhere j x (cases_eq j o) apart;
+}
   where
     page : List ℕ
     page = overwritten (get_or s.own o []) (8 * w) (to_le_bytes w64 value)
@@ -121,7 +120,7 @@ has-word s now p k w value notices h on low small shown passed = by (value == wo
         )
     by false is =
         let run : run_of s (store_of s p k w value ∷ []) ≡ (now, all_done (store_of s p k w value ∷ []), notices) =
-            ap (λ b. run_of s (if b then [] else store_of s p k w value ∷ [])) (sym is) ∙ passed ∙ ap (λ b. (now, all_done (if b then [] else store_of s p k w value ∷ []), notices)) is in
+        ap (λ b. run_of s (if b then [] else store_of s p k w value ∷ [])) (sym is) ∙ passed ∙ ap (λ b. (now, all_done (if b then [] else store_of s p k w value ∷ []), notices)) is in
         let stored = stored-word s p k w value shown low in
         let state : now ≡ e.0 = sym (ap (λ (r : Run). r.0) run) ∙ ap (λ (x : Outcome). x.0) stored in
         let emitted : notices ≡ e.1 ++ [] = sym (ap (λ (r : Run). r.2) run) ∙ ap (λ (x : Outcome). x.2 ++ []) stored in

@@ -1,5 +1,5 @@
 -- The words that a post changes.
-use Rattle.std.proofs.Common.{◌≡◌, ◌≢◌, ℕ, zero, suc, ◌+◌, ◌*◌, ◌<◌, ◌≤◌, ◌^◌, Bool, true, false, ◌&&◌, List, [], ◌∷◌, ◌++◌, length, get_or, set, Option, None, Some, Ok, Err, refl, sym, ap, ◌∙◌, subst, arith, nat_lt, All, length-set, length-append}
+use Rattle.std.proofs.Common.{◌≡◌, ◌≢◌, ℕ, ◌+◌, ◌*◌, ◌<◌, ◌≤◌, ◌^◌, Bool, true, false, ◌&&◌, List, [], ◌∷◌, ◌++◌, length, get_or, Option, None, Some, Ok, Err, refl, sym, ap, ◌∙◌, subst, arith, nat_lt, All, length-set, length-append}
 use Rattle.std.specs.Prelude.{is_none, if◌then◌else◌}
 use Rattle.std.specs.Option.{option_map_or}
 use Rattle.std.proofs.lemmas.Bool.Decides.{nat_tests}
@@ -10,24 +10,19 @@ use Rattle.board_terms.specs.declared.messages.PortShape.{PortShape}
 use Rattle.board_terms.specs.declared.messages.PortShape.TheVariants.{Messages, Flags}
 use Rattle.board_terms.specs.declared.messages.Message.{Message}
 use Rattle.board_terms.specs.declared.messages.Message.TheVariants.{FromPort}
-use Rattle.board_terms.specs.declared.notices.Notice.{Notice}
 use Rattle.board_terms.specs.declared.refusal.Refusal.{Refusal}
-use Rattle.board_terms.specs.declared.refusal.Refusal.TheVariants.{UnknownPort, WrongKind, BadType}
+use Rattle.board_terms.specs.declared.refusal.Refusal.TheVariants.{UnknownPort, BadType}
 use Rattle.board_terms.specs.Sources.{source_number}
 use Rattle.event_ports.specs.declared.ports.Port.{Port}
 use Rattle.event_ports.specs.Ports.{port_at, is_posted_type, message_target_at}
 use Rattle.event_ports.specs.Shapes.{takes_messages}
 use Rattle.message_queues.specs.Queues.{queue_of}
-use Rattle.synic_board.specs.declared.event.Reply.{Reply}
-use Rattle.synic_board.specs.declared.event.Reply.TheVariants.{Accepted, Refused}
-use Rattle.synic_board.specs.declared.event.Event.TheVariants.{Post}
+use Rattle.synic_board.specs.declared.event.Reply.TheVariants.{Accepted}
 use Rattle.synic_board.specs.State.{State, processors, ports_of}
-use Rattle.synic_board.specs.Effects.{Outcome, answered, refused}
-use Rattle.synic_board.specs.Step.{step}
-use Rattle.synic_board.specs.Delivery.{delivers, tried, accepted, delivered}
+use Rattle.synic_board.specs.Effects.{answered, refused}
+use Rattle.synic_board.specs.Delivery.{delivers, accepted, delivered}
 use Rattle.synic_board.specs.Posts.{post_refusal, posted_at, posted}
 use Rattle.synic_board.specs.Sound.{IsSound, IsWhole, IsMessage}
-use Rattle.synic_board.proofs.keeping.Requests.{either}
 use Rattle.synic_board.proofs.keeping.Placements.{page_of, page-long, queue-good}
 use Rattle.live_board.specs.Words.{word_of}
 use Rattle.live_board.specs.inside.Parts.{Attempts, is_attempted}
@@ -36,11 +31,11 @@ use Rattle.live_board.proofs.Tried.{is_tried, pages-tried, tries-is}
 -- nothing changes
 pub still-attempts : (s now : State) (p i : ℕ) (made : Bool) → now.own ≡ s.own → made ≡ false → Attempts s p i made now
 still-attempts s now p i made own none = record {
-      count = ap length own;
-      others = λ j x _ _. ap (λ l. word_of (record s { own = l }) j x) own;
-      idle = λ _ j x. ap (λ l. word_of (record s { own = l }) j x) own;
-      marks = λ yes _ x _. absurd (let e : true ≡ false = sym yes ∙ none in cc);
-    }
+  count = ap length own;
+  others = λ j x _ _. ap (λ l. word_of (record s { own = l }) j x) own;
+  idle = λ _ j x. ap (λ l. word_of (record s { own = l }) j x) own;
+  marks = λ yes _ x _. absurd (let e : true ≡ false = sym yes ∙ none in cc);
+}
 
 -- a message that is accepted is attempted if the SynIC and its message page are enabled
 accepted-whole : (n : ℕ) (s : State) (p i : ℕ) (m : Message) → IsWhole n s → p < n → i < 16 → IsMessage m → IsWhole n (accepted s p i m).0

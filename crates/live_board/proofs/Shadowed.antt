@@ -1,5 +1,5 @@
 -- A call on one page of a live board.
-use Rattle.std.proofs.Common.{◌≡◌, ◌≢◌, ◌⊎◌, inl, inr, ℕ, ◌+◌, ◌*◌, ◌<◌, ◌≤◌, List, [], ◌∷◌, ◌++◌, length, get_or, set, Some, refl, sym, ap, ◌∙◌, subst, arith, length-set, append-nil}
+use Rattle.std.proofs.Common.{◌≡◌, ◌≢◌, ◌⊎◌, inl, inr, ℕ, ◌*◌, ◌<◌, List, [], ◌∷◌, ◌++◌, length, get_or, set, refl, sym, ap, ◌∙◌, subst, arith, length-set, append-nil}
 use Rattle.std.specs.Prelude.{None}
 use Rattle.std.proofs.lemmas.Bool.{cases_eq}
 use Rattle.std.proofs.lemmas.List.{get_or-set_same, get_or-set_other, get_or_default}
@@ -10,17 +10,17 @@ use Rattle.board_terms.specs.declared.pages.Kind.TheVariants as kind
 use Rattle.event_ports.specs.Ports.{port_at}
 use Rattle.gpa_space.specs.Space.{overlay_of}
 use Rattle.synic_board.specs.declared.event.Event.{Event}
-use Rattle.synic_board.specs.declared.event.Event.TheVariants.{Post}
+use Rattle.synic_board.specs.declared.event.Event.TheVariants.{Post, Signal}
 use Rattle.synic_board.specs.declared.event.Reply.{Reply}
 use Rattle.synic_board.specs.State.{State, BoardModel, ports_of}
 use Rattle.synic_board.specs.Effects.{Outcome}
 use Rattle.synic_board.specs.Step.{step}
-use Rattle.synic_board.specs.Run.{Run, run_of}
+use Rattle.synic_board.specs.Run.{run_of}
 use Rattle.live_pages.specs.Slot.{known}
 use Rattle.live_pages.specs.declared.access.Access.{Access}
 use Rattle.live_board.specs.Words.{word_of}
-use Rattle.live_board.specs.Live.{LiveModel, Shadows, IsLive, IsShown, all_done, explained, AreCareful}
-use Rattle.live_board.specs.inside.Parts.{IsPart}
+use Rattle.live_board.specs.Live.{LiveModel, Shadows, IsLive, IsObserved}
+use Rattle.live_board.specs.inside.Parts.{IsPart, IsViewed}
 
 abbrev pub live : BoardModel → List (List Access) → LiveModel
 live board pages = record { board = board; pages = pages }
@@ -29,9 +29,9 @@ live board pages = record { board = board; pages = pages }
 pub part-shadows : (s now : State) (pages : List (List Access)) (p : ℕ) (k : Kind) (event : Event) (log-now : List Access) (reply : Reply) (notices : List Notice) → overlay_of p k < length s.own → Shadows s pages
     → IsPart s p k (get_or pages (overlay_of p k) []) event now log-now reply notices → Shadows now (set pages (overlay_of p k) log-now)
 part-shadows s now pages p k event log-now reply notices inside h part = record {
-      count = length-set pages o log-now ∙ h.count ∙ sym part.count;
-      words = λ j w low small. by j w (omega (arith, low, part.count)) small (cases_eq j o);
-    }
+  count = length-set pages o log-now ∙ h.count ∙ sym part.count;
+  words = λ j w low small. by j w (omega (arith, low, part.count)) small (cases_eq j o);
+}
   where
     o : ℕ
     o = overlay_of p k
@@ -93,3 +93,44 @@ live-at old other now event reply notices is h = subst (λ m. IsLive m event now
 pub indexed-live : (old now : BoardModel) (pages : List (List Access)) (i o : ℕ) (log-now : List Access) (event : Event) (reply : Reply) (notices : List Notice) → i ≡ o → IsLive (live old pages) event (live now (set pages o log-now)) reply notices
     → IsLive (live old pages) event (live now (set pages i log-now)) reply notices
 indexed-live old now pages i o log-now event reply notices is h = subst (λ n. IsLive (live old pages) event (live now (set pages n log-now)) reply notices) (sym is) h
+
+-- a signal to a port that is not open
+pub not-signalled : (s now : State) (number flag : ℕ) (reply : Reply) (notices : List Notice) → port_at (ports_of s) number ≡ None → (now, reply, notices) ≡ step s (Signal number flag) → now.own ≡ s.own
+unfolding step
+not-signalled s now number flag reply notices none is = ap (λ (o : Outcome). o.0.own) is ∙ rw none refl
+
+-- a look at the slots of one message page
+pub viewed-shadows : (s now : State) (pages : List (List Access)) (p : ℕ) (log-now : List Access) (notices : List Notice) → 2 * p < length s.own → Shadows s pages
+    → IsViewed s p (get_or pages (2 * p) []) now log-now notices → Shadows now (set pages (2 * p) log-now)
+viewed-shadows s now pages p log-now notices inside h v = record {
+  count = length-set pages o log-now ∙ h.count ∙ sym v.watched.count;
+  words = λ j w low small. by j w (omega (arith, low, v.watched.count)) small (cases_eq j o);
+}
+  where
+    o : ℕ
+    o = 2 * p
+
+    by : (j w : ℕ) → j < length s.own → w < 512 → (j ≡ o) ⊎ (j ≢ o) → known (get_or (set pages o log-now) j []) w ≡ word_of now j w
+    by j w low small (inl e) =
+        ap (λ n. known (get_or (set pages o log-now) n []) w) e ∙ ap (λ l. known l w) (get_or-set_same pages o log-now [] (omega (arith, h.count, inside))) ∙ v.shadow w small ∙ ap (λ n. word_of now n w) (sym e)
+    by j w low small (inr ne) = ap (λ l. known l w) (get_or-set_other pages o j log-now [] ne) ∙ h.words j w low small ∙ sym (v.watched.others j w small ne)
+
+pub viewed-observed : (old now : BoardModel) (pages : List (List Access)) (p : ℕ) (log-now : List Access) (notices : List Notice) → IsViewed old.state p (get_or pages (2 * p) []) now.state log-now notices
+    → IsObserved p (live old pages) (live now (set pages (2 * p) log-now)) notices
+viewed-observed old now pages p log-now notices v = record {
+  news = v.watched.news;
+  pages = ap (set pages (2 * p)) v.watched.page;
+  shown = v.shown;
+  hidden = v.hidden;
+  run = v.watched.run;
+}
+
+pub viewed-at : (s : State) (p : ℕ) (log other : List Access) (now : State) (log-now : List Access) (notices : List Notice) → log ≡ other → IsViewed s p log now log-now notices → IsViewed s p other now log-now notices
+viewed-at s p log other now log-now notices is v = subst (λ l. IsViewed s p l now log-now notices) is v
+
+pub observed-at : (old other now : LiveModel) (p : ℕ) (notices : List Notice) → old ≡ other → IsObserved p old now notices → IsObserved p other now notices
+observed-at old other now p notices is h = subst (λ m. IsObserved p m now notices) is h
+
+pub indexed-observed : (old now : BoardModel) (pages : List (List Access)) (i o p : ℕ) (log-now : List Access) (notices : List Notice) → i ≡ o → IsObserved p (live old pages) (live now (set pages o log-now)) notices
+    → IsObserved p (live old pages) (live now (set pages i log-now)) notices
+indexed-observed old now pages i o p log-now notices is h = subst (λ n. IsObserved p (live old pages) (live now (set pages n log-now)) notices) (sym is) h

@@ -1,29 +1,26 @@
 -- A guest's store of a word of an overlay that it sees.
-use Rattle.std.proofs.Common.{◌≡◌, ◌≢◌, ◌⊎◌, inl, inr, ℕ, zero, suc, ◌+◌, ◌*◌, ◌/◌, ◌%◌, ◌^◌, ◌<◌, ◌≤◌, Bool, true, false, List, [], ◌∷◌, ◌++◌, length, get_or, set, Option, None, Some, refl, sym, ap, ◌∙◌, subst, arith, nat_lt, append-nil}
+use Rattle.std.proofs.Common.{◌≡◌, ◌≢◌, ℕ, zero, suc, ◌+◌, ◌*◌, ◌/◌, ◌%◌, ◌<◌, Bool, true, false, List, [], ◌∷◌, ◌++◌, get_or, set, Option, None, Some, refl, sym, ap, ◌∙◌, arith, nat_lt, append-nil}
 use Rattle.std.specs.Prelude.{◌==◌, ◌&&◌, if◌then◌else◌}
 use Rattle.std.specs.Option.{option_map_or}
 use Rattle.std.specs.Int.{to_le_bytes, w64}
 use Rattle.std.proofs.lemmas.Bool.Decides.{nat_tests}
-use Rattle.std.proofs.lemmas.List.{get_or-set_same, get_or-set_other}
-use mathlib.Core.Logic.{dite}
-use native.Mathlib.Decide.{ℕ_discrete}
 use Rattle.board_terms.specs.declared.notices.Notice.{Notice}
-use Rattle.board_terms.specs.declared.refusal.Refusal.{Refusal}
 use Rattle.board_terms.specs.declared.pages.Kind.{Kind}
 use Rattle.board_terms.specs.declared.pages.Kind.TheVariants as kind
 use Rattle.board_terms.specs.declared.pages.Owner.{Owner}
 use Rattle.board_terms.specs.declared.pages.Owner.TheVariants.{Guest, Sim, Sief, Nothing}
 use Rattle.gpa_space.specs.Page.{overwritten}
-use Rattle.gpa_space.specs.Space.{Space, page_count, visible, overlay_owner, overlay_of, owner_of, refusal_of, after_store, with_visible_page, visible_page, is_elsewhere, is_sparse}
+use Rattle.gpa_space.specs.Space.{Space, page_count, visible, overlay_owner, overlay_of, owner_of, refusal_of, after_store, is_sparse}
 use Rattle.synic_board.specs.declared.event.Reply.{Reply}
 use Rattle.synic_board.specs.declared.event.Reply.TheVariants.{Done}
-use Rattle.synic_board.specs.State.{State, space_of, with_space, slot_of, with_slot_ticket}
-use Rattle.synic_board.specs.Effects.{Effect, Outcome, nothing, after, answered, refused}
+use Rattle.synic_board.specs.State.{State, space_of, with_space, slot_of}
+use Rattle.synic_board.specs.Effects.{Outcome, nothing, answered, refused}
 use Rattle.synic_board.specs.Step.{step}
 use Rattle.synic_board.specs.Run.{run_of}
-use Rattle.synic_board.specs.Stores.{consumed_ticket, consumed, consumed_below, consumed_in, with_bytes, stored_bytes}
+use Rattle.synic_board.specs.Stores.{consumed_ticket, consumed, consumed_below, consumed_in, with_bytes}
 use Rattle.synic_board.specs.Delivery.{is_slot_empty}
-use Rattle.live_board.specs.Live.{number_at, owner_at, IsShown, store_of, found_stores, all_done, IsPassed}
+use Rattle.live_board.specs.Live.{number_at, owner_at, IsShown, store_of}
+use Rattle.live_board.specs.inside.Parts.{IsPassed}
 use Rattle.live_board.specs.Words.{word_of}
 
 -- which overlay an owner is

@@ -1,24 +1,22 @@
 -- The words that a delivery attempt changes.
-use Rattle.std.proofs.Common.{◌≡◌, ◌≢◌, ◌⊎◌, inl, inr, ℕ, zero, suc, ◌+◌, ◌*◌, ◌/◌, ◌%◌, ◌^◌, ◌<◌, ◌≤◌, Bool, true, false, ◌&&◌, cond, List, [], ◌∷◌, ◌++◌, length, get_or, set, Option, None, Some, refl, sym, ap, ◌∙◌, subst, arith, nat_lt, All, length-set}
+use Rattle.std.proofs.Common.{◌≡◌, ◌≢◌, ◌⊎◌, inl, inr, ℕ, ◌+◌, ◌*◌, ◌/◌, ◌%◌, ◌^◌, ◌<◌, Bool, true, false, ◌&&◌, List, [], ◌∷◌, length, get_or, set, None, Some, refl, sym, ap, ◌∙◌, subst, arith, nat_lt, All, length-set}
 use Rattle.std.specs.Prelude.{◌==◌, bit_or, if◌then◌else◌}
 use Rattle.std.specs.Option.{option_map_or}
 use Rattle.std.proofs.lemmas.Bool.{cases_eq}
 use Rattle.std.proofs.lemmas.Bool.Decides.{nat_tests}
 use Rattle.std.proofs.lemmas.List.{get_or-set_same, get_or-set_other}
 use Rattle.board_terms.specs.declared.messages.Message.{Message}
-use Rattle.board_terms.specs.declared.pages.Kind.TheVariants.{Sim}
 use Rattle.synic_regs.specs.Regs.{raised_by}
 use Rattle.message_queues.specs.Queues.{queue_of}
 use Rattle.message_queues.proofs.WrittenSlots.{length-image}
 use Rattle.gpa_space.specs.Page.{with_slot, with_bit, pending_place}
-use Rattle.gpa_space.specs.Space.{own_page}
-use Rattle.synic_board.specs.State.{State, regs_of, space_of}
+use Rattle.synic_board.specs.State.{State, regs_of}
 use Rattle.synic_board.specs.Effects.{Effect, nothing, after}
 use Rattle.synic_board.specs.Interrupts.{requested, raised}
-use Rattle.synic_board.specs.Delivery.{delivers, is_slot_empty, placed_head, placed, marked, tried}
+use Rattle.synic_board.specs.Delivery.{delivers, is_slot_empty, placed_head, tried}
 use Rattle.synic_board.specs.Sound.{IsWhole, IsMessage}
 use Rattle.synic_board.proofs.keeping.Requests.{either}
-use Rattle.synic_board.proofs.keeping.Placements.{page_of, image_of, page-long, queue-good, tail-good}
+use Rattle.synic_board.proofs.keeping.Placements.{page_of, image_of, queue-good, tail-good}
 use Rattle.live_board.specs.Words.{word_at, word_of}
 use Rattle.live_board.specs.inside.Parts.{Attempts}
 use Rattle.live_board.proofs.Bytes.{bit-here, bit-elsewhere, slot-elsewhere}
@@ -28,10 +26,10 @@ abbrev pub is_tried : State → ℕ → ℕ → Bool
 is_tried s p i = delivers s p && nat_lt 0 (length (queue_of s.queues p i))
 
 -- raising a vector changes no page
-own-requested : (s : State) (p v : ℕ) → (requested s p v).0.own ≡ s.own
+pub own-requested : (s : State) (p v : ℕ) → (requested s p v).0.own ≡ s.own
 own-requested s p v = either (λ (e : Effect). e.0.own ≡ s.own) _ _ _ (λ _. refl) (λ _. refl)
 
-own-raised : (s : State) (p i : ℕ) → (raised s p i).0.own ≡ s.own
+pub own-raised : (s : State) (p i : ℕ) → (raised s p i).0.own ≡ s.own
 own-raised s p i = elim (raised_by (regs_of s p) i) as (λ o. (option_map_or (requested s p) o (nothing s)).0.own ≡ s.own) [ None ↦ refl | Some v ↦ own-requested s p v ]
 
 -- the own pages after an attempt
@@ -84,11 +82,11 @@ tries-is s now p i inside long under bytes (inl (none, own)) = record {
   marks = λ made _ x _. absurd (no-both made none);
 }
 tries-is s now p i inside long under bytes (inr (made, inl (full, own))) = record {
-      count = ap length own ∙ length-set s.own (2 * p) page;
-      others = λ j x low ne. ap (λ l. words l j x) own ∙ elsewhere j x (cases_eq j (2 * p)) ne;
-      idle = λ none j x. absurd (no-both made none);
-      marks = λ _ _ x low. ap (λ l. words l (2 * p) x) own ∙ ap (λ l. word_at l (8 * x)) (get_or-set_same s.own (2 * p) page [] inside) ∙ here x low (cases_eq x (32 * i));
-    }
+  count = ap length own ∙ length-set s.own (2 * p) page;
+  others = λ j x low ne. ap (λ l. words l j x) own ∙ elsewhere j x (cases_eq j (2 * p)) ne;
+  idle = λ none j x. absurd (no-both made none);
+  marks = λ _ _ x low. ap (λ l. words l (2 * p) x) own ∙ ap (λ l. word_at l (8 * x)) (get_or-set_same s.own (2 * p) page [] inside) ∙ here x low (cases_eq x (32 * i));
+}
   where
     page : List ℕ
     page = with_bit (page_of s p) (pending_place i) 0
@@ -111,11 +109,11 @@ tries-is s now p i inside long under bytes (inr (made, inl (full, own))) = recor
         let e : (x == 32 * i) ≡ false = grind (arith, nat_tests) in
         rw e (bit-elsewhere (page_of s p) (pending_place i) 0 x (λ z. ne (omega (arith, z))))
 tries-is s now p i inside long under bytes (inr (made, inr (empty, (image, size, own)))) = record {
-      count = ap length own ∙ length-set s.own (2 * p) page;
-      others = λ j x low ne. ap (λ l. words l j x) own ∙ elsewhere j x low (cases_eq j (2 * p)) ne;
-      idle = λ none j x. absurd (no-both made none);
-      marks = λ _ full x _. absurd (no-both empty full);
-    }
+  count = ap length own ∙ length-set s.own (2 * p) page;
+  others = λ j x low ne. ap (λ l. words l j x) own ∙ elsewhere j x low (cases_eq j (2 * p)) ne;
+  idle = λ none j x. absurd (no-both made none);
+  marks = λ _ full x _. absurd (no-both empty full);
+}
   where
     page : List ℕ
     page = with_slot (page_of s p) i image

@@ -1,22 +1,19 @@
 -- Looks at the words of an own page, one after another.
-use Rattle.std.proofs.Common.{◌≡◌, ◌≢◌, ◌⊎◌, inl, inr, ℕ, ◌+◌, ◌*◌, ◌^◌, ◌<◌, ◌≤◌, Bool, true, false, List, [], ◌∷◌, ◌++◌, length, map, refl, sym, ap, ◌∙◌, subst, arith, append_assoc, append-nil}
-use Rattle.std.specs.Prelude.{◌==◌, bit_or, slice_get, Option, None, Some, if◌then◌else◌}
+use Rattle.std.proofs.Common.{◌≡◌, ◌≢◌, ◌⊎◌, inl, inr, ℕ, ◌<◌, ◌≤◌, true, false, List, [], ◌∷◌, ◌++◌, length, refl, sym, ap, ◌∙◌, arith, append-nil}
+use Rattle.std.specs.Prelude.{◌==◌, slice_get, None, Some, if◌then◌else◌}
 use Rattle.std.proofs.lemmas.Bool.Decides.{nat_tests}
 use Rattle.std.proofs.lemmas.Bool.{cases_eq}
-use Rattle.std.proofs.lemmas.List.{map-append}
 use Rattle.board_terms.specs.declared.notices.Notice.{Notice}
 use Rattle.board_terms.specs.declared.pages.Kind.{Kind}
 use Rattle.gpa_space.specs.Space.{overlay_of}
 use Rattle.synic_board.specs.declared.event.Event.{Event}
-use Rattle.synic_board.specs.declared.event.Reply.{Reply}
-use Rattle.synic_board.specs.declared.event.Reply.TheVariants.{Done}
 use Rattle.synic_board.specs.State.{State}
-use Rattle.synic_board.specs.Step.{step}
-use Rattle.synic_board.specs.Run.{Run, run_of, followed_by}
+use Rattle.synic_board.specs.Run.{run_of}
 use Rattle.live_pages.specs.Slot.{known}
 use Rattle.live_pages.specs.declared.access.Access.{Access}
-use Rattle.live_pages.specs.declared.access.Access.TheVariants.{Load, FetchOr, Store}
-use Rattle.live_board.specs.Live.{number_at, store_of, found_stores, all_done, IsPassed, explained, shown_by, AreCareful}
+use Rattle.live_pages.specs.declared.access.Access.TheVariants.{Load, FetchOr}
+use Rattle.live_board.specs.Live.{store_of, all_done, explained, AreCareful}
+use Rattle.live_board.specs.inside.Parts.{found_stores, IsPassed}
 use Rattle.live_board.specs.Words.{word_of}
 use Rattle.live_board.specs.inside.Parts.{HasWord, IsShadow, IsWatched, IsPassedOn, IsLook, IsMark}
 
@@ -47,12 +44,14 @@ watched-by s p k w found log now-log news now notices shows careful page passed 
 
 pub look-is : (s : State) (p : ℕ) (k : Kind) (w found : ℕ) (log log-now : List Access) (now : State) (before after : List Notice) → w < 512 → IsShadow s (overlay_of p k) log → log-now ≡ Load w found ∷ log
     → IsPassedOn s p k w found now before after → IsLook s p k w log now log-now found before after
+unfolding watched-by
 look-is s p k w found log log-now now before after low shadow page on = record {
   emitted = on.emitted;
   notices = on.notices;
   few = on.few;
   page = page;
   watched = watched-by s p k w found log log-now (Load w found ∷ []) now on.emitted (look-shows s p k w found log (shadow w low)) tt page on.passed on.word;
+  news = refl;
   word = on.word;
   shadow = λ x small. ap (λ l. known l x) page ∙ by x small (cases_eq x w);
 }

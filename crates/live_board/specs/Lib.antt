@@ -1,3 +1,4 @@
 pub mod Words
 pub mod Live
+pub mod Quiet
 pub mod inside

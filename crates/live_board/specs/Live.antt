@@ -1,5 +1,5 @@
 -- A board with live pages, and what it makes of the words that it finds there.
-use Rattle.std.specs.Prelude.{◌≡◌, ℕ, ◌+◌, ◌*◌, ◌/◌, ◌<◌, ◌==◌, List, [], ◌∷◌, ◌++◌, map, length, slice_index_or, slice_set, if◌then◌else◌}
+use Rattle.std.specs.Prelude.{◌≡◌, ℕ, zero, suc, ◌+◌, ◌*◌, ◌/◌, ◌<◌, ◌==◌, List, [], ◌∷◌, ◌++◌, map, length, slice_index_or, slice_set, if◌then◌else◌}
 use Rattle.std.specs.Int.{to_le_bytes, w64}
 use Rattle.board_terms.specs.declared.pages.Kind.{Kind}
 use Rattle.board_terms.specs.declared.pages.Kind.TheVariants as kind
@@ -12,6 +12,7 @@ use Rattle.synic_board.specs.declared.event.Event.TheVariants as event
 use Rattle.synic_board.specs.declared.event.Reply.{Reply}
 use Rattle.synic_board.specs.declared.event.Reply.TheVariants as reply
 use Rattle.synic_board.specs.State.{State, BoardModel, regs_of, space_of}
+use Rattle.synic_board.specs.Performing.{Performs}
 use Rattle.synic_board.specs.Run.{run_of}
 use Rattle.live_pages.specs.Slot.{known, type_of}
 use Rattle.live_pages.specs.declared.access.Access.{Access}
@@ -45,17 +46,13 @@ IsShown s p k = owner_of (space_of s) (number_at s p k) ≡ owner_at p k
 abbrev pub store_of : State → ℕ → Kind → ℕ → ℕ → Event
 store_of s p k w value = event.Store (number_at s p k * 4096 + 8 * w) (record { items = to_le_bytes w64 value })
 
--- a word that the host found is a guest's store if the reference model has another one
-abbrev pub found_stores : State → ℕ → Kind → ℕ → ℕ → List Event
-found_stores s p k w value = if value == word_of s (overlay_of p k) w then [] else store_of s p k w value ∷ []
+-- a store of some word of an own page
+abbrev pub IsOwnStore : State → ℕ → Kind → Event → Type 0
+IsOwnStore s p k event = (w : ℕ) × (value : ℕ) × (event ≡ store_of s p k w value)
 
 -- the reply to each of some stores
 abbrev pub all_done : List Event → List Reply
 all_done events = map (λ _. reply.Done) events
-
--- the reference model performs the store that a word shows, if any
-abbrev pub IsPassed : State → ℕ → Kind → ℕ → ℕ → State → List Notice → Type 0
-IsPassed s p k w value now notices = run_of s (found_stores s p k w value) ≡ (now, all_done (found_stores s p k w value), notices)
 
 -- the guest's store that an access shows: it found another word than the host knew
 abbrev pub shown_by : State → ℕ → Kind → Access → List Access → List Event
@@ -93,9 +90,25 @@ pub record IsLive (old : LiveModel) (event : Event) (now : LiveModel) (reply : R
   pub run : run_of old.board.state (explained old.board.state vp kind news (log_of old vp kind) ++ event ∷ []) ≡ (now.board.state, all_done (explained old.board.state vp kind news (log_of old vp kind)) ++ reply ∷ [], notices)
   pub careful : IsShown old.board.state vp kind → AreCareful kind news (log_of old vp kind)
 
--- a live board looks at words of an own page that the guest sees
-pub record IsObserved (p : ℕ) (k : Kind) (old : LiveModel) (now : LiveModel) (notices : List Notice) : Type 0 where
+-- a live board performs an event without an access to a live page
+pub record IsQuietly (old : LiveModel) (event : Event) (now : LiveModel) (reply : Reply) (notices : List Notice) : Type 0 where
+  pub pages : now.pages ≡ old.pages
+  pub performs : Performs old.board event now.board reply notices
+
+-- the first of some new accesses is a look at a word
+abbrev pub HasLooked : ℕ → List Access → List Access → Type 0
+HasLooked w log now = (later : List Access) × (found : ℕ) × (now ≡ later ++ Load w found ∷ log)
+
+-- loads of the headers of the slots below n, in order
+abbrev pub AreLooks : ℕ → List Access → Type 0
+AreLooks zero news = news ≡ []
+AreLooks (suc n) news = (found : ℕ) × (rest : List Access) × (news ≡ Load (32 * n) found ∷ rest) × AreLooks n rest
+
+-- a live board looks at the header of each slot of a message page, if the guest sees it, and the reference model performs the
+-- guest's stores that these show
+pub record IsObserved (p : ℕ) (old : LiveModel) (now : LiveModel) (notices : List Notice) : Type 0 where
   pub news : List Access
-  pub pages : now.pages ≡ slice_set old.pages (overlay_of p k) (news ++ log_of old p k)
-  pub run : run_of old.board.state (explained old.board.state p k news (log_of old p k)) ≡ (now.board.state, all_done (explained old.board.state p k news (log_of old p k)), notices)
-  pub careful : AreCareful k news (log_of old p k)
+  pub pages : now.pages ≡ slice_set old.pages (2 * p) (news ++ log_of old p kind.Sim)
+  pub shown : IsShown old.board.state p kind.Sim → AreLooks 16 news
+  pub hidden : (IsShown old.board.state p kind.Sim → ⊥) → news ≡ []
+  pub run : run_of old.board.state (explained old.board.state p kind.Sim news (log_of old p kind.Sim)) ≡ (now.board.state, all_done (explained old.board.state p kind.Sim news (log_of old p kind.Sim)), notices)

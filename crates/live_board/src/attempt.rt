@@ -10,8 +10,8 @@ use event_ports::Port;
 use synic_board::Board;
 use synic_regs::Register;
 
-/// Bit 0 of SCONTROL and SIMP enables the SynIC and its message page.
-const ENABLE: u64 = 1;
+/// Bit 0 of SCONTROL, SIMP and SIEFP enables the SynIC, its message page and its event flags page.
+pub(crate) const ENABLE: u64 = 1;
 
 /// Bit 31 of a message type is reserved for the hypervisor (TLFS, "Message Types").
 const HYPERVISOR_TYPE: u32 = 0x8000_0000;

@@ -2,7 +2,8 @@
 ghost use Rattle.std.specs.Prelude.{◌≡◌, ◌<◌, ◌↔◌, ◌^◌, IsTrue, length};
 ghost use Rattle.gpa_space.specs.Space.{overlay_of};
 ghost use Rattle.synic_board.specs.State.{processors};
-ghost use Rattle.live_board.specs.Live.{number_at, IsShown, IsPassed};
+ghost use Rattle.live_board.specs.Live.{number_at, IsShown};
+ghost use Rattle.live_board.specs.inside.Parts.{IsPassed};
 ghost use Rattle.live_board.specs.Words.{word_of};
 ghost use Rattle.live_board.specs.inside.Parts.{IsShadow, IsPassedOn, IsLook, IsMark};
 

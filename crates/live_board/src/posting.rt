@@ -6,7 +6,7 @@ ghost use Rattle.synic_board.specs.declared.event.Event.TheVariants.{Post};
 ghost use Rattle.synic_board.specs.State.{processors, ports_of};
 ghost use Rattle.live_pages.specs.Slot.{known, type_of, is_pending};
 ghost use Rattle.live_board.specs.Words.{word_of};
-ghost use Rattle.live_board.specs.Live.{IsShown};
+ghost use Rattle.live_board.specs.Live.{IsShown, HasLooked};
 ghost use Rattle.live_board.specs.inside.Parts.{IsShadow, IsFound, IsStep, IsInto, IsPart};
 
 use crate::attempt::is_attempted;
@@ -57,12 +57,21 @@ fn find_header(
     if is_empty(found) || is_pending(found) || !is_attempted(board, number, kind, port) {
         return (found, found);
     }
-    let header = mark(board, page, port.vp, Kind::Sim, slot, PENDING, scratch, notices);
+    let header = mark(
+        board,
+        page,
+        port.vp,
+        Kind::Sim,
+        slot,
+        PENDING,
+        scratch,
+        notices,
+    );
     (header, header | PENDING)
 }
 
 /// Appends notices to those that are there.
-fn append(more: &Notices, notices: &mut Notices)
+pub(crate) fn append(more: &Notices, notices: &mut Notices)
     requires { length notices.old + length more.now ≤ 320 }
     ensures { notices.new ≡ notices.old ++ more.now }
 {
@@ -138,12 +147,15 @@ fn post_shown(
     requires shown { IsShown board.old.state port.now.vp Sim }
     requires shadow { IsShadow board.old.state (2 * port.now.vp) page.old }
     requires empty { notices.old ≡ [] }
-    ensures { IsPart board.old.state port.now.vp Sim page.old (Post number kind (record { items = payload.now })) board.new.state page.new result notices.new }
+    ensures part { IsPart board.old.state port.now.vp Sim page.old (Post number kind (record { items = payload.now })) board.new.state page.new result notices.new }
+    ensures looked { HasLooked (32 * port.now.sint) page.old page.new }
 {
     let (header, left) = find_header(board, page, port, number, kind, scratch, notices);
     board.facts();
     if is_empty(header) {
-        return post_into(board, page, port, number, kind, payload, left, scratch, notices);
+        return post_into(
+            board, page, port, number, kind, payload, left, scratch, notices,
+        );
     }
     perform_post(board, number, kind, payload, scratch, notices)
 }
@@ -168,8 +180,15 @@ fn post_hidden(
     ensures { IsPart board.old.state port.now.vp Sim page.old (Post number kind (record { items = payload.now })) board.new.state page.new result notices.new }
 {
     board.facts();
-    let header = own_word(board, port.vp, Kind::Sim, 32 * usize::from(port.sint.number()));
-    post_into(board, page, port, number, kind, payload, header, scratch, notices)
+    let header = own_word(
+        board,
+        port.vp,
+        Kind::Sim,
+        32 * usize::from(port.sint.number()),
+    );
+    post_into(
+        board, page, port, number, kind, payload, header, scratch, notices,
+    )
 }
 
 /// Performs a post to a port, and brings the message page of its processor up to date.
@@ -188,7 +207,8 @@ pub(crate) fn post_to(
     requires fits { length payload.now ≤ 240 }
     requires shadow { IsShadow board.old.state (2 * port.now.vp) page.old }
     requires empty { notices.old ≡ [] }
-    ensures { IsPart board.old.state port.now.vp Sim page.old (Post number kind (record { items = payload.now })) board.new.state page.new result notices.new }
+    ensures part { IsPart board.old.state port.now.vp Sim page.old (Post number kind (record { items = payload.now })) board.new.state page.new result notices.new }
+    ensures looked { IsShown board.old.state port.now.vp Sim → HasLooked (32 * port.now.sint) page.old page.new }
 {
     if is_shown(board, port.vp, Kind::Sim) {
         post_shown(board, page, port, number, kind, payload, scratch, notices)

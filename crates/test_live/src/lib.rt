@@ -1,5 +1,7 @@
-//! Tests of live pages.
+//! Tests of live pages and of live boards.
 #![tactic(auto)]
 
+#[cfg(test)]
+mod boards;
 #[cfg(test)]
 mod pages;

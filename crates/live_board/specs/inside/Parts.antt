@@ -1,13 +1,16 @@
 -- The parts of a call on a live board.
-use Rattle.std.specs.Prelude.{Bool, true, false, ◌*◌, ◌/◌, ◌^◌, ◌==◌, ◌&&◌, is_none, if◌then◌else◌, ◌≡◌, ◌≢◌, ◌⊎◌, ℕ, ◌≤◌, ◌<◌, List, [], ◌∷◌, ◌++◌, length, slice_index, bit_or, ◌+◌}
+use Rattle.std.specs.Prelude.{Bool, true, false, ◌*◌, ◌/◌, ◌^◌, ◌==◌, ◌&&◌, is_none, Option, None, Some, nat_lt, if◌then◌else◌, ◌≡◌, ◌≢◌, ◌⊎◌, ℕ, ◌≤◌, ◌<◌, List, [], ◌∷◌, ◌++◌, length, slice_index, bit_or, ◌+◌}
 use Rattle.board_terms.specs.declared.notices.Notice.{Notice}
 use Rattle.board_terms.specs.declared.pages.Kind.{Kind}
 use Rattle.gpa_space.specs.Space.{overlay_of}
 use Rattle.event_ports.specs.declared.ports.Port.{Port}
 use Rattle.event_ports.specs.Ports.{is_posted_type}
 use Rattle.event_ports.specs.Shapes.{takes_messages}
-use Rattle.synic_board.specs.State.{State}
+use Rattle.synic_board.specs.State.{State, regs_of}
 use Rattle.synic_board.specs.Delivery.{delivers, is_slot_empty}
+use Rattle.board_terms.specs.declared.messages.PortShape.{PortShape}
+use Rattle.board_terms.specs.declared.messages.PortShape.TheVariants.{Messages, Flags}
+use Rattle.synic_regs.specs.Regs.{has, enable}
 use Rattle.synic_board.specs.Posts.{post_refusal}
 use Rattle.synic_board.specs.Run.{run_of}
 use Rattle.synic_board.specs.Step.{step}
@@ -18,7 +21,15 @@ use Rattle.live_pages.specs.Slot.{known, type_of, is_pending}
 use Rattle.live_pages.specs.declared.access.Access.{Access}
 use Rattle.live_pages.specs.declared.access.Access.TheVariants.{Load, FetchOr, Store}
 use Rattle.live_board.specs.Words.{word_of}
-use Rattle.live_board.specs.Live.{explained, all_done, AreCareful, IsShown, IsPassed}
+use Rattle.live_board.specs.Live.{store_of, explained, all_done, AreCareful, HasLooked, AreLooks, IsShown}
+
+-- a word that the host found is a guest's store if the reference model has another one
+abbrev pub found_stores : State → ℕ → Kind → ℕ → ℕ → List Event
+found_stores s p k w value = if value == word_of s (overlay_of p k) w then [] else store_of s p k w value ∷ []
+
+-- the reference model performs the store that a word shows, if any
+abbrev pub IsPassed : State → ℕ → Kind → ℕ → ℕ → State → List Notice → Type 0
+IsPassed s p k w value now notices = run_of s (found_stores s p k w value) ≡ (now, all_done (found_stores s p k w value), notices)
 
 -- a state after a word of an own page was passed
 pub record HasWord (s : State) (o w value : ℕ) (now : State) : Type 0 where
@@ -60,6 +71,7 @@ pub record IsLook (s : State) (p : ℕ) (k : Kind) (w : ℕ) (log : List Access)
   pub few : length emitted ≤ 1
   pub page : log_now ≡ Load w found ∷ log
   pub watched : IsWatched s p k log now log_now emitted
+  pub news : watched.news ≡ Load w found ∷ []
   pub word : HasWord s (overlay_of p k) w found now
   pub shadow : IsShadow now (overlay_of p k) log_now
 
@@ -126,6 +138,7 @@ pub record IsFound (s : State) (number kind : ℕ) (port : Port) (log : List Acc
   pub here : word_of now (2 * port.vp) (32 * port.sint) ≡ header
   pub known_here : known log_now (32 * port.sint) ≡ left
   pub others : (x : ℕ) → x < 512 → x ≢ 32 * port.sint → known log_now x ≡ word_of now (2 * port.vp) x
+  pub looked : HasLooked (32 * port.sint) log log_now
   pub exact : ((left ≡ header) × ((type_of header ≡ 0) ⊎ ((is_pending header ≡ true) ⊎ (is_attempted s number kind port ≡ false)))) ⊎ ((left ≡ bit_or header (2 ^ 40)) × (is_attempted s number kind port ≡ true))
 
 -- an event, with its notices after those before
@@ -150,3 +163,25 @@ pub record IsPart (s : State) (p : ℕ) (k : Kind) (log : List Access) (event : 
   pub shadow : IsShadow now (overlay_of p k) log_now
   pub others : LeavesOthers s (overlay_of p k) now
   pub count : length now.own ≡ length s.own
+
+-- the flag that a signal of an open port sets, if it is accepted
+abbrev pub flag_by : State → ℕ → ℕ → PortShape → Option ℕ
+flag_by s p flag (Messages buffers) = None
+flag_by s p flag (Flags base count) = if nat_lt flag count && (has (regs_of s p).control enable && has (regs_of s p).sief enable) then Some (base + flag) else None
+
+abbrev pub signalled_flag : State → ℕ → Port → Option ℕ
+signalled_flag s flag port = flag_by s port.vp flag port.shape
+
+-- looks at the headers of the slots below n of a message page, after which it is a shadow
+pub record IsLooks (s : State) (p : ℕ) (log : List Access) (now : State) (log_now : List Access) (notices : List Notice) (n : ℕ) : Type 0 where
+  pub watched : IsWatched s p Sim log now log_now notices
+  pub shadow : IsShadow now (2 * p) log_now
+  pub few : length notices ≤ n
+  pub looks : AreLooks n watched.news
+
+-- a look at each slot of a message page, if the guest sees it
+pub record IsViewed (s : State) (p : ℕ) (log : List Access) (now : State) (log_now : List Access) (notices : List Notice) : Type 0 where
+  pub watched : IsWatched s p Sim log now log_now notices
+  pub shadow : IsShadow now (2 * p) log_now
+  pub shown : IsShown s p Sim → AreLooks 16 watched.news
+  pub hidden : (IsShown s p Sim → ⊥) → watched.news ≡ []

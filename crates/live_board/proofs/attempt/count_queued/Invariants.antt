@@ -1,4 +1,4 @@
-use Rattle.std.proofs.Common.{◌≡◌, ◌≤◌, count_by, ℕ, take}
+use Rattle.std.proofs.Common.{◌≡◌, ◌≤◌, count_by, take}
 use Rattle.message_queues.specs.Queues.{queue_of, is_from_port}
 use Rattle.live_board.proofs.attempt.count_queued.Given as goal
 

@@ -1,4 +1,4 @@
-use Rattle.std.proofs.Common.{rules, ◌≡◌, ◌≢◌, ◌<◌, ◌≤◌, ℕ, true, arith, sym, ap, ◌∙◌}
+use Rattle.std.proofs.Common.{rules, ◌≡◌, ◌≢◌, ◌<◌, true, arith, sym, ◌∙◌}
 use Rattle.board_terms.specs.declared.messages.PortShape.TheVariants.{Messages}
 use Rattle.message_queues.specs.Queues.{port_used}
 use Rattle.synic_regs.specs.Regs.{has, enable}

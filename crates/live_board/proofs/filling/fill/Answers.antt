@@ -1,4 +1,4 @@
-use Rattle.std.proofs.Common.{rules, ◌≡◌, ℕ, ◌+◌, ◌*◌, List, ◌∷◌, get_or, arith, sym, ap, ◌∙◌, subst, false}
+use Rattle.std.proofs.Common.{rules, ◌≡◌, ◌+◌, ◌*◌, ◌∷◌, get_or, arith, sym, ap, ◌∙◌, subst, false}
 use Rattle.live_pages.specs.declared.access.Access.TheVariants.{Store}
 use Rattle.live_board.specs.inside.Parts.{IsFilling}
 use Rattle.live_board.proofs.Filled.{filling-start, filling-store, filling-skip, filled-store, filled-skip}

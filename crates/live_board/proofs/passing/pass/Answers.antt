@@ -1,4 +1,4 @@
-use Rattle.std.proofs.Common.{◌≡◌, ℕ, List, rules, ap, sym, ◌∙◌}
+use Rattle.std.proofs.Common.{◌≡◌, rules}
 use Rattle.std.specs.Prelude.{slice_get, None, Some}
 use Rattle.live_board.proofs.Passed.{has-word}
 use Rattle.live_board.proofs.Watched.{passed-one, passed-none}

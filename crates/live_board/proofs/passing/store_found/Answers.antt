@@ -1,4 +1,4 @@
-use Rattle.std.proofs.Common.{◌≡◌, ◌≢◌, ℕ, List, ◌*◌, ◌+◌, arith, subst, sym, ap, ◌∙◌, rules}
+use Rattle.std.proofs.Common.{◌≡◌, ◌≢◌, ◌*◌, ◌+◌, ap, ◌∙◌, rules}
 use Rattle.gpa_space.specs.Space.{overlay_of}
 use Rattle.synic_board.specs.declared.event.Event.TheVariants.{Store}
 use Rattle.synic_board.specs.Step.{step}

@@ -1,4 +1,3 @@
-use Rattle.std.proofs.Common.{rules, ◌≡◌, ◌<◌, ◌*◌, ℕ, arith, sym, ap, ◌∙◌}
 use Rattle.synic_board.specs.State.{State}
 use Rattle.live_board.proofs.Part.{made, part-filled, not-watched, header-bytes}
 use Rattle.live_board.proofs.posting.post_hidden.Goals as goal

@@ -1,4 +1,4 @@
-use Rattle.std.proofs.Common.{rules, ◌≡◌, ℕ, ◌<◌, ◌*◌, ◌+◌, arith, sym, ap, ◌∙◌}
+use Rattle.std.proofs.Common.{◌*◌, ◌+◌, arith, sym, ◌∙◌}
 use Rattle.live_board.proofs.Staying.{stays}
 use Rattle.live_board.proofs.posting.post_into.Goals as goal
 

@@ -1,14 +1,13 @@
-use Rattle.std.proofs.Common.{rules, ◌≡◌, ◌≢◌, ℕ, ◌++◌, sym, ap, ◌∙◌, subst, Some}
-use Rattle.board_terms.specs.declared.pages.Kind.TheVariants.{Sim}
+use Rattle.std.proofs.Common.{rules, ◌≡◌, ◌≢◌, ◌++◌, ap, ◌∙◌, subst, Some}
 use Rattle.event_ports.specs.Ports.{port_at}
 use Rattle.live_pages.specs.Slot.{type_of}
 use Rattle.synic_board.specs.State.{State, ports_of}
 use Rattle.live_board.specs.inside.Parts.{IsFound}
-use Rattle.live_board.proofs.Part.{made, part-kept, part-filled, left-type, header-bytes}
+use Rattle.live_board.proofs.Part.{made, part-kept, part-filled, left-type, header-bytes, looked-more}
 use Rattle.live_board.proofs.posting.post_shown.Goals as goal
 
-pub returns-then-is_empty : goal.returns-then-is_empty
-returns-then-is_empty c =
+pub returns-then-is_empty-clause-part : goal.returns-then-is_empty-clause-part
+returns-then-is_empty-clause-part c =
     let mid : State = c.find_header-header.new.board.state in
     let f = c.find_header-header.ensures in
     let into = c.post_into.ensures in
@@ -19,8 +18,8 @@ returns-then-is_empty c =
     let empty : type_of c.find_header-header.result.0 ≡ 0 = search rules in
     part-filled _ mid _ c.args.number c.args.kind c.args.port.now _ _ _ _ _ _ _ _ _ reached.1 f.watched (f.notices ∙ ap (λ ns. ns ++ f.emitted) c.requires.empty) f.others into m (λ _. left-type c.args.board.now.state c.args.number c.args.kind c.args.port.now _ _ f.exact ∙ empty)
 
-pub returns : goal.returns
-returns c =
+pub returns-clause-part : goal.returns-clause-part
+returns-clause-part c =
     let mid : State = c.find_header-header.new.board.state in
     let f = c.find_header-header.ensures in
     let one = c.perform_post.ensures in
@@ -31,3 +30,9 @@ returns c =
     let full : type_of c.find_header-header.result.0 ≢ 0 = search rules in
     let found = subst (λ ns. IsFound c.args.board.now.state c.args.number c.args.kind c.args.port.now c.args.page.now mid c.find_header-header.new.page c.find_header-header.result.0 c.find_header-header.result.1 ns c.find_header-header.new.notices) c.requires.empty f in
     part-kept _ mid _ c.args.number c.args.kind c.args.port.now _ _ _ _ _ _ _ _ reached.1 bytes found one m full
+
+pub returns-then-is_empty-clause-looked : goal.returns-then-is_empty-clause-looked
+returns-then-is_empty-clause-looked c = looked-more _ _ _ _ c.post_into.ensures.filled.news c.post_into.ensures.filled.page c.find_header-header.ensures.looked
+
+pub returns-clause-looked : goal.returns-clause-looked
+returns-clause-looked c = c.find_header-header.ensures.looked

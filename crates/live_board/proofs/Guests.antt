@@ -1,0 +1,149 @@
+-- What a guest does to a live board.
+use Rattle.std.proofs.Common.{◌≡◌, ◌≢◌, ◌⊎◌, inl, inr, ℕ, zero, suc, ◌+◌, ◌*◌, ◌<◌, ◌≤◌, Bool, true, false, List, [], ◌∷◌, ◌++◌, refl, sym, ap, ◌∙◌, subst, arith, All, append-nil}
+use Rattle.std.specs.Prelude.{◌==◌, if◌then◌else◌}
+use Rattle.std.specs.Int.{to_le_bytes, w64}
+use Rattle.std.proofs.lemmas.Bool.{cases_eq}
+use Rattle.std.proofs.lemmas.List.Elements.{All-append, All-cons, All-nil, All-head, All-tail}
+use Rattle.board_terms.specs.declared.notices.Notice.{Notice}
+use Rattle.board_terms.specs.declared.pages.Kind.{Kind}
+use Rattle.board_terms.specs.declared.pages.Kind.TheVariants.{Sim}
+use Rattle.board_terms.specs.declared.pages.Owner.{Owner}
+use Rattle.board_terms.specs.declared.pages.Owner.TheVariants as owner
+use Rattle.gpa_space.specs.Space.{overlay_of, owner_of}
+use Rattle.synic_board.specs.declared.event.Event.{Event}
+use Rattle.synic_board.specs.declared.event.Event.TheVariants as event
+use Rattle.synic_board.specs.declared.event.Reply.{Reply}
+use Rattle.synic_board.specs.State.{State, processors, space_of}
+use Rattle.synic_board.specs.Effects.{Outcome}
+use Rattle.synic_board.specs.Step.{step}
+use Rattle.synic_board.specs.Run.{Run, run_of}
+use Rattle.synic_board.specs.Locations.{Conserves}
+use Rattle.synic_board.specs.Sound.{IsSound, PayloadFits}
+use Rattle.synic_board.proofs.keeping.Wholes.{IsIntact, KeepsMessages, kept_from_sound, sound_from_kept, tickets-conserved, messages-kept, keeps-nothing, messages-after}
+use Rattle.synic_board.proofs.keeping.Steps.{keeps-step}
+use Rattle.live_pages.specs.Slot.{known}
+use Rattle.live_pages.specs.declared.access.Access.{Access}
+use Rattle.live_pages.specs.declared.access.Access.TheVariants.{Load, FetchOr, Store}
+use Rattle.live_board.specs.Live.{LiveModel, IsLive, IsObserved, number_at, IsShown, IsOwnStore, AreLooks, store_of, shown_by, explained, log_of}
+use Rattle.live_board.proofs.Joined.{run-append, rest-number, rest-shown}
+use Rattle.live_board.proofs.Shown.{with_word, stored-word, still-in}
+
+-- each event that explains an access is a store
+one-store : (s : State) (p : ℕ) (k : Kind) (w found : ℕ) (b : Bool) → All (IsOwnStore s p k) (if b then [] else store_of s p k w found ∷ [])
+one-store s p k w found true = All-nil (IsOwnStore s p k)
+one-store s p k w found false = All-cons (IsOwnStore s p k) (store_of s p k w found) [] (w, found, refl) (All-nil (IsOwnStore s p k))
+
+stores-by : (s : State) (p : ℕ) (k : Kind) (a : Access) (log : List Access) → All (IsOwnStore s p k) (shown_by s p k a log)
+stores-by s p k (Load w found) log = one-store s p k w found (found == known log w)
+stores-by s p k (FetchOr w mask found) log = one-store s p k w found (found == known log w)
+stores-by s p k (Store w value) log = All-nil (IsOwnStore s p k)
+
+pub guest-stores : (s : State) (p : ℕ) (k : Kind) (news log : List Access) → All (IsOwnStore s p k) (explained s p k news log)
+guest-stores s p k [] log = All-nil (IsOwnStore s p k)
+guest-stores s p k (a ∷ news) log = All-append (IsOwnStore s p k) (explained s p k news log) (shown_by s p k a (news ++ log)) (guest-stores s p k news log) (stores-by s p k a (news ++ log))
+
+-- a run from a sound state
+keeps-run : (n : ℕ) (s : State) (es : List Event) → All PayloadFits es → IsIntact n s → KeepsMessages n s ((run_of s es).0, (run_of s es).2)
+unfolding run_of
+keeps-run n s [] fit h = messages-kept n s ((run_of s []).0, (run_of s []).2) (keeps-nothing n s h)
+keeps-run n s (e ∷ es) fit h =
+    let now : State = (step s e).0 in
+    let first = keeps-step n s e (All-head PayloadFits e es fit) h in
+    messages-after n s (now, (step s e).2) ((run_of now es).0, (run_of now es).2) first (keeps-run n now es (All-tail PayloadFits e es fit) first.kept)
+
+kept-by : (s now : State) (es : List Event) (replies : List Reply) (notices : List Notice) → All PayloadFits es → IsSound s → run_of s es ≡ (now, replies, notices) → IsSound now × Conserves s now notices
+kept-by s now es replies notices fit h is =
+    let k = keeps-run (processors s) s es fit (kept_from_sound s h) in
+    let sound = sound_from_kept (processors s) (run_of s es).0 k.kept (tickets-conserved s (run_of s es).0 (run_of s es).2 k.tickets_monotone k.conserves h.tickets) in (
+      subst IsSound (ap (λ (r : Run). r.0) is) sound,
+      subst (λ (r : Run). Conserves s r.0 r.2) is k.conserves,
+    )
+
+fits-all : (s : State) (p : ℕ) (k : Kind) (es : List Event) → All (IsOwnStore s p k) es → All PayloadFits es
+fits-all s p k [] h = All-nil PayloadFits
+fits-all s p k (e ∷ es) h =
+    let one = All-head (IsOwnStore s p k) e es h in
+    All-cons PayloadFits e es (subst PayloadFits (sym one.2) tt) (fits-all s p k es (All-tail (IsOwnStore s p k) e es h))
+
+pub event-conserves : (old now : LiveModel) (event : Event) (reply : Reply) (notices : List Notice) → IsSound old.board.state → PayloadFits event → IsLive old event now reply notices
+    → IsSound now.board.state × Conserves old.board.state now.board.state notices
+event-conserves old now event reply notices h fits live =
+    let s : State = old.board.state in
+    let es : List Event = explained s live.vp live.kind live.news (log_of old live.vp live.kind) in
+    let all = All-append PayloadFits es (event ∷ []) (fits-all s live.vp live.kind es (guest-stores s live.vp live.kind live.news (log_of old live.vp live.kind))) (All-cons PayloadFits event [] fits (All-nil PayloadFits)) in
+    kept-by s now.board.state (es ++ event ∷ []) _ notices all h live.run
+
+pub look-conserves : (p : ℕ) (old now : LiveModel) (notices : List Notice) → IsSound old.board.state → IsObserved p old now notices → IsSound now.board.state × Conserves old.board.state now.board.state notices
+look-conserves p old now notices h seen =
+    let s : State = old.board.state in
+    let es : List Event = explained s p Sim seen.news (log_of old p Sim) in
+    kept-by s now.board.state es _ notices (fits-all s p Sim es (guest-stores s p Sim seen.news (log_of old p Sim))) h seen.run
+
+-- only own pages and tickets of slots change
+abbrev Rest : State → State → Type 0
+Rest s now = now ≡ record s { own = now.own; slots = now.slots }
+
+rest-after : (s mid now : State) → Rest s mid → Rest mid now → Rest s now
+rest-after s mid now h g = g ∙ ap (λ (t : State). record t { own = now.own; slots = now.slots }) h
+
+rest-store : (s : State) (p w found : ℕ) → IsShown s p Sim → w < 512 → Rest s (step s (store_of s p Sim w found)).0
+rest-store s p w found shown low =
+    let t : State = with_word s (overlay_of p Sim) w found in
+    let is : (step s (store_of s p Sim w found)).0 ≡ record t { slots = (step s (store_of s p Sim w found)).0.slots } =
+    ap (λ (o : Outcome). o.0) (stored-word s p Sim w found shown low) ∙ still-in t (owner.Sim p) ∙ ap (λ (o : Outcome). record t { slots = o.0.slots }) (sym (stored-word s p Sim w found shown low)) in
+    is ∙ ap (λ (l : List (List ℕ)). record s { own = l; slots = (step s (store_of s p Sim w found)).0.slots }) (sym (ap (λ (x : State). x.own) is))
+
+same-store : (s mid : State) (p w found : ℕ) → Rest s mid → store_of mid p Sim w found ≡ store_of s p Sim w found
+same-store s mid p w found h = ap (λ n. event.Store (n * 4096 + 8 * w) (record { items = to_le_bytes w64 found })) (rest-number s mid p Sim h)
+
+looks-run : (n : ℕ) (s : State) (p : ℕ) (news log : List Access) → n ≤ 16 → IsShown s p Sim → AreLooks n news → Rest s (run_of s (explained s p Sim news log)).0
+unfolding run_of
+looks-run zero s p news log bound shown is = subst (λ l. Rest s (run_of s (explained s p Sim l log)).0) (sym is) refl
+looks-run (suc n) s p news log bound shown (found, rest, is, more) =
+    subst (λ l. Rest s (run_of s (explained s p Sim l log)).0) (sym is) (last (looks-run n s p rest log (omega arith) shown more) (found == known (rest ++ log) (32 * n)))
+  where
+    es : List Event
+    es = explained s p Sim rest log
+
+    mid : State
+    mid = (run_of s es).0
+
+    last : Rest s mid → (b : Bool) → Rest s (run_of s (es ++ (if b then [] else store_of s p Sim (32 * n) found ∷ []))).0
+    last before true = subst (λ l. Rest s (run_of s l).0) (sym (append-nil es)) before
+    last before false =
+        let one = rest-after s mid (step mid (store_of mid p Sim (32 * n) found)).0 before (rest-store mid p (32 * n) found (rest-shown s mid p Sim before shown) (omega arith)) in
+        subst (λ (r : Run). Rest s r.0) (sym (run-append s es (store_of s p Sim (32 * n) found ∷ []))) (subst (λ e. Rest s (step mid e).0) (same-store s mid p (32 * n) found before) one)
+
+no-looks : (s : State) (p : ℕ) (news log : List Access) → news ≡ [] → Rest s (run_of s (explained s p Sim news log)).0
+unfolding run_of
+no-looks s p news log is = subst (λ l. Rest s (run_of s (explained s p Sim l log)).0) (sym is) refl
+
+-- whether an owner is the message page of a processor
+is-sim : (o : Owner) (p : ℕ) → (o ≡ owner.Sim p) ⊎ (o ≡ owner.Sim p → ⊥)
+is-sim owner.Guest p = inr (λ e. cc)
+is-sim (owner.Sim q) p = by (cases_eq q p)
+  where
+    by : (q ≡ p) ⊎ (q ≢ p) → (owner.Sim q ≡ owner.Sim p) ⊎ (owner.Sim q ≡ owner.Sim p → ⊥)
+    by (inl e) = inl (ap (λ n. owner.Sim n) e)
+    by (inr ne) = inr (λ e. ne (cc))
+is-sim (owner.Sief q) p = inr (λ e. cc)
+is-sim owner.Nothing p = inr (λ e. cc)
+
+pub look-changes : (p : ℕ) (old now : LiveModel) (notices : List Notice) → IsObserved p old now notices → now.board.state ≡ record old.board.state { own = now.board.state.own; slots = now.board.state.slots }
+look-changes p old now notices seen = by-number
+  where
+    s : State
+    s = old.board.state
+
+    log : List Access
+    log = log_of old p Sim
+
+    changed : Rest s (run_of s (explained s p Sim seen.news log)).0 → Rest s now.board.state
+    changed h = subst (Rest s) (ap (λ (r : Run). r.0) seen.run) h
+
+    by : (IsShown s p Sim) ⊎ (IsShown s p Sim → ⊥) → Rest s now.board.state
+    by (inl shown) = changed (looks-run 16 s p seen.news log (omega arith) shown (seen.shown shown))
+    by (inr hidden) = changed (no-looks s p seen.news log (seen.hidden hidden))
+
+    by-number : Rest s now.board.state
+    by-number = by (is-sim (owner_of (space_of s) (number_at s p Sim)) p)

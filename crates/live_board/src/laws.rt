@@ -1,0 +1,38 @@
+// What a guest can do by its stores to live pages, and what it cannot.
+ghost use Rattle.std.specs.Prelude.{◌≡◌, ℕ, List};
+ghost use Rattle.std.specs.List.{All};
+ghost use Rattle.board_terms.specs.declared.notices.Notice.{Notice};
+ghost use Rattle.board_terms.specs.declared.pages.Kind.{Kind};
+ghost use Rattle.synic_board.specs.declared.event.Event.{Event};
+ghost use Rattle.synic_board.specs.declared.event.Reply.{Reply};
+ghost use Rattle.synic_board.specs.State.{State};
+ghost use Rattle.synic_board.specs.Locations.{Conserves};
+ghost use Rattle.synic_board.specs.Sound.{IsSound, PayloadFits};
+ghost use Rattle.live_pages.specs.declared.access.Access.{Access};
+ghost use Rattle.live_board.specs.Live.{LiveModel, IsLive, IsObserved, IsOwnStore, explained};
+
+/// Whatever the host finds in a live page, the events that explain it are stores of words of that
+/// page, where the guest sees it. So what is proved of all events of all guests holds of them.
+pub fn a_guest_only_stores()
+    ensures { (s : State) (p : ℕ) (k : Kind) (news log : List Access) → All (IsOwnStore s p k) (explained s p k news log) }
+{}
+
+/// Whatever a guest stores meanwhile, an event of a live board conserves the messages: each accepted
+/// one is queued, in a slot, consumed or withdrawn, exactly once. The state stays sound.
+pub fn an_event_conserves_messages()
+    ensures { (old now : LiveModel) (event : Event) (reply : Reply) (notices : List Notice) → IsSound old.board.state → PayloadFits event → IsLive old event now reply notices
+        → IsSound now.board.state × Conserves old.board.state now.board.state notices }
+{}
+
+/// The same for a look at the slots of a processor.
+pub fn a_look_conserves_messages()
+    ensures { (p : ℕ) (old now : LiveModel) (notices : List Notice) → IsSound old.board.state → IsObserved p old now notices → IsSound now.board.state × Conserves old.board.state now.board.state notices }
+{}
+
+/// A look at the slots of a processor changes own pages and the tickets in slots, and nothing else:
+/// whatever a guest stored there, it changed no register, queue, port or timer, no interrupt request
+/// and not the next ticket.
+pub fn a_look_changes_only_pages()
+    ensures { (p : ℕ) (old now : LiveModel) (notices : List Notice) → IsObserved p old now notices
+        → now.board.state ≡ record old.board.state { own = now.board.state.own; slots = now.board.state.slots } }
+{}

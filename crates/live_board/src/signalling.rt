@@ -1,0 +1,152 @@
+// A signal to a port whose target is a source of a live page.
+ghost use Rattle.std.specs.Prelude.{◌≡◌, ◌<◌, ◌≤◌, ◌+◌, ◌*◌, [], length, Some, IfSome};
+ghost use Rattle.board_terms.specs.declared.pages.Kind.TheVariants.{Sief};
+ghost use Rattle.event_ports.specs.Ports.{port_at};
+ghost use Rattle.synic_board.specs.declared.event.Event.TheVariants.{Signal};
+ghost use Rattle.synic_board.specs.State.{processors, ports_of};
+ghost use Rattle.live_board.specs.Live.{IsShown};
+ghost use Rattle.live_board.specs.inside.Parts.{IsShadow, IsPart, IsStep, signalled_flag};
+
+use crate::attempt::ENABLE;
+use crate::passing::{is_shown, mark, own_word};
+use crate::posting::append;
+use board_terms::{Kind, Notices, PortShape};
+use event_ports::Port;
+use live_pages::LivePage;
+use synic_board::{Board, Event, Reply};
+use synic_regs::Register;
+
+/// The event flag that a signal sets, 0 to 2047, if the board accepts the signal.
+fn flag_of(board: &Board, number: u8, flag: u16, port: &Port) -> Option<u16>
+    requires { port_at (ports_of board.now.state) number ≡ Some port.now }
+    ensures value { result ≡ signalled_flag board.now.state flag port.now }
+    ensures range { IfSome result (λ f. f < 2048) }
+{
+    board.facts();
+    let PortShape::Flags { base, count } = port.shape else {
+        return None;
+    };
+    if flag >= count {
+        return None;
+    }
+    if board.register(port.vp, Register::Control) & ENABLE != ENABLE {
+        return None;
+    }
+    if board.register(port.vp, Register::Sief) & ENABLE != ENABLE {
+        return None;
+    }
+    Some(base + flag)
+}
+
+/// Performs a signal, and appends its notices to those that are there, at most two.
+fn perform_signal(
+    board: &mut Board,
+    number: u8,
+    flag: u16,
+    scratch: &mut Notices,
+    notices: &mut Notices,
+) -> Reply
+    requires { length notices.old ≤ 2 }
+    ensures { IsStep board.old.state (Signal number flag) board.new.state result notices.old notices.new }
+{
+    let event = Event::Signal { port: number, flag };
+    if notices.as_slice().is_empty() {
+        return board.perform(&event, notices);
+    }
+    let reply = board.perform(&event, scratch);
+    append(scratch, notices);
+    reply
+}
+
+/// Performs a signal of an event flag, 0 to 2047, that the board accepts, where the guest sees the
+/// event flags page. The flag is set in the live page first, and the board learns what was there.
+fn signal_shown(
+    board: &mut Board,
+    page: &mut LivePage,
+    port: &Port,
+    number: u8,
+    flag: u16,
+    place: u16,
+    scratch: &mut Notices,
+    notices: &mut Notices,
+) -> Reply
+    requires open { port_at (ports_of board.old.state) number ≡ Some port.now }
+    requires on { port.now.vp < processors board.old.state }
+    requires source { port.now.sint < 16 }
+    requires place { signalled_flag board.old.state flag port.now ≡ Some place }
+    requires range { place < 2048 }
+    requires shown { IsShown board.old.state port.now.vp Sief }
+    requires shadow { IsShadow board.old.state (2 * port.now.vp + 1) page.old }
+    requires empty { notices.old ≡ [] }
+    ensures { IsPart board.old.state port.now.vp Sief page.old (Signal number flag) board.new.state page.new result notices.new }
+{
+    board.facts();
+    let word = 32 * usize::from(port.sint.number()) + usize::from(place / 64);
+    mark(
+        board,
+        page,
+        port.vp,
+        Kind::Sief,
+        word,
+        1 << (place % 64),
+        scratch,
+        notices,
+    );
+    board.facts();
+    perform_signal(board, number, flag, scratch, notices)
+}
+
+/// The same where the guest does not see the page: the word that the board has is stored.
+fn signal_hidden(
+    board: &mut Board,
+    page: &mut LivePage,
+    port: &Port,
+    number: u8,
+    flag: u16,
+    place: u16,
+    scratch: &mut Notices,
+    notices: &mut Notices,
+) -> Reply
+    requires open { port_at (ports_of board.old.state) number ≡ Some port.now }
+    requires on { port.now.vp < processors board.old.state }
+    requires source { port.now.sint < 16 }
+    requires place { signalled_flag board.old.state flag port.now ≡ Some place }
+    requires range { place < 2048 }
+    requires hidden { IsShown board.old.state port.now.vp Sief → ⊥ }
+    requires shadow { IsShadow board.old.state (2 * port.now.vp + 1) page.old }
+    requires empty { notices.old ≡ [] }
+    ensures { IsPart board.old.state port.now.vp Sief page.old (Signal number flag) board.new.state page.new result notices.new }
+{
+    board.facts();
+    let word = 32 * usize::from(port.sint.number()) + usize::from(place / 64);
+    let reply = perform_signal(board, number, flag, scratch, notices);
+    page.store(word, own_word(board, port.vp, Kind::Sief, word));
+    reply
+}
+
+/// Performs a signal of a port, and brings the event flags page of its processor up to date.
+pub(crate) fn signal_to(
+    board: &mut Board,
+    page: &mut LivePage,
+    port: &Port,
+    number: u8,
+    flag: u16,
+    scratch: &mut Notices,
+    notices: &mut Notices,
+) -> Reply
+    requires open { port_at (ports_of board.old.state) number ≡ Some port.now }
+    requires on { port.now.vp < processors board.old.state }
+    requires shadow { IsShadow board.old.state (2 * port.now.vp + 1) page.old }
+    requires empty { notices.old ≡ [] }
+    ensures { IsPart board.old.state port.now.vp Sief page.old (Signal number flag) board.new.state page.new result notices.new }
+{
+    board.facts();
+    let Some(place) = flag_of(board, number, flag, port) else {
+        return perform_signal(board, number, flag, scratch, notices);
+    };
+    if is_shown(board, port.vp, Kind::Sief) {
+        signal_shown(board, page, port, number, flag, place, scratch, notices)
+    } else {
+        signal_hidden(board, page, port, number, flag, place, scratch, notices)
+    }
+}
