@@ -15,8 +15,8 @@ pub fn a_signalled_flag_stays()
 {}
 
 /// If the host looks again at the type when it has set MessagePending, and the guest has a barrier
-/// between its store of type 0 and its look at the flags, then no message waits behind an empty slot
-/// while both are at rest, in whatever order their steps come, on a processor that delays stores.
+/// between its store of type 0 and its look at the flags, then no message is queued for an empty
+/// slot while both are at rest, in whatever order their steps come, on a processor that delays stores.
 pub fn no_wake_up_is_missed()
     ensures { NoWakeUpIsMissed }
 {}
@@ -27,8 +27,8 @@ pub fn no_wake_up_is_missed_in_memory()
     ensures { headers.NoWakeUpIsMissed }
 {}
 
-/// Without the second look, or without the barrier, there are steps after which a message waits
-/// behind an empty slot and neither host nor guest will move.
+/// Without the second look, or without the barrier, there are steps after which a message is
+/// queued for an empty slot and neither host nor guest will move.
 pub fn each_precaution_is_needed()
     ensures { EachPrecautionIsNeeded }
 {}
