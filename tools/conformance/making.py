@@ -260,7 +260,8 @@ class Maker:
         return "write %d %x %x" % (self.vp(), self.pick(STRANGE), self.pick((0, 1, MOST)))
 
     def address(self):
-        place = self.pick((0, 1, PAGE - 1, PAGE - 4, PAGE - 8, SLOT * self.below(16), SLOT * self.pick(self.sources) + self.below(8)))
+        near_slot = max(0, SLOT * self.pick(self.sources) + self.below(12) - 4)
+        place = self.pick((0, 1, PAGE - 1, PAGE - 4, PAGE - 8, SLOT * self.below(16), near_slot))
         return self.page() * PAGE + place if self.dice() < 0.95 else MOST
 
     def store(self):
