@@ -171,7 +171,19 @@
     F(reset_suspends, false, "a reset leaves the processor suspended") \
     F(reset_closes_ports, false, "a reset closes the ports of the processor") \
     F(reset_of_all, false, "a reset resets all processors") \
-    F(reset_clock, false, "a reset sets the time to 0")
+    F(reset_clock, false, "a reset sets the time to 0") \
+    F(type_two_bytes, false, "a slot counts as empty if the first two bytes of its type are 0") \
+    F(type_three_bytes, false, "a slot counts as empty if the first three bytes of its type are 0") \
+    F(type_part_consumes, false, "a store of 0 to one byte of a slot's type consumes its message") \
+    F(retyped_is_consumed, false, "a store of another type consumes the message of the slot") \
+    F(consumed_by_start, false, "only a store that begins at a slot consumes its message") \
+    F(consumed_by_first_slot, false, "a store consumes only the message of the slot in which it begins") \
+    F(next_consumes, false, "emptying a slot consumes the message of the source before it too") \
+    F(store_stops_at_slot, false, "a store ends at the end of the slot in which it begins") \
+    F(eighth_byte_lost, false, "a store of eight bytes stores seven") \
+    F(message_writes_visible, false, "a message is written to what is visible at SIMP's page") \
+    F(signal_writes_visible, false, "a signal sets its flag in what is visible at SIEFP's page") \
+    F(flag_of_visible, false, "whether a flag was set is read from what is visible at SIEFP's page")
 
 enum fault {
     NO_FAULT,

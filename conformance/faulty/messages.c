@@ -4,7 +4,7 @@
 
 #include "board.h"
 
-enum { TYPE = 0, LENGTH = 4, FLAG_BYTE = 5, ORIGIN = 8, PAYLOAD = 16, DELIVERY = 32 };
+enum { TYPE = 0, TYPE_BYTES = 4, LENGTH = 4, FLAG_BYTE = 5, ORIGIN = 8, PAYLOAD = 16, DELIVERY = 32 };
 
 bool synic_on(unsigned vp)
 {
@@ -81,11 +81,13 @@ uint8_t *slot_of(unsigned vp, unsigned sint)
 bool is_slot_empty(unsigned vp, unsigned sint)
 {
     const uint8_t *slot = slot_of(vp, sint);
-    if (IS(type_byte_alone))
-        return slot[0] == 0;
     if (IS(pending_blocks) && (slot[FLAG_BYTE] & 1))
         return false;
-    return !(slot[0] | slot[1] | slot[2] | slot[3]);
+    unsigned checked = IS(type_byte_alone) ? 1 : IS(type_two_bytes) ? 2 : IS(type_three_bytes) ? 3 : TYPE_BYTES;
+    for (unsigned at = 0; at < checked; at++)
+        if (slot[at] != 0)
+            return false;
+    return true;
 }
 
 static void put(uint8_t *at, uint64_t number, unsigned length)
@@ -94,10 +96,19 @@ static void put(uint8_t *at, uint64_t number, unsigned length)
         at[i] = (uint8_t)(number >> (8 * i));
 }
 
+/* Where a message is written: in its slot, unless a fault says otherwise. */
+static uint8_t *image_place(unsigned vp, unsigned sint)
+{
+    uint64_t page = board.vps[vp].simp >> 12;
+    if (IS(message_writes_visible) && page < board.pages)
+        return page_at(page) + SLOT * sint;
+    return slot_of(vp, sint);
+}
+
 static void write_image(uint8_t *slot, const struct message *m, bool is_pending)
 {
     memset(slot, 0, IS(short_image) || IS(slot_elsewhere) ? PAYLOAD : SLOT);
-    put(slot + TYPE, m->type, 4);
+    put(slot + TYPE, m->type, TYPE_BYTES);
     slot[LENGTH] = (uint8_t)(IS(payload_length) ? 240 : m->length);
     slot[FLAG_BYTE] = is_pending;
     put(slot + ORIGIN, m->sender < FIRST_TIMER && !IS(port_number) ? m->sender : 0, 8);
@@ -115,7 +126,7 @@ static void place(unsigned vp, unsigned sint)
     if (IS(hidden_not_written) && page_at(board.vps[vp].simp >> 12 < board.pages ? board.vps[vp].simp >> 12 : 0) != message_page(vp))
         is_pending = false;
     else
-        write_image(slot_of(vp, sint), m, is_pending);
+        write_image(image_place(vp, sint), m, is_pending);
     source->has_ticket = true;
     source->ticket = m->ticket;
     source->slot_sender = m->sender;

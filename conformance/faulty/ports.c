@@ -100,6 +100,13 @@ static unsigned signal_refusal(unsigned number, unsigned flag)
     return synic_on(port->vp) && is_on ? 0 : 7;
 }
 
+/* What is visible where SIEFP maps the flags, or the flags themselves outside the pages. */
+static const uint8_t *visible_flags(unsigned vp)
+{
+    uint64_t page = board.vps[vp].siefp >> 12;
+    return page < board.pages ? page_at(page) : flags_page(vp);
+}
+
 struct peer_reply signal_flag(unsigned number, unsigned flag)
 {
     unsigned why = signal_refusal(number, flag);
@@ -109,7 +116,8 @@ struct peer_reply signal_flag(unsigned number, unsigned flag)
     unsigned place = (flag + (IS(flag_base_ignored) ? 0 : port->base)) % FLAGS;
     unsigned bit = IS(flag_bytes_reversed) ? 7 - place % 8 : place % 8;
     uint8_t *byte = flags_page(port->vp) + SLOT * (IS(flags_of_first) ? 0 : port->sint) + place / 8;
-    bool was_set = *byte >> bit & 1;
+    const uint8_t *looked_at = IS(flag_of_visible) ? visible_flags(port->vp) + SLOT * port->sint + place / 8 : byte;
+    bool was_set = *looked_at >> bit & 1;
     bool is_masked = board.vps[port->vp].sint[port->sint] & MASKED;
     if (!(IS(flag_needs_mask_clear) && is_masked))
         *byte = (uint8_t)(*byte | 1 << bit);
