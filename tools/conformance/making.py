@@ -212,7 +212,7 @@ class Maker:
         if self.dice() < 0.4:
             target |= 0x1000 | (self.pick(self.vectors) << 4)
         if self.rarely(0.08):
-            target = self.pick((0, 0x1000, 0x10F0, 0x11000, 0x10000))
+            target = self.pick((0, 0x1000, 0x10F0, 0x11000, 0x200F0, 0x10000))
         bits = self.pick((1, 1, 1, 3, 3, 7, 7, 5, 8, 8, 9, 10, 11, 14, 0))
         if self.rarely():
             bits |= self.pick((1 << 13, 1 << 20, 1 << 63))
