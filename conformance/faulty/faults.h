@@ -183,7 +183,23 @@
     F(eighth_byte_lost, false, "a store of eight bytes stores seven") \
     F(message_writes_visible, false, "a message is written to what is visible at SIMP's page") \
     F(signal_writes_visible, false, "a signal sets its flag in what is visible at SIEFP's page") \
-    F(flag_of_visible, false, "whether a flag was set is read from what is visible at SIEFP's page")
+    F(flag_of_visible, false, "whether a flag was set is read from what is visible at SIEFP's page") \
+    F(ready_at_first, false, "a tick tries only timers that were ready when it began") \
+    F(ready_once, false, "a tick checks which timers are ready before it tries the first") \
+    F(tried_twice, false, "a tick tries each timer twice") \
+    F(others_catch_up, false, "a tick signals every missed period of timers 1 to 3") \
+    F(last_processor_stopped, false, "the timers of processor 7 never expire") \
+    F(lazy_one_shot_drops, false, "a late lazy one-shot may drop its signal") \
+    F(lazy_one_shot_latest, false, "a late lazy one-shot signals the latest multiple of its count") \
+    F(lazy_one_shot_repeats, false, "a lazy one-shot is periodic") \
+    F(lazy_one_shot_relative, false, "a lazy one-shot's count is relative to the present time") \
+    F(skips_untold, false, "a lazy timer that drops its signal emits no notice") \
+    F(vector_15_is_target, false, "a direct timer may have vector 15") \
+    F(vector_16_is_none, false, "a direct timer may not have vector 16") \
+    F(low_vector_by_count, false, "a count enables a direct timer with a vector below 16") \
+    F(direct_source_checked, false, "a direct timer with SINTx 0 is not enabled") \
+    F(message_vector_checked, false, "a timer in message mode with a vector of 1 to 15 is not enabled") \
+    F(running_unchecked, false, "a write of a running timer does not check its target")
 
 enum fault {
     NO_FAULT,
