@@ -287,7 +287,7 @@ class Maker:
         return "write %d %x %x" % (self.vp(), register, value)
 
     def lines(self):
-        first = 0 if self.dice() < 0.7 else self.pick((1, 7, MOST - 1, MOST - 2, MOST - 40))
+        first = 0 if self.dice() < 0.7 else self.pick((1, 7, MOST - 1, MOST - 2, MOST - 4))
         yield "board %d %d %d" % (self.processors, self.pages, first)
         choices = [getattr(self, name) for name in OFTEN * 3 + SELDOM]
         for _ in range(SCENES):
