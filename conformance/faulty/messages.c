@@ -30,20 +30,43 @@ static void withdrawn(uint64_t ticket, unsigned vp, unsigned sint)
     peer_notice("withdrawn %llu %u %u", (unsigned long long)ticket, vp, sint);
 }
 
+/* Where the first message of a sender is linked, or by a fault the last; null if there is none. */
+static struct message **queued_place(unsigned vp, unsigned sint, unsigned sender)
+{
+    struct message **found = NULL;
+    for (struct message **at = &board.vps[vp].sources[sint].first; *at != NULL; at = &(*at)->next)
+        if ((sender == UINT32_MAX || (*at)->sender == sender) && (found == NULL || IS(close_backwards)))
+            found = at;
+    return found;
+}
+
 /* Drops the messages of one sender, or of all where the sender is UINT32_MAX. */
 void drop_queued(unsigned vp, unsigned sint, unsigned sender, bool is_told)
 {
-    for (struct message **at = &board.vps[vp].sources[sint].first; *at != NULL;) {
+    unsigned untold = IS(close_reports_half) && sender < FIRST_TIMER ? queued_from(vp, sint, sender) / 2 : 0;
+    for (struct message **at; (at = queued_place(vp, sint, sender)) != NULL;) {
         struct message *m = *at;
-        if (sender != UINT32_MAX && m->sender != sender) {
-            at = &m->next;
-            continue;
-        }
-        if (is_told)
+        if (untold > 0)
+            untold--;
+        else if (is_told)
             withdrawn(m->ticket, vp, sint);
         *at = m->next;
         free(m);
     }
+}
+
+/* What closing a port does to its slot, by a fault. */
+void close_slot(unsigned vp, unsigned sint, unsigned sender)
+{
+    struct source *source = &board.vps[vp].sources[sint];
+    if (IS(close_ends_slot) && source->has_ticket && source->slot_sender == sender) {
+        withdrawn(source->ticket, vp, sint);
+        source->has_ticket = false;
+    }
+    if (IS(close_clears_pending) && source->first == NULL)
+        slot_of(vp, sint)[FLAG_BYTE] &= 0xfe;
+    if (IS(close_tries))
+        try_delivery(vp, sint);
 }
 
 static bool goes_before(const struct message *m, const struct message *other, bool is_slot_free)
@@ -58,10 +81,12 @@ uint64_t enqueue(unsigned vp, unsigned sint, unsigned sender, uint32_t type, con
     struct message *m = calloc(1, sizeof *m);
     if (m == NULL)
         abort();
+    if (IS(payload_239) && length > 239)
+        length = 239;
     *m = (struct message){ .sender = sender, .ticket = board.next_ticket, .type = type, .length = length };
     if (length > 0)
         memcpy(m->payload, payload, length);
-    if (!IS(timer_takes_none) || sender < FIRST_TIMER)
+    if (!IS(tickets_stay) && (!IS(timer_takes_none) || sender < FIRST_TIMER))
         board.next_ticket++;
     bool is_slot_free = is_slot_empty(vp, sint);
     struct message **at = &board.vps[vp].sources[sint].first;
@@ -150,6 +175,11 @@ static void mark(unsigned vp, unsigned sint)
     uint8_t *flags = slot_of(vp, sint) + FLAG_BYTE;
     if (IS(pending_forgotten))
         return;
+    if (IS(mark_drops_head)) {
+        struct message *head = board.vps[vp].sources[sint].first;
+        board.vps[vp].sources[sint].first = head->next;
+        free(head);
+    }
     bool was_clear = !(*flags & 1);
     *flags = IS(pending_is_whole_byte) ? 1 : *flags | 1;
     if (was_clear)

@@ -71,13 +71,18 @@ void page_register(unsigned vp, bool is_messages, uint64_t value)
 static unsigned refusal_of(uint64_t address, size_t length)
 {
     bool is_outside = address / PAGE >= board.pages;
+    bool is_crossing = address % PAGE + length > PAGE;
     if (IS(outside_first) && is_outside)
         return 11;
+    if (IS(crossing_before_length) && is_crossing && !is_outside)
+        return 12;
     if ((length == 0 && !IS(length_unchecked)) || length > 8)
         return 13;
+    if (IS(crossing_before_page) && is_crossing)
+        return 12;
     if (is_outside)
         return 11;
-    if (address % PAGE + length > PAGE && (!IS(crossing_allowed) || address / PAGE + 1 >= board.pages))
+    if (is_crossing && (!IS(crossing_allowed) || address / PAGE + 1 >= board.pages))
         return 12;
     return 0;
 }
