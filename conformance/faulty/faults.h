@@ -231,7 +231,8 @@
     F(all_absent, false, "no processor is on the board") \
     F(written_twice, false, "a register is written twice") \
     F(taken_twice, false, "take takes two vectors and returns the second") \
-    F(close_clears_flags, false, "closing a port clears its flags")
+    F(close_clears_flags, false, "closing a port clears its flags") \
+    F(any_page_consumes, false, "a store that clears a type in any page consumes the message of the slot at its place")
 
 enum fault {
     NO_FAULT,

@@ -110,7 +110,10 @@ static bool has_zero(const struct written *written, unsigned first, unsigned end
 static bool is_consumed(unsigned vp, unsigned s, const struct written *written)
 {
     unsigned slot = SLOT * s, type_end = slot + 4;
-    if (IS(retyped_is_consumed) && written->first < type_end && written->end > slot)
+    bool is_in_type = written->first < type_end && written->end > slot;
+    if (IS(any_page_consumes) && is_in_type)
+        return memcmp(written->page + slot, "\0\0\0\0", 4) == 0;
+    if (IS(retyped_is_consumed) && is_in_type)
         return true;
     if (IS(type_part_consumes) && has_zero(written, slot, type_end))
         return true;
@@ -127,7 +130,7 @@ static bool is_consumed(unsigned vp, unsigned s, const struct written *written)
 static void look_for_consumed(const struct written *written)
 {
     for (unsigned vp = 0; vp < board.processors; vp++) {
-        if (message_page(vp) != written->page)
+        if (message_page(vp) != written->page && !IS(any_page_consumes))
             continue;
         for (unsigned s = 0; s < SOURCES; s++) {
             struct source *source = &board.vps[vp].sources[s];

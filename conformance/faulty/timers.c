@@ -265,7 +265,8 @@ static void start(unsigned vp, unsigned index, bool was_running, bool is_count)
     if (!runs && was_running && t->count > 0 && IS(disable_ignored))
         return;
     t->has_deadline = runs;
-    bool is_relative = t->config & PERIODIC ? !IS(periodic_absolute) : IS(one_shot_relative) || (IS(lazy_one_shot_relative) && (t->config & LAZY));
+    bool is_lazy_relative = IS(lazy_one_shot_relative) && (t->config & LAZY);
+    bool is_relative = t->config & PERIODIC ? !IS(periodic_absolute) : IS(one_shot_relative) || is_lazy_relative;
     t->deadline = (is_relative ? (wide)board.now : 0) + t->count;
     if (IS(deadline_wraps))
         t->deadline = (uint64_t)t->deadline;
