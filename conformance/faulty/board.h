@@ -29,7 +29,7 @@ struct source {
     bool has_ticket;            /* of the message in its slot */
     uint64_t ticket;
     struct message *repeated;   /* by the fault masked_repeats */
-    unsigned slot_sender;       /* by the fault buffers_until_emptied */
+    unsigned slot_sender;       /* by the faults buffers_until_emptied and close_ends_slot */
 };
 
 enum { ENABLED = 1, PERIODIC = 2, LAZY = 4, AUTO_ENABLE = 8, DIRECT = 1 << 12 };
@@ -48,7 +48,7 @@ struct processor {
     unsigned repeats[VECTORS];  /* by the fault queued_requests */
     uint64_t tpr;
     bool suspended;
-    bool is_disabled;           /* by the fault apic_disabled */
+    bool is_disabled;           /* by the faults apic_disabled and resume_takes_nothing */
     uint64_t scontrol, siefp, simp;
     uint64_t sint[SOURCES];
     struct timer timers[TIMERS];
@@ -92,6 +92,7 @@ bool synic_on(unsigned vp);
 bool are_tickets_left(void);
 unsigned queued_from(unsigned vp, unsigned sint, unsigned sender);
 void drop_queued(unsigned vp, unsigned sint, unsigned sender, bool is_told);
+void close_slot(unsigned vp, unsigned sint, unsigned sender);
 uint64_t enqueue(unsigned vp, unsigned sint, unsigned sender, uint32_t type, const uint8_t *payload, size_t length);
 uint8_t *slot_of(unsigned vp, unsigned sint);
 bool is_slot_empty(unsigned vp, unsigned sint);

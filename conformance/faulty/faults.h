@@ -171,7 +171,68 @@
     F(reset_suspends, false, "a reset leaves the processor suspended") \
     F(reset_closes_ports, false, "a reset closes the ports of the processor") \
     F(reset_of_all, false, "a reset resets all processors") \
-    F(reset_clock, false, "a reset sets the time to 0")
+    F(reset_clock, false, "a reset sets the time to 0") \
+    F(type_two_bytes, false, "a slot counts as empty if the first two bytes of its type are 0") \
+    F(type_three_bytes, false, "a slot counts as empty if the first three bytes of its type are 0") \
+    F(type_part_consumes, false, "a store of 0 to one byte of a slot's type consumes its message") \
+    F(retyped_is_consumed, false, "a store of another type consumes the message of the slot") \
+    F(consumed_by_start, false, "only a store that begins at a slot consumes its message") \
+    F(consumed_by_first_slot, false, "a store consumes only the message of the slot in which it begins") \
+    F(next_consumes, false, "emptying a slot consumes the message of the source before it too") \
+    F(store_stops_at_slot, false, "a store ends at the end of the slot in which it begins") \
+    F(eighth_byte_lost, false, "a store of eight bytes stores seven") \
+    F(message_writes_visible, false, "a message is written to what is visible at SIMP's page") \
+    F(signal_writes_visible, false, "a signal sets its flag in what is visible at SIEFP's page") \
+    F(flag_of_visible, false, "whether a flag was set is read from what is visible at SIEFP's page") \
+    F(ready_at_first, false, "a tick tries only timers that were ready when it began") \
+    F(ready_once, false, "a tick checks which timers are ready before it tries the first") \
+    F(tried_twice, false, "a tick tries each timer twice") \
+    F(others_catch_up, false, "a tick signals every missed period of timers 1 to 3") \
+    F(last_processor_stopped, false, "the timers of processor 7 never expire") \
+    F(lazy_one_shot_drops, false, "a late lazy one-shot may drop its signal") \
+    F(lazy_one_shot_latest, false, "a late lazy one-shot signals the latest multiple of its count") \
+    F(lazy_one_shot_repeats, false, "a lazy one-shot is periodic") \
+    F(lazy_one_shot_relative, false, "a lazy one-shot's count is relative to the present time") \
+    F(skips_untold, false, "a lazy timer that drops its signal emits no notice") \
+    F(vector_15_is_target, false, "a direct timer may have vector 15") \
+    F(vector_16_is_none, false, "a direct timer may not have vector 16") \
+    F(low_vector_by_count, false, "a count enables a direct timer with a vector below 16") \
+    F(direct_source_checked, false, "a direct timer with SINTx 0 is not enabled") \
+    F(message_vector_checked, false, "a timer in message mode with a vector of 1 to 15 is not enabled") \
+    F(running_unchecked, false, "a write of a running timer does not check its target") \
+    F(close_tries, false, "closing a port attempts delivery from its queue") \
+    F(close_drops_all, false, "closing a port withdraws the messages of all senders to its source") \
+    F(close_backwards, false, "closing a port withdraws its last message first") \
+    F(close_reports_half, false, "closing a port reports the second half of the messages that it withdraws") \
+    F(close_ends_slot, false, "closing a port withdraws its message in the slot") \
+    F(close_clears_pending, false, "closing a port clears MessagePending if the queue is then empty") \
+    F(mark_drops_head, false, "an attempt that finds the slot occupied drops the head of the queue") \
+    F(tickets_stay, false, "all messages take the first ticket") \
+    F(payload_239, false, "a payload of 240 bytes loses its last") \
+    F(shape_before_number, false, "the shape of a port is checked before its number") \
+    F(shape_before_open, false, "the shape of a port is checked before whether it is open") \
+    F(synic_before_type, false, "a post is checked for the SynIC before its type") \
+    F(buffers_before_synic, false, "a post is checked for buffers before the SynIC") \
+    F(tickets_before_synic, false, "a post is checked for tickets before the SynIC") \
+    F(tickets_before_buffers, false, "a post is checked for tickets before buffers") \
+    F(flag_before_kind, false, "a signal is checked for its flag before the port's kind") \
+    F(synic_before_flag, false, "a signal is checked for the SynIC before its flag") \
+    F(crossing_before_length, false, "an access is checked for the end of its page before its length") \
+    F(crossing_before_page, false, "an access is checked for the end of its page before the page") \
+    F(part_before_processor, false, "the part of an absorb is checked before the processor") \
+    F(absorb_backwards, false, "an absorb requests the greatest vector first") \
+    F(absorb_stops, false, "an absorb ends at a vector that is requested already") \
+    F(absorb_one, false, "an absorb requests one vector") \
+    F(absorb_replaces, false, "an absorb replaces the requests of its part") \
+    F(absorb_low_bits, false, "bits 0 to 15 of every part are ignored") \
+    F(absorb_dropped, false, "an absorb requests nothing") \
+    F(auto_ends_at_request, false, "an auto-EOI vector is no longer requested after its request") \
+    F(resume_takes_nothing, false, "a processor that was resumed takes nothing") \
+    F(all_absent, false, "no processor is on the board") \
+    F(written_twice, false, "a register is written twice") \
+    F(taken_twice, false, "take takes two vectors and returns the second") \
+    F(close_clears_flags, false, "closing a port clears its flags") \
+    F(any_page_consumes, false, "a store that clears a type in any page consumes the message of the slot at its place")
 
 enum fault {
     NO_FAULT,

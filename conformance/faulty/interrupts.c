@@ -5,19 +5,6 @@
 
 enum { FIRST_VECTOR = 16 };
 
-void request(unsigned vp, unsigned vector)
-{
-    struct processor *p = &board.vps[vp];
-    if (IS(merge_while_serving) && p->serving[vector])
-        return;
-    if (p->requested[vector]) {
-        p->repeats[vector]++;
-        return;
-    }
-    p->requested[vector] = true;
-    peer_notice("requested %u %02x", vp, vector);
-}
-
 static bool raises(uint64_t sint)
 {
     if ((sint & MASKED) && !IS(masked_raises))
@@ -48,6 +35,21 @@ static bool is_auto(unsigned vp, unsigned vector)
             return false;
     }
     return false;
+}
+
+void request(unsigned vp, unsigned vector)
+{
+    struct processor *p = &board.vps[vp];
+    if (IS(merge_while_serving) && p->serving[vector])
+        return;
+    if (p->requested[vector]) {
+        p->repeats[vector]++;
+        return;
+    }
+    p->requested[vector] = true;
+    peer_notice("requested %u %02x", vp, vector);
+    if (IS(auto_ends_at_request) && is_auto(vp, vector))
+        p->requested[vector] = false;
 }
 
 void raise_source(unsigned vp, unsigned sint)

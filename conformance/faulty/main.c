@@ -35,7 +35,7 @@ enum { FAULT_COUNT = sizeof faults / sizeof *faults };
 
 static bool is_absent(unsigned vp)
 {
-    return vp >= board.processors;
+    return vp >= board.processors || IS(all_absent);
 }
 
 static struct peer_reply absent(void)
@@ -65,7 +65,11 @@ static struct peer_reply open_event_port(unsigned number, unsigned vp, unsigned 
 
 static struct peer_reply write_msr(unsigned vp, uint32_t msr, uint64_t value)
 {
-    return is_absent(vp) ? absent() : write_register(vp, msr, value);
+    if (is_absent(vp))
+        return absent();
+    if (IS(written_twice))
+        write_register(vp, msr, value);
+    return write_register(vp, msr, value);
 }
 
 static struct peer_reply read_msr(unsigned vp, uint32_t msr)
@@ -81,15 +85,39 @@ static struct peer_reply assert_irq(unsigned vp, unsigned vector)
     return done();
 }
 
+/* Whether an absorb requests nothing after this vector, by a fault. */
+static bool ends_absorb(bool was_requested)
+{
+    return IS(absorb_one) || (IS(absorb_stops) && was_requested);
+}
+
+static void absorb_bits(unsigned vp, unsigned base, uint64_t bits)
+{
+    struct processor *p = &board.vps[vp];
+    if (IS(absorb_replaces))
+        memset(&p->requested[base], 0, 64 * sizeof *p->requested);
+    for (unsigned i = 0; i < 64 && !IS(absorb_dropped); i++) {
+        unsigned at = IS(absorb_backwards) ? 63 - i : i;
+        unsigned vector = base + at;
+        bool is_ignored = (vector < 16 && !IS(low_vectors)) || (at < 16 && IS(absorb_low_bits));
+        if (!(bits >> at & 1) || is_ignored)
+            continue;
+        bool was_requested = p->requested[vector];
+        request(vp, vector);
+        if (ends_absorb(was_requested))
+            return;
+    }
+}
+
 static struct peer_reply absorb_posted(unsigned vp, unsigned part, uint64_t bits)
 {
+    if (IS(part_before_processor) && part > 3)
+        return refused(4);
     if (is_absent(vp))
         return absent();
     if (part > 3)
         return IS(part_unchecked) ? done() : refused(4);
-    for (unsigned at = 0; at < 64; at++)
-        if ((bits >> at & 1) && (64 * part + at >= 16 || IS(low_vectors)))
-            request(vp, 64 * part + at);
+    absorb_bits(vp, 64 * part, bits);
     return done();
 }
 
@@ -110,6 +138,8 @@ static struct peer_reply take_interrupt(unsigned vp)
 {
     if (is_absent(vp))
         return absent();
+    if (IS(taken_twice))
+        take_next(vp);
     int vector = take_next(vp);
     return vector < 0 ? peer_reply(PEER_NONE_TAKEN, 0) : peer_reply(PEER_TAKEN, (uint64_t)vector);
 }
@@ -137,6 +167,7 @@ static struct peer_reply resume(unsigned vp)
     if (!p->suspended && !IS(suspend_twice))
         return refused(16);
     p->suspended = false;
+    p->is_disabled = IS(resume_takes_nothing);
     if (IS(resume_tries))
         try_due();
     return done();

@@ -4,7 +4,7 @@
 
 #include "board.h"
 
-enum { TYPE = 0, LENGTH = 4, FLAG_BYTE = 5, ORIGIN = 8, PAYLOAD = 16, DELIVERY = 32 };
+enum { TYPE = 0, TYPE_BYTES = 4, LENGTH = 4, FLAG_BYTE = 5, ORIGIN = 8, PAYLOAD = 16, DELIVERY = 32 };
 
 bool synic_on(unsigned vp)
 {
@@ -30,20 +30,43 @@ static void withdrawn(uint64_t ticket, unsigned vp, unsigned sint)
     peer_notice("withdrawn %llu %u %u", (unsigned long long)ticket, vp, sint);
 }
 
+/* Where the first message of a sender is linked, or by a fault the last; null if there is none. */
+static struct message **queued_place(unsigned vp, unsigned sint, unsigned sender)
+{
+    struct message **found = NULL;
+    for (struct message **at = &board.vps[vp].sources[sint].first; *at != NULL; at = &(*at)->next)
+        if ((sender == UINT32_MAX || (*at)->sender == sender) && (found == NULL || IS(close_backwards)))
+            found = at;
+    return found;
+}
+
 /* Drops the messages of one sender, or of all where the sender is UINT32_MAX. */
 void drop_queued(unsigned vp, unsigned sint, unsigned sender, bool is_told)
 {
-    for (struct message **at = &board.vps[vp].sources[sint].first; *at != NULL;) {
+    unsigned untold = IS(close_reports_half) && sender < FIRST_TIMER ? queued_from(vp, sint, sender) / 2 : 0;
+    for (struct message **at; (at = queued_place(vp, sint, sender)) != NULL;) {
         struct message *m = *at;
-        if (sender != UINT32_MAX && m->sender != sender) {
-            at = &m->next;
-            continue;
-        }
-        if (is_told)
+        if (untold > 0)
+            untold--;
+        else if (is_told)
             withdrawn(m->ticket, vp, sint);
         *at = m->next;
         free(m);
     }
+}
+
+/* What closing a port does to its slot, by a fault. */
+void close_slot(unsigned vp, unsigned sint, unsigned sender)
+{
+    struct source *source = &board.vps[vp].sources[sint];
+    if (IS(close_ends_slot) && source->has_ticket && source->slot_sender == sender) {
+        withdrawn(source->ticket, vp, sint);
+        source->has_ticket = false;
+    }
+    if (IS(close_clears_pending) && source->first == NULL)
+        slot_of(vp, sint)[FLAG_BYTE] &= 0xfe;
+    if (IS(close_tries))
+        try_delivery(vp, sint);
 }
 
 static bool goes_before(const struct message *m, const struct message *other, bool is_slot_free)
@@ -58,10 +81,12 @@ uint64_t enqueue(unsigned vp, unsigned sint, unsigned sender, uint32_t type, con
     struct message *m = calloc(1, sizeof *m);
     if (m == NULL)
         abort();
+    if (IS(payload_239) && length > 239)
+        length = 239;
     *m = (struct message){ .sender = sender, .ticket = board.next_ticket, .type = type, .length = length };
     if (length > 0)
         memcpy(m->payload, payload, length);
-    if (!IS(timer_takes_none) || sender < FIRST_TIMER)
+    if (!IS(tickets_stay) && (!IS(timer_takes_none) || sender < FIRST_TIMER))
         board.next_ticket++;
     bool is_slot_free = is_slot_empty(vp, sint);
     struct message **at = &board.vps[vp].sources[sint].first;
@@ -81,11 +106,13 @@ uint8_t *slot_of(unsigned vp, unsigned sint)
 bool is_slot_empty(unsigned vp, unsigned sint)
 {
     const uint8_t *slot = slot_of(vp, sint);
-    if (IS(type_byte_alone))
-        return slot[0] == 0;
     if (IS(pending_blocks) && (slot[FLAG_BYTE] & 1))
         return false;
-    return !(slot[0] | slot[1] | slot[2] | slot[3]);
+    unsigned checked = IS(type_byte_alone) ? 1 : IS(type_two_bytes) ? 2 : IS(type_three_bytes) ? 3 : TYPE_BYTES;
+    for (unsigned at = 0; at < checked; at++)
+        if (slot[at] != 0)
+            return false;
+    return true;
 }
 
 static void put(uint8_t *at, uint64_t number, unsigned length)
@@ -94,10 +121,19 @@ static void put(uint8_t *at, uint64_t number, unsigned length)
         at[i] = (uint8_t)(number >> (8 * i));
 }
 
+/* Where a message is written: in its slot, unless a fault says otherwise. */
+static uint8_t *image_place(unsigned vp, unsigned sint)
+{
+    uint64_t page = board.vps[vp].simp >> 12;
+    if (IS(message_writes_visible) && page < board.pages)
+        return page_at(page) + SLOT * sint;
+    return slot_of(vp, sint);
+}
+
 static void write_image(uint8_t *slot, const struct message *m, bool is_pending)
 {
     memset(slot, 0, IS(short_image) || IS(slot_elsewhere) ? PAYLOAD : SLOT);
-    put(slot + TYPE, m->type, 4);
+    put(slot + TYPE, m->type, TYPE_BYTES);
     slot[LENGTH] = (uint8_t)(IS(payload_length) ? 240 : m->length);
     slot[FLAG_BYTE] = is_pending;
     put(slot + ORIGIN, m->sender < FIRST_TIMER && !IS(port_number) ? m->sender : 0, 8);
@@ -115,7 +151,7 @@ static void place(unsigned vp, unsigned sint)
     if (IS(hidden_not_written) && page_at(board.vps[vp].simp >> 12 < board.pages ? board.vps[vp].simp >> 12 : 0) != message_page(vp))
         is_pending = false;
     else
-        write_image(slot_of(vp, sint), m, is_pending);
+        write_image(image_place(vp, sint), m, is_pending);
     source->has_ticket = true;
     source->ticket = m->ticket;
     source->slot_sender = m->sender;
@@ -139,6 +175,11 @@ static void mark(unsigned vp, unsigned sint)
     uint8_t *flags = slot_of(vp, sint) + FLAG_BYTE;
     if (IS(pending_forgotten))
         return;
+    if (IS(mark_drops_head)) {
+        struct message *head = board.vps[vp].sources[sint].first;
+        board.vps[vp].sources[sint].first = head->next;
+        free(head);
+    }
     bool was_clear = !(*flags & 1);
     *flags = IS(pending_is_whole_byte) ? 1 : *flags | 1;
     if (was_clear)

@@ -49,6 +49,8 @@ uint8_t *flags_page(unsigned vp)
     struct processor *p = &board.vps[vp];
     if (IS(no_overlays) && page_of(p->siefp) < board.pages)
         return board.guest[page_of(p->siefp)];
+    if (IS(signal_writes_visible) && page_of(p->siefp) < board.pages)
+        return page_at(page_of(p->siefp));
     return p->sief;
 }
 
@@ -69,13 +71,18 @@ void page_register(unsigned vp, bool is_messages, uint64_t value)
 static unsigned refusal_of(uint64_t address, size_t length)
 {
     bool is_outside = address / PAGE >= board.pages;
+    bool is_crossing = address % PAGE + length > PAGE;
     if (IS(outside_first) && is_outside)
         return 11;
+    if (IS(crossing_before_length) && is_crossing && !is_outside)
+        return 12;
     if ((length == 0 && !IS(length_unchecked)) || length > 8)
         return 13;
+    if (IS(crossing_before_page) && is_crossing)
+        return 12;
     if (is_outside)
         return 11;
-    if (address % PAGE + length > PAGE && (!IS(crossing_allowed) || address / PAGE + 1 >= board.pages))
+    if (is_crossing && (!IS(crossing_allowed) || address / PAGE + 1 >= board.pages))
         return 12;
     return 0;
 }
@@ -86,15 +93,48 @@ static uint8_t *byte_at(uint64_t address, bool is_store)
     return &page[address % PAGE];
 }
 
+/* The bytes of a page that a store wrote. */
+struct written {
+    const uint8_t *page;
+    unsigned first, end;
+};
+
+static bool has_zero(const struct written *written, unsigned first, unsigned end)
+{
+    for (unsigned at = first > written->first ? first : written->first; at < end && at < written->end; at++)
+        if (written->page[at] == 0)
+            return true;
+    return false;
+}
+
+static bool is_consumed(unsigned vp, unsigned s, const struct written *written)
+{
+    unsigned slot = SLOT * s, type_end = slot + 4;
+    bool is_in_type = written->first < type_end && written->end > slot;
+    if (IS(any_page_consumes) && is_in_type)
+        return memcmp(written->page + slot, "\0\0\0\0", 4) == 0;
+    if (IS(retyped_is_consumed) && is_in_type)
+        return true;
+    if (IS(type_part_consumes) && has_zero(written, slot, type_end))
+        return true;
+    if (IS(next_consumes) && s + 1 < SOURCES && board.vps[vp].sources[s + 1].has_ticket && is_slot_empty(vp, s + 1))
+        return true;
+    if (IS(consumed_by_start) && written->first != slot)
+        return false;
+    if (IS(consumed_by_first_slot) && written->first / SLOT != s)
+        return false;
+    return is_slot_empty(vp, s);
+}
+
 /* A slot of this page that was emptied loses its ticket. */
-static void look_for_consumed(const uint8_t *page)
+static void look_for_consumed(const struct written *written)
 {
     for (unsigned vp = 0; vp < board.processors; vp++) {
-        if (message_page(vp) != page)
+        if (message_page(vp) != written->page && !IS(any_page_consumes))
             continue;
         for (unsigned s = 0; s < SOURCES; s++) {
             struct source *source = &board.vps[vp].sources[s];
-            if (!source->has_ticket || !is_slot_empty(vp, s))
+            if (!source->has_ticket || !is_consumed(vp, s, written))
                 continue;
             source->has_ticket = false;
             peer_notice("consumed %llu %u %u", (unsigned long long)source->ticket, vp, s);
@@ -109,9 +149,14 @@ struct peer_reply store_bytes(uint64_t address, const uint8_t *bytes, size_t len
     unsigned why = refusal_of(address, length);
     if (why)
         return refused(why);
+    if (IS(store_stops_at_slot) && length > SLOT - address % SLOT)
+        length = SLOT - address % SLOT;
+    if (IS(eighth_byte_lost) && length > 7)
+        length = 7;
     for (size_t at = 0; at < length; at++)
         *byte_at(address + at, true) = bytes[at];
-    look_for_consumed(page_at(address / PAGE));
+    unsigned first = address % PAGE;
+    look_for_consumed(&(struct written){ page_at(address / PAGE), first, first + (unsigned)length });
     return done();
 }
 

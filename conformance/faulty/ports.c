@@ -21,6 +21,9 @@ static bool is_fitting(const struct port *port)
 
 struct peer_reply open_port(unsigned number, struct port port)
 {
+    bool is_first = IS(shape_before_number) || (IS(shape_before_open) && is_number(number));
+    if (is_first && !is_fitting(&port))
+        return refused(4);
     if (!is_number(number))
         return refused(1);
     if (board.ports[number].is_open && !IS(open_replaces))
@@ -34,14 +37,27 @@ struct peer_reply open_port(unsigned number, struct port port)
     return done();
 }
 
+/* What closing a port does to its flags, by a fault. */
+static void close_flags(const struct port *port)
+{
+    uint8_t *flags = flags_page(port->vp) + SLOT * port->sint;
+    for (unsigned place = port->base; IS(close_clears_flags) && place < port->base + port->count; place++)
+        flags[place / 8] &= (uint8_t)~(1 << place % 8);
+}
+
 struct peer_reply close_port(unsigned number)
 {
     if (!is_number(number) || !board.ports[number].is_open)
         return IS(close_unchecked) ? done() : refused(1);
     struct port *port = &board.ports[number];
     port->is_open = false;
-    if (!port->is_flags && !IS(close_keeps))
-        drop_queued(port->vp, port->sint, number, true);
+    if (port->is_flags) {
+        close_flags(port);
+        return done();
+    }
+    if (!IS(close_keeps))
+        drop_queued(port->vp, port->sint, IS(close_drops_all) ? UINT32_MAX : number, true);
+    close_slot(port->vp, port->sint, number);
     return done();
 }
 
@@ -63,13 +79,22 @@ static unsigned post_refusal(unsigned number, uint32_t type)
     if (why)
         return why;
     const struct port *port = &board.ports[number];
+    bool is_off = !synic_on(port->vp) || (IS(suspended_refuses) && board.vps[port->vp].suspended);
+    bool is_full = queued_from(port->vp, port->sint, number) >= port->buffers;
+    bool is_spent = !are_tickets_left();
+    if (IS(synic_before_type) && is_off)
+        return 7;
     if (!is_type)
         return 5;
-    if (!synic_on(port->vp) || (IS(suspended_refuses) && board.vps[port->vp].suspended))
-        return 7;
-    if (queued_from(port->vp, port->sint, number) >= port->buffers)
+    if (IS(buffers_before_synic) && is_full)
         return 8;
-    return are_tickets_left() ? 0 : 9;
+    if (IS(tickets_before_synic) && is_spent)
+        return 9;
+    if (is_off)
+        return 7;
+    if (IS(tickets_before_buffers) && is_spent)
+        return 9;
+    return is_full ? 8 : is_spent ? 9 : 0;
 }
 
 struct peer_reply post(unsigned number, uint32_t type, const uint8_t *payload, size_t length)
@@ -91,13 +116,25 @@ struct peer_reply post(unsigned number, uint32_t type, const uint8_t *payload, s
 static unsigned signal_refusal(unsigned number, unsigned flag)
 {
     unsigned why = target_refusal(number, true);
+    if (IS(flag_before_kind) && why == 3 && flag >= board.ports[number].count)
+        return 6;
     if (why)
         return why;
     const struct port *port = &board.ports[number];
+    bool is_on = (board.vps[port->vp].siefp & 1) || IS(signal_when_off);
+    bool is_off = !synic_on(port->vp) || !is_on;
+    if (IS(synic_before_flag) && is_off)
+        return 7;
     if (flag >= (IS(flag_range) ? FLAGS - port->base : port->count))
         return 6;
-    bool is_on = (board.vps[port->vp].siefp & 1) || IS(signal_when_off);
-    return synic_on(port->vp) && is_on ? 0 : 7;
+    return is_off ? 7 : 0;
+}
+
+/* What is visible where SIEFP maps the flags, or the flags themselves outside the pages. */
+static const uint8_t *visible_flags(unsigned vp)
+{
+    uint64_t page = board.vps[vp].siefp >> 12;
+    return page < board.pages ? page_at(page) : flags_page(vp);
 }
 
 struct peer_reply signal_flag(unsigned number, unsigned flag)
@@ -109,7 +146,8 @@ struct peer_reply signal_flag(unsigned number, unsigned flag)
     unsigned place = (flag + (IS(flag_base_ignored) ? 0 : port->base)) % FLAGS;
     unsigned bit = IS(flag_bytes_reversed) ? 7 - place % 8 : place % 8;
     uint8_t *byte = flags_page(port->vp) + SLOT * (IS(flags_of_first) ? 0 : port->sint) + place / 8;
-    bool was_set = *byte >> bit & 1;
+    const uint8_t *looked_at = IS(flag_of_visible) ? visible_flags(port->vp) + SLOT * port->sint + place / 8 : byte;
+    bool was_set = *looked_at >> bit & 1;
     bool is_masked = board.vps[port->vp].sint[port->sint] & MASKED;
     if (!(IS(flag_needs_mask_clear) && is_masked))
         *byte = (uint8_t)(*byte | 1 << bit);

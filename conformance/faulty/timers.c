@@ -27,7 +27,12 @@ static bool has_target(const struct timer *t)
 {
     if (IS(no_target_runs))
         return true;
-    return is_direct(t) ? vector_of(t) >= 16 : sint_of(t) != 0;
+    unsigned least = IS(vector_15_is_target) ? 15 : IS(vector_16_is_none) ? 17 : 16;
+    if (is_direct(t))
+        return vector_of(t) >= least && !(IS(direct_source_checked) && sint_of(t) == 0);
+    if (IS(message_vector_checked) && vector_of(t) > 0 && vector_of(t) < 16)
+        return false;
+    return sint_of(t) != 0;
 }
 
 static void tell_expired(unsigned vp, unsigned index, wide deadline)
@@ -89,6 +94,13 @@ static void skip(unsigned vp, unsigned index, uint64_t count)
         peer_notice("skipped %u %u %llu", vp, index, (unsigned long long)count);
 }
 
+static bool is_dropped(wide e, uint64_t p)
+{
+    if (IS(lazy_always))
+        return false;
+    return (IS(lazy_half) ? 2 : 4) * (e + p - board.now) <= p;
+}
+
 static void expire_once(unsigned vp, unsigned index)
 {
     struct timer *t = &board.vps[vp].timers[index];
@@ -100,14 +112,11 @@ static void expire_once(unsigned vp, unsigned index)
         t->count = 0;
     if (!IS(one_shot_repeats) && !is_waiting)
         t->config &= ~(uint64_t)ENABLED;
-    signal_timer(vp, index, deadline);
-}
-
-static bool is_dropped(wide e, uint64_t p)
-{
-    if (IS(lazy_always))
-        return false;
-    return (IS(lazy_half) ? 2 : 4) * (e + p - board.now) <= p;
+    bool is_lazy = (t->config & LAZY) && t->count > 0;
+    uint64_t latest = is_lazy && board.now > deadline ? board.now - (board.now - deadline) % t->count : deadline;
+    if (IS(lazy_one_shot_drops) && is_lazy && is_dropped(latest, t->count))
+        return;
+    signal_timer(vp, index, IS(lazy_one_shot_latest) ? latest : deadline);
 }
 
 static void expire_lazy(unsigned vp, unsigned index)
@@ -119,7 +128,7 @@ static void expire_lazy(unsigned vp, unsigned index)
     wide told = IS(lazy_first) ? t->deadline : e;
     t->deadline = e + p;
     if (is_dropped(e, p)) {
-        skip(vp, index, k + 1);
+        skip(vp, index, IS(skips_untold) ? 0 : k + 1);
         return;
     }
     tell_expired(vp, index, told);
@@ -158,18 +167,19 @@ static bool is_due(unsigned vp, unsigned index)
     wide deadline = t->deadline + (IS(late_by_one) ? 1 : 0);
     if (board.vps[vp].suspended && !IS(suspended_timers_run))
         return false;
+    if (IS(last_processor_stopped) && vp == PROCESSORS - 1)
+        return false;
     if (IS(lazy_one_shot) && (t->config & LAZY) && !(t->config & PERIODIC))
         deadline += t->count / 4;
     return t->has_deadline && deadline <= now;
 }
 
-static void try_timer(unsigned vp, unsigned index)
+static void expire(unsigned vp, unsigned index)
 {
     const struct timer *t = &board.vps[vp].timers[index];
-    if (!is_ready(vp, index))
-        return;
     bool is_early = t->deadline > board.now;
-    if (!(t->config & PERIODIC))
+    bool repeats = (t->config & PERIODIC) || (IS(lazy_one_shot_repeats) && (t->config & LAZY));
+    if (!repeats)
         expire_once(vp, index);
     else if ((t->config & LAZY) && !IS(lazy_ignored) && !is_early)
         expire_lazy(vp, index);
@@ -177,9 +187,16 @@ static void try_timer(unsigned vp, unsigned index)
         expire_periodic(vp, index);
 }
 
+static void try_timer(unsigned vp, unsigned index)
+{
+    if (is_ready(vp, index))
+        expire(vp, index);
+}
+
 struct due {
     wide deadline;
     unsigned vp, index;
+    bool was_ready;             /* before the tick tried any timer */
 };
 
 static int compare(const void *left, const void *right)
@@ -189,6 +206,27 @@ static int compare(const void *left, const void *right)
     if (a->deadline != b->deadline && !IS(timers_unordered))
         return a->deadline < b->deadline ? -1 : 1;
     return (int)(a->vp * TIMERS + a->index) - (int)(b->vp * TIMERS + b->index);
+}
+
+static bool is_tried_again(unsigned vp, unsigned index)
+{
+    return (IS(catches_up_at_once) || (IS(others_catch_up) && index > 0)) && is_due(vp, index) && is_ready(vp, index);
+}
+
+static void try_at_its_turn(const struct due *due)
+{
+    if (IS(ready_once)) {
+        if (due->was_ready)
+            expire(due->vp, due->index);
+        return;
+    }
+    if (IS(ready_at_first) && !due->was_ready)
+        return;
+    try_timer(due->vp, due->index);
+    if (IS(tried_twice) && is_due(due->vp, due->index))
+        try_timer(due->vp, due->index);
+    while (is_tried_again(due->vp, due->index))
+        try_timer(due->vp, due->index);
 }
 
 void try_due(void)
@@ -202,22 +240,21 @@ void try_due(void)
     for (unsigned vp = 0; vp < board.processors; vp++)
         for (unsigned index = 0; index < TIMERS; index++)
             if (is_due(vp, index))
-                list[count++] = (struct due){ board.vps[vp].timers[index].deadline, vp, index };
+                list[count++] = (struct due){ board.vps[vp].timers[index].deadline, vp, index, is_ready(vp, index) };
     qsort(list, count, sizeof *list, compare);
     for (size_t at = 0; at < count; at++) {
-        try_timer(list[at].vp, list[at].index);
-        while (IS(catches_up_at_once) && is_due(list[at].vp, list[at].index) && is_ready(list[at].vp, list[at].index))
-            try_timer(list[at].vp, list[at].index);
+        try_at_its_turn(&list[at]);
         if (IS(one_timer))
             return;
     }
 }
 
 /* After a write. */
-static void start(unsigned vp, unsigned index, bool was_running)
+static void start(unsigned vp, unsigned index, bool was_running, bool is_count)
 {
     struct timer *t = &board.vps[vp].timers[index];
-    if (!has_target(t))
+    bool is_checked = !(IS(low_vector_by_count) && is_count && is_direct(t)) && !(IS(running_unchecked) && was_running);
+    if (is_checked && !has_target(t))
         t->config &= ~(uint64_t)ENABLED;
     if (IS(write_drops_message))
         for (unsigned s = 0; s < SOURCES; s++)
@@ -228,7 +265,8 @@ static void start(unsigned vp, unsigned index, bool was_running)
     if (!runs && was_running && t->count > 0 && IS(disable_ignored))
         return;
     t->has_deadline = runs;
-    bool is_relative = t->config & PERIODIC ? !IS(periodic_absolute) : IS(one_shot_relative);
+    bool is_lazy_relative = IS(lazy_one_shot_relative) && (t->config & LAZY);
+    bool is_relative = t->config & PERIODIC ? !IS(periodic_absolute) : IS(one_shot_relative) || is_lazy_relative;
     t->deadline = (is_relative ? (wide)board.now : 0) + t->count;
     if (IS(deadline_wraps))
         t->deadline = (uint64_t)t->deadline;
@@ -250,7 +288,7 @@ void write_config(unsigned vp, unsigned index, uint64_t value)
     t->config = IS(config_keeps_bits) ? value : value & 0xf1fff;
     if (IS(auto_enable_on_config) && (value & AUTO_ENABLE) && t->count > 0)
         t->config |= ENABLED;
-    start(vp, index, was_running);
+    start(vp, index, was_running, false);
 }
 
 void write_count(unsigned vp, unsigned index, uint64_t value)
@@ -267,5 +305,5 @@ void write_count(unsigned vp, unsigned index, uint64_t value)
     bool enables = (t->config & AUTO_ENABLE) && !IS(auto_enable_ignored);
     if ((value > 0 || IS(zero_count_enables)) && (enables || IS(count_enables)))
         t->config |= ENABLED;
-    start(vp, index, was_running);
+    start(vp, index, was_running, true);
 }

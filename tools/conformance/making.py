@@ -212,7 +212,7 @@ class Maker:
         if self.dice() < 0.4:
             target |= 0x1000 | (self.pick(self.vectors) << 4)
         if self.rarely(0.08):
-            target = self.pick((0, 0x1000, 0x10F0, 0x11000, 0x10000))
+            target = self.pick((0, 0x1000, 0x10F0, 0x11000, 0x200F0, 0x10000))
         bits = self.pick((1, 1, 1, 3, 3, 7, 7, 5, 8, 8, 9, 10, 11, 14, 0))
         if self.rarely():
             bits |= self.pick((1 << 13, 1 << 20, 1 << 63))
@@ -260,7 +260,8 @@ class Maker:
         return "write %d %x %x" % (self.vp(), self.pick(STRANGE), self.pick((0, 1, MOST)))
 
     def address(self):
-        place = self.pick((0, 1, PAGE - 1, PAGE - 4, PAGE - 8, SLOT * self.below(16), SLOT * self.pick(self.sources) + self.below(8)))
+        near_slot = max(0, SLOT * self.pick(self.sources) + self.below(12) - 4)
+        place = self.pick((0, 1, PAGE - 1, PAGE - 4, PAGE - 8, SLOT * self.below(16), near_slot))
         return self.page() * PAGE + place if self.dice() < 0.95 else MOST
 
     def store(self):
@@ -286,7 +287,7 @@ class Maker:
         return "write %d %x %x" % (self.vp(), register, value)
 
     def lines(self):
-        first = 0 if self.dice() < 0.7 else self.pick((1, 7, MOST - 1, MOST - 2, MOST - 40))
+        first = 0 if self.dice() < 0.7 else self.pick((1, 7, MOST - 1, MOST - 2, MOST - 4))
         yield "board %d %d %d" % (self.processors, self.pages, first)
         choices = [getattr(self, name) for name in OFTEN * 3 + SELDOM]
         for _ in range(SCENES):
