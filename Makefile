@@ -1,4 +1,4 @@
-# The scripts beside this file as targets. Each finds out by itself what is missing, and says in its first lines what it does.
+# The scripts at the root as targets. Each finds out by itself what is missing, and says in its first lines what it does.
 #   make [all]               the proved program, and the library for C
 #   make install PREFIX=DIR  both, with the tools and documents, below DIR (/usr/local)
 #   make package, make test  as ./package and ./test

@@ -39,7 +39,7 @@ fn is_stored(before: u64, after: u64, is_part: bool) -> bool
 }
 
 /// Stores the words of a slot that are not what the host knows: the payload, and then the header.
-/// `before` are the words that the host knows, but for the header, and `after` those to be stored.
+/// `before` are the words that the host knows, except for the header, and `after` those to be stored.
 pub(crate) fn fill(
     page: &mut LivePage,
     sint: Sint,

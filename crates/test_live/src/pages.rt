@@ -1,4 +1,4 @@
-// A live page that nobody else writes.
+// A live page that no one else writes.
 use live_pages::{Attempt, LivePage, Probe, SLOT_WORDS, WORDS};
 use std::test::Fail;
 

@@ -1,4 +1,4 @@
--- A live board's value as its parts, by which proofs tell values apart.
+-- A live board's value as its parts, by which proofs distinguish values.
 use Rattle.std.specs.Prelude.{List, refl}
 use Rattle.std.specs.Coded.{Coded, code_by, coded×, coded_list}
 use Rattle.synic_board.specs.State.{BoardModel}

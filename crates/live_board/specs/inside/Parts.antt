@@ -75,7 +75,7 @@ pub record IsLook (s : State) (p : ℕ) (k : Kind) (w : ℕ) (log : List Access)
   pub word : HasWord s (overlay_of p k) w found now
   pub shadow : IsShadow now (overlay_of p k) log_now
 
--- an atomic or of a word, after which the page is a shadow but for the mask
+-- an atomic or of a word, after which the page is a shadow except for the mask
 pub record IsMark (s : State) (p : ℕ) (k : Kind) (w mask : ℕ) (log : List Access) (now : State) (log_now : List Access) (found : ℕ) (before after : List Notice) : Type 0 where
   pub emitted : List Notice
   pub notices : after ≡ before ++ emitted
