@@ -42,7 +42,7 @@ static uint32_t part_of(const uint64_t words[4], uint32_t offset)
 
 uint32_t apic_read(struct vp *vp, uint32_t offset)
 {
-    synicboard_local_apic lapic = synicboard_lapic(&board, vp->number);
+    synicboard_local_apic lapic = synicboard_lapic(board, vp->number);
     if (offset >= ISR && offset < ISR + 128)
         return part_of(lapic.in_service, offset);
     if (offset >= IRR && offset < IRR + 128)

@@ -4,17 +4,19 @@
 
 #include "vmm.h"
 
-synicboard board = SYNICBOARD_CLOSED;
 atomic_uint board_fresh;
 uint64_t board_absorbed;
-static pthread_cond_t has_buffer = PTHREAD_COND_INITIALIZER;
+static struct condition has_buffer;
 static uint64_t events, notices_seen, ticks, placed, consumed, withdrawn, expired, skipped;
+static uint64_t flags_set, flags_cleared;
 
 /* The guest's memory is the hypervisor's, of any size. */
 void board_open(void)
 {
-    if (synicboard_open_sparse(&board, vm.vps, 0) != SYNICBOARD_OK)
+    synicboard opened = SYNICBOARD_CLOSED;
+    if (synicboard_open_sparse(&opened, vm.vps, 0) != SYNICBOARD_OK)
         fail("synicboard_open_sparse");
+    lock_share(&opened);
     if (synicboard_open_line(&vm.vp[0].line, vm.vps) != SYNICBOARD_OK)
         fail("synicboard_open_line");
     for (unsigned number = 1; number < vm.vps; number++)
@@ -32,26 +34,32 @@ static void handle_notice(const synicboard_notice *notice)
 {
     switch (notice->kind) {
     case SYNICBOARD_NOTICE_REQUESTED: vp_kick(&vm.vp[notice->vp]); break;
-    case SYNICBOARD_NOTICE_PLACED: placed++; pthread_cond_broadcast(&has_buffer); break;
-    case SYNICBOARD_NOTICE_WITHDRAWN: withdrawn++; pthread_cond_broadcast(&has_buffer); break;
+    case SYNICBOARD_NOTICE_PLACED: placed++; lock_signal(&has_buffer); break;
+    case SYNICBOARD_NOTICE_WITHDRAWN: withdrawn++; lock_signal(&has_buffer); break;
     case SYNICBOARD_NOTICE_CONSUMED: consumed++; break;
     case SYNICBOARD_NOTICE_EXPIRED: expired++; break;
     case SYNICBOARD_NOTICE_SKIPPED: skipped += notice->count; break;
     }
 }
 
-/* Handles the notices of the event that has this reply, and returns the reply. */
-static synicboard_reply answer(synicboard_reply reply)
+/* Records an event, handles its notices, and returns its reply. */
+static synicboard_reply answer(const synicboard_event *event, synicboard_reply reply)
 {
     static synicboard_notice notices[SYNICBOARD_MOST_NOTICES];
     events++;
+    trace_entry(event, &reply);
     if (reply.notices == 0)
         return reply;
-    size_t count = synicboard_notices(&board, notices, SYNICBOARD_MOST_NOTICES);
+    size_t count = synicboard_notices(board, notices, SYNICBOARD_MOST_NOTICES);
     notices_seen += count;
     for (size_t at = 0; at < count; at++)
         handle_notice(&notices[at]);
     return reply;
+}
+
+static synicboard_reply perform(const synicboard_event *event)
+{
+    return answer(event, synicboard_perform(board, event));
 }
 
 /* ---- Time ---- */
@@ -61,7 +69,7 @@ static void tick(uint64_t at_least)
 {
     uint64_t now = clock_now();
     ticks++;
-    answer(synicboard_tick(&board, now > at_least ? now : at_least));
+    perform(&(synicboard_event){ .kind = SYNICBOARD_TICK, .moment = now > at_least ? now : at_least });
 }
 
 /* A timer that is due and not ready stays the earliest, and gets ready by an event of a guest or a device,
@@ -69,10 +77,10 @@ static void tick(uint64_t at_least)
  * later one. */
 void board_advance(void)
 {
-    synicboard_due due = synicboard_earliest(&board);
+    synicboard_due due = synicboard_earliest(board);
     if (due.is_due && due.high == 0 && due.low <= clock_now())
-        tick(synicboard_moment(&board) + 1);
-    due = synicboard_earliest_after(&board, synicboard_moment(&board));
+        tick(synicboard_moment(board) + 1);
+    due = synicboard_earliest_after(board, synicboard_moment(board));
     clock_want(due.is_due && due.high == 0 ? due.low : UINT64_MAX);
 }
 
@@ -89,8 +97,8 @@ static bool depends_on_time(uint32_t msr)
 synicboard_reply board_write(struct vp *vp, uint32_t msr, uint64_t value)
 {
     if (depends_on_time(msr))
-        tick(synicboard_moment(&board));
-    synicboard_reply reply = answer(synicboard_write(&board, vp->number, msr, value));
+        tick(synicboard_moment(board));
+    synicboard_reply reply = perform(&(synicboard_event){ .kind = SYNICBOARD_WRITE, .vp = vp->number, .msr = msr, .value = value });
     if (reply.kind == SYNICBOARD_DONE && msr == SYNICBOARD_MSR_TPR)
         vp->tpr = (uint8_t)value;
     if (msr == SYNICBOARD_MSR_SIMP || msr == SYNICBOARD_MSR_SIEFP)
@@ -101,15 +109,30 @@ synicboard_reply board_write(struct vp *vp, uint32_t msr, uint64_t value)
 synicboard_reply board_read(struct vp *vp, uint32_t msr)
 {
     if (depends_on_time(msr))
-        tick(synicboard_moment(&board));
-    return answer(synicboard_read(&board, vp->number, msr));
+        tick(synicboard_moment(board));
+    return perform(&(synicboard_event){ .kind = SYNICBOARD_READ, .vp = vp->number, .msr = msr });
+}
+
+/* How many event flags a store clears. */
+static uint64_t cleared(uint64_t address, const uint8_t *bytes, size_t length)
+{
+    synicboard_page_owner owner = synicboard_owner(board, address / PAGE);
+    const uint8_t *page;
+    uint64_t count = 0;
+    if (owner.kind == SYNICBOARD_OWNER_FLAGS && synicboard_flag_page(board, owner.vp, &page))
+        for (size_t at = 0; at < length && address % PAGE + at < PAGE; at++)
+            count += (uint64_t)__builtin_popcount(page[address % PAGE + at] & ~(unsigned)bytes[at]);
+    return count;
 }
 
 /* If the overlay moved after the exit, the store goes to the guest's memory. KVM passes a store that crosses
  * a page as two. */
 void board_store(uint64_t address, const uint8_t *bytes, size_t length)
 {
-    synicboard_reply reply = answer(synicboard_store(&board, address, bytes, length));
+    synicboard_event event = { .kind = SYNICBOARD_STORE, .address = address, .length = (uint8_t)length };
+    memcpy(event.bytes, bytes, length);
+    flags_cleared += cleared(address, bytes, length);
+    synicboard_reply reply = perform(&event);
     uint8_t *memory = vm_memory(address, length);
     if (reply.kind == SYNICBOARD_REFUSED && reply.refusal == SYNICBOARD_ELSEWHERE && memory != NULL)
         memcpy(memory, bytes, length);
@@ -117,19 +140,19 @@ void board_store(uint64_t address, const uint8_t *bytes, size_t length)
 
 uint8_t board_take(struct vp *vp)
 {
-    synicboard_reply reply = answer(synicboard_take(&board, vp->number));
+    synicboard_reply reply = perform(&(synicboard_event){ .kind = SYNICBOARD_TAKE, .vp = vp->number });
     return reply.kind == SYNICBOARD_TAKEN ? reply.vector : 0;
 }
 
 void board_suspend(struct vp *vp)
 {
-    answer(synicboard_suspend(&board, vp->number));
+    perform(&(synicboard_event){ .kind = SYNICBOARD_SUSPEND, .vp = vp->number });
 }
 
 /* Timers whose deadlines passed meanwhile are tried by a later tick, which its thread makes. */
 void board_resume(struct vp *vp)
 {
-    answer(synicboard_resume(&board, vp->number));
+    perform(&(synicboard_event){ .kind = SYNICBOARD_RESUME, .vp = vp->number });
     vp_kick(vp);
 }
 
@@ -138,7 +161,7 @@ void board_resume(struct vp *vp)
 void board_reset(struct vp *vp)
 {
     board_absorb(vp);
-    answer(synicboard_reset(&board, vp->number));
+    perform(&(synicboard_event){ .kind = SYNICBOARD_RESET, .vp = vp->number });
     vp->tpr = 0;
 }
 
@@ -146,17 +169,40 @@ void board_reset(struct vp *vp)
 
 void board_assert(struct vp *vp, uint8_t vector)
 {
-    answer(synicboard_assert(&board, vp->number, vector));
+    perform(&(synicboard_event){ .kind = SYNICBOARD_ASSERT, .vp = vp->number, .vector = vector });
+}
+
+synicboard_reply board_open_message_port(uint8_t port, uint8_t vp, uint8_t sint, uint8_t buffers)
+{
+    return perform(&(synicboard_event){
+        .kind = SYNICBOARD_OPEN_MESSAGE_PORT, .port = port, .vp = vp, .sint = sint, .buffers = buffers,
+    });
+}
+
+synicboard_reply board_open_event_port(uint8_t port, uint8_t vp, uint8_t sint, uint16_t base, uint16_t count)
+{
+    return perform(&(synicboard_event){
+        .kind = SYNICBOARD_OPEN_EVENT_PORT, .port = port, .vp = vp, .sint = sint, .flag = base, .count = count,
+    });
+}
+
+synicboard_reply board_close_port(uint8_t port)
+{
+    return perform(&(synicboard_event){ .kind = SYNICBOARD_CLOSE_PORT, .port = port });
 }
 
 synicboard_reply board_post(uint8_t port, uint32_t type, const void *payload, size_t length)
 {
-    return answer(synicboard_post(&board, port, type, payload, length));
+    synicboard_event event = { .kind = SYNICBOARD_POST, .port = port, .message_type = type, .length = (uint8_t)length };
+    memcpy(event.bytes, payload, length);
+    return perform(&event);
 }
 
 synicboard_reply board_signal(uint8_t port, uint16_t flag)
 {
-    return answer(synicboard_signal(&board, port, flag));
+    synicboard_reply reply = perform(&(synicboard_event){ .kind = SYNICBOARD_SIGNAL, .port = port, .flag = flag });
+    flags_set += reply.kind == SYNICBOARD_FLAG_WAS_CLEAR;
+    return reply;
 }
 
 void board_wait_for_buffer(void)
@@ -166,7 +212,7 @@ void board_wait_for_buffer(void)
 
 void board_end_waiting(void)
 {
-    pthread_cond_broadcast(&has_buffer);
+    lock_signal(&has_buffer);
 }
 
 /* If the bit was set already, whoever set it makes the processor absorb it. The part is marked
@@ -189,7 +235,8 @@ void board_absorb(struct vp *vp)
     for (uint8_t part = 0; part < 4; part++) {
         if ((parts >> part & 1) == 0)
             continue;
-        synicboard_reply reply = answer(synicboard_absorb_line(&board, &vp->line, vp->number, part));
+        synicboard_reply reply = synicboard_absorb_line(board, &vp->line, vp->number, part);
+        answer(&(synicboard_event){ .kind = SYNICBOARD_ABSORB, .vp = vp->number, .part = part, .value = reply.value }, reply);
         board_absorbed += (uint64_t)__builtin_popcountll(reply.value);
     }
 }
@@ -208,4 +255,5 @@ void board_report(void)
     fprintf(stderr, "vmm: board: %lu events, %lu notices, %lu ticks\n", events, notices_seen, ticks);
     fprintf(stderr, "vmm: messages: %lu placed, %lu consumed, %lu withdrawn; timers: %lu periods expired, %lu skipped\n",
             placed, consumed, withdrawn, expired, skipped);
+    fprintf(stderr, "vmm: event flags: %lu set, %lu cleared\n", flags_set, flags_cleared);
 }

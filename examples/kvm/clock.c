@@ -7,41 +7,38 @@
 
 #include "vmm.h"
 
-static uint64_t scale;          /* time units per TSC tick, times 2^64 */
+static synicboard_tsc_page reference;
+static uint32_t sequence = 1;   /* of that page */
 static uint64_t tsc_offset;     /* the guest's TSC minus that of the host */
-static uint64_t time_offset;    /* by which the time is ahead of the guest's TSC */
-static uint32_t sequence = 1;   /* of the reference TSC page */
 static uint64_t stopped_tsc, stopped_time;      /* of the guest, when it was stopped to be saved */
 static int timer = -1;
 static pthread_mutex_t arming = PTHREAD_MUTEX_INITIALIZER;
 static _Atomic uint64_t wanted = UINT64_MAX, armed = UINT64_MAX;
 
-static uint64_t scaled(uint64_t tsc)
+static uint64_t guest_tsc(void)
 {
-    return (uint64_t)((unsigned __int128)tsc * scale >> 64);
+    return __rdtsc() + tsc_offset;
 }
 
-/* TLFS, "Partition Reference Time Enlightenment": ReferenceTime = ((VirtualTsc * TscScale) >>
- * 64) + TscOffset. So the board's time and what a guest computes from the page are the same. */
+/* The board's time and what a guest computes from the page are the same. */
 uint64_t clock_now(void)
 {
-    return scaled(__rdtsc() + tsc_offset) + time_offset;
+    return synicboard_tsc_time(reference, guest_tsc());
 }
 
 void clock_fill_page(void *page)
 {
-    struct { uint32_t sequence, reserved; uint64_t scale, offset; } *reference = page;
-    reference->scale = scale;
-    reference->offset = time_offset;
-    reference->sequence = sequence;
+    struct { uint32_t sequence, reserved; synicboard_tsc_page page; } *filled = page;
+    filled->page = reference;
+    filled->sequence = sequence;
 }
 
 /* ---- While the guest is saved, its time stops ---- */
 
 void clock_stop(void)
 {
-    stopped_tsc = __rdtsc() + tsc_offset;
-    stopped_time = scaled(stopped_tsc) + time_offset;
+    stopped_tsc = guest_tsc();
+    stopped_time = synicboard_tsc_time(reference, stopped_tsc);
 }
 
 /* If KVM supports it, the guest's TSC continues at the saved one. Otherwise the TSC remains the host's, and
@@ -50,7 +47,7 @@ void clock_continue(void)
 {
     uint64_t tsc = __rdtsc();
     tsc_offset = state_set_tsc_offset(&vm.vp[0], stopped_tsc - tsc);
-    time_offset = stopped_time - scaled(tsc + tsc_offset);
+    reference = synicboard_tsc_page_moved(reference, tsc + tsc_offset, stopped_time);
     sequence++;
 }
 
@@ -101,8 +98,11 @@ void clock_open(void)
     if (khz <= 0)
         fail("KVM_GET_TSC_KHZ");
     vm.tsc_hz = (uint64_t)khz * 1000;
-    scale = (uint64_t)(((unsigned __int128)10000000 << 64) / vm.tsc_hz);
-    time_offset = -scaled(__rdtsc());
+    reference = synicboard_tsc_page_at(vm.tsc_hz, __rdtsc(), 0);
+    if (reference.scale == 0) {
+        errno = ENOTSUP;
+        fail("a TSC of at most 10 MHz");
+    }
     if ((timer = timerfd_create(CLOCK_MONOTONIC, TFD_CLOEXEC)) < 0)
         fail("timerfd_create");
     if ((errno = pthread_create(&thread, NULL, run_timer, NULL)) != 0)
@@ -112,11 +112,6 @@ void clock_open(void)
 void clock_want(uint64_t time)
 {
     wanted = time;
-}
-
-bool clock_is_late(void)
-{
-    return wanted != armed;
 }
 
 static void set_timer(uint64_t time)
@@ -134,7 +129,7 @@ static void set_timer(uint64_t time)
 /* Whoever is last sets what was wanted last, in whatever order threads come here. */
 void clock_arm(void)
 {
-    if (!clock_is_late())
+    if (wanted == armed)
         return;
     pthread_mutex_lock(&arming);
     uint64_t time = wanted;

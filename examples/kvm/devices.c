@@ -7,7 +7,8 @@
 
 enum { COM1 = 0x3f8, COM1_LINE_CONTROL = COM1 + 3, COM1_LINE_STATUS = COM1 + 5 };
 enum { HAS_DIVISOR = 0x80, TRANSMITTER_IS_EMPTY = 0x60 };
-enum { KEYBOARD = 0x64, RESET_LINE = 0xfe };
+enum { KEYBOARD = 0x64, RESET_LINE = 0xfe, CMOS_DATA = 0x71 };
+enum { SLEEP_ENABLE = 1 << 5, TYPE_OFF = 5 << 2 };
 
 static bool has_divisor;    /* COM1 is the low byte of the divisor of its clock */
 
@@ -32,6 +33,10 @@ void port_write(struct vp *vp, uint16_t port, uint32_t value)
         if ((value & 0xff) == RESET_LINE)
             vm_stop(0);
         break;
+    case SLEEP_PORT:
+        if ((value & 0xff) == (SLEEP_ENABLE | TYPE_OFF))
+            vm_stop(0);
+        break;
     }
 }
 
@@ -44,6 +49,8 @@ uint32_t port_read(uint16_t port)
 {
     switch (port) {
     case COM1_LINE_STATUS: return TRANSMITTER_IS_EMPTY;
+    case CMOS_DATA: return 0;           /* otherwise Linux waits for the end of an update */
+    case SLEEP_PORT: return 0;
     case LOAD_PORT: return vm.load;
     case FRESH_PORT: return board_fresh;
     case ABSORBED_PORT: return (uint32_t)board_absorbed;

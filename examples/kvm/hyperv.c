@@ -1,7 +1,5 @@
 /* What of Hyper-V's interface is not the board's: the leaves of CPUID, the registers that
- * identify the guest and the hypervisor, the hypercall page, the reference TSC page, and one
- * hypercall, which suspends a processor. */
-#include <stdio.h>
+ * identify the guest and the hypervisor, the hypercall page and the reference TSC page. */
 #include <string.h>
 #include <sys/ioctl.h>
 
@@ -17,7 +15,7 @@ enum {
 enum {
     HAS_REFERENCE_COUNTER = 1 << 1, HAS_SYNIC = 1 << 2, HAS_TIMERS = 1 << 3, HAS_APIC = 1 << 4, HAS_HYPERCALL = 1 << 5,
     HAS_VP_INDEX = 1 << 6, HAS_RESET = 1 << 7, HAS_REFERENCE_TSC = 1 << 9, HAS_FREQUENCIES = 1 << 11,
-    CAN_READ_FREQUENCIES = 1 << 8, HAS_DIRECT_TIMERS = 1 << 19,
+    CAN_POST_MESSAGES = 1 << 4, CAN_SIGNAL_EVENTS = 1 << 5, CAN_READ_FREQUENCIES = 1 << 8, HAS_DIRECT_TIMERS = 1 << 19,
     PREFERS_APIC_REGISTERS = 1 << 3, PREFERS_RELAXED_TIMING = 1 << 5,
 };
 
@@ -33,6 +31,7 @@ unsigned hyperv_add_cpuid(struct kvm_cpuid_entry2 *entries, unsigned count)
         { .function = 0x40000003,
           .eax = HAS_REFERENCE_COUNTER | HAS_SYNIC | HAS_TIMERS | HAS_APIC | HAS_HYPERCALL | HAS_VP_INDEX | HAS_RESET
               | HAS_REFERENCE_TSC | HAS_FREQUENCIES,
+          .ebx = vm.vmbus.is_on ? CAN_POST_MESSAGES | CAN_SIGNAL_EVENTS : 0,
           .edx = CAN_READ_FREQUENCIES | HAS_DIRECT_TIMERS },
         { .function = 0x40000004, .eax = PREFERS_APIC_REGISTERS | PREFERS_RELAXED_TIMING, .ebx = 0xffffffff },
         { .function = 0x40000005, .eax = vm.vps, .ebx = vm.vps },
@@ -124,58 +123,12 @@ void hyperv_continue(void)
     write_reference_tsc(reference_tsc);
 }
 
-/* ---- Hypercalls ---- */
-
-/* TLFS, "Hypercall Interface" and "HvCallSetVpRegisters". */
-enum { SET_VP_REGISTERS = 0x51, POST_MESSAGE = 0x5c, SIGNAL_EVENT = 0x5d, EXPLICIT_SUSPEND = 0 };
-enum { SUCCESS = 0, INVALID_CODE = 2, INVALID_INPUT = 3, INVALID_PARAMETER = 5, INVALID_VP_INDEX = 0xe,
-       INVALID_CONNECTION = 0x12 };
-enum { IS_FAST = 1 << 16, ONE_DONE = 1 };
-
-struct set_vp_registers {
-    uint64_t partition;
-    uint32_t vp_index, target_vtl;
-    uint32_t name, reserved[3];
-    uint64_t value[2];
-};
-
-static void set_suspended(struct vp *vp, bool is_suspended)
-{
-    if (vp->waits_for_sipi || vp->is_suspended == is_suspended)
-        return;
-    vp->is_suspended = is_suspended;
-    if (is_suspended)
-        board_suspend(vp);
-    else
-        board_resume(vp);
-    vp_kick(vp);
-}
-
-static uint64_t set_vp_registers(const struct set_vp_registers *input)
-{
-    if (input == NULL)
-        return INVALID_INPUT;
-    if (input->vp_index >= vm.vps)
-        return INVALID_VP_INDEX;
-    if (input->name != EXPLICIT_SUSPEND)
-        return INVALID_PARAMETER;
-    set_suspended(&vm.vp[input->vp_index], (input->value[0] & 1) != 0);
-    return SUCCESS | (uint64_t)ONE_DONE << 32;
-}
-
 void hyperv_call(struct vp *vp)
 {
     struct kvm_regs regs;
     if (ioctl(vp->fd, KVM_GET_REGS, &regs) != 0)
         fail("KVM_GET_REGS");
-    uint64_t code = regs.rcx & 0xffff;
-    regs.rax = INVALID_CODE;
-    if (code == SET_VP_REGISTERS && (regs.rcx & IS_FAST) == 0)
-        regs.rax = set_vp_registers((const void *)vm_memory(regs.rdx, sizeof(struct set_vp_registers)));
-    else if (code == POST_MESSAGE || code == SIGNAL_EVENT)
-        regs.rax = INVALID_CONNECTION;
-    else
-        fprintf(stderr, "vmm: hypercall %lx has no handler\n", code);
+    regs.rax = hypercall_handle(regs.rcx, regs.rdx);
     if (ioctl(vp->fd, KVM_SET_REGS, &regs) != 0)
         fail("KVM_SET_REGS");
 }

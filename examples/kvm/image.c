@@ -9,7 +9,7 @@
 
 #include "vmm.h"
 
-enum { MOST_LENGTH = 1 << 20 };         /* docs/EMBEDDING.md: the largest image has some 810,000 bytes */
+enum { MOST_LENGTH = 1 << 20 };         /* docs/EMBEDDING.md: the largest image has some 823,000 bytes */
 
 static uint8_t *image;
 static size_t length, room, longest;
@@ -28,7 +28,7 @@ void image_save(void)
 {
     do {
         reserve(length);
-        synicboard_end end = synicboard_save(&board, image, room);
+        synicboard_end end = synicboard_save(board, image, room);
         if (end.kind != SYNICBOARD_OK)
             fail("synicboard_save");
         length = end.length;
@@ -38,11 +38,16 @@ void image_save(void)
 /* The overlays are mapped again, since the pages of the new board are at other addresses. */
 bool image_restore(void)
 {
-    synicboard_close(&board);
-    if (synicboard_restore(&board, image, length).kind != SYNICBOARD_OK)
+    synicboard_close(board);
+    if (synicboard_restore(board, image, length).kind != SYNICBOARD_OK)
         return false;
     overlay_set();
     return true;
+}
+
+void image_trace(void)
+{
+    trace_begin(image, length);
 }
 
 void image_transfer(void)

@@ -51,21 +51,48 @@ static void end_table(uint64_t address)
     put_sum(table, length, 9);
 }
 
-/* "Hardware-reduced ACPI": no interrupt controller but the local APICs, no timer, no clock. The
- * DSDT has no device. */
+/* The DSDT says how to turn the machine off, and has one device, if there is a VMBus. Its driver wants a list of
+ * resources, which may be empty. */
+static uint64_t add_dsdt(void)
+{
+    /* Name (_S5, Package (4) { 5, 0, 0, 0 }) */
+    static const uint8_t off[] = { 0x08, '_', 'S', '5', '_', 0x12, 0x07, 0x04, 0x0a, 0x05, 0, 0, 0 };
+    /* Scope (\_SB) { Device (VMBS) { Name (_HID, "VMBUS"), Name (_UID, 0), Name (_CRS, ResourceTemplate () {}) } } */
+    static const uint8_t device[] = {
+        0x10, 0x2a, '\\', '_', 'S', 'B', '_', 0x5b, 0x82, 0x22, 'V', 'M', 'B', 'S',
+        0x08, '_', 'H', 'I', 'D', 0x0d, 'V', 'M', 'B', 'U', 'S', 0,
+        0x08, '_', 'U', 'I', 'D', 0x00,
+        0x08, '_', 'C', 'R', 'S', 0x11, 0x05, 0x0a, 0x02, 0x79, 0x00,
+    };
+    uint32_t length = vm.vmbus.is_on ? sizeof device : 0;
+    uint64_t address = add_table("DSDT", 2, HEADER + sizeof off + length);
+    memcpy(vm_memory(address + HEADER, sizeof off), off, sizeof off);
+    memcpy(vm_memory(address + HEADER + sizeof off, sizeof device), device, length);
+    end_table(address);
+    return address;
+}
+
+/* A Generic Address Structure: a port of 8 bits. */
+static void put_port(uint8_t *at, uint16_t port)
+{
+    put(at, 1 | 8 << 8 | 1 << 24, 4);
+    put(at + 4, port, 8);
+}
+
+/* "Hardware-reduced ACPI": no interrupt controller but the local APICs, no timer, no clock. */
 static uint64_t add_fadt(void)
 {
-    uint64_t dsdt = add_table("DSDT", 2, HEADER), address = add_table("FACP", 6, 276);
+    uint64_t dsdt = add_dsdt(), address = add_table("FACP", 6, 276);
     uint8_t *fadt = vm_memory(address, 276);
-    end_table(dsdt);
     put(fadt + 40, dsdt, 4);
     put(fadt + 109, 1 << 2 | 1 << 3 | 1 << 5, 2);       /* no VGA, no MSI, no CMOS clock */
-    put(fadt + 112, 1 << 20 | 1 << 10, 4);              /* hardware-reduced; has a reset register: */
-    put(fadt + 116, 1 | 8 << 8 | 1 << 24, 4);           /* a port of 8 bits, */
-    put(fadt + 120, 0x64, 8);
+    put(fadt + 112, 1 << 20 | 1 << 10, 4);              /* hardware-reduced; has a reset register, */
+    put_port(fadt + 116, 0x64);
     fadt[128] = 0xfe;                                   /* and the value that resets */
     fadt[131] = 3;
     put(fadt + 140, dsdt, 8);
+    put_port(fadt + 244, SLEEP_PORT);                   /* sleep control, and sleep status */
+    put_port(fadt + 256, SLEEP_PORT + 1);
     end_table(address);
     return address;
 }
@@ -96,6 +123,16 @@ static uint64_t write_acpi(void)
     put_sum(rsdp, 20, 8);
     put_sum(rsdp, 36, 32);
     return ACPI;
+}
+
+/* Loads the image that distributions have, which decompresses itself, where it wants to be. */
+static uint64_t load_image(const char *path, struct boot_params *params, uint64_t *end)
+{
+    const struct setup_header *header = &params->hdr;
+    uint64_t begin = (header->setup_sects + 1) * 512ULL, length = boot_file_size(path) - begin;
+    boot_read(path, begin, length, header->pref_address);
+    *end = header->pref_address + (header->init_size > length ? header->init_size : length);
+    return header->pref_address + 0x200;
 }
 
 /* Loads each segment of a vmlinux at its physical address, and returns the entry. */
@@ -141,11 +178,26 @@ static void add_memory(struct boot_params *params, uint64_t address, uint64_t en
     params->e820_table[params->e820_entries++] = (struct boot_e820_entry){ address, end - address, type };
 }
 
+/* Whether the file is an image, and reads its header then. */
+static bool is_image(const char *path, struct boot_params *params)
+{
+    enum { HEADER_AT = 0x1f1, MAGIC = 0x53726448 };
+    struct setup_header *header = &params->hdr;
+    if (boot_file_size(path) < PAGE)
+        return false;
+    boot_read(path, HEADER_AT, sizeof *header, HIGH);
+    memcpy(header, vm_memory(HIGH, sizeof *header), sizeof *header);
+    if (header->header == MAGIC && header->version >= 0x020a)
+        return true;
+    memset(header, 0, sizeof *header);
+    return false;
+}
+
 void boot_linux(const char *kernel, const char *initrd, const char *command_line)
 {
     struct boot_params *params = (struct boot_params *)vm_memory(BOOT_PARAMS, sizeof *params);
     char *line = (char *)vm_memory(COMMAND_LINE, MOST_LINE);
-    uint64_t end, entry = load_vmlinux(kernel, params, &end);
+    uint64_t end, entry = (is_image(kernel, params) ? load_image : load_vmlinux)(kernel, params, &end);
     params->hdr.type_of_loader = 0xff;
     params->hdr.loadflags |= 1;
     params->hdr.cmd_line_ptr = COMMAND_LINE;

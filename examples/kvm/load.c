@@ -68,8 +68,8 @@ static void *run_raiser(void *argument)
 static void open_ports(void)
 {
     for (uint8_t vp = 0; vp < LOAD_VPS; vp++) {
-        synicboard_open_message_port(&board, FIRST_MESSAGE_PORT + vp, vp, MESSAGE_SINT, BUFFERS);
-        synicboard_open_event_port(&board, FIRST_FLAG_PORT + vp, vp, FLAG_SINT, 0, FLAGS * FLAG_STRIDE);
+        board_open_message_port(FIRST_MESSAGE_PORT + vp, vp, MESSAGE_SINT, BUFFERS);
+        board_open_event_port(FIRST_FLAG_PORT + vp, vp, FLAG_SINT, 0, FLAGS * FLAG_STRIDE);
     }
 }
 

@@ -1,18 +1,28 @@
-/* The lock, and what is done after it is released: a system call takes longer than all events of an exit, and
- * every other processor would wait for it. */
+/* The lock, which is that of the shared board, and what is done after it is released: a system call takes longer
+ * than all events of an exit, and every other processor would wait for it. */
 #define _GNU_SOURCE
+#include <limits.h>
+#include <linux/futex.h>
 #include <signal.h>
 #include <sys/syscall.h>
 #include <unistd.h>
 
 #include "vmm.h"
 
-static pthread_mutex_t mutex = PTHREAD_MUTEX_INITIALIZER;
+synicboard *board;
+static synicboard_shared shared = SYNICBOARD_SHARED_CLOSED;
 static uint32_t interrupted, woken;     /* processors, a bit each, whose threads are to leave the guest, or to stop waiting */
+
+void lock_share(synicboard *opened)
+{
+    if (synicboard_share(&shared, opened) != SYNICBOARD_OK)
+        fail("synicboard_share");
+    lock_acquire();
+}
 
 void lock_acquire(void)
 {
-    pthread_mutex_lock(&mutex);
+    board = synicboard_hold(&shared);
 }
 
 void lock_interrupt(const struct vp *vp)
@@ -31,23 +41,31 @@ void lock_release(void)
 {
     uint32_t signals = interrupted, wakes = woken;
     interrupted = woken = 0;
-    pthread_mutex_unlock(&mutex);
+    synicboard_release(&shared);
     for (unsigned number = 0; number < vm.vps; number++) {
         if (signals >> number & 1)
             syscall(SYS_tgkill, getpid(), vm.vp[number].thread_id, SIGUSR1);
         if (wakes >> number & 1)
-            pthread_cond_signal(&vm.vp[number].kicked);
+            lock_signal(&vm.vp[number].kicked);
     }
     clock_arm();
 }
 
-/* May return early, as pthread_cond_wait may. */
-void lock_wait(pthread_cond_t *condition)
+void lock_signal(struct condition *condition)
 {
-    if ((interrupted | woken) == 0 && !clock_is_late()) {
-        pthread_cond_wait(condition, &mutex);
-        return;
-    }
+    atomic_fetch_add(&condition->signals, 1);
+    if (condition->waiting != 0)
+        syscall(SYS_futex, &condition->signals, FUTEX_WAKE_PRIVATE, INT_MAX, NULL, NULL, 0);
+}
+
+/* The caller has looked at what it waits for under the lock, and whoever changes that does so under the lock, and
+ * signals afterwards. */
+void lock_wait(struct condition *condition)
+{
+    unsigned seen = condition->signals;
+    atomic_fetch_add(&condition->waiting, 1);
     lock_release();
+    syscall(SYS_futex, &condition->signals, FUTEX_WAIT_PRIVATE, seen, NULL, NULL, 0);
+    atomic_fetch_sub(&condition->waiting, 1);
     lock_acquire();
 }

@@ -22,7 +22,7 @@ static unsigned used;
 static const uint8_t *page_of(synicboard_page_owner owner)
 {
     const uint8_t *page = NULL;
-    if (!(owner.kind == SYNICBOARD_OWNER_MESSAGES ? synicboard_message_page : synicboard_flag_page)(&board, owner.vp, &page))
+    if (!(owner.kind == SYNICBOARD_OWNER_MESSAGES ? synicboard_message_page : synicboard_flag_page)(board, owner.vp, &page))
         fail("a page of the board");
     return page;
 }
@@ -42,8 +42,8 @@ static unsigned cut_memory(struct piece *all)
 {
     unsigned made = 0;
     uint64_t address = 0;
-    synicboard_overlay next = synicboard_next_overlay(&board, 0);
-    for (; next.owner.kind != SYNICBOARD_OWNER_NOTHING; next = synicboard_next_overlay(&board, next.page + 1)) {
+    synicboard_overlay next = synicboard_next_overlay(board, 0);
+    for (; next.owner.kind != SYNICBOARD_OWNER_NOTHING; next = synicboard_next_overlay(board, next.page + 1)) {
         uint64_t at = next.page * PAGE;
         if (vm_memory(at, PAGE) == NULL)
             continue;

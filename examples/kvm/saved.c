@@ -14,7 +14,7 @@
 #define FIRST_SUM 0xcbf29ce484222325
 #define SUM_FACTOR 0x100000001b3
 
-static const char magic[16] = "saved guest 1";
+static const char magic[16] = "saved guest 2";
 static const char *path;
 static FILE *file;
 static bool is_reading;
@@ -63,6 +63,7 @@ static void transfer_header(void)
     saved_transfer(&vm.vps, sizeof vm.vps);
     saved_transfer(&vm.ram_size, sizeof vm.ram_size);
     saved_transfer(&vm.load, sizeof vm.load);
+    saved_transfer(&vm.vmbus, sizeof vm.vmbus);
     if (!vm_has_valid_size())
         saved_refuse("no guest has so many processors, or so much memory");
 }
@@ -107,6 +108,7 @@ static void transfer_all(void)
     hyperv_transfer();
     devices_transfer();
     load_transfer();
+    vmbus_transfer();
     board_transfer();
     clock_transfer();
     transfer_sum();
@@ -195,6 +197,7 @@ void saved_read(void)
     fclose(file);
     if (!image_restore())
         saved_refuse("the saved guest has no board");
+    image_trace();
     clock_continue();
     hyperv_continue();
     for (unsigned number = 0; number < vm.vps; number++) {

@@ -15,6 +15,12 @@
 
 enum { PAGE = 4096, MOST_VPS = 8 };
 
+/* What threads wait for. Each signal is counted, so that none is missed between a look at the count and the wait
+ * for another one. */
+struct condition {
+    atomic_uint signals, waiting;
+};
+
 /* A virtual processor. The lock protects every field except `posted_parts`. */
 struct vp {
     uint8_t number;
@@ -22,7 +28,7 @@ struct vp {
     struct kvm_run *run;
     pthread_t thread;
     int thread_id;              /* for signals */
-    pthread_cond_t kicked;
+    struct condition kicked;
     struct kvm_regs reset_regs;
     struct kvm_sregs reset_sregs;
     bool is_in_guest;           /* its thread is in KVM_RUN, or enters it without looking at anything else */
@@ -35,6 +41,16 @@ struct vp {
     synicboard_line line;       /* its thread absorbs through it */
     atomic_uint posted_parts;   /* a bit for each part of the posted words that may have vectors to absorb */
     uint64_t injected, exits[64];
+};
+
+/* What the command line says about VMBus. */
+struct vmbus_options {
+    bool is_on;
+    bool signals_from_threads;  /* by whichever thread has a packet, which loses flags (docs/EMBEDDING.md) */
+    uint32_t newest;            /* the newest version that the host accepts: the major number times 65536, and the minor */
+    uint32_t shutdown_after, rescind_after;     /* milliseconds; 0 for never */
+    uint64_t heartbeats;        /* the guest is shut down after so many answers; 0 for never */
+    uint64_t every[3];          /* microseconds between two turns of a service: heartbeat, time, shutdown */
 };
 
 /* The partition. The lock protects what changes after the start. */
@@ -51,29 +67,34 @@ struct vm {
     uint32_t restore_every;     /* milliseconds from one replacement of the board to the next; 0 for none */
     uint32_t save_after;        /* milliseconds until the guest is saved, if save_to is not null */
     const char *save_to;
+    const char *trace;          /* the file that gets the trace of the board; null for none */
+    struct vmbus_options vmbus;
     uint64_t tsc_hz;
     uint64_t slot_changes, emulated;
 };
 
 extern struct vm vm;
-extern synicboard board;
+extern synicboard *board;               /* the shared board, while the lock is held */
 
-/* Unless it says otherwise, a function of this header is called with the lock held: one for the board and for
- * everything else that threads share. */
+/* Unless it says otherwise, a function of this header is called with the lock held: that of the shared board,
+ * which protects everything else that threads share, too. */
 
 /* lock.c */
+void lock_share(synicboard *opened);        /* shares a board, and acquires its lock */
 void lock_acquire(void);                    /* without the lock */
 void lock_release(void);                    /* then signals threads and arms the host's timer, without the lock */
-void lock_wait(pthread_cond_t *condition);  /* releases it meanwhile; may return early */
+void lock_wait(struct condition *condition);    /* releases it meanwhile; may return early */
+void lock_signal(struct condition *condition);  /* wakes all that wait for it; needs no lock */
 void lock_interrupt(const struct vp *vp);   /* a signal to its thread, after the lock is released */
 void lock_wake(const struct vp *vp);        /* wakes its thread, if it waits, after the lock is released */
 
 /* main.c */
 _Noreturn void fail(const char *what);      /* prints errno's text and ends the program; needs no lock */
+void vm_log(const char *format, ...) __attribute__((format(printf, 1, 2)));     /* on standard error, with the time */
 void vm_stop(int status);
 
-/* vm.c: before the threads start, without the lock */
-void vm_open(void);
+/* vm.c: before the threads start */
+void vm_open(void);                         /* without the lock, which it acquires */
 uint8_t *vm_memory(uint64_t address, uint64_t length);  /* null outside the guest's memory */
 bool vm_has_valid_size(void);               /* of its processors and its memory */
 
@@ -104,6 +125,7 @@ void apic_transfer(void);
 void hyperv_transfer(void);
 void devices_transfer(void);
 void load_transfer(void);
+void vmbus_transfer(void);
 
 /* state.c */
 void state_get(struct vp *vp);
@@ -120,7 +142,6 @@ void emulate(struct vp *vp);                /* an instruction that KVM's emulato
 void clock_open(void);
 uint64_t clock_now(void);                   /* the time, in units of 100 ns; needs no lock */
 void clock_want(uint64_t time);             /* when the host's timer is to expire; UINT64_MAX for never */
-bool clock_is_late(void);                   /* whether the host's timer has another time; needs no lock */
 void clock_arm(void);                       /* arms the host's timer; without the lock */
 void clock_fill_page(void *page);           /* the reference TSC page */
 void clock_stop(void);                      /* time stops until another run has called clock_continue */
@@ -140,6 +161,9 @@ void board_store(uint64_t address, const uint8_t *bytes, size_t length);
 void board_suspend(struct vp *vp);
 void board_resume(struct vp *vp);
 void board_reset(struct vp *vp);
+synicboard_reply board_open_message_port(uint8_t port, uint8_t vp, uint8_t sint, uint8_t buffers);
+synicboard_reply board_open_event_port(uint8_t port, uint8_t vp, uint8_t sint, uint16_t base, uint16_t count);
+synicboard_reply board_close_port(uint8_t port);
 synicboard_reply board_post(uint8_t port, uint32_t type, const void *payload, size_t length);
 synicboard_reply board_signal(uint8_t port, uint16_t flag);
 void board_wait_for_buffer(void);           /* waits until a message leaves a queue, or board_end_waiting */
@@ -150,6 +174,11 @@ void board_report(void);
 extern atomic_uint board_fresh;             /* raises that were fresh */
 extern uint64_t board_absorbed;             /* bits that were absorbed */
 
+/* trace.c */
+void trace_begin(const void *image, size_t length);     /* of a board that is opened now, if the image is null */
+void trace_entry(const synicboard_event *event, const synicboard_reply *reply);
+void trace_end(void);
+
 /* overlay.c */
 void overlay_map(void);                     /* maps the overlays that the board shows now */
 void overlay_set(void);                     /* the same, while no processor is in the guest */
@@ -157,8 +186,25 @@ void overlay_set(void);                     /* the same, while no processor is i
 /* image.c */
 void image_save(void);                      /* saves the board as an image */
 bool image_restore(void);                   /* replaces the board by that of the image; false if there is none */
+void image_trace(void);                     /* begins a trace with the image */
 void image_start(void);                     /* starts the thread that replaces the board, if that was asked for */
 void image_report(void);
+
+/* hypercalls.c */
+enum {                                      /* TLFS, "Hypercall Status Codes" */
+    HV_STATUS_SUCCESS = 0, HV_STATUS_INVALID_HYPERCALL_CODE = 2, HV_STATUS_INVALID_HYPERCALL_INPUT = 3,
+    HV_STATUS_INVALID_ALIGNMENT = 4, HV_STATUS_INVALID_PARAMETER = 5, HV_STATUS_ACCESS_DENIED = 6,
+    HV_STATUS_INVALID_VP_INDEX = 14, HV_STATUS_INVALID_CONNECTION_ID = 18, HV_STATUS_INSUFFICIENT_BUFFERS = 19,
+};
+uint64_t hypercall_handle(uint64_t control, uint64_t input);     /* RCX and RDX; returns RAX */
+
+/* vmbus/ */
+uint64_t vmbus_post_message(uint32_t connection, uint32_t message_type, const void *payload, uint32_t length);
+uint64_t vmbus_signal_event(uint32_t connection, uint16_t flag);
+void vmbus_deliver(struct vp *vp);          /* sets the flags that are due on a processor that is not in the guest */
+void vmbus_start(void);
+bool vmbus_is_answered(void);               /* whether each request was answered */
+void vmbus_report(void);
 
 /* hyperv.c */
 enum { HYPERCALL_PORT = 0xe8 };
@@ -177,6 +223,7 @@ uint64_t apic_icr(struct vp *vp);
 void apic_write_icr(struct vp *vp, uint64_t value);
 
 /* devices.c */
+enum { SLEEP_PORT = 0x600 };                /* ACPI's sleep control register, and after it the status register */
 void port_write(struct vp *vp, uint16_t port, uint32_t value);
 uint32_t port_read(uint16_t port);
 

@@ -12,7 +12,7 @@
 #include "vmm.h"
 
 static bool is_paused;
-static pthread_cond_t left = PTHREAD_COND_INITIALIZER, resumed = PTHREAD_COND_INITIALIZER;
+static struct condition left, resumed;
 
 /* immediate_exit makes the next KVM_RUN return at once; the signal interrupts one that runs. */
 void vp_kick(struct vp *vp)
@@ -46,7 +46,7 @@ void vp_pause_others(void)
 void vp_resume_others(void)
 {
     is_paused = false;
-    pthread_cond_broadcast(&resumed);
+    lock_signal(&resumed);
 }
 
 /* ---- Exits ---- */
@@ -201,7 +201,7 @@ static void accept_sipi(struct vp *vp)
 /* Whether the processor has an interrupt to accept, and accepts it: then it halts no longer. */
 static bool accepts(struct vp *vp)
 {
-    bool is_next = synicboard_next(&board, vp->number) != 0 && vp->run->ready_for_interrupt_injection;
+    bool is_next = synicboard_next(board, vp->number) != 0 && vp->run->ready_for_interrupt_injection;
     vp->is_halted = vp->is_halted && !is_next;
     return is_next;
 }
@@ -215,7 +215,7 @@ static uint8_t take(struct vp *vp)
         vp->run->ready_for_interrupt_injection = 0;
         vp->injected++;
     }
-    vp->run->request_interrupt_window = synicboard_next(&board, vp->number) != 0;
+    vp->run->request_interrupt_window = synicboard_next(board, vp->number) != 0;
     return vector;
 }
 
@@ -243,7 +243,7 @@ static void enter(struct vp *vp)
     vp->is_in_guest = false;
     vp->run->immediate_exit = 0;
     if (is_paused)
-        pthread_cond_broadcast(&left);
+        lock_signal(&left);
     /* SDM, "Interaction of Task Priorities between CR8 and APIC": both are one register. A guest
      * that raises CR8 does not exit, which is soon enough: only a later event of its own can
      * make the board use the new value. */
@@ -271,6 +271,7 @@ static void *run_vp(void *argument)
             accept_init(vp);
         if (vp->has_sipi)
             accept_sipi(vp);
+        vmbus_deliver(vp);
         accepts(vp);
         if (!can_run(vp))
             lock_wait(&vp->kicked);
@@ -301,7 +302,6 @@ void vp_open(unsigned number)
     struct vp *vp = &vm.vp[number];
     int size = ioctl(vm.kvm, KVM_GET_VCPU_MMAP_SIZE, 0);
     vp->number = (uint8_t)number;
-    pthread_cond_init(&vp->kicked, NULL);
     if (size < 0)
         fail("KVM_GET_VCPU_MMAP_SIZE");
     if ((vp->fd = ioctl(vm.fd, KVM_CREATE_VCPU, number)) < 0)

@@ -1,4 +1,5 @@
-"""Encodes scripts as inputs of the fuzz target (target.c has the form of the bytes)."""
+"""Encodes scripts as inputs of the fuzz target, and makes inputs of the VMBus target (target.c and vmbus.c have the
+forms of the bytes)."""
 
 import glob
 import os
@@ -105,10 +106,47 @@ def inputs():
             yield os.path.relpath(path, ROOT).replace(os.sep, "-"), TEXT + text
 
 
-def write(folder):
-    count = 0
-    for name, data in inputs():
+# Actions of vmbus.c, and the four messages of `post_good`.
+POST_WORDS, POST_GOOD, SIGNAL, DELIVER, TICK, TAKE, ANSWER, RESCIND = 1, 3, 7, 8, 9, 10, 11, 13
+CONTACT, OFFERS, GPADL, OPEN = range(4)
+USED_CONNECTION, TYPE = 1, 1
+
+
+def good(message, channel=0, pages=4, version=0):
+    return bytes([POST_GOOD, channel, pages]) + number(version) + bytes([message])
+
+
+def words(*values):
+    return bytes([POST_WORDS, USED_CONNECTION, 4 * len(values), TYPE]) + b"".join(map(number, values))
+
+
+def vmbus_inputs():
+    """A guest that makes contact, opens a channel, answers some requests, and ends it in one of three ways."""
+    for version in (0, 0x20004, 0x40001, 0x50002):
+        for channel in range(3):
+            begin = good(CONTACT, version=version) + bytes([TAKE]) + good(OFFERS) + bytes([TAKE] * 4)
+            opened = good(GPADL, channel) + bytes([TAKE]) + good(OPEN, channel) + bytes([TAKE])
+            answer = bytes([ANSWER, channel, 0, 0])
+            beats = answer + (bytes([TICK, channel, DELIVER, 0]) + answer) * 5 + bytes([SIGNAL, channel + 1, 0])
+            relid = channel + 1
+            ends = {
+                "closed": words(7, 0, relid) + words(11, 0, relid, relid) + bytes([TAKE]),
+                "rescinded": bytes([RESCIND, channel, TAKE]) + words(13, 0, relid) + bytes([TAKE]),
+                "unloaded": words(22, 0, relid, 1) + words(16, 0) + bytes([TAKE]),
+            }
+            for how, end in ends.items():
+                yield "%x-%d-%s" % (version, channel, how), begin + opened + beats + end + opened + beats
+
+
+def write_all(folder, found):
+    for name, data in found:
         with open(os.path.join(folder, name), "wb") as file:
             file.write(data)
-        count += 1
-    return count
+
+
+def write(folder):
+    write_all(folder, inputs())
+
+
+def write_vmbus(folder):
+    write_all(folder, vmbus_inputs())

@@ -1,0 +1,114 @@
+/* The hypercalls that a guest has here: HvCallSetVpRegisters, which suspends a processor, HvCallPostMessage and
+ * HvCallSignalEvent. Names, checks and statuses are those of the TLFS. */
+#include <string.h>
+
+#include "vmm.h"
+
+enum { SET_VP_REGISTERS = 0x51, POST_MESSAGE = 0x5c, SIGNAL_EVENT = 0x5d };
+enum { EXPLICIT_SUSPEND = 0, MOST_PAYLOAD = 240 };
+
+/* TLFS, "Hypercall Inputs". */
+enum { IS_FAST = 1 << 16 };
+#define VARIABLE_HEADER_SIZE 0x07fe0000ULL
+#define REP_COUNT 0x00000fff00000000ULL
+#define REP_START 0x0fff000000000000ULL
+#define RESERVED 0xf000f000f8000000ULL
+#define ONE_DONE (1ULL << 32)
+
+struct set_vp_registers {
+    uint64_t partition;
+    uint32_t vp_index, target_vtl;
+    uint32_t name, reserved[3];
+    uint64_t value[2];
+};
+
+struct post_message {
+    uint32_t connection, reserved, type, length;
+    uint8_t payload[MOST_PAYLOAD];
+};
+
+/* ---- HvCallSetVpRegisters ---- */
+
+static void set_suspended(struct vp *vp, bool is_suspended)
+{
+    if (vp->waits_for_sipi || vp->is_suspended == is_suspended)
+        return;
+    vp->is_suspended = is_suspended;
+    if (is_suspended)
+        board_suspend(vp);
+    else
+        board_resume(vp);
+    vp_kick(vp);
+}
+
+static uint64_t set_vp_registers(const struct set_vp_registers *input)
+{
+    if (input->vp_index >= vm.vps)
+        return HV_STATUS_INVALID_VP_INDEX;
+    if (input->name != EXPLICIT_SUSPEND)
+        return HV_STATUS_INVALID_PARAMETER;
+    set_suspended(&vm.vp[input->vp_index], (input->value[0] & 1) != 0);
+    return HV_STATUS_SUCCESS | ONE_DONE;
+}
+
+/* ---- HvCallPostMessage and HvCallSignalEvent ---- */
+
+/* The high bit of a type is the hypervisor's, and 0 is no type: the rule that the board has for a post. */
+static uint64_t post_message(const struct post_message *input)
+{
+    if (!vm.vmbus.is_on)
+        return HV_STATUS_ACCESS_DENIED;
+    if (input->reserved != 0)
+        return HV_STATUS_INVALID_HYPERCALL_INPUT;
+    if (input->type == 0 || input->type >> 31 != 0 || input->length > MOST_PAYLOAD)
+        return HV_STATUS_INVALID_PARAMETER;
+    return vmbus_post_message(input->connection, input->type, input->payload, input->length);
+}
+
+/* The connection, the number of the flag in its port, and reserved bits. */
+static uint64_t signal_event(uint64_t input)
+{
+    if (!vm.vmbus.is_on)
+        return HV_STATUS_ACCESS_DENIED;
+    if (input >> 48 != 0)
+        return HV_STATUS_INVALID_HYPERCALL_INPUT;
+    return vmbus_signal_event((uint32_t)input, (uint16_t)(input >> 32));
+}
+
+/* ---- The calling convention ---- */
+
+/* Copies an input, which the guest may change meanwhile. TLFS: "the input pointer is not aligned to 8 bytes", "spans
+ * pages", or "is not within the bounds of the GPA space". */
+static bool read_input(uint64_t address, void *input, size_t length)
+{
+    const uint8_t *memory = vm_memory(address, length);
+    if (memory == NULL || address % 8 != 0 || address % PAGE + length > PAGE)
+        return false;
+    memcpy(input, memory, length);
+    return true;
+}
+
+static bool is_well_formed(uint64_t control, bool is_rep)
+{
+    bool has_rep = is_rep ? (control & REP_COUNT) == ONE_DONE : (control & REP_COUNT) == 0;
+    return has_rep && (control & (RESERVED | REP_START | VARIABLE_HEADER_SIZE)) == 0;
+}
+
+uint64_t hypercall_handle(uint64_t control, uint64_t input)
+{
+    union { struct set_vp_registers registers; struct post_message message; uint64_t event; } in;
+    uint16_t code = (uint16_t)control;
+    bool is_fast = (control & IS_FAST) != 0, is_rep = code == SET_VP_REGISTERS;
+    size_t length = code == SET_VP_REGISTERS ? sizeof in.registers : code == POST_MESSAGE ? sizeof in.message : sizeof in.event;
+    if (code != SET_VP_REGISTERS && code != POST_MESSAGE && code != SIGNAL_EVENT)
+        return HV_STATUS_INVALID_HYPERCALL_CODE;
+    if (!is_well_formed(control, is_rep) || (is_fast && code != SIGNAL_EVENT))
+        return HV_STATUS_INVALID_HYPERCALL_INPUT;
+    if (is_fast)
+        return signal_event(input);
+    if (!read_input(input, &in, length))
+        return HV_STATUS_INVALID_ALIGNMENT;
+    if (code == SET_VP_REGISTERS)
+        return set_vp_registers(&in.registers);
+    return code == POST_MESSAGE ? post_message(&in.message) : signal_event(in.event);
+}
