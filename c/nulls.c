@@ -116,6 +116,22 @@ CALL(bool, synicboard_flag_page, board == NULL || page == NULL, CONST_BOARD(boar
 CALL(bool, synicboard_guest_page, board == NULL || page == NULL, CONST_BOARD(board) PLACE(page),
      (board, number, page), const synicboard *board, uint64_t number, const uint8_t **page)
 
+/* ---- The reference TSC page ----
+ *
+ * These calls have no pointers. */
+
+#define VALUE_CALL(answer, name, arguments, ...) \
+    answer proved_##name(__VA_ARGS__);           \
+    answer name(__VA_ARGS__)                     \
+    {                                            \
+        return proved_##name arguments;          \
+    }
+
+VALUE_CALL(synicboard_tsc_page, synicboard_tsc_page_at, (hz, tsc, time), uint64_t hz, uint64_t tsc, uint64_t time)
+VALUE_CALL(synicboard_tsc_page, synicboard_tsc_page_moved, (page, tsc, time),
+           synicboard_tsc_page page, uint64_t tsc, uint64_t time)
+VALUE_CALL(uint64_t, synicboard_tsc_time, (page, tsc), synicboard_tsc_page page, uint64_t tsc)
+
 /* ---- Lines ---- */
 
 CALL(uint8_t, synicboard_raise, line == NULL, LINE(line), (line, vp, vector),

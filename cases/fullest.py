@@ -14,6 +14,9 @@ PAYLOAD = "5a" * 240
 
 MOST = (1 << 64) - 1
 
+# the first ticket, if the last one is the greatest that was given: those of all queued messages and slots
+FIRST = MOST - PORTS * BUFFERS - PROCESSORS * (4 + SOURCES)
+
 # the source to which a port, and each timer of a processor, sends
 FIRST_SINT, TIMER_SINT = 10, 15
 
@@ -41,7 +44,7 @@ def queued(vp, sint, tickets):
 
 
 def lines():
-    tickets = iter(range(MOST - 1, 0, -1))
+    tickets = iter(range(FIRST, MOST))
     yield "image 1"
     yield "board %d %d %d" % (PROCESSORS, PAGES, MOST)
     yield "moment %d" % MOST
@@ -61,7 +64,7 @@ def lines():
         yield "open %d message %d %d %d" % (port, *target(port), BUFFERS)
     for vp in range(PROCESSORS):
         for timer in range(4):
-            yield "timer %d %d f1fff %x due %x %x" % (vp, timer, MOST, MOST, MOST)
+            yield "timer %d %d f1fff %x due 1 %x" % (vp, timer, MOST, MOST - 1)
     for vp in range(PROCESSORS):
         for sint in range(SOURCES):
             yield from queued(vp, sint, tickets)
@@ -78,8 +81,7 @@ def image():
 def script_and_output():
     """Events on that board: port 0 has no buffer left, and closing it withdraws its messages."""
     vp, sint = target(0)
-    first = MOST - 1
-    withdrawn = "".join(". withdrawn %d %d %d\n" % (first - k, vp, sint) for k in range(BUFFERS))
+    withdrawn = "".join(". withdrawn %d %d %d\n" % (FIRST + k, vp, sint) for k in range(BUFFERS))
     return ("post 0 1 -\nclose 0\npost 0 1 -\n",
             "= refused 8\n= done\n%s= refused 1\n" % withdrawn)
 

@@ -88,12 +88,12 @@ def closed_streams(binary):
     return complaints
 
 
-def of_length(binary, subcommand, length):
-    """The result for a script of this many bytes: a board line and comments."""
+def of_length(binary, subcommand, length, line=512):
+    """The result for a script of this many bytes: a board line and comments, which make lines of this length."""
     program = subprocess.Popen([binary, subcommand], stdin=subprocess.PIPE, stdout=subprocess.PIPE,
                                stderr=subprocess.PIPE)
     first = b"board 1 1 0\n#" + b"#" * 498 + b"\n"
-    block = (b"#" * 511 + b"\n") * 2048
+    block = (b"#" * (line - 1) + b"\n") * 2048
     left = length - len(first)
     try:
         program.stdin.write(first)
@@ -109,13 +109,14 @@ def of_length(binary, subcommand, length):
 
 
 def bytes_at_the_limit(binary):
-    """The greatest length of an input, and one byte more."""
+    """The greatest length of an input, and one byte more; lines of a prime length end at other places of each block that is read."""
     complaints = []
     failed = (5, b"", b"synicboard: read failed\n")
-    for subcommand, length, wanted in (("replay", MOST, (0, b"", b"")), ("replay", MOST + 1, failed), ("crew", MOST + 1, failed)):
-        ended = of_length(binary, subcommand, length)
+    for subcommand, length, line, wanted in (("replay", MOST, 512, (0, b"", b"")), ("replay", MOST + 1, 512, failed),
+                                             ("replay", MOST, 607, (0, b"", b"")), ("crew", MOST + 1, 607, failed)):
+        ended = of_length(binary, subcommand, length, line)
         if ended != wanted:
-            complaints.append("%s of %d bytes: %r, expected %r" % (subcommand, length, ended, wanted))
+            complaints.append("%s of %d bytes in lines of %d: %r, expected %r" % (subcommand, length, line, ended, wanted))
     return complaints
 
 

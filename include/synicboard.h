@@ -525,6 +525,28 @@ bool synicboard_message_page(const synicboard *board, uint8_t vp, const uint8_t 
 bool synicboard_flag_page(const synicboard *board, uint8_t vp, const uint8_t **page);
 bool synicboard_guest_page(const synicboard *board, uint64_t number, const uint8_t **page);
 
+/* ---- The reference TSC page ---- */
+
+/* What a guest computes the reference time with, in units of 100 ns: ((tsc * scale) >> 64) + offset, in 64 bits
+ * that wrap (TLFS, "Partition Reference Time Enlightenment"). A host that takes its time from
+ * synicboard_tsc_time passes the board, and the guest through the page, the same time. */
+typedef struct synicboard_tsc_page {
+    uint64_t scale;     /* TscScale */
+    uint64_t offset;    /* TscOffset, in two's complement */
+} synicboard_tsc_page;
+
+/* A page for a TSC of `hz` ticks a second, by which the time is `time` when the TSC is `tsc`. Both fields are 0
+ * if the TSC has no more than 10,000,000 ticks a second. Between two values of the TSC, the time passes by as
+ * many units as the ticks last, or by one less or more. */
+synicboard_tsc_page synicboard_tsc_page_at(uint64_t hz, uint64_t tsc, uint64_t time);
+
+/* The page of a guest that continues, after it was saved or its TSC was set: the same scale, and the time is
+ * `time` when the TSC is `tsc`. */
+synicboard_tsc_page synicboard_tsc_page_moved(synicboard_tsc_page page, uint64_t tsc, uint64_t time);
+
+/* The reference time of a page when the TSC is `tsc`. */
+uint64_t synicboard_tsc_time(synicboard_tsc_page page, uint64_t tsc);
+
 /* ---- Texts ----
  *
  * Scripts, traces and images, in the formats of docs/FORMATS.md. */
@@ -628,9 +650,10 @@ synicboard_reply synicboard_act_absorb(synicboard_shared *shared, uint8_t actor,
 
 /* Acquires the lock and returns the board; null if the handle is closed, and then no lock is held. The
  * pointer is valid until the thread calls synicboard_release. Until then, the thread may make any call on the
- * board, such as all events of one exit of the guest, except to close it, and must make no other call on the
- * shared board. On a recorded board it must perform no event so, since the history would lack that event,
- * and would be legal no longer. */
+ * board, such as all events of one exit of the guest, and must make no other call on the shared board. If it
+ * closes the board, it opens or restores another one in the same handle before it releases the lock. On a
+ * recorded board it must perform no event so, nor close it, since the history would lack that, and would be
+ * legal no longer. */
 synicboard *synicboard_hold(synicboard_shared *shared);
 
 /* Releases the lock. Does nothing if the handle is closed. */

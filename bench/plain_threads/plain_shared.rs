@@ -9,6 +9,7 @@ use board::Board;
 use board::events::{EOI, Event, Notices, Reply};
 use std::process::ExitCode;
 use std::sync::Mutex;
+use std::sync::atomic::{AtomicU64, Ordering};
 use std::thread;
 use std::time::Instant;
 
@@ -22,7 +23,51 @@ const PAGES: u8 = 4;
 
 const ASSERTED: u8 = 0x60;
 
-const WORKLOADS: [(&str, u8); 3] = [("share-1", 1), ("share-2", 2), ("share-4", 4)];
+const WORDS: usize = PROCESSORS as usize + 1;
+
+#[derive(Clone, Copy, PartialEq)]
+enum Workload {
+    Calls(u8),
+    WatchedCalls,
+    Polls,
+}
+
+const WORKLOADS: [(&str, Workload); 5] = [
+    ("share-1", Workload::Calls(1)),
+    ("share-2", Workload::Calls(2)),
+    ("share-4", Workload::Calls(4)),
+    ("watch-1", Workload::WatchedCalls),
+    ("poll-1", Workload::Polls),
+];
+
+/// A published word, in a cache line of its own.
+#[repr(align(64))]
+struct Word(AtomicU64);
+
+/// A board, and what its words hold.
+struct Watched {
+    board: Board,
+    values: [u64; WORDS],
+}
+
+impl Watched {
+    fn publish(&mut self, words: &[Word; WORDS]) {
+        for vp in 0..PROCESSORS {
+            self.store(words, vp.into(), self.board.next(vp).map_or(0, u64::from));
+        }
+        let due = self.board.earliest().map_or(u64::MAX, |timer| {
+            u64::try_from(timer.0).unwrap_or(u64::MAX)
+        });
+        self.store(words, WORDS - 1, due);
+    }
+
+    fn store(&mut self, words: &[Word; WORDS], word: usize, value: u64) {
+        if self.values[word] != value {
+            words[word].0.store(value, Ordering::SeqCst);
+            self.values[word] = value;
+        }
+    }
+}
 
 fn event_at(turn: u32) -> Event<'static> {
     let vp = (turn / 4 % 8) as u8;
@@ -56,6 +101,54 @@ fn perform_calls(board: &Mutex<Board>, calls: u32, notices: &mut Notices) -> u64
         }
     }
     taken
+}
+
+#[inline(never)]
+fn perform_watched(
+    watched: &Mutex<Watched>,
+    words: &[Word; WORDS],
+    calls: u32,
+    notices: &mut Notices,
+) -> u64 {
+    let mut taken = 0;
+    for turn in 0..calls {
+        let mut watched = watched.lock().expect("no thread panics");
+        let reply = watched.board.perform(&event_at(turn), notices);
+        watched.publish(words);
+        if let Reply::Taken(Some(_)) = reply {
+            taken += 1;
+        }
+    }
+    taken
+}
+
+#[inline(never)]
+fn poll(words: &[Word; WORDS], calls: u32) -> u64 {
+    (0..calls)
+        .filter(|_| words[0].0.load(Ordering::SeqCst) != 0)
+        .count() as u64
+}
+
+fn show_watched(name: &str, polls: bool, calls: u32) {
+    let mut board = Board::open(PROCESSORS, PAGES, 0);
+    let mut notices = Notices::new();
+    board.perform(&event_at(0), &mut notices);
+    let mut watched = Watched {
+        board,
+        values: [0; WORDS],
+    };
+    let words = [const { Word(AtomicU64::new(0)) }; WORDS];
+    watched.publish(&words);
+    let watched = Mutex::new(watched);
+    let start = Instant::now();
+    let (counted, what) = if polls {
+        (poll(&words, calls), "found")
+    } else {
+        (perform_watched(&watched, &words, calls, &mut notices), "taken")
+    };
+    let time = start.elapsed().as_nanos() as f64 / f64::from(calls);
+    println!("{name} {calls} calls {calls} in all {counted} {what}");
+    eprintln!("{name} {calls} calls {time:.1} ns a call");
 }
 
 fn show(name: &str, threads: u8, calls: u32) {
@@ -93,9 +186,13 @@ fn run_words(words: &[String]) -> Option<()> {
         [name, count] => (Some(named(name)?), read_count(count)?),
         _ => return None,
     };
-    for (name, threads) in WORKLOADS {
+    for (name, workload) in WORKLOADS {
         if chosen.is_none_or(|chosen| chosen.0 == name) {
-            show(name, threads, calls);
+            match workload {
+                Workload::Calls(threads) => show(name, threads, calls),
+                Workload::WatchedCalls => show_watched(name, false, calls),
+                Workload::Polls => show_watched(name, true, calls),
+            }
         }
     }
     Some(())

@@ -180,6 +180,27 @@ static void test_earliest_after(void)
     synicboard_close(&board);
 }
 
+/* The values are those of integers without a limit: (tsc * (10000000 << 64 / hz) >> 64) + offset, modulo 2^64. */
+static void test_tsc_page(void)
+{
+    synicboard_tsc_page page = synicboard_tsc_page_at(2700000000, 1000000000000, 5);
+    CHECK_NUMBER(page.scale, 68321274347072413);
+    CHECK_NUMBER(page.offset, UINT64_C(18446744070005847918));
+    CHECK_NUMBER(synicboard_tsc_time(page, 1000000000000), 5);
+    CHECK_NUMBER(synicboard_tsc_time(page, 1000000002699), 15);
+    CHECK_NUMBER(synicboard_tsc_time(page, 1002700000000), 10000005);
+    CHECK_NUMBER(synicboard_tsc_time(page, 0), UINT64_C(18446744070005847918));
+    CHECK_NUMBER(synicboard_tsc_time(page, UINT64_MAX), 68321270643368714);
+    page = synicboard_tsc_page_moved(page, 7, UINT64_MAX);
+    CHECK_NUMBER(page.scale, 68321274347072413);
+    CHECK_NUMBER(synicboard_tsc_time(page, 7), UINT64_MAX);
+    CHECK_NUMBER(synicboard_tsc_time(page, 277), 0);
+    page = synicboard_tsc_page_at(10000001, 0, 0);
+    CHECK_NUMBER(page.scale, UINT64_C(18446742229035328712));
+    page = synicboard_tsc_page_at(10000000, 0, 1);
+    CHECK_NUMBER(page.scale + page.offset, 0);
+}
+
 static void check_closed_looks(synicboard *board)
 {
     synicboard_notice notice = { .kind = 77 };
@@ -630,6 +651,8 @@ static const struct test tests[] = {
     { "timers and slots", test_timers_and_slots },
     { "a tick with the earliest deadline", test_tick_due },
     { "the earliest deadline after a time", test_earliest_after },
+    { "the reference TSC page", test_tsc_page },
+        { "reference TSC page", test_tsc_page },
     { "a closed handle", test_closed_handle },
     { "opening twice", test_opening_twice },
     { "sizes", test_sizes },

@@ -76,8 +76,8 @@ void *__wrap_calloc(size_t count, size_t size);
 void *__wrap_realloc(void *old, size_t size);
 void __wrap_free(void *block);
 
-size_t requests, returns, blocks_out;
-static size_t refused_request;
+_Atomic size_t requests, returns, blocks_out;
+static _Atomic size_t refused_request;
 
 void refuse(size_t number)
 {
@@ -87,8 +87,7 @@ void refuse(size_t number)
 
 static bool is_refused(void)
 {
-    requests++;
-    return requests == refused_request;
+    return ++requests == refused_request;
 }
 
 static void *counted(void *block)

@@ -56,7 +56,7 @@ void check_fault(synicboard_reply reply, uint8_t fault, const char *what, int li
 
 /* How often memory was allocated and freed since the last `refuse`, and how many blocks are
  * allocated now. */
-extern size_t requests, returns, blocks_out;
+extern _Atomic size_t requests, returns, blocks_out;
 
 /* Restarts the count, and refuses the allocation of that number, counted from 1; none for 0. */
 void refuse(size_t number);

@@ -436,6 +436,35 @@ static unsigned entries_of(uint8_t actor)
     return count;
 }
 
+/* Settles again and again while two threads act: each trace is that of a legal history, which grows. */
+static void test_settling_while_others_act(void)
+{
+    enum { SETTLED = 20 };
+    struct actor actors[2] = { 0 };
+    uint64_t entries = 0;
+    CHECK_NUMBER(synicboard_open_recorded(&board, ACTORS, 1, 0), SYNICBOARD_OK);
+    CHECK_NUMBER(synicboard_open_line(&first_line, ACTORS), SYNICBOARD_OK);
+    for (uint8_t vp = 0; vp < 2; vp++) {
+        actors[vp].vp = vp;
+        CHECK_NUMBER(synicboard_split_line(&first_line, &actors[vp].line), SYNICBOARD_OK);
+        CHECK_NUMBER(pthread_create(&actors[vp].thread, NULL, run_actor, &actors[vp]), 0);
+    }
+    for (unsigned turn = 0; turn < SETTLED; turn++) {
+        synicboard_settled settled = settle(&board);
+        CHECK_NUMBER(settled.kind, SYNICBOARD_OK);
+        CHECK(settled.entries >= entries);
+        CHECK_NUMBER(synicboard_check((uint8_t *)trace, settled.length).entries, settled.entries);
+        entries = settled.entries;
+    }
+    for (uint8_t vp = 0; vp < 2; vp++) {
+        CHECK_NUMBER(pthread_join(actors[vp].thread, NULL), 0);
+        synicboard_close_line(&actors[vp].line);
+    }
+    CHECK_NUMBER(settle(&board).entries, 2 * TURNS * 3);
+    synicboard_close_line(&first_line);
+    close_shared(&board);
+}
+
 static void test_threads(void)
 {
     struct actor actors[ACTORS] = { 0 };
@@ -489,6 +518,7 @@ int main(void)
         { "absorbing without memory", test_absorbing_without_memory },
         { "settling without memory", test_settling_without_memory },
         { "threads", test_threads },
+        { "settling while others act", test_settling_while_others_act },
     };
     return run_tests(tests, sizeof tests / sizeof tests[0]);
 }

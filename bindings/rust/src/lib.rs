@@ -31,6 +31,7 @@ mod reply;
 pub mod sys;
 mod terms;
 mod text;
+mod tsc;
 mod view;
 
 pub use board::{Board, LocalApic, OpenFault, RestoreFault, Timer, PAGE_BYTES};
@@ -41,6 +42,7 @@ pub use recorded::{NoEntry, NoticeRoom, RecordedBoard, Settled};
 pub use reply::{Refusal, Reply};
 pub use terms::{Moment, Owner, Sint, Ticket, TimerId, Vector, Vp};
 pub use text::{check, format_entry, replay, End, FormatFault, Verdict};
+pub use tsc::TscPage;
 pub use view::{Changes, Owners, View};
 
 /// Panics: the library returned a value that its header does not have, so their versions differ.

@@ -409,6 +409,16 @@ pub struct synicboard_owners {
     pub page: [synicboard_page_owner; 64],
 }
 
+/// A reference TSC page; all 0 if there is none.
+#[repr(C)]
+#[derive(Clone, Copy, PartialEq, Eq, Debug)]
+pub struct synicboard_tsc_page {
+    /// TscScale.
+    pub scale: u64,
+    /// TscOffset, in two's complement.
+    pub offset: u64,
+}
+
 /// The result of a call that writes a text.
 #[repr(C)]
 #[derive(Clone, Copy, PartialEq, Eq, Debug)]
@@ -601,6 +611,13 @@ extern "C" {
     pub fn synicboard_flag_page(board: *const synicboard, vp: u8, page: *mut *const u8) -> bool;
     /// Stores the address of a guest page, if there is one.
     pub fn synicboard_guest_page(board: *const synicboard, number: u64, page: *mut *const u8) -> bool;
+
+    /// A reference TSC page for a TSC of `hz` ticks a second; all 0 if it is too slow.
+    pub fn synicboard_tsc_page_at(hz: u64, tsc: u64, time: u64) -> synicboard_tsc_page;
+    /// The same page with another offset.
+    pub fn synicboard_tsc_page_moved(page: synicboard_tsc_page, tsc: u64, time: u64) -> synicboard_tsc_page;
+    /// The reference time of a page when the TSC is `tsc`.
+    pub fn synicboard_tsc_time(page: synicboard_tsc_page, tsc: u64) -> u64;
 
     /// Performs a script on a board of its own, and writes its output to a buffer, as much as fits.
     pub fn synicboard_replay(

@@ -1,12 +1,15 @@
-//! `bench_shared`: measures the cost of a call of a shared board of which nothing is recorded.
+//! `bench_shared`: measures the cost of a call of a shared board of which nothing is recorded, and of
+//! a poll without the lock.
 #![tactic(auto)]
 
 mod faults;
 mod measure;
+mod watched;
 mod worker;
 
 use crate::faults::Fault;
-use crate::measure::measure;
+use crate::measure::{Measured, measure};
+use crate::watched::measure_watched;
 use bench_cli::{Asked, Program};
 use std::process::ExitCode;
 use std::sync::Wait;
@@ -14,12 +17,29 @@ use std::thread::Threads;
 
 const OUTPUT: &str = "\
 Standard output: each workload, the calls of a thread, those of all threads, and where there is
-one thread, how many interrupts were taken.
+one thread, how many interrupts were taken or polls found a vector.
 Standard error: each workload, the calls of a thread, and nanoseconds a call, by the time in
 which all threads made theirs.";
 
-/// The names of the workloads, each with its number of threads.
-const WORKLOADS: [(&str, u8); 3] = [("share-1", 1), ("share-2", 2), ("share-4", 4)];
+/// What a workload measures.
+#[derive(Clone, Copy)]
+enum Workload {
+    /// Calls of that many threads on a shared board.
+    Calls(u8),
+    /// Calls of one thread on a watched board.
+    WatchedCalls,
+    /// Polls of one thread of a watched board.
+    Polls,
+}
+
+/// The names of the workloads.
+const WORKLOADS: [(&str, Workload); 5] = [
+    ("share-1", Workload::Calls(1)),
+    ("share-2", Workload::Calls(2)),
+    ("share-4", Workload::Calls(4)),
+    ("watch-1", Workload::WatchedCalls),
+    ("poll-1", Workload::Polls),
+];
 
 fn main(rt: HostRuntime) -> ExitCode {
     match run(&rt, &rt) {
@@ -48,9 +68,9 @@ fn run<R: Threads + Wait + Sync>(rt: &HostRuntime, threads: &R) -> Result<ExitCo
         Asked::Nothing(code) => return Ok(code),
         Asked::Measurements(chosen, calls) => (chosen, calls),
     };
-    for (place, (name, count)) in WORKLOADS.iter().enumerate() {
+    for (place, (name, workload)) in WORKLOADS.iter().enumerate() {
         if chosen.is_none_or(|chosen| chosen == place) {
-            show(rt, threads, name, *count, calls)?;
+            show(rt, threads, name, *workload, calls)?;
         }
     }
     Ok(ExitCode::SUCCESS)
@@ -62,18 +82,33 @@ fn show<R: Threads + Wait + Sync>(
     rt: &HostRuntime,
     threads: &R,
     name: &str,
-    count: u8,
+    workload: Workload,
     calls: u32,
 ) -> Result<(), Fault> {
-    let measured = measure(rt, threads, count, calls)?;
-    let all = calls as u64 * count as u64;
-    if count == 1 {
-        let counted = measured.counted;
-        println!(rt; "{name} {calls} calls {all} in all {counted} taken")?;
-    } else {
-        println!(rt; "{name} {calls} calls {all} in all")?;
+    let measured = measured(rt, threads, workload, calls)?;
+    let counted = measured.counted;
+    match workload {
+        Workload::Calls(count) if count > 1 => {
+            let all = calls as u64 * count as u64;
+            println!(rt; "{name} {calls} calls {all} in all")?;
+        }
+        Workload::Polls => println!(rt; "{name} {calls} calls {calls} in all {counted} found")?,
+        _ => println!(rt; "{name} {calls} calls {calls} in all {counted} taken")?,
     }
     let (whole, tenth) = measured.time_per_call(calls);
     eprintln!(rt; "{name} {calls} calls {whole}.{tenth} ns a call")?;
     Ok(())
+}
+
+fn measured<R: Threads + Wait + Sync>(
+    rt: &HostRuntime,
+    threads: &R,
+    workload: Workload,
+    calls: u32,
+) -> Result<Measured, Fault> {
+    match workload {
+        Workload::Calls(count) => measure(rt, threads, count, calls),
+        Workload::WatchedCalls => measure_watched(rt, threads, false, calls),
+        Workload::Polls => measure_watched(rt, threads, true, calls),
+    }
 }

@@ -13,11 +13,11 @@ use std::thread::{Threads, join};
 use std::time::{Duration, Instant};
 use synic_board::Board;
 
-const PROCESSORS: u8 = 8;
+pub(crate) const PROCESSORS: u8 = 8;
 
-const PAGES: u8 = 4;
+pub(crate) const PAGES: u8 = 4;
 
-/// How many interrupts were taken, and the time.
+/// How many interrupts were taken, or polls found a vector, and the time.
 #[derive(Clone, Copy)]
 pub(crate) struct Measured {
     pub(crate) counted: u64,
@@ -25,7 +25,7 @@ pub(crate) struct Measured {
 }
 
 impl Measured {
-    fn new(counted: u64, elapsed: Duration) -> Measured {
+    pub(crate) fn new(counted: u64, elapsed: Duration) -> Measured {
         let seconds = elapsed.as_secs().saturating_mul(1_000_000_000);
         let nanoseconds = seconds.saturating_add(elapsed.subsec_nanos() as u64);
         Measured {

@@ -50,7 +50,7 @@ pub(crate) fn two<S: Sharing + Send + Sync, R: Threads + Wait + Sync>(
 }
 
 /// The event of a turn: an assert, a take, an EOI and a tick, on one processor after another.
-fn event_at(turn: u32) -> Event {
+pub(crate) fn event_at(turn: u32) -> Event {
     let vp = (turn / 4 % 8) as u8;
     match turn % 4 {
         0 => Event::Assert {

@@ -1,16 +1,27 @@
 // What a thread owns, and what it does.
 ghost use Rattle.std.specs.Prelude.{◌≡◌, ◌≤◌, IfOk};
+ghost use Rattle.synic_board.specs.State.{opened};
 ghost use Rattle.bench_threads.specs.Own.{IsOwn};
 
 use crate::workload::Job;
 use board_terms::{Moment, Vector, Vp};
-use board_threads::{Actor, CallFault, Line, Raised, RecordedBoard};
+use board_threads::{Actor, CallFault, Line, Origin, Raised, RecordedBoard};
 use std::sync::Wait;
 use synic_board::msr::EOI;
 use synic_board::{Event, Reply};
 
 /// How many processors a board has.
 pub(crate) const PROCESSORS: u8 = 8;
+
+/// How many guest pages a board has.
+pub(crate) const PAGES: u8 = 4;
+
+/// A board of that size, with first ticket 0.
+pub(crate) struct Measured;
+
+impl Origin for Measured {
+    ghost start = { opened 8 4 0 };
+}
 
 /// The asserted vector.
 const ASSERTED: u8 = 0x60;
@@ -30,13 +41,13 @@ pub(crate) struct Worker {
 /// Does a job, call by call.
 pub(crate) fn work<R: Wait>(
     rt: &R,
-    board: &RecordedBoard,
+    board: &RecordedBoard<Measured>,
     job: Job,
     calls: u32,
     worker: Worker,
 ) -> Result<Worker, CallFault>
     requires own { IsOwn board.now worker }
-    requires eight { board.now.words.processors ≡ 8 }
+    requires eight { board.now.processors ≡ 8 }
     ensures { IfOk result (IsOwn board.now) }
 {
     match job {
@@ -49,12 +60,12 @@ pub(crate) fn work<R: Wait>(
 #[inline(never)]
 fn raise_all<R: Wait>(
     rt: &R,
-    board: &RecordedBoard,
+    board: &RecordedBoard<Measured>,
     calls: u32,
     worker: Worker,
 ) -> Result<Worker, CallFault>
     requires own { IsOwn board.now worker }
-    requires eight { board.now.words.processors ≡ 8 }
+    requires eight { board.now.processors ≡ 8 }
     ensures { IfOk result (IsOwn board.now) }
 {
     let Worker {
@@ -96,7 +107,7 @@ fn vector_at(turn: u32) -> Vector {
 #[inline(never)]
 fn perform_calls<R: Wait>(
     rt: &R,
-    board: &RecordedBoard,
+    board: &RecordedBoard<Measured>,
     calls: u32,
     worker: Worker,
 ) -> Result<Worker, CallFault>

@@ -4,15 +4,12 @@ ghost use Rattle.std.specs.Thread.{IsSync};
 ghost use Rattle.bench_threads.specs.Own.{IsOwn, IsOwnActor, IsOwnLine};
 
 use crate::faults::Fault;
-use crate::worker::{PROCESSORS, Worker, work};
+use crate::worker::{Measured, PAGES, PROCESSORS, Worker, work};
 use crate::workload::Job;
 use board_threads::{Actor, CallFault, Line, OpenFault, RecordedBoard};
 use std::alloc::{AllocError, Global};
 use std::sync::Wait;
 use std::thread::{Threads, join};
-
-/// How many guest pages a board has.
-const PAGES: u8 = 4;
 
 /// The workers of a board, taken apart, and the sum of their counts.
 #[derive(Drop)]
@@ -23,8 +20,11 @@ pub(crate) struct Parts {
 }
 
 /// A board with that many workers.
-pub(crate) fn open(alloc: Global, count: u8) -> Result<(RecordedBoard, Vec<Worker>), Fault>
-    ensures eight { IfOk result (λ r. r.0.words.processors ≡ 8) }
+pub(crate) fn open(
+    alloc: Global,
+    count: u8,
+) -> Result<(RecordedBoard<Measured>, Vec<Worker>), Fault>
+    ensures eight { IfOk result (λ r. r.0.processors ≡ 8) }
     ensures own { IfOk result (λ r. All (IsOwn r.0) r.1.items) }
 {
     let (board, actors, lines) = open_parts(alloc, count)?;
@@ -33,8 +33,11 @@ pub(crate) fn open(alloc: Global, count: u8) -> Result<(RecordedBoard, Vec<Worke
 }
 
 /// A board with that many actors and lines.
-fn open_parts(alloc: Global, count: u8) -> Result<(RecordedBoard, Vec<Actor>, Vec<Line>), OpenFault>
-    ensures eight { IfOk result (λ r. r.0.words.processors ≡ 8) }
+fn open_parts(
+    alloc: Global,
+    count: u8,
+) -> Result<(RecordedBoard<Measured>, Vec<Actor>, Vec<Line>), OpenFault>
+    ensures eight { IfOk result (λ r. r.0.processors ≡ 8) }
     ensures actors { IfOk result (λ r. All (IsOwnActor r.0) r.1.items) }
     ensures lines { IfOk result (λ r. All (IsOwnLine r.0) r.2.items) }
 {
@@ -47,7 +50,7 @@ fn open_parts(alloc: Global, count: u8) -> Result<(RecordedBoard, Vec<Actor>, Ve
 /// A worker of each actor, with a line.
 fn pair(
     alloc: Global,
-    board: &RecordedBoard,
+    board: &RecordedBoard<Measured>,
     actors: Vec<Actor>,
     mut lines: Vec<Line>,
 ) -> Result<Vec<Worker>, AllocError>
@@ -71,13 +74,13 @@ fn pair(
 /// Runs the job of each worker in a thread of its own, started by halves.
 pub(crate) fn run<R: Threads + Wait + Sync>(
     rt: &R,
-    board: &RecordedBoard,
+    board: &RecordedBoard<Measured>,
     job: Job,
     calls: u32,
     mut workers: Vec<Worker>,
 ) -> Result<Vec<Worker>, CallFault>
     requires own { All (IsOwn board.now) workers.items }
-    requires eight { board.now.words.processors ≡ 8 }
+    requires eight { board.now.processors ≡ 8 }
     ensures { IfOk result (λ v. All (IsOwn board.now) v.items) }
 {
     if workers.len() >= 2 {
@@ -88,11 +91,11 @@ pub(crate) fn run<R: Threads + Wait + Sync>(
         let (first, second) = join(
             rt,
             move || -> Result<Vec<Worker>, CallFault>
-                requires { IsSync R.row × (board.now.words.processors ≡ 8) × All (IsOwn board.now) workers.items }
+                requires { IsSync R.row × (board.now.processors ≡ 8) × All (IsOwn board.now) workers.items }
                 ensures { IfOk result (λ v. All (IsOwn board.entry.now) v.items) }
             { run(rt, board, job, calls, workers) },
             move || -> Result<Vec<Worker>, CallFault>
-                requires { IsSync R.row × (board.now.words.processors ≡ 8) × All (IsOwn board.now) others.items }
+                requires { IsSync R.row × (board.now.processors ≡ 8) × All (IsOwn board.now) others.items }
                 ensures { IfOk result (λ v. All (IsOwn board.entry.now) v.items) }
             { run(rt, board, job, calls, others) },
         );
@@ -116,7 +119,7 @@ pub(crate) fn run<R: Threads + Wait + Sync>(
 /// Takes workers apart.
 pub(crate) fn split(
     alloc: Global,
-    board: &RecordedBoard,
+    board: &RecordedBoard<Measured>,
     workers: Vec<Worker>,
 ) -> Result<Parts, AllocError>
     requires { All (IsOwn board.now) workers.items }

@@ -5,7 +5,7 @@ use Rattle.std.specs.Io.KnownBytes.{Appends}
 use Rattle.std.proofs.KnownBytes.{Consumes-nil, Appends-nil, Appends-trans}
 use Rattle.std.proofs.lemmas.Bool.Decides.{Decides-ltb}
 use Rattle.text_base.specs.Lines.{rest_of}
-use Rattle.text_driver.specs.Judging.{Follows}
+use Rattle.text_driver.specs.Judging.{AreGoodLines}
 use Rattle.text_driver.specs.Driving.{next_of, place, Ends, Stops, Sends, Drives}
 use Rattle.text_driver.specs.declared.driving.End.{End}
 use Rattle.text_driver.specs.declared.driving.End.TheVariants as ends
@@ -53,7 +53,7 @@ module _ {J : Type 0} (seen : J → Machine) where
   abbrev pub Wrong : J → List ℕ → ScriptFault → Type 0
   Wrong state line fault = IsFaulty (seen state) line fault
 
-  answered : (old new : J) (lines left : List (List ℕ)) (answers rest : List ℕ) (k j : ℕ) → j ≡ k + length lines → Follows Good old lines answers new →
+  answered : (old new : J) (lines left : List (List ℕ)) (answers rest : List ℕ) (k j : ℕ) → j ≡ k + length lines → AreGoodLines Good old lines answers new →
       Answered (seen old) (seen new) k j lines left rest answers
   answered old new [] left answers rest k j count h =
       let same : j ≡ k = omega (arith, count) in

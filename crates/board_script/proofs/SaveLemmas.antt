@@ -4,7 +4,7 @@ use Rattle.std.specs.Option.{IfSome}
 use Rattle.std.specs.Io.KnownBytes.{Appends}
 use Rattle.std.proofs.KnownBytes.{Appends-nil}
 use Rattle.text_base.specs.Streams.{ReadsUpTo}
-use Rattle.text_driver.specs.Judging.{Follows}
+use Rattle.text_driver.specs.Judging.{AreGoodLines}
 use Rattle.text_driver.specs.Driving.{Stops, Drives, most_of}
 use Rattle.text_driver.specs.Driving as driving
 use Rattle.text_driver.specs.declared.driving.End.{End}
@@ -15,7 +15,7 @@ use Rattle.synic_board.specs.State.{State}
 use Rattle.text_image.specs.Image.{image}
 use Rattle.board_script.specs.Output.{Machine, machine_after_lines, machine_at_end, fault_of, fault_text, saved_of, saved_text}
 use Rattle.board_script.specs.Script.{item_in}
-use Rattle.board_script.specs.Streams.{Saves, StopsNear, most_read}
+use Rattle.board_script.specs.Streams.{SavesText, StopsNear, most_read}
 use Rattle.board_script.specs.inside.Judging.{answer_maybe, Advances, Finishes, SavesEnd, SavesImage}
 use Rattle.board_script.specs.declared.stream.ReplayEnd.{ReplayEnd}
 use Rattle.board_script.specs.declared.stream.ReplayEnd.TheVariants.{Done, Script, Memory, Reading, Writing}
@@ -32,7 +32,7 @@ module _ {J : Type 0} (seen : J → Machine) where
   Advanced old line sent new = Advances (seen old) line (seen new)
 
   -- the answers that a save does not form
-  answered-so : (old new : J) (lines : List (List ℕ)) (sent : List ℕ) → Follows Advanced old lines sent new → (answers : List ℕ) × Follows (Good seen) old lines answers new
+  answered-so : (old new : J) (lines : List (List ℕ)) (sent : List ℕ) → AreGoodLines Advanced old lines sent new → (answers : List ℕ) × AreGoodLines (Good seen) old lines answers new
   answered-so old new [] sent h = ([], (refl, h.1))
   answered-so old new (line ∷ lines) sent h =
       let on = answered-so h.2 new lines h.1 h.5 in
@@ -46,7 +46,7 @@ module _ {J : Type 0} (seen : J → Machine) where
       (on.0, record { lines = h.lines; left = h.left; state = h.state; split = h.split; follows = on.1; ends = h.ends })
 
 -- good lines lead from one machine to another
-reached : {J : Type 0} (seen : J → Machine) (old new : J) (lines left : List (List ℕ)) (answers : List ℕ) → Follows (Good seen) old lines answers new →
+reached : {J : Type 0} (seen : J → Machine) (old new : J) (lines left : List (List ℕ)) (answers : List ℕ) → AreGoodLines (Good seen) old lines answers new →
     machine_after_lines (seen old) (lines ++ left) ≡ machine_after_lines (seen new) left
 reached seen old new [] left answers h = ap (λ s. machine_after_lines (seen s) left) (sym h.1)
 reached seen old new (line ∷ lines) left answers h =
@@ -84,7 +84,7 @@ module _ {J : Type 0} (seen : J → Machine) (old new : J) (start : seen old ≡
     Driven end = Drives (Advanced seen) (Wrong seen) end old new r0 r1 v0 v1
 
     fault-saved : (end : End ScriptFault) (line : ℕ) (g : ScriptFault) (result : ReplayEnd) → FaultAt end (is_some (seen new)) (Some (line, g)) → Driven end →
-        Finishes result (Some (line, g)) w0 w1 → Saves result r0 r1 w0 w1
+        Finishes result (Some (line, g)) w0 w1 → SavesText result r0 r1 w0 w1
     fault-saved end line g Done is d f = let off = f.0 in cc
     fault-saved end line g (Script l h) is d f =
         some-map r0 _ _ (λ input k.
@@ -98,7 +98,7 @@ module _ {J : Type 0} (seen : J → Machine) (old new : J) (start : seen old ≡
         let b = saved-fault end line g s.0 d.taken is s.1 in
         record { taken = d.taken; sent = f.0; unsent = f.1; reads = d.reads; writes = f.2; begins = b.1 ∙ f.3 }
 
-    image-saved : (line : ℕ) (s : State) (result : ReplayEnd) → seen new ≡ Some s → Driven (ends.Last line) → SavesImage result s w0 w1 → Saves result r0 r1 w0 w1
+    image-saved : (line : ℕ) (s : State) (result : ReplayEnd) → seen new ≡ Some s → Driven (ends.Last line) → SavesImage result s w0 w1 → SavesText result r0 r1 w0 w1
     image-saved line s Done is d f =
         some-map r0 _ _ (λ input k.
         let p = stopped-so seen old new (ends.Last line) d.answers input k in
@@ -113,10 +113,10 @@ module _ {J : Type 0} (seen : J → Machine) (old new : J) (start : seen old ≡
         record { taken = d.taken; sent = f.0; unsent = f.1; reads = d.reads; writes = f.2; begins = b.1 ∙ f.3 }
 
     -- a drive, and what is written after it
-    pub saves-concluded : (end : End ScriptFault) (result : ReplayEnd) → Driven end → SavesEnd end (seen new) result w0 w1 → Saves result r0 r1 w0 w1
+    pub saves-concluded : (end : End ScriptFault) (result : ReplayEnd) → Driven end → SavesEnd end (seen new) result w0 w1 → SavesText result r0 r1 w0 w1
     saves-concluded (ends.Last line) result d f = by (seen new) refl f
       where
-        by : (m : Machine) → seen new ≡ m → SavesEnd (ends.Last line) m result w0 w1 → Saves result r0 r1 w0 w1
+        by : (m : Machine) → seen new ≡ m → SavesEnd (ends.Last line) m result w0 w1 → SavesText result r0 r1 w0 w1
         by None is f = fault-saved (ends.Last line) line faults.First result (rw is refl) d f
         by (Some s) is f = image-saved line s result is d f
     saves-concluded (ends.Wrong line g) result d f = fault-saved (ends.Wrong line g) line g result refl d f

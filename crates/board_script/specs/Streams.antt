@@ -29,12 +29,12 @@ abbrev pub Replays : ReplayEnd → Option (List ℕ) → Option (List ℕ) → O
 Replays = ReplaysOn None
 
 -- the same for a save: nothing is written before the whole input is read
-abbrev pub Saves : ReplayEnd → Option (List ℕ) → Option (List ℕ) → Option (List ℕ) → Option (List ℕ) → Type 0
-Saves Done r0 r1 w0 w1 = IfSome r0 (λ input. (fault_of input ≡ None) × Appends w0 w1 (saved_text input))
-Saves (Script line fault) r0 r1 w0 w1 = IfSome r0 (λ input. (fault_of input ≡ Some (line, fault)) × Appends w0 w1 (saved_text input))
-Saves Memory r0 r1 w0 w1 = Appends w0 w1 []
-Saves Reading r0 r1 w0 w1 = Appends w0 w1 []
-Saves Writing r0 r1 w0 w1 = BegunText saved_text r0 r1 w0 w1
+abbrev pub SavesText : ReplayEnd → Option (List ℕ) → Option (List ℕ) → Option (List ℕ) → Option (List ℕ) → Type 0
+SavesText Done r0 r1 w0 w1 = IfSome r0 (λ input. (fault_of input ≡ None) × Appends w0 w1 (saved_text input))
+SavesText (Script line fault) r0 r1 w0 w1 = IfSome r0 (λ input. (fault_of input ≡ Some (line, fault)) × Appends w0 w1 (saved_text input))
+SavesText Memory r0 r1 w0 w1 = Appends w0 w1 []
+SavesText Reading r0 r1 w0 w1 = Appends w0 w1 []
+SavesText Writing r0 r1 w0 w1 = BegunText saved_text r0 r1 w0 w1
 
 -- the greatest number of bytes read: the byte beyond the limit only if reading ends there
 abbrev pub most_read : ReplayEnd → ℕ

@@ -1,7 +1,7 @@
 // Replaying a script from a reader to a writer.
 ghost use Rattle.text_base.specs.Streams.{ReadsUpTo};
 ghost use Rattle.std.specs.Prelude.{Some};
-ghost use Rattle.board_script.specs.Streams.{Replays, ReplaysOn, Saves, most_read, StopsNear};
+ghost use Rattle.board_script.specs.Streams.{Replays, ReplaysOn, SavesText, most_read, StopsNear};
 ghost use Rattle.board_script.specs.inside.Judging.{machine_of, conclusion, Concludes, Finishes, SavesEnd, SavesImage};
 
 use crate::judge::{SaveJudge, ScriptJudge};
@@ -130,7 +130,7 @@ fn finish<W: Write>(
 /// end. If a line is wrong, writes only its fault. Nothing is written before the whole script is
 /// read, and the writer is flushed at the end.
 pub fn save_script<R: Read, W: Write>(alloc: Global, reader: &mut R, writer: &mut W) -> ReplayEnd
-    ensures text { Saves result (R.remaining reader.old) (R.remaining reader.new) (W.contents writer.old) (W.contents writer.new) }
+    ensures text { SavesText result (R.remaining reader.old) (R.remaining reader.new) (W.contents writer.old) (W.contents writer.new) }
     ensures limit { ReadsUpTo (most_read result) (R.remaining reader.old) (R.remaining reader.new) }
     ensures near { StopsNear result (R.remaining reader.old) (R.remaining reader.new) }
 {

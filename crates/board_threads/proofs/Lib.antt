@@ -1,4 +1,4 @@
-pub mod Replies
+pub mod Counts
 pub mod Sweeping
 pub mod Numbering
 pub mod Taking

@@ -28,7 +28,7 @@ pub record AreAllOf (history : List Entry) (actors : List ActorCalls) : Type 0 w
   -- and there are no other entries
   pub all : sum_by (λ (a : ActorCalls). length a.calls.items) actors ≡ length history
 
--- The result of settling a board that was opened in a state: a run of one thread.
+-- The result of settling a board that was opened or shared in a state: a run of one thread.
 pub record IsSettled (start : State) (e : Ended) : Type 0 where
   -- the replies are those of the reference model
   pub legal : IsLegal start e.history.items

@@ -1,23 +1,10 @@
--- The abstract state of a shared board and of an actor.
+-- The sizes of a recorded board, and the abstract state of an actor.
 use Rattle.std.specs.Prelude.{ℕ, List, []}
 use Rattle.atomic_table.specs.Seated.{TableId}
 use Rattle.posted_words.specs.declared.rule.Action.{Action}
-use Rattle.posted_words.specs.Words.{Words, AreWordSizes}
-use Rattle.synic_board.specs.State.{State, opened, AreSizes as AreBoardSizes}
+use Rattle.posted_words.specs.Words.{AreWordSizes}
+use Rattle.synic_board.specs.State.{AreSizes as AreBoardSizes}
 use Rattle.board_threads.specs.History.{Call}
-
--- the posted words, and the other arguments of the opening; of a board that was given, its pages and its next ticket when it was shared
-pub record Sharing : Type 0 where
-  pub words : Words
-  pub pages : ℕ
-  pub first_ticket : ℕ
-
-abbrev pub sharing : Words → ℕ → ℕ → Sharing
-sharing words pages first_ticket = record { words = words; pages = pages; first_ticket = first_ticket }
-
--- the state of the reference model at the opening
-abbrev pub start : Sharing → State
-start s = opened s.words.processors s.pages s.first_ticket
 
 -- the valid sizes of a shared board: those of a board and of its posted words, which each actor sweeps
 pub record AreSharedSizes (processors pages actors lines : ℕ) : Type 0 where

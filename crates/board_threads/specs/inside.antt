@@ -1,3 +1,3 @@
 -- The abstract view of the fields, and their invariant. Callers need neither.
 pub mod Work
-pub mod Ending
+pub mod Faults

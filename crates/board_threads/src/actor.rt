@@ -1,10 +1,12 @@
 // An actor, and its calls.
 ghost use Rattle.std.specs.Prelude.{◌≡◌, ℕ, ◌<◌, true, false, [], ◌∷◌, ◌++◌, IfOk, OnErr, IsErrOf};
 ghost use Rattle.posted_words.specs.Words.{token};
+ghost use Rattle.synic_board.specs.State.{processors};
 ghost use Rattle.synic_board.specs.declared.event.Event.TheVariants.{Absorb};
 ghost use Rattle.board_threads.specs.Sweeps.{is_absorb, is_refusal, sweep_in, sweeps_of};
 ghost use Rattle.board_threads.specs.Sharing.{acting};
 
+use crate::origin::Origin;
 use crate::recorded::Recorded;
 use crate::settling::ActorCalls;
 use posted_words::{PostedWords, Sweeper};
@@ -26,11 +28,6 @@ pub enum CallFault {
     /// The history has 65,536 entries.
     #[error("the history is full")]
     Full = 3,
-    /// The board under the lock has another number of processors than the posted words.
-    /// `RecordedBoard::open` and `share` put both together, so this does not occur; but the contract of
-    /// a lock keeps no fact from its creation, so `absorb` checks it.
-    #[error("the board under the lock is another one")]
-    WrongBoard = 4,
 }
 
 /// Performs events on a shared board, in one thread at a time. It owns a sweeper of the board's
@@ -100,17 +97,16 @@ impl Actor {
     /// Performs an event on the board under the lock. Its own list grows before the lock is
     /// acquired, and gets the call after the lock is released, so that no other actor waits for
     /// either.
-    pub(crate) fn perform<R: Wait>(
+    pub(crate) fn perform<S: Origin, R: Wait>(
         &mut self,
         rt: &R,
-        board: &Mutex<Recorded>,
+        board: &Mutex<Recorded<S>>,
         event: Event,
     ) -> Result<Reply, CallFault>
         requires { is_absorb event ≡ false }
         ensures ok { IfOk result (λ r. self.new ≡ acting self.old.of self.old.number (self.old.calls ++ (event, r) ∷ []) self.old.actions) }
         ensures fault { OnErr result (self.new ≡ self.old) }
         ensures event { ¬ (IsErrOf result CallFault.AbsorbEvent) }
-        ensures board { ¬ (IsErrOf result CallFault.WrongBoard) }
     {
         let has_room = self.calls.reserve(1).is_ok();
         let number = self.number;
@@ -127,15 +123,16 @@ impl Actor {
     }
 
     /// Sweeps a word, and performs the absorb of its bits on the board under the lock.
-    pub(crate) fn absorb<R: Wait>(
+    pub(crate) fn absorb<S: Origin, R: Wait>(
         &mut self,
         rt: &R,
-        board: &Mutex<Recorded>,
+        board: &Mutex<Recorded<S>>,
         words: &PostedWords,
         vp: u8,
         part: u8,
     ) -> Result<Reply, CallFault>
-        requires { self.old.of ≡ words.now.name }
+        requires own { self.old.of ≡ words.now.name }
+        requires processors { words.now.processors ≡ processors S.start }
         ensures ok { IfOk result (λ r. (bits : ℕ)
             × (self.new ≡ acting self.old.of self.old.number (self.old.calls ++ (Absorb vp part bits, r) ∷ []) (sweep_in (Absorb vp part bits) r ++ self.old.actions))) }
         ensures refused { IfOk result (λ r. is_refusal r ≡ true → self.new.calls ≡ self.old.calls ++ (Absorb vp part 0, r) ∷ []) }

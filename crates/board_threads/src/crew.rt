@@ -6,12 +6,14 @@ ghost use Rattle.board_threads.specs.Crew.{IsCrewEnd};
 
 use crate::fault::WorkFault;
 use crate::gate::Gate;
+use crate::origin::Origin;
 use crate::recorded_board::RecordedBoard;
 use crate::script::{Scripts, Setup, has_bad, is_sized, is_sized_on};
 use crate::settling::Ended;
-use crate::working::{finish, finish_on, work};
+use crate::working::{finish, work};
 use posted_words::Raised;
 use std::alloc::Global;
+use std::marker::Brand;
 use std::sync::Wait;
 use std::thread::Threads;
 use synic_board::Board;
@@ -64,29 +66,31 @@ pub fn run_crew<R: Threads + Wait + Sync, G: Gate + Sync>(
 {
     let fits = is_sized(setup, scripts);
     judge(fits, setup, scripts)?;
-    Ok(run_judged(rt, alloc, setup, scripts, gate)?)
+    let opened = Board::open(alloc, setup.processors, setup.pages, setup.first_ticket);
+    let Ok(board) = opened else {
+        return Err(CrewFault::Memory);
+    };
+    Ok(run_judged::<Brand, _, _>(rt, alloc, board, setup, scripts, gate)?)
 }
 
-/// Runs a crew on a board that is given, as `run_crew` does on one of its own. `start` is another
-/// board in the same state, on which the history is performed once more; it becomes the board of the
-/// result. Of the setup only the processors, which must be those of the board, and the events are
-/// used; the pages and the first ticket are not.
+/// Runs a crew on a board in the state that it is in, as `run_crew` does on one of its own. Of the
+/// setup only the processors, which must be those of the board, and the events are used; the pages and
+/// the first ticket are not.
 pub fn run_crew_on<R: Threads + Wait + Sync, G: Gate + Sync>(
     rt: &R,
     alloc: Global,
     board: Board,
-    start: Board,
     setup: &Setup,
     scripts: &Scripts,
     gate: &G,
 ) -> Result<CrewEnd, CrewFault>
     ensures size { IsErrOf result CrewFault.BadSize ↔ (¬ IsSizedOn (processors board.state) setup.now scripts.now) }
     ensures step { IsErrOf result CrewFault.BadStep ↔ IsSizedOn (processors board.state) setup.now scripts.now × (has_bad_step setup.now scripts.now ≡ true) }
-    ensures ended { IfOk result (IsCrewEnd start.state setup.now scripts.now) }
+    ensures ended { IfOk result (IsCrewEnd board.state setup.now scripts.now) }
 {
     let fits = is_sized_on(board.processors(), setup, scripts);
     judge(fits, setup, scripts)?;
-    Ok(run_judged_on(rt, alloc, board, start, setup, scripts, gate)?)
+    Ok(run_judged::<Brand, _, _>(rt, alloc, board, setup, scripts, gate)?)
 }
 
 /// Whether a crew may run. `fits` is whether its sizes are within the limits.
@@ -104,48 +108,22 @@ fn judge(fits: bool, setup: &Setup, scripts: &Scripts) -> Result<(), CrewFault>
     Ok(())
 }
 
-/// Runs a crew with valid sizes and steps on a board of its own.
-fn run_judged<R: Threads + Wait + Sync, G: Gate + Sync>(
-    rt: &R,
-    alloc: Global,
-    setup: &Setup,
-    scripts: &Scripts,
-    gate: &G,
-) -> Result<CrewEnd, WorkFault>
-    requires size { IsSized setup.now scripts.now }
-    requires step { has_bad_step setup.now scripts.now ≡ false }
-    ensures { IfOk result (IsCrewEnd (opened setup.now.processors setup.now.pages setup.now.first_ticket) setup.now scripts.now) }
-{
-    let Ok((board, actors, lines)) = RecordedBoard::open(
-        alloc,
-        setup.processors,
-        setup.pages,
-        setup.first_ticket,
-        scripts.actors.len() as u8 + 1,
-        scripts.lines.len() as u8,
-    ) else {
-        return Err(WorkFault::Memory);
-    };
-    let worked = work(rt, alloc, &board, setup, scripts, gate, actors, lines)?;
-    finish(board, setup, scripts, worked)
-}
-
-/// Runs a crew with valid sizes and steps on a board that is given.
-fn run_judged_on<R: Threads + Wait + Sync, G: Gate + Sync>(
+/// Runs a crew with valid sizes and steps on a board.
+fn run_judged<S: Origin, R: Threads + Wait + Sync, G: Gate + Sync>(
     rt: &R,
     alloc: Global,
     board: Board,
-    start: Board,
     setup: &Setup,
     scripts: &Scripts,
     gate: &G,
 ) -> Result<CrewEnd, WorkFault>
+    requires start { board.state ≡ S.start }
     requires size { IsSizedOn (processors board.state) setup.now scripts.now }
     requires bound { setup.now.processors ≤ 8 }
     requires step { has_bad_step setup.now scripts.now ≡ false }
-    ensures { IfOk result (IsCrewEnd start.state setup.now scripts.now) }
+    ensures { IfOk result (IsCrewEnd S.start setup.now scripts.now) }
 {
-    let Ok((board, actors, lines)) = RecordedBoard::share(
+    let Ok((board, actors, lines)) = RecordedBoard::<S>::share(
         alloc,
         board,
         scripts.actors.len() as u8 + 1,
@@ -154,5 +132,5 @@ fn run_judged_on<R: Threads + Wait + Sync, G: Gate + Sync>(
         return Err(WorkFault::Memory);
     };
     let worked = work(rt, alloc, &board, setup, scripts, gate, actors, lines)?;
-    finish_on(board, start, setup, scripts, worked)
+    finish(board, setup, scripts, worked)
 }

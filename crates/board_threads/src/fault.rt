@@ -17,7 +17,7 @@ pub(crate) enum WorkFault {
 
 impl From<AllocError> for WorkFault {
     ghost use Rattle.std.specs.Prelude.{◌≡◌};
-    ghost use Rattle.board_threads.specs.inside.Ending.{no_memory};
+    ghost use Rattle.board_threads.specs.inside.Faults.{no_memory};
 
     ghost from_gives = { λ _ fault. fault ≡ no_memory };
 
@@ -28,7 +28,7 @@ impl From<AllocError> for WorkFault {
 
 impl From<CallFault> for WorkFault {
     ghost use Rattle.std.specs.Prelude.{◌≡◌};
-    ghost use Rattle.board_threads.specs.inside.Ending.{fault_of_call};
+    ghost use Rattle.board_threads.specs.inside.Faults.{fault_of_call};
 
     ghost from_gives = { λ cause fault. fault ≡ fault_of_call cause };
 
@@ -36,16 +36,14 @@ impl From<CallFault> for WorkFault {
         match fault {
             CallFault::Memory => WorkFault::Memory,
             // The steps were validated before, and all of them fit into the history.
-            CallFault::AbsorbEvent | CallFault::Full | CallFault::WrongBoard => {
-                WorkFault::Unsettled
-            }
+            CallFault::AbsorbEvent | CallFault::Full => WorkFault::Unsettled,
         }
     }
 }
 
 impl From<SettleFault> for WorkFault {
     ghost use Rattle.std.specs.Prelude.{◌≡◌};
-    ghost use Rattle.board_threads.specs.inside.Ending.{fault_of_settling};
+    ghost use Rattle.board_threads.specs.inside.Faults.{fault_of_settling};
 
     ghost from_gives = { λ cause fault. fault ≡ fault_of_settling cause };
 
@@ -59,7 +57,7 @@ impl From<SettleFault> for WorkFault {
 
 impl From<WorkFault> for CrewFault {
     ghost use Rattle.std.specs.Prelude.{◌≡◌};
-    ghost use Rattle.board_threads.specs.inside.Ending.{fault_of_work};
+    ghost use Rattle.board_threads.specs.inside.Faults.{fault_of_work};
 
     ghost from_gives = { λ cause fault. fault ≡ fault_of_work cause };
 

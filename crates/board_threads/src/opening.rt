@@ -3,17 +3,11 @@ ghost use Rattle.std.specs.Prelude.{◌≡◌, ◌↔◌, [], IsTrue, IfOk, map,
 ghost use Rattle.std.specs.List.{range_with_len};
 ghost use Rattle.atomic_table.specs.Seated.{TableId};
 ghost use Rattle.posted_words.specs.Words.{AreWordSizes, token};
-ghost use Rattle.board_threads.specs.Sharing.{AreSharedSizes, new_actor};
+ghost use Rattle.board_threads.specs.Sharing.{new_actor};
 
 use crate::actor::Actor;
 use posted_words::Sweeper;
 use std::alloc::{AllocError, Global};
-
-pub(crate) fn are_sizes(processors: u8, pages: u8, actors: u8, lines: u8) -> bool
-    ensures { IsTrue result ↔ AreSharedSizes processors pages actors lines }
-{
-    1 <= pages && pages <= 64 && are_word_sizes(processors, actors, lines)
-}
 
 pub(crate) fn are_word_sizes(processors: u8, actors: u8, lines: u8) -> bool
     ensures { IsTrue result ↔ AreWordSizes processors actors lines }

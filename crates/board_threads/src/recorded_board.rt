@@ -1,49 +1,49 @@
 // The shared board.
-ghost use Rattle.std.specs.Prelude.{◌≡◌, ◌↔◌, ℕ, ◌*◌, ◌<◌, true, List, [], ◌∷◌, ◌++◌, IfOk, OnErr, IsErrOf, map, All, replicate, length};
+ghost use Rattle.std.specs.Prelude.{◌≡◌, ◌↔◌, ℕ, ◌*◌, ◌<◌, true, [], ◌∷◌, ◌++◌, IfOk, OnErr, IsErrOf, map, All, replicate};
 ghost use Rattle.std.specs.List.{range_with_len};
-ghost use Rattle.synic_board.specs.State.{processors};
+ghost use Rattle.synic_board.specs.State.{opened, processors};
 ghost use Rattle.synic_board.specs.declared.event.Event.TheVariants.{Absorb};
-ghost use Rattle.synic_board.specs.declared.history.Entry.{Entry};
 ghost use Rattle.posted_words.specs.Words.{AreWordSizes, shared_words, token, with_last_step, raise_of, actions_of};
 ghost use Rattle.posted_words.specs.Answers.{is_fresh};
-ghost use Rattle.board_threads.specs.Sharing.{AreSharedSizes, sharing, start, acting, new_actor};
+ghost use Rattle.board_threads.specs.Sharing.{AreSharedSizes, acting, new_actor};
 ghost use Rattle.board_threads.specs.Sweeps.{is_absorb, is_refusal, sweep_in};
-ghost use Rattle.board_threads.specs.Settling.{IsSettled, AreAllOf, AreAbsorbed, only_raises, calls_held, calls_given};
+ghost use Rattle.board_threads.specs.Settling.{IsSettled, AreAbsorbed, only_raises, calls_held, calls_given};
 
 use crate::actor::{Actor, CallFault};
-use crate::opening::{are_sizes, are_word_sizes, number_all};
-use crate::recorded::{Opening, Recorded};
-use crate::settling::{ActorCalls, Ended, SettleFault, split_all};
+use crate::opening::{are_word_sizes, number_all};
+use crate::origin::Origin;
+use crate::recorded::Recorded;
+use crate::settling::{Ended, SettleFault, split_all};
 use board_terms::{Ticket, Vector, Vp};
-use posted_words::{Line, PostedWords, Raised, Standing};
+use posted_words::{Line, PostedWords, Raised};
 use std::alloc::Global;
 use std::marker::Model;
 use std::sync::{Mutex, Wait};
 use synic_board::{Board, Event, OpenFault, Reply};
 
 /// A board that threads share by reference. Events are performed under a lock, one at a time;
-/// vectors are raised without the lock. Its contract shows the posted words and the arguments of
-/// the opening; for a board that was given, its pages and its next ticket then.
+/// vectors are raised without the lock. `S` is the state in which the board was opened or shared: the
+/// history of all calls is legal from it. The contract of the board shows its posted words.
 #[derive(Drop)]
-pub struct RecordedBoard {
+pub struct RecordedBoard<S: Origin> {
     alloc: Global,
-    opening: Opening,
     words: PostedWords,
-    recorded: Mutex<Recorded>,
+    recorded: Mutex<Recorded<S>>,
 }
 
-impl Model for RecordedBoard {
+impl<S: Origin> Model for RecordedBoard<S> {
     ghost use Rattle.std.specs.Prelude.{◌≡◌};
-    ghost use Rattle.board_threads.specs.Sharing.{Sharing, sharing};
+    ghost use Rattle.synic_board.specs.State.{processors};
+    ghost use Rattle.posted_words.specs.Words.{Words};
 
-    ghost Value = { Sharing };
+    ghost Value = { Words };
 
-    ghost view = { λ s. sharing s.words s.opening.pages s.opening.first_ticket };
+    ghost view = { λ s. s.words };
 
-    ghost invariant = { λ s. s.words.processors ≡ s.opening.processors };
+    ghost invariant = { λ s. s.words.processors ≡ processors S.start };
 }
 
-impl RecordedBoard {
+impl<S: Origin> RecordedBoard<S> {
     /// Opens a board with that many processors and guest pages, whose first accepted message gets
     /// the ticket `first_ticket`, with its actors, numbered from 0, and its lines. `BadSize` unless
     /// there are 1 to 8 processors, 1 to 64 pages, 1 to 16 actors and at most 16 lines.
@@ -54,88 +54,62 @@ impl RecordedBoard {
         first_ticket: Ticket,
         actors: u8,
         lines: u8,
-    ) -> Result<(RecordedBoard, Vec<Actor>, Vec<Line>), OpenFault>
+    ) -> Result<(RecordedBoard<S>, Vec<Actor>, Vec<Line>), OpenFault>
+        requires start { S.start ≡ opened processors pages first_ticket }
         ensures size { IsErrOf result OpenFault.BadSize ↔ (¬ AreSharedSizes processors pages actors lines) }
-        ensures board { IfOk result (λ r. r.0 ≡ sharing (shared_words r.0.words.name processors actors lines) pages first_ticket) }
-        ensures actors { IfOk result (λ r. r.1.items ≡ map (new_actor r.0.words.name) (range_with_len 0 actors)) }
-        ensures lines { IfOk result (λ r. r.2.items ≡ replicate lines (token r.0.words.name [])) }
+        ensures board { IfOk result (λ r. r.0 ≡ shared_words r.0.name processors actors lines) }
+        ensures actors { IfOk result (λ r. r.1.items ≡ map (new_actor r.0.name) (range_with_len 0 actors)) }
+        ensures lines { IfOk result (λ r. r.2.items ≡ replicate lines (token r.0.name [])) }
     {
-        if !are_sizes(processors, pages, actors, lines) {
+        // Before a board is allocated, so that a size is reported rather than a failed allocation.
+        if !are_word_sizes(processors, actors, lines) {
             return Err(OpenFault::BadSize);
         }
-        let opening = Opening {
-            processors,
-            pages,
-            first_ticket,
-            is_given: false,
-        };
-        let Ok(recorded) = Recorded::open(alloc, opening) else {
-            return Err(OpenFault::Memory);
-        };
-        RecordedBoard::around(alloc, recorded, actors, lines)
+        let board = Board::open(alloc, processors, pages, first_ticket)?;
+        RecordedBoard::share(alloc, board, actors, lines)
     }
 
     /// Shares a board in the state that it is in, with its actors, numbered from 0, and its lines.
-    /// `BadSize` unless there are 1 to 16 actors and at most 16 lines. `settle_on` ends it.
+    /// `BadSize` unless there are 1 to 16 actors and at most 16 lines.
     pub fn share(
         alloc: Global,
         board: Board,
         actors: u8,
         lines: u8,
-    ) -> Result<(RecordedBoard, Vec<Actor>, Vec<Line>), OpenFault>
+    ) -> Result<(RecordedBoard<S>, Vec<Actor>, Vec<Line>), OpenFault>
+        requires start { board.state ≡ S.start }
         ensures size { IsErrOf result OpenFault.BadSize ↔ (¬ AreWordSizes (processors board.state) actors lines) }
-        ensures board { IfOk result (λ r. r.0 ≡ sharing (shared_words r.0.words.name (processors board.state) actors lines) (length board.state.pages) board.state.next_ticket) }
-        ensures actors { IfOk result (λ r. r.1.items ≡ map (new_actor r.0.words.name) (range_with_len 0 actors)) }
-        ensures lines { IfOk result (λ r. r.2.items ≡ replicate lines (token r.0.words.name [])) }
+        ensures board { IfOk result (λ r. r.0 ≡ shared_words r.0.name (processors board.state) actors lines) }
+        ensures actors { IfOk result (λ r. r.1.items ≡ map (new_actor r.0.name) (range_with_len 0 actors)) }
+        ensures lines { IfOk result (λ r. r.2.items ≡ replicate lines (token r.0.name [])) }
     {
-        if !are_word_sizes(board.processors(), actors, lines) {
+        let processors = board.processors();
+        if !are_word_sizes(processors, actors, lines) {
             return Err(OpenFault::BadSize);
         }
-        let Ok(recorded) = Recorded::given(alloc, board) else {
+        let Ok(recorded) = Recorded::new(alloc, board) else {
             return Err(OpenFault::Memory);
         };
-        RecordedBoard::around(alloc, recorded, actors, lines)
-    }
-
-    /// Puts a board under a lock, next to its posted words.
-    fn around(
-        alloc: Global,
-        recorded: Recorded,
-        actors: u8,
-        lines: u8,
-    ) -> Result<(RecordedBoard, Vec<Actor>, Vec<Line>), OpenFault>
-        ensures size { ¬ (IsErrOf result OpenFault.BadSize) }
-        ensures board { IfOk result (λ r. r.0 ≡ sharing (shared_words r.0.words.name recorded.opening.processors actors lines) recorded.opening.pages recorded.opening.first_ticket) }
-        ensures actors { IfOk result (λ r. r.1.items ≡ map (new_actor r.0.words.name) (range_with_len 0 actors)) }
-        ensures lines { IfOk result (λ r. r.2.items ≡ replicate lines (token r.0.words.name [])) }
-    {
-        let opening = recorded.opening;
-        let Ok((words, sweepers, lines)) = PostedWords::open(
-            alloc,
-            opening.processors,
-            actors,
-            lines,
-        ) else {
+        let Ok((words, sweepers, lines)) = PostedWords::open(alloc, processors, actors, lines)
+        else {
             return Err(OpenFault::Memory);
         };
         let Ok(actors) = number_all(alloc, actors, sweepers) else {
             return Err(OpenFault::Memory);
         };
-        let recorded = Mutex::new(recorded);
         let board = RecordedBoard {
             alloc,
-            opening,
             words,
-            recorded,
+            recorded: Mutex::new(recorded),
         };
         Ok((board, actors, lines))
     }
 
     /// The number of processors of the board.
     pub fn processors(&self) -> u8
-        ensures { result ≡ self.now.words.processors }
+        ensures { result ≡ self.now.processors }
     {
-        self.opening.processors
+        self.words.processors()
     }
 
     /// Performs an event under the lock, and appends it to the history and to the actor's calls. A
@@ -154,7 +128,6 @@ impl RecordedBoard {
         ensures ok { IfOk result (λ r. actor.new ≡ acting actor.old.of actor.old.number (actor.old.calls ++ (event, r) ∷ []) actor.old.actions) }
         ensures fault { OnErr result (actor.new ≡ actor.old) }
         ensures absorb { IsErrOf result CallFault.AbsorbEvent ↔ is_absorb event ≡ true }
-        ensures board { ¬ (IsErrOf result CallFault.WrongBoard) }
     {
         if matches!(event, Event::Absorb { .. }) {
             return Err(CallFault::AbsorbEvent);
@@ -165,8 +138,8 @@ impl RecordedBoard {
     /// Sweeps a word of the board's posted words, and performs the absorb of its bits, under the
     /// lock. If the absorb is refused, since the board has no processor `vp` or `part` is above 3,
     /// nothing is swept and its bits are 0. The sweep happens under the lock, so the history has
-    /// the sweeps of a word in the order in which they happened. The faults are `Full`, `Memory` and
-    /// `WrongBoard`. Requires an actor of this board.
+    /// the sweeps of a word in the order in which they happened. The faults are `Full` and `Memory`.
+    /// Requires an actor of this board.
     pub fn absorb<R: Wait>(
         &self,
         rt: &R,
@@ -174,7 +147,7 @@ impl RecordedBoard {
         vp: u8,
         part: u8,
     ) -> Result<Reply, CallFault>
-        requires own { actor.old.of ≡ self.now.words.name }
+        requires own { actor.old.of ≡ self.now.name }
         ensures ok { IfOk result (λ r. (bits : ℕ)
             × (actor.new ≡ acting actor.old.of actor.old.number (actor.old.calls ++ (Absorb vp part bits, r) ∷ []) (sweep_in (Absorb vp part bits) r ++ actor.old.actions))) }
         ensures refused { IfOk result (λ r. is_refusal r ≡ true → actor.new.calls ≡ actor.old.calls ++ (Absorb vp part 0, r) ∷ []) }
@@ -188,78 +161,32 @@ impl RecordedBoard {
     /// clear; `PostedWords::raise` says what is proved of this. Requires a line of this board, and
     /// a processor on the board.
     pub fn raise(&self, line: &mut Line, vp: Vp, vector: Vector) -> Raised
-        requires own { line.old.of ≡ self.now.words.name }
-        requires there { vp < self.now.words.processors }
+        requires own { line.old.of ≡ self.now.name }
+        requires there { vp < self.now.processors }
         ensures { line.new ≡ with_last_step line.old (raise_of vp vector (is_fresh result)) }
     {
         self.words.raise(line, vp, vector)
     }
 
-    /// Ends the board, and returns a run of one thread: each actor's calls are in its history, in
-    /// order, and each `Fresh` raise was absorbed once or its bit is set. `Mismatch` if an actor or
-    /// a line is missing, or if the history is not exactly the calls of these actors; then
-    /// everything is dropped. Always `Mismatch` for a board that was given to `share`, which
-    /// `settle_on` settles. Requires actors and lines of this board.
+    /// Ends the board, and returns a run of one thread from the state in which it was opened or shared:
+    /// each actor's calls are in its history, in order, and each `Fresh` raise was absorbed once or its
+    /// bit is set. `Mismatch` if an actor or a line is missing, or if the history is not exactly the
+    /// calls of these actors; then everything is dropped. Requires actors and lines of this board.
     pub fn settle(self, actors: Vec<Actor>, lines: Vec<Line>) -> Result<Ended, SettleFault>
-        requires actors { All (λ a. a.of ≡ self.words.name) actors.items }
-        requires lines { All (λ l. l.of ≡ self.words.name) lines.items }
+        requires actors { All (λ a. a.of ≡ self.name) actors.items }
+        requires lines { All (λ l. l.of ≡ self.name) lines.items }
         requires raises { All (λ l. only_raises l.actions ≡ true) lines.items }
-        ensures settled { IfOk result (IsSettled (start self)) }
+        ensures settled { IfOk result (IsSettled S.start) }
         ensures actors { IfOk result (λ e. map calls_given e.actors.items ≡ map calls_held actors.items) }
-        ensures raises { IfOk result (λ e. AreAbsorbed (4 * self.words.processors) (map actions_of lines.items) e.history.items e.standing) }
-    {
-        let (alloc, opening) = (self.alloc, self.opening);
-        // A lock keeps no fact from its creation, so the state that was given is not known any more.
-        if opening.is_given {
-            return Err(SettleFault::Mismatch);
-        }
-        let (recorded, actors, standing) = self.gather(actors, lines)?;
-        recorded.end(alloc, opening, actors, standing)
-    }
-
-    /// Ends the board as `settle` does, also one that was given to `share`. `start` is another board,
-    /// in the state in which this one was opened or given. The whole history is performed once more
-    /// on `start`, which becomes the board of the result. `Mismatch` also if a reply differs then.
-    /// Requires actors and lines of this board.
-    pub fn settle_on(
-        self,
-        start: Board,
-        actors: Vec<Actor>,
-        lines: Vec<Line>,
-    ) -> Result<Ended, SettleFault>
-        requires actors { All (λ a. a.of ≡ self.words.name) actors.items }
-        requires lines { All (λ l. l.of ≡ self.words.name) lines.items }
-        requires raises { All (λ l. only_raises l.actions ≡ true) lines.items }
-        ensures settled { IfOk result (IsSettled start.state) }
-        ensures actors { IfOk result (λ e. map calls_given e.actors.items ≡ map calls_held actors.items) }
-        ensures raises { IfOk result (λ e. AreAbsorbed (4 * self.words.processors) (map actions_of lines.items) e.history.items e.standing) }
-    {
-        let alloc = self.alloc;
-        let (recorded, actors, standing) = self.gather(actors, lines)?;
-        recorded.end_on(alloc, start, actors, standing)
-    }
-
-    /// What was under the lock, the actors' calls, and what the lines raised and no sweep took. It is
-    /// in accordance with each history that is exactly these calls.
-    fn gather(
-        self,
-        actors: Vec<Actor>,
-        lines: Vec<Line>,
-    ) -> Result<(Recorded, Vec<ActorCalls>, Standing), SettleFault>
-        requires actors { All (λ a. a.of ≡ self.words.name) actors.items }
-        requires lines { All (λ l. l.of ≡ self.words.name) lines.items }
-        requires raises { All (λ l. only_raises l.actions ≡ true) lines.items }
-        ensures actors { IfOk result (λ r. map calls_given r.1.items ≡ map calls_held actors.items) }
-        ensures raises { IfOk result (λ r. (history : List Entry) → AreAllOf history r.1.items → AreAbsorbed (4 * self.words.processors) (map actions_of lines.items) history r.2) }
+        ensures raises { IfOk result (λ e. AreAbsorbed (4 * self.processors) (map actions_of lines.items) e.history.items e.standing) }
     {
         let RecordedBoard {
             alloc,
             words,
             recorded,
-            ..
         } = self;
         let (sweepers, actors) = split_all(alloc, actors)?;
         let standing = words.gather(sweepers, lines)?;
-        Ok((recorded.into_inner(), actors, standing))
+        recorded.into_inner().end(alloc, actors, standing)
     }
 }

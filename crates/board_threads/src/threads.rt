@@ -12,6 +12,7 @@ ghost use Rattle.board_threads.specs.inside.Work.{IsNewActor, IsNewLine, IsThere
 use crate::actor::Actor;
 use crate::fault::WorkFault;
 use crate::gate::{Gate, Worker};
+use crate::origin::Origin;
 use crate::recorded_board::RecordedBoard;
 use crate::script::{Scripts, Step};
 use crate::workers::{act, raise};
@@ -24,31 +25,31 @@ use std::thread::{Promise, PromisedHandle, Scope, Threads};
 
 /// The result of an actor's thread: the actor, after its script.
 #[derive(Drop)]
-pub(crate) struct Acts<'a> {
-    board: &'a RecordedBoard,
+pub(crate) struct Acts<'a, S: Origin> {
+    board: &'a RecordedBoard<S>,
     number: u8,
     script: &'a [Step],
 }
 
-impl<'a> Promise<Result<Actor, WorkFault>> for Acts<'a> {
+impl<'a, S: Origin> Promise<Result<Actor, WorkFault>> for Acts<'a, S> {
     ghost use Rattle.std.specs.Prelude.{IfOk};
     ghost use Rattle.board_threads.specs.inside.Work.{HasActed};
 
-    ghost kept_by = { λ p r. IfOk r (HasActed p.board.now.words.name p.number p.script.now) };
+    ghost kept_by = { λ p r. IfOk r (HasActed p.board.now.name p.number p.script.now) };
 }
 
 /// The result of a line's thread: the line, after its raises, and their results.
 #[derive(Drop)]
-pub(crate) struct Raises<'a> {
-    board: &'a RecordedBoard,
+pub(crate) struct Raises<'a, S: Origin> {
+    board: &'a RecordedBoard<S>,
     script: &'a [(Vp, Vector)],
 }
 
-impl<'a> Promise<Result<(Line, Vec<Raised>), WorkFault>> for Raises<'a> {
+impl<'a, S: Origin> Promise<Result<(Line, Vec<Raised>), WorkFault>> for Raises<'a, S> {
     ghost use Rattle.std.specs.Prelude.{IfOk};
     ghost use Rattle.board_threads.specs.inside.Work.{HasRaised};
 
-    ghost kept_by = { λ p r. IfOk r (λ x. HasRaised p.board.now.words.name p.script.now x.0 x.1.items) };
+    ghost kept_by = { λ p r. IfOk r (λ x. HasRaised p.board.now.name p.script.now x.0 x.1.items) };
 }
 
 /// The results of all threads, in the order in which they were started.
@@ -70,21 +71,21 @@ fn join_all<R: Threads, T: Drop, P: Promise<Result<T, WorkFault>>>(
 }
 
 /// A started thread of an actor.
-type ActingThread<'s> = PromisedHandle<Result<Actor, WorkFault>, Acts<'s>>;
+type ActingThread<'s, S> = PromisedHandle<Result<Actor, WorkFault>, Acts<'s, S>>;
 
 /// A started thread of a line.
-type RaisingThread<'s> = PromisedHandle<Result<(Line, Vec<Raised>), WorkFault>, Raises<'s>>;
+type RaisingThread<'s, S> = PromisedHandle<Result<(Line, Vec<Raised>), WorkFault>, Raises<'s, S>>;
 
 /// Starts the thread of an actor.
-fn start_actor<'s, E, R: Threads + Wait + Sync, G: Gate + Sync>(
+fn start_actor<'s, E, S: Origin, R: Threads + Wait + Sync, G: Gate + Sync>(
     rt: &'s R,
     scope: &Scope<'s, E>,
-    board: &'s RecordedBoard,
+    board: &'s RecordedBoard<S>,
     gate: &'s G,
     actor: Actor,
     script: &'s [Step],
-) -> Result<ActingThread<'s>, WorkFault>
-    requires new { IsNewActor board.now.words.name actor }
+) -> Result<ActingThread<'s, S>, WorkFault>
+    requires new { IsNewActor board.now.name actor }
     ensures { IfOk result (λ h. (h.promise.board.now ≡ board.now) × (h.promise.number ≡ actor.number) × (h.promise.script.now ≡ script.now)) }
 {
     let promise = Acts {
@@ -95,8 +96,8 @@ fn start_actor<'s, E, R: Threads + Wait + Sync, G: Gate + Sync>(
     let started = scope.spawn_with(
         promise,
         move || -> Result<Actor, WorkFault>
-            requires { IsSync R.row × IsSync G.row × IsNewActor board.now.words.name actor }
-            ensures { IfOk result (HasActed board.entry.now.words.name actor.number script.entry.now) }
+            requires { IsSync R.row × IsSync G.row × IsNewActor board.now.name actor }
+            ensures { IfOk result (HasActed board.entry.now.name actor.number script.entry.now) }
         { act(rt, board, gate, actor, script) },
     );
     match started {
@@ -106,26 +107,26 @@ fn start_actor<'s, E, R: Threads + Wait + Sync, G: Gate + Sync>(
 }
 
 /// Starts the thread of a line.
-fn start_line<'s, E, R: Threads + Wait + Sync, G: Gate + Sync>(
+fn start_line<'s, E, S: Origin, R: Threads + Wait + Sync, G: Gate + Sync>(
     rt: &'s R,
     alloc: Global,
     scope: &Scope<'s, E>,
-    board: &'s RecordedBoard,
+    board: &'s RecordedBoard<S>,
     gate: &'s G,
     number: u8,
     line: Line,
     script: &'s [(Vp, Vector)],
-) -> Result<RaisingThread<'s>, WorkFault>
-    requires new { IsNewLine board.now.words.name line }
-    requires there { IsThere board.now.words.processors script.now }
+) -> Result<RaisingThread<'s, S>, WorkFault>
+    requires new { IsNewLine board.now.name line }
+    requires there { IsThere board.now.processors script.now }
     ensures { IfOk result (λ h. (h.promise.board.now ≡ board.now) × (h.promise.script.now ≡ script.now)) }
 {
     let who = Worker::Raises(number);
     let started = scope.spawn_with(
         Raises { board, script },
         move || -> Result<(Line, Vec<Raised>), WorkFault>
-            requires { IsSync R.row × IsSync G.row × IsNewLine board.now.words.name line × IsThere board.now.words.processors script.now }
-            ensures { IfOk result (λ x. HasRaised board.entry.now.words.name script.entry.now x.0 x.1.items) }
+            requires { IsSync R.row × IsSync G.row × IsNewLine board.now.name line × IsThere board.now.processors script.now }
+            ensures { IfOk result (λ x. HasRaised board.entry.now.name script.entry.now x.0 x.1.items) }
         { raise(rt, alloc, board, gate, who, line, script) },
     );
     match started {
@@ -135,20 +136,20 @@ fn start_line<'s, E, R: Threads + Wait + Sync, G: Gate + Sync>(
 }
 
 /// Starts a thread for each actor, with the script at its index.
-fn start_actors<'s, E, R: Threads + Wait + Sync, G: Gate + Sync>(
+fn start_actors<'s, E, S: Origin, R: Threads + Wait + Sync, G: Gate + Sync>(
     rt: &'s R,
     alloc: Global,
     scope: &Scope<'s, E>,
-    board: &'s RecordedBoard,
+    board: &'s RecordedBoard<S>,
     gate: &'s G,
     actors: Vec<Actor>,
     scripts: &'s [Vec<Step>],
-) -> Result<Vec<ActingThread<'s>>, WorkFault>
-    requires new { All (IsNewActor board.now.words.name) actors.items }
+) -> Result<Vec<ActingThread<'s, S>>, WorkFault>
+    requires new { All (IsNewActor board.now.name) actors.items }
     requires each { vec_len actors ≡ length scripts.now }
     ensures numbers { IfOk result (λ v. map (λ h. h.promise.number) v.items ≡ map (λ a. a.number) actors.items) }
-    ensures scripts { IfOk result (λ v. map {B = TableId × List Step} (λ h. (h.promise.board.now.words.name, h.promise.script.now)) v.items
-        ≡ map {B = TableId × List Step} (λ s. (board.now.words.name, s.items)) scripts.now) }
+    ensures scripts { IfOk result (λ v. map {B = TableId × List Step} (λ h. (h.promise.board.now.name, h.promise.script.now)) v.items
+        ≡ map {B = TableId × List Step} (λ s. (board.now.name, s.items)) scripts.now) }
 {
     let mut threads = Vec::new(alloc);
     let mut index = 0;
@@ -165,22 +166,22 @@ fn start_actors<'s, E, R: Threads + Wait + Sync, G: Gate + Sync>(
 
 /// Starts a thread for each line, with the script at its index. The gate sees the lines by their numbers,
 /// from `first` on.
-fn start_lines<'s, E, R: Threads + Wait + Sync, G: Gate + Sync>(
+fn start_lines<'s, E, S: Origin, R: Threads + Wait + Sync, G: Gate + Sync>(
     rt: &'s R,
     alloc: Global,
     scope: &Scope<'s, E>,
-    board: &'s RecordedBoard,
+    board: &'s RecordedBoard<S>,
     gate: &'s G,
     first: u8,
     lines: Vec<Line>,
     scripts: &'s [Vec<(Vp, Vector)>],
-) -> Result<Vec<RaisingThread<'s>>, WorkFault>
-    requires new { All (IsNewLine board.now.words.name) lines.items }
+) -> Result<Vec<RaisingThread<'s, S>>, WorkFault>
+    requires new { All (IsNewLine board.now.name) lines.items }
     requires each { vec_len lines ≡ length scripts.now }
     requires bound { first + length scripts.now ≤ 16 }
-    requires there { All (λ (s : Vec (ℕ × ℕ) Global). IsThere board.now.words.processors s.items) scripts.now }
-    ensures scripts { IfOk result (λ v. map {B = TableId × List (ℕ × ℕ)} (λ h. (h.promise.board.now.words.name, h.promise.script.now)) v.items
-        ≡ map {B = TableId × List (ℕ × ℕ)} (λ s. (board.now.words.name, s.items)) scripts.now) }
+    requires there { All (λ (s : Vec (ℕ × ℕ) Global). IsThere board.now.processors s.items) scripts.now }
+    ensures scripts { IfOk result (λ v. map {B = TableId × List (ℕ × ℕ)} (λ h. (h.promise.board.now.name, h.promise.script.now)) v.items
+        ≡ map {B = TableId × List (ℕ × ℕ)} (λ s. (board.now.name, s.items)) scripts.now) }
 {
     let mut threads = Vec::new(alloc);
     let mut index = 0u8;
@@ -202,22 +203,22 @@ type Ran = (Vec<Actor>, Vec<(Line, Vec<Raised>)>);
 /// Runs each script of the actors and of the lines, concurrently, and waits for all of them: the first one in
 /// the caller's thread, each other in a thread of its own. If a thread cannot be started, the threads that run
 /// are joined first.
-pub(crate) fn run_all<R: Threads + Wait + Sync, G: Gate + Sync>(
+pub(crate) fn run_all<S: Origin, R: Threads + Wait + Sync, G: Gate + Sync>(
     rt: &R,
     alloc: Global,
-    board: &RecordedBoard,
+    board: &RecordedBoard<S>,
     gate: &G,
     scripts: &Scripts,
     actors: Vec<Actor>,
     lines: Vec<Line>,
 ) -> Result<Ran, WorkFault>
-    requires new_actors { All (IsNewActor board.now.words.name) actors.items }
-    requires new_lines { All (IsNewLine board.now.words.name) lines.items }
+    requires new_actors { All (IsNewActor board.now.name) actors.items }
+    requires new_lines { All (IsNewLine board.now.name) lines.items }
     requires each_actor { vec_len actors ≡ vec_len scripts.now.actors }
     requires each_line { vec_len lines ≡ vec_len scripts.now.lines }
     requires bound { vec_len scripts.now.lines ≤ 16 }
-    requires there { All (λ (s : Vec (ℕ × ℕ) Global). IsThere board.now.words.processors s.items) scripts.now.lines.items }
-    ensures { IfOk result (λ r. HaveRun board.now.words.name scripts.now.actors.items scripts.now.lines.items actors.items r.0.items r.1.items) }
+    requires there { All (λ (s : Vec (ℕ × ℕ) Global). IsThere board.now.processors s.items) scripts.now.lines.items }
+    ensures { IfOk result (λ r. HaveRun board.now.name scripts.now.actors.items scripts.now.lines.items actors.items r.0.items r.1.items) }
 {
     let raises = scripts.lines.as_slice();
     match scripts.actors.as_slice() {
@@ -232,19 +233,19 @@ pub(crate) fn run_all<R: Threads + Wait + Sync, G: Gate + Sync>(
 }
 
 /// Runs the scripts of the lines where there are no actors, that of line 0 in the caller's thread.
-fn run_lines<R: Threads + Wait + Sync, G: Gate + Sync>(
+fn run_lines<S: Origin, R: Threads + Wait + Sync, G: Gate + Sync>(
     rt: &R,
     alloc: Global,
-    board: &RecordedBoard,
+    board: &RecordedBoard<S>,
     gate: &G,
     scripts: &[Vec<(Vp, Vector)>],
     lines: Vec<Line>,
 ) -> Result<Vec<(Line, Vec<Raised>)>, WorkFault>
-    requires new { All (IsNewLine board.now.words.name) lines.items }
+    requires new { All (IsNewLine board.now.name) lines.items }
     requires each { vec_len lines ≡ length scripts.now }
     requires bound { length scripts.now ≤ 16 }
-    requires there { All (λ (s : Vec (ℕ × ℕ) Global). IsThere board.now.words.processors s.items) scripts.now }
-    ensures { IfOk result (λ v. AllZip (λ (s : Vec (ℕ × ℕ) Global) (x : Token × Vec Raised Global). HasRaised board.now.words.name s.items x.0 x.1.items) scripts.now v.items) }
+    requires there { All (λ (s : Vec (ℕ × ℕ) Global). IsThere board.now.processors s.items) scripts.now }
+    ensures { IfOk result (λ v. AllZip (λ (s : Vec (ℕ × ℕ) Global) (x : Token × Vec Raised Global). HasRaised board.now.name s.items x.0 x.1.items) scripts.now v.items) }
 {
     match scripts {
         [own, raises @ ..] => run_with_line(rt, alloc, board, gate, own, raises, lines),
@@ -253,10 +254,10 @@ fn run_lines<R: Threads + Wait + Sync, G: Gate + Sync>(
 }
 
 /// Runs the script of the first actor in the caller's thread, while all others run in theirs.
-fn run_with_actor<R: Threads + Wait + Sync, G: Gate + Sync>(
+fn run_with_actor<S: Origin, R: Threads + Wait + Sync, G: Gate + Sync>(
     rt: &R,
     alloc: Global,
-    board: &RecordedBoard,
+    board: &RecordedBoard<S>,
     gate: &G,
     own: &Vec<Step>,
     acts: &[Vec<Step>],
@@ -264,13 +265,13 @@ fn run_with_actor<R: Threads + Wait + Sync, G: Gate + Sync>(
     mut actors: Vec<Actor>,
     lines: Vec<Line>,
 ) -> Result<Ran, WorkFault>
-    requires new_actors { All (IsNewActor board.now.words.name) actors.items }
-    requires new_lines { All (IsNewLine board.now.words.name) lines.items }
+    requires new_actors { All (IsNewActor board.now.name) actors.items }
+    requires new_lines { All (IsNewLine board.now.name) lines.items }
     requires each_actor { vec_len actors ≡ length acts.now + 1 }
     requires each_line { vec_len lines ≡ length raises.now }
     requires bound { length raises.now ≤ 16 }
-    requires there { All (λ (s : Vec (ℕ × ℕ) Global). IsThere board.now.words.processors s.items) raises.now }
-    ensures { IfOk result (λ r. HaveRun board.now.words.name (own.now ∷ acts.now) raises.now actors.items r.0.items r.1.items) }
+    requires there { All (λ (s : Vec (ℕ × ℕ) Global). IsThere board.now.processors s.items) raises.now }
+    ensures { IfOk result (λ r. HaveRun board.now.name (own.now ∷ acts.now) raises.now actors.items r.0.items r.1.items) }
 {
     let Ok(others) = actors.split_off(1) else {
         return Err(WorkFault::Memory);
@@ -288,10 +289,10 @@ fn run_with_actor<R: Threads + Wait + Sync, G: Gate + Sync>(
 }
 
 /// Starts a thread for each other actor and each line, runs the script of the first actor, and waits for them.
-fn act_beside<R: Threads + Wait + Sync, G: Gate + Sync>(
+fn act_beside<S: Origin, R: Threads + Wait + Sync, G: Gate + Sync>(
     rt: &R,
     alloc: Global,
-    board: &RecordedBoard,
+    board: &RecordedBoard<S>,
     gate: &G,
     own: &Vec<Step>,
     acts: &[Vec<Step>],
@@ -300,25 +301,25 @@ fn act_beside<R: Threads + Wait + Sync, G: Gate + Sync>(
     others: Vec<Actor>,
     lines: Vec<Line>,
 ) -> Result<(Actor, Vec<Actor>, Vec<(Line, Vec<Raised>)>), WorkFault>
-    requires new_first { IsNewActor board.now.words.name first }
-    requires new_others { All (IsNewActor board.now.words.name) others.items }
-    requires new_lines { All (IsNewLine board.now.words.name) lines.items }
+    requires new_first { IsNewActor board.now.name first }
+    requires new_others { All (IsNewActor board.now.name) others.items }
+    requires new_lines { All (IsNewLine board.now.name) lines.items }
     requires each_other { vec_len others ≡ length acts.now }
     requires each_line { vec_len lines ≡ length raises.now }
     requires bound { length raises.now ≤ 16 }
-    requires there { All (λ (s : Vec (ℕ × ℕ) Global). IsThere board.now.words.processors s.items) raises.now }
-    ensures { IfOk result (λ r. HasActed board.now.words.name first.number own.now.items r.0
-        × HaveRun board.now.words.name acts.now raises.now others.items r.1.items r.2.items) }
+    requires there { All (λ (s : Vec (ℕ × ℕ) Global). IsThere board.now.processors s.items) raises.now }
+    ensures { IfOk result (λ r. HasActed board.now.name first.number own.now.items r.0
+        × HaveRun board.now.name acts.now raises.now others.items r.1.items r.2.items) }
 {
     thread::scope(
         thread::scope_env(),
         rt,
         move |scope| -> Result<(Actor, Vec<Actor>, Vec<(Line, Vec<Raised>)>), WorkFault>
-            requires { IsNewActor board.now.words.name first × All (IsNewActor board.now.words.name) others.items × All (IsNewLine board.now.words.name) lines.items
+            requires { IsNewActor board.now.name first × All (IsNewActor board.now.name) others.items × All (IsNewLine board.now.name) lines.items
                 × (vec_len others ≡ length acts.now) × (vec_len lines ≡ length raises.now) × (length raises.now ≤ 16)
-                × All (λ (s : Vec (ℕ × ℕ) Global). IsThere board.now.words.processors s.items) raises.now }
-            ensures { IfOk result (λ r. HasActed board.entry.now.words.name first.number own.entry.now.items r.0
-                × HaveRun board.entry.now.words.name acts.entry.now raises.entry.now others.items r.1.items r.2.items) }
+                × All (λ (s : Vec (ℕ × ℕ) Global). IsThere board.now.processors s.items) raises.now }
+            ensures { IfOk result (λ r. HasActed board.entry.now.name first.number own.entry.now.items r.0
+                × HaveRun board.entry.now.name acts.entry.now raises.entry.now others.items r.1.items r.2.items) }
         {
             let acting = start_actors(rt, alloc, scope, board, gate, others, acts)?;
             let raising = start_lines(rt, alloc, scope, board, gate, 0, lines, raises)?;
@@ -331,21 +332,21 @@ fn act_beside<R: Threads + Wait + Sync, G: Gate + Sync>(
 }
 
 /// Runs the script of line 0 in the caller's thread, while all other lines run in theirs.
-fn run_with_line<R: Threads + Wait + Sync, G: Gate + Sync>(
+fn run_with_line<S: Origin, R: Threads + Wait + Sync, G: Gate + Sync>(
     rt: &R,
     alloc: Global,
-    board: &RecordedBoard,
+    board: &RecordedBoard<S>,
     gate: &G,
     own: &Vec<(Vp, Vector)>,
     raises: &[Vec<(Vp, Vector)>],
     mut lines: Vec<Line>,
 ) -> Result<Vec<(Line, Vec<Raised>)>, WorkFault>
-    requires new { All (IsNewLine board.now.words.name) lines.items }
+    requires new { All (IsNewLine board.now.name) lines.items }
     requires each { vec_len lines ≡ length raises.now + 1 }
     requires bound { length raises.now ≤ 15 }
-    requires own_there { IsThere board.now.words.processors own.now.items }
-    requires there { All (λ (s : Vec (ℕ × ℕ) Global). IsThere board.now.words.processors s.items) raises.now }
-    ensures { IfOk result (λ v. AllZip (λ (s : Vec (ℕ × ℕ) Global) (x : Token × Vec Raised Global). HasRaised board.now.words.name s.items x.0 x.1.items) (own.now ∷ raises.now) v.items) }
+    requires own_there { IsThere board.now.processors own.now.items }
+    requires there { All (λ (s : Vec (ℕ × ℕ) Global). IsThere board.now.processors s.items) raises.now }
+    ensures { IfOk result (λ v. AllZip (λ (s : Vec (ℕ × ℕ) Global) (x : Token × Vec Raised Global). HasRaised board.now.name s.items x.0 x.1.items) (own.now ∷ raises.now) v.items) }
 {
     let Ok(others) = lines.split_off(1) else {
         return Err(WorkFault::Memory);
@@ -362,34 +363,34 @@ fn run_with_line<R: Threads + Wait + Sync, G: Gate + Sync>(
 }
 
 /// Starts a thread for each other line, runs the script of the first line, and waits for them.
-fn raise_beside<R: Threads + Wait + Sync, G: Gate + Sync>(
+fn raise_beside<S: Origin, R: Threads + Wait + Sync, G: Gate + Sync>(
     rt: &R,
     alloc: Global,
-    board: &RecordedBoard,
+    board: &RecordedBoard<S>,
     gate: &G,
     own: &Vec<(Vp, Vector)>,
     raises: &[Vec<(Vp, Vector)>],
     first: Line,
     others: Vec<Line>,
 ) -> Result<((Line, Vec<Raised>), Vec<(Line, Vec<Raised>)>), WorkFault>
-    requires new_first { IsNewLine board.now.words.name first }
-    requires new_others { All (IsNewLine board.now.words.name) others.items }
+    requires new_first { IsNewLine board.now.name first }
+    requires new_others { All (IsNewLine board.now.name) others.items }
     requires each { vec_len others ≡ length raises.now }
     requires bound { length raises.now ≤ 15 }
-    requires own_there { IsThere board.now.words.processors own.now.items }
-    requires there { All (λ (s : Vec (ℕ × ℕ) Global). IsThere board.now.words.processors s.items) raises.now }
-    ensures { IfOk result (λ r. HasRaised board.now.words.name own.now.items r.0.0 r.0.1.items
-        × AllZip (λ (s : Vec (ℕ × ℕ) Global) (x : Token × Vec Raised Global). HasRaised board.now.words.name s.items x.0 x.1.items) raises.now r.1.items) }
+    requires own_there { IsThere board.now.processors own.now.items }
+    requires there { All (λ (s : Vec (ℕ × ℕ) Global). IsThere board.now.processors s.items) raises.now }
+    ensures { IfOk result (λ r. HasRaised board.now.name own.now.items r.0.0 r.0.1.items
+        × AllZip (λ (s : Vec (ℕ × ℕ) Global) (x : Token × Vec Raised Global). HasRaised board.now.name s.items x.0 x.1.items) raises.now r.1.items) }
 {
     thread::scope(
         thread::scope_env(),
         rt,
         move |scope| -> Result<((Line, Vec<Raised>), Vec<(Line, Vec<Raised>)>), WorkFault>
-            requires { IsNewLine board.now.words.name first × All (IsNewLine board.now.words.name) others.items
-                × (vec_len others ≡ length raises.now) × (length raises.now ≤ 15) × IsThere board.now.words.processors own.now.items
-                × All (λ (s : Vec (ℕ × ℕ) Global). IsThere board.now.words.processors s.items) raises.now }
-            ensures { IfOk result (λ r. HasRaised board.entry.now.words.name own.entry.now.items r.0.0 r.0.1.items
-                × AllZip (λ (s : Vec (ℕ × ℕ) Global) (x : Token × Vec Raised Global). HasRaised board.entry.now.words.name s.items x.0 x.1.items) raises.entry.now r.1.items) }
+            requires { IsNewLine board.now.name first × All (IsNewLine board.now.name) others.items
+                × (vec_len others ≡ length raises.now) × (length raises.now ≤ 15) × IsThere board.now.processors own.now.items
+                × All (λ (s : Vec (ℕ × ℕ) Global). IsThere board.now.processors s.items) raises.now }
+            ensures { IfOk result (λ r. HasRaised board.entry.now.name own.entry.now.items r.0.0 r.0.1.items
+                × AllZip (λ (s : Vec (ℕ × ℕ) Global) (x : Token × Vec Raised Global). HasRaised board.entry.now.name s.items x.0 x.1.items) raises.entry.now r.1.items) }
         {
             let raising = start_lines(rt, alloc, scope, board, gate, 1, others, raises)?;
             let who = Worker::Raises(0);

@@ -7,6 +7,7 @@ ghost use Rattle.board_threads.specs.inside.Work.{IsThere, HasActed, HasRaised};
 use crate::actor::{Actor, CallFault};
 use crate::fault::WorkFault;
 use crate::gate::{Gate, Worker};
+use crate::origin::Origin;
 use crate::recorded_board::RecordedBoard;
 use crate::script::Step;
 use board_terms::{Vector, Vp};
@@ -16,9 +17,9 @@ use std::sync::Wait;
 use synic_board::Event;
 
 /// The setup: actor 0 performs its events.
-pub(crate) fn perform_setup<R: Wait>(
+pub(crate) fn perform_setup<S: Origin, R: Wait>(
     rt: &R,
-    board: &RecordedBoard,
+    board: &RecordedBoard<S>,
     mut actor: Actor,
     events: &[Event],
 ) -> Result<Actor, CallFault>
@@ -34,16 +35,16 @@ pub(crate) fn perform_setup<R: Wait>(
 }
 
 /// The last absorbs: actor 0 absorbs parts 0 to 3 of each processor, in order.
-pub(crate) fn absorb_all<R: Wait>(
+pub(crate) fn absorb_all<S: Origin, R: Wait>(
     rt: &R,
-    board: &RecordedBoard,
+    board: &RecordedBoard<S>,
     mut actor: Actor,
 ) -> Result<Actor, CallFault>
-    requires own { actor.of ≡ board.now.words.name }
-    requires bound { board.now.words.processors ≤ 8 }
+    requires own { actor.of ≡ board.now.name }
+    requires bound { board.now.processors ≤ 8 }
     ensures of { IfOk result (λ a. a.of ≡ actor.of) }
     ensures number { IfOk result (λ a. a.number ≡ actor.number) }
-    ensures calls { IfOk result (λ a. (more : List Call) × (a.calls ≡ actor.calls ++ more) × AreSteps (last_steps board.now.words.processors) more) }
+    ensures calls { IfOk result (λ a. (more : List Call) × (a.calls ≡ actor.calls ++ more) × AreSteps (last_steps board.now.processors) more) }
 {
     for place in 0..4 * board.processors() {
         board.absorb(rt, &mut actor, place / 4, place % 4)?;
@@ -52,16 +53,16 @@ pub(crate) fn absorb_all<R: Wait>(
 }
 
 /// An actor runs its script, each call between the two hooks of the gate.
-pub(crate) fn act<R: Wait, G: Gate>(
+pub(crate) fn act<S: Origin, R: Wait, G: Gate>(
     rt: &R,
-    board: &RecordedBoard,
+    board: &RecordedBoard<S>,
     gate: &G,
     mut actor: Actor,
     script: &[Step],
 ) -> Result<Actor, WorkFault>
-    requires own { actor.of ≡ board.now.words.name }
+    requires own { actor.of ≡ board.now.name }
     requires new { actor.calls ≡ [] }
-    ensures { IfOk result (HasActed board.now.words.name actor.number script.now) }
+    ensures { IfOk result (HasActed board.now.name actor.number script.now) }
 {
     let who = Worker::Acts(actor.number());
     let mut call = 0;
@@ -78,19 +79,19 @@ pub(crate) fn act<R: Wait, G: Gate>(
 }
 
 /// A line raises its vectors, each between the two hooks of the gate, and returns their results.
-pub(crate) fn raise<R: Wait, G: Gate>(
+pub(crate) fn raise<S: Origin, R: Wait, G: Gate>(
     rt: &R,
     alloc: Global,
-    board: &RecordedBoard,
+    board: &RecordedBoard<S>,
     gate: &G,
     who: Worker,
     mut line: Line,
     script: &[(Vp, Vector)],
 ) -> Result<(Line, Vec<Raised>), WorkFault>
-    requires own { line.of ≡ board.now.words.name }
+    requires own { line.of ≡ board.now.name }
     requires new { line.actions ≡ [] }
-    requires there { IsThere board.now.words.processors script.now }
-    ensures { IfOk result (λ r. HasRaised board.now.words.name script.now r.0 r.1.items) }
+    requires there { IsThere board.now.processors script.now }
+    ensures { IfOk result (λ r. HasRaised board.now.name script.now r.0 r.1.items) }
 {
     let mut answers = Vec::new(alloc);
     let mut call = 0;

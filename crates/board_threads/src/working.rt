@@ -2,10 +2,9 @@
 ghost use Rattle.std.specs.Prelude.{◌≡◌, ◌≤◌, ◌+◌, ◌*◌, false, length, IfOk, All, map, vec_len, Vec};
 ghost use Rattle.std.specs.Global.{Global};
 ghost use Rattle.std.specs.List.{range_with_len};
-ghost use Rattle.synic_board.specs.State.{opened};
 ghost use Rattle.posted_words.specs.Words.{Token};
 ghost use Rattle.posted_words.specs.declared.line.Raised.{Raised};
-ghost use Rattle.board_threads.specs.Sharing.{start, new_actor};
+ghost use Rattle.board_threads.specs.Sharing.{new_actor};
 ghost use Rattle.board_threads.specs.Judging.{AreScriptSizes, has_bad_step};
 ghost use Rattle.board_threads.specs.inside.Work.{IsNewLine, HaveWorked, InPlace};
 ghost use Rattle.board_threads.specs.Crew.{IsCrewEnd};
@@ -14,6 +13,7 @@ use crate::actor::Actor;
 use crate::crew::CrewEnd;
 use crate::fault::WorkFault;
 use crate::gate::Gate;
+use crate::origin::Origin;
 use crate::places::are_in_place;
 use crate::recorded_board::RecordedBoard;
 use crate::script::{Scripts, Setup};
@@ -24,7 +24,6 @@ use posted_words::{Line, Raised};
 use std::alloc::{AllocError, Global};
 use std::sync::Wait;
 use std::thread::Threads;
-use synic_board::Board;
 
 /// The actors and the lines when all threads have ended, with the results of the lines' raises.
 #[derive(Drop)]
@@ -35,10 +34,10 @@ pub(crate) struct Worked {
 }
 
 /// The setup, then all scripts at once, then the last absorbs.
-pub(crate) fn work<R: Threads + Wait + Sync, G: Gate + Sync>(
+pub(crate) fn work<S: Origin, R: Threads + Wait + Sync, G: Gate + Sync>(
     rt: &R,
     alloc: Global,
-    board: &RecordedBoard,
+    board: &RecordedBoard<S>,
     setup: &Setup,
     scripts: &Scripts,
     gate: &G,
@@ -48,11 +47,11 @@ pub(crate) fn work<R: Threads + Wait + Sync, G: Gate + Sync>(
     requires size { AreScriptSizes setup.now scripts.now }
     requires bound { setup.now.processors ≤ 8 }
     requires step { has_bad_step setup.now scripts.now ≡ false }
-    requires board { board.now.words.processors ≡ setup.now.processors }
-    requires actors { actors.items ≡ map (new_actor board.now.words.name) (range_with_len 0 (vec_len scripts.now.actors + 1)) }
-    requires lines { All (IsNewLine board.now.words.name) lines.items }
+    requires board { board.now.processors ≡ setup.now.processors }
+    requires actors { actors.items ≡ map (new_actor board.now.name) (range_with_len 0 (vec_len scripts.now.actors + 1)) }
+    requires lines { All (IsNewLine board.now.name) lines.items }
     requires each { vec_len lines ≡ vec_len scripts.now.lines }
-    ensures worked { IfOk result (λ w. HaveWorked board.now.words.name setup.now scripts.now w.actors.items w.lines.items w.raised.items) }
+    ensures worked { IfOk result (λ w. HaveWorked board.now.name setup.now scripts.now w.actors.items w.lines.items w.raised.items) }
 {
     let Ok(others) = actors.split_off(1) else {
         return Err(WorkFault::Memory);
@@ -93,16 +92,16 @@ fn split_lines(
     Ok((lines, answers))
 }
 
-/// Settles a board that was opened, and checks where the calls of actor 0 are in its history.
-pub(crate) fn finish(
-    board: RecordedBoard,
+/// Settles a board, and checks where the calls of actor 0 are in its history.
+pub(crate) fn finish<S: Origin>(
+    board: RecordedBoard<S>,
     setup: &Setup,
     scripts: &Scripts,
     worked: Worked,
 ) -> Result<CrewEnd, WorkFault>
-    requires worked { HaveWorked board.words.name setup.now scripts.now worked.actors.items worked.lines.items worked.raised.items }
-    requires processors { board.words.processors ≡ setup.now.processors }
-    ensures { IfOk result (IsCrewEnd (start board) setup.now scripts.now) }
+    requires worked { HaveWorked board.name setup.now scripts.now worked.actors.items worked.lines.items worked.raised.items }
+    requires processors { board.processors ≡ setup.now.processors }
+    ensures { IfOk result (IsCrewEnd S.start setup.now scripts.now) }
 {
     let Worked {
         actors,
@@ -110,27 +109,6 @@ pub(crate) fn finish(
         raised,
     } = worked;
     let ended = board.settle(actors, lines)?;
-    place(setup, ended, raised)
-}
-
-/// Settles a board on another one, and checks where the calls of actor 0 are in its history.
-pub(crate) fn finish_on(
-    board: RecordedBoard,
-    start: Board,
-    setup: &Setup,
-    scripts: &Scripts,
-    worked: Worked,
-) -> Result<CrewEnd, WorkFault>
-    requires worked { HaveWorked board.words.name setup.now scripts.now worked.actors.items worked.lines.items worked.raised.items }
-    requires processors { board.words.processors ≡ setup.now.processors }
-    ensures { IfOk result (IsCrewEnd start.state setup.now scripts.now) }
-{
-    let Worked {
-        actors,
-        lines,
-        raised,
-    } = worked;
-    let ended = board.settle_on(start, actors, lines)?;
     place(setup, ended, raised)
 }
 

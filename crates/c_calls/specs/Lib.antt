@@ -8,4 +8,5 @@ pub mod Texts
 pub mod Lines
 pub mod Recorded
 pub mod Outcomes
+pub mod Tsc
 pub mod inside

@@ -40,7 +40,7 @@ abbrev pub IsReplay : List ℕ → List ℕ → List ℕ → CEnd → Type 0
 IsReplay script room_before room_after end = IsText script room_before room_after end ⊎ IsNotWritten room_before room_after end
 
 -- the image of a state: its length, and as much of it as fits
-pub record IsImage (s : State) (room_before room_after : List ℕ) (end : CEnd) : Type 0 where
+pub record IsWrittenImage (s : State) (room_before room_after : List ℕ) (end : CEnd) : Type 0 where
   pub kind : end.kind ≡ 0
   pub line : end.line ≡ 0
   pub length : end.length ≡ length (image s)
@@ -56,4 +56,4 @@ pub record IsUnsaved (reason : ℕ) (room_before room_after : List ℕ) (end : C
 -- the image of an open board was written, or nothing, for lack of memory; nothing of a closed one
 abbrev pub IsSaved : Option BoardWithNotices → List ℕ → List ℕ → CEnd → Type 0
 IsSaved None room_before room_after end = IsUnsaved 4 room_before room_after end
-IsSaved (Some board) room_before room_after end = IsImage board.board.state room_before room_after end ⊎ IsUnsaved 2 room_before room_after end
+IsSaved (Some board) room_before room_after end = IsWrittenImage board.board.state room_before room_after end ⊎ IsUnsaved 2 room_before room_after end

@@ -14,4 +14,5 @@ mod pages;
 mod perform_on;
 mod recorded;
 mod texts;
+mod tsc;
 mod views;

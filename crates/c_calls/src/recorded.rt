@@ -4,7 +4,7 @@ ghost use Rattle.synic_board.specs.State.{AreSizes};
 ghost use Rattle.c_handles.specs.Recorded.{both, recorded_of, IsNewlyRecorded};
 ghost use Rattle.c_handles.specs.inside.Leading.{LeadsTo};
 ghost use Rattle.c_terms.specs.Events.{event_from_c};
-ghost use Rattle.c_calls.specs.Recorded.{IsActed, IsActedAbsorb, IsSettled};
+ghost use Rattle.c_calls.specs.Recorded.{buffer, absorb_by, IsActed, IsActedAbsorb, IsSettledTrace};
 
 use c_handles::{BoardHandle, HistoryHandle, LineHandle, RecordedHandle};
 use c_terms::{
@@ -86,7 +86,7 @@ pub extern "C" fn synicboard_recorded_act(
     plain: &CEvent,
     room: &mut [CNotice],
 ) -> CReply
-    ensures { IsActed actor (event_from_c plain.now) (recorded_of handle.old) (recorded_of handle.new) result room.old room.new }
+    ensures { IsActed actor (event_from_c plain.now) (recorded_of handle.old) (recorded_of handle.new) result (buffer room.old room.new) }
 {
     act_on(&mut handle.board, &mut handle.history, actor, plain, room)
 }
@@ -101,7 +101,7 @@ fn act_on(
 ) -> CReply
     requires { LeadsTo history.old.history board.old.board }
     ensures leads { LeadsTo history.new.history board.new.board }
-    ensures acted { IsActed actor (event_from_c plain.now) (both board.old.board history.old.history) (both board.new.board history.new.history) result room.old room.new }
+    ensures acted { IsActed actor (event_from_c plain.now) (both board.old.board history.old.history) (both board.new.board history.new.history) result (buffer room.old room.new) }
 {
     let (Some(board), Some(history)) = (board.board_mut(), history.history_mut()) else {
         return fault_to_c(Fault::Closed);
@@ -131,7 +131,7 @@ pub extern "C" fn synicboard_recorded_absorb(
     part: u8,
     room: &mut [CNotice],
 ) -> CReply
-    ensures { IsActedAbsorb actor vp part (recorded_of handle.old) line.old.line (recorded_of handle.new) line.new.line result room.old room.new }
+    ensures { IsActedAbsorb (absorb_by actor vp part) (recorded_of handle.old, line.old.line) (recorded_of handle.new, line.new.line) result (buffer room.old room.new) }
 {
     absorb_on(
         &mut handle.board,
@@ -156,7 +156,7 @@ fn absorb_on(
 ) -> CReply
     requires { LeadsTo history.old.history board.old.board }
     ensures leads { LeadsTo history.new.history board.new.board }
-    ensures absorbed { IsActedAbsorb actor vp part (both board.old.board history.old.history) line.old.line (both board.new.board history.new.history) line.new.line result room.old room.new }
+    ensures absorbed { IsActedAbsorb (absorb_by actor vp part) (both board.old.board history.old.history, line.old.line) (both board.new.board history.new.history, line.new.line) result (buffer room.old room.new) }
 {
     let (Some(board), Some(history)) = (board.board_mut(), history.history_mut()) else {
         return fault_to_c(Fault::Closed);
@@ -185,7 +185,7 @@ pub extern "C" fn synicboard_recorded_settle(
     room: &mut [u8],
 ) -> CSettled
     ensures recorded { recorded_of handle.new ≡ recorded_of handle.old }
-    ensures settled { IsSettled (recorded_of handle.old) room.old room.new result }
+    ensures settled { IsSettledTrace (recorded_of handle.old) room.old room.new result }
 {
     settle_on(alloc, &mut handle.board, &mut handle.history, room)
 }
@@ -200,7 +200,7 @@ fn settle_on(
     requires { LeadsTo history.old.history board.old.board }
     ensures board { board.new.board ≡ board.old.board }
     ensures history { history.new.history ≡ history.old.history }
-    ensures settled { IsSettled (both board.old.board history.old.history) room.old room.new result }
+    ensures settled { IsSettledTrace (both board.old.board history.old.history) room.old room.new result }
 {
     let (Some(board), Some(history)) = (board.board_mut(), history.history_mut()) else {
         return not_settled(4);

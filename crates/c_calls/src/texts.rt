@@ -1,7 +1,7 @@
 // Scripts, traces and images in buffers.
 ghost use Rattle.std.specs.Prelude.{◌≡◌, ◌≢◌, ◌<◌, ◌↔◌, true, [], ◌∷◌, None};
 ghost use Rattle.text_trace.specs.Trace.{IsTrace};
-ghost use Rattle.text_trace.specs.Verdicts.{FirstWrong};
+ghost use Rattle.text_trace.specs.Verdicts.{FirstIllegal};
 ghost use Rattle.c_terms.specs.Events.{event_from_c};
 ghost use Rattle.c_terms.specs.Replies.{reply_from_c};
 ghost use Rattle.c_terms.specs.Entries.{entry_text};
@@ -95,7 +95,7 @@ pub extern "C" fn synicboard_check(alloc: Global, trace: &[u8]) -> CVerdict
     ensures kinds { is_among (0 ∷ 2 ∷ 10 ∷ 11 ∷ []) result.kind ≡ true }
     ensures legal { result.kind ≡ 0 → IsTrace trace.now result.entries }
     ensures entries { result.kind ≢ 0 → result.entries ≡ 0 }
-    ensures wrong { result.kind ≡ 10 → FirstWrong trace.now result.line }
+    ensures wrong { result.kind ≡ 10 → FirstIllegal trace.now result.line }
     ensures line { result.kind ≢ 10 → result.line ≡ 0 }
 {
     let mut reader = trace;

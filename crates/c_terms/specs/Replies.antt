@@ -39,10 +39,10 @@ reply_to_c GeneralProtection n = empty_reply 9 n
 reply_to_c (Refused refusal) n = record (empty_reply 10 n) { refusal = refusal_number refusal }
 
 -- the ranges of a reply's fields
-abbrev pub IsReply : Reply → Type 0
-IsReply (Bytes bytes) = length bytes.items ≤ 8
-IsReply (Taken (Some vector)) = 16 ≤ vector
-IsReply reply = Unit {0}
+abbrev pub IsReplyInRange : Reply → Type 0
+IsReplyInRange (Bytes bytes) = length bytes.items ≤ 8
+IsReplyInRange (Taken (Some vector)) = 16 ≤ vector
+IsReplyInRange reply = Unit {0}
 
 abbrev pub refusal_from_c : ℕ → Option Refusal
 refusal_from_c number =

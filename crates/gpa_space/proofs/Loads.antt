@@ -6,7 +6,7 @@ use Rattle.std.proofs.lemmas.List.Quantifiers.{position-Some}
 use Rattle.std.proofs.Math.Seq.{take-append_seam, drop-append_seam}
 use Rattle.gpa_space.specs.Page.{overwritten}
 use Rattle.gpa_space.specs.Space.{Space, is_mapped_at, visible, visible_page, with_visible_page, refusal_of, loaded}
-use Rattle.gpa_space.specs.Laws.{IsWhole, StoredBytesAreLoaded}
+use Rattle.gpa_space.specs.Laws.{IsWholeSpace, StoredBytesAreLoaded}
 
 -- the bytes that were written at an offset are there
 put_there : (page bytes : List ℕ) (at : ℕ) → at ≤ length page → take (length bytes) (drop at (overwritten page at bytes)) ≡ bytes
@@ -29,7 +29,7 @@ loads : (t : Space) (address : ℕ) (page bytes : List ℕ) → refusal_of t add
 loads t address page bytes none is len = rw (none, is, put_there page bytes (address % 4096) (omega arith)) refl
 
 -- a store to the guest page
-below : (s : Space) (address : ℕ) (bytes : List ℕ) → IsWhole s → refusal_of s address (length bytes) ≡ None → visible s (address / 4096) ≡ None →
+below : (s : Space) (address : ℕ) (bytes : List ℕ) → IsWholeSpace s → refusal_of s address (length bytes) ≡ None → visible s (address / 4096) ≡ None →
     Loads (with_visible_page s (address / 4096) (overwritten (visible_page s (address / 4096)) (address % 4096) bytes)) address bytes
 below s address bytes whole none e =
     let g : ℕ = address / 4096 in
@@ -39,7 +39,7 @@ below s address bytes whole none e =
     rw e (loads (record s { pages = set s.pages g stored }) address page bytes (rw (length-set s.pages g stored) none) (rw e (get_or-set_same s.pages g stored [] within)) (whole.pages g [] within))
 
 -- a store to an overlay
-above : (s : Space) (address : ℕ) (bytes : List ℕ) (k : ℕ) → IsWhole s → refusal_of s address (length bytes) ≡ None → visible s (address / 4096) ≡ Some k →
+above : (s : Space) (address : ℕ) (bytes : List ℕ) (k : ℕ) → IsWholeSpace s → refusal_of s address (length bytes) ≡ None → visible s (address / 4096) ≡ Some k →
     Loads (with_visible_page s (address / 4096) (overwritten (visible_page s (address / 4096)) (address % 4096) bytes)) address bytes
 above s address bytes k whole none e =
     let g : ℕ = address / 4096 in

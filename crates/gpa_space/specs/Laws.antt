@@ -18,12 +18,12 @@ pub record OverlaysLieInOrder : Type 0 where
   pub outside : owner_of (with_register stacked 0 kind.Sief 0x4001) 4 ≡ Nothing
 
 -- all pages have 4096 bytes, and each overlay has its own page
-pub record IsWhole (s : Space) : Type 0 where
+pub record IsWholeSpace (s : Space) : Type 0 where
   pub pages : All (λ page. length page ≡ 4096) s.pages
   pub own : All (λ page. length page ≡ 4096) s.own
   pub each : length s.own ≡ length s.registers
 
 -- a guest loads the bytes that it stored
 abbrev pub StoredBytesAreLoaded : Type 0
-StoredBytesAreLoaded = (s : Space) (address : ℕ) (bytes : List ℕ) → IsWhole s → refusal_of s address (length bytes) ≡ None →
+StoredBytesAreLoaded = (s : Space) (address : ℕ) (bytes : List ℕ) → IsWholeSpace s → refusal_of s address (length bytes) ≡ None →
     loaded (after_store s address bytes) address (length bytes) ≡ Ok (record { items = bytes })

@@ -1,11 +1,11 @@
 -- What may join a queue is just what leaves a sound board.
-use Rattle.std.proofs.Common.{◌≡◌, ◌⊎◌, inl, inr, ℕ, ◌+◌, ◌<◌, ◌≤◌, Bool, true, cond, ◌&&◌, List, [], ◌∷◌, ◌++◌, length, refl, ap, subst, ◌∙◌, arith}
+use Rattle.std.proofs.Common.{◌≡◌, ◌⊎◌, inl, inr, ℕ, ◌+◌, ◌%◌, ◌<◌, ◌≤◌, Bool, true, cond, ◌&&◌, List, [], ◌∷◌, ◌++◌, length, refl, ap, subst, ◌∙◌, arith}
 use Rattle.std.specs.Prelude.{◌==◌, count_by, Some}
 use Rattle.std.specs.List.{All}
 use Rattle.std.proofs.lemmas.Bool.{cases_lt}
 use Rattle.std.proofs.lemmas.Bool.Decides.{nat_tests}
 use Rattle.std.proofs.lemmas.List.{get_or-set_same}
-use Rattle.std.proofs.lemmas.List.Elements.{All-pop}
+use Rattle.std.proofs.lemmas.List.Elements.{All-nil, All-cons, All-pop}
 use Rattle.std.proofs.lemmas.List.Sums.{sum_by-set, sum_by_push}
 use Rattle.board_terms.specs.declared.messages.Message.{Message}
 use Rattle.board_terms.specs.declared.messages.Message.TheVariants.{FromPort, FromTimer}
@@ -15,6 +15,7 @@ use Rattle.message_queues.specs.Queues.{is_from_port, is_from_timer, timer_used,
 use Rattle.synic_board.specs.State.{State, processors}
 use Rattle.synic_board.specs.Locations.{times, locations}
 use Rattle.synic_board.specs.Sound.{IsMessage, IsSound}
+use Rattle.synic_board.specs.Timed.{Ascends, HasExpired}
 use Rattle.synic_board.specs.Buffers.{IsHome, HasBuffers}
 use Rattle.synic_board.specs.Restoring.{with_message, IsWithinShare, MayJoin}
 use Rattle.synic_board.proofs.keeping.Counts.{in_queue, one, times-locations, in_queue-push}
@@ -31,6 +32,11 @@ one-itself t = grind (arith, nat_tests)
 abbrev one_if : Bool → ℕ
 one_if b = cond b 1 0
 
+ascends-last : (next : ℕ) (q : List Message) (m : Message) → Ascends next (q ++ m ∷ []) → All (λ x. ticket_of x < ticket_of m) q
+ascends-last next [] m h = All-nil (λ x. ticket_of x < ticket_of m)
+ascends-last next (x ∷ q) m h =
+    All-cons (λ y. ticket_of y < ticket_of m) x q (All-pop (λ y. ticket_of x < ticket_of y) (q ++ m ∷ []) q (Some m) refl h.1).1 (ascends-last next q m h.2)
+
 pub may-join : (s : State) (p i : ℕ) (m : Message) → p < processors s → i < 16 → IsSound s → IsSound (with_message s p i m) → HasBuffers (with_message s p i m) → MayJoin s p i m
 may-join s p i m below under before sound buffers = record {
   message = last IsMessage (queue-good (processors s) now p i sound.whole below under);
@@ -38,6 +44,8 @@ may-join s p i m below under before sound buffers = record {
   buffer = room m refl home;
   share = share m refl;
   ticket = record { given = given (cases_lt (ticket_of m) s.next_ticket); nowhere = omega (arith, moved (ticket_of m), one-itself (ticket_of m), sound.tickets.once (ticket_of m)) };
+  order = ascends-last s.next_ticket (queue_of s.queues p i) m (subst (Ascends s.next_ticket) (get_or-set_same s.queues j q [] inside) (buffers.timed.order j));
+  time = subst (λ k. HasExpired s.moment k m) place (last (HasExpired s.moment (j % 16)) (buffers.timed.timely j));
 }
   where
     now : State
@@ -48,6 +56,9 @@ may-join s p i m below under before sound buffers = record {
 
     q : List Message
     q = queue_of s.queues p i ++ m ∷ []
+
+    place : j % 16 ≡ i
+    place = omega (arith, under)
 
     inside : j < length s.queues
     inside = omega (arith, before.whole.queues, below, under)

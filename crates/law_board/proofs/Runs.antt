@@ -7,7 +7,7 @@ use Rattle.synic_board.specs.State.{State, processors, opened}
 use Rattle.synic_board.specs.Step.{step}
 use Rattle.synic_board.specs.Locations.{Conserves}
 use Rattle.synic_board.specs.Sound.{PayloadFits, IsSound}
-use Rattle.synic_board.specs.Settled.{HasOneSuspension}
+use Rattle.synic_board.specs.Paired.{HasOneSuspension}
 use Rattle.synic_board.specs.Run.{Run, run_of}
 use Rattle.law_board.specs.Accounts.{Accounts}
 use Rattle.synic_board.proofs.keeping.Wholes.{IsIntact, KeepsMessages, kept_from_sound, sound_from_kept, tickets-conserved, messages-kept, keeps-nothing, messages-after}

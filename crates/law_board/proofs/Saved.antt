@@ -14,7 +14,7 @@ use Rattle.stimer_bank.specs.Bank.{idle_timer}
 use Rattle.synic_board.specs.State.{State}
 use Rattle.law_board.specs.Saved.{changed, put_back, is_zero_page, is_idle, is_empty, saved, restored}
 use Rattle.synic_board.specs.Sound.{HasShape}
-use Rattle.synic_board.specs.Settled.{IsSettled}
+use Rattle.synic_board.specs.Paired.{HasPairedTimers}
 
 -- an element after a prefix is replaced
 set-behind : {A : Type 0} (front : List A) (x y : A) (rest : List A) (k : ℕ) → k ≡ length front → slice_set (front ++ y ∷ rest) k x ≡ front ++ x ∷ rest
@@ -86,13 +86,13 @@ known-timer x _ e = by (x.config == 0) (x.count == 0) refl refl e
     by false b a c e = absurd (cc)
 
 -- the marks of the timers are those of the local APICs
-marks-back : (s : State) → IsSettled s → map (λ p. (slice_index_or s.apics p empty_apic).suspended) (range_with_len 0 8) ≡ s.suspended
+marks-back : (s : State) → HasPairedTimers s → map (λ p. (slice_index_or s.apics p empty_apic).suspended) (range_with_len 0 8) ≡ s.suspended
 marks-back s h = ext_get_or false (map mark (range_with_len 0 8)) s.suspended (sym h.marks) (λ p below. get_or-map-range_with_len mark 0 8 p p false below (zero-add p) ∙ sym (h.suspended p))
   where
     mark : ℕ → Bool
     mark p = (slice_index_or s.apics p empty_apic).suspended
 
-pub saved-back : (s : State) → HasShape s → IsSettled s → restored (saved s) ≡ s
+pub saved-back : (s : State) → HasShape s → HasPairedTimers s → restored (saved s) ≡ s
 saved-back s h settled =
     let pages = back is_zero_page zero_page (λ page. length page ≡ 4096) known-page s.pages (length s.pages) refl h.pages in
     let own = back is_zero_page zero_page (λ page. length page ≡ 4096) known-page s.own (2 * length s.apics) h.overlays h.own in
@@ -115,7 +115,7 @@ saved-back s h settled =
       suspended = suspended i;
     })
 
-pub saved-once : (s t : State) → HasShape s → IsSettled s → HasShape t → IsSettled t → saved s ≡ saved t → s ≡ t
+pub saved-once : (s t : State) → HasShape s → HasPairedTimers s → HasShape t → HasPairedTimers t → saved s ≡ saved t → s ≡ t
 saved-once s t h settled k also e = sym (saved-back s h settled) ∙ ap restored e ∙ saved-back t k also
 
 -- an element that is put after all that were changed is changed last

@@ -44,7 +44,7 @@ use Rattle.synic_board.specs.Absorbing.{is_posted, absorbed_bit, absorbed_below,
 use Rattle.synic_board.specs.Delivery.{delivers, is_slot_empty, placed_head, placed, marked, tried, tried_below, accepted, delivered}
 use Rattle.synic_board.specs.Timers.{is_ready, mode_at, delivery_by, signalled_by, expired_state, expiry_at, expiry_notices, fired, attempted, attempted_all, at_moment, ticked}
 use Rattle.board_terms.specs.Quantities.{TimerId}
-use Rattle.law_board.specs.Sparse.{Memory, AreAllPages, holding, is_elsewhere, with_memory, completed, completed_run}
+use Rattle.law_board.specs.Sparse.{Memory, AreAllPages, holding, is_callers_access, with_memory, completed, completed_run}
 
 -- an effect, with other guest pages
 abbrev H : Memory → Effect → Effect
@@ -391,13 +391,13 @@ step-completed s m e none all = empty-completed s m e all ∙ (λ i. completed m
 
 -- what is completed is the state of the sparse board, with all pages
 splits : (m : Memory) (e : Event) (o : Outcome) → (completed m e o).0 ≡ holding o.0 (completed m e o).0.pages
-splits m (Store address bytes) o = either (λ (x : Outcome). x.0 ≡ holding o.0 x.0.pages) (is_elsewhere o.1) _ _ (λ _. refl) (λ _. refl)
-splits m (Load address count) o = either (λ (x : Outcome). x.0 ≡ holding o.0 x.0.pages) (is_elsewhere o.1) _ _ (λ _. refl) (λ _. refl)
+splits m (Store address bytes) o = either (λ (x : Outcome). x.0 ≡ holding o.0 x.0.pages) (is_callers_access o.1) _ _ (λ _. refl) (λ _. refl)
+splits m (Load address count) o = either (λ (x : Outcome). x.0 ≡ holding o.0 x.0.pages) (is_callers_access o.1) _ _ (λ _. refl) (λ _. refl)
 splits m e o = refl
 
 still-all : (m : Memory) (e : Event) (o : Outcome) → AreAllPages m → AreAllPages (completed m e o).0.pages
-still-all m (Store address bytes) o all = either (λ (x : Outcome). AreAllPages x.0.pages) (is_elsewhere o.1) _ _ (λ _. length-set m (address / 4096) _ ∙ all) (λ _. all)
-still-all m (Load address count) o all = either (λ (x : Outcome). AreAllPages x.0.pages) (is_elsewhere o.1) _ _ (λ _. all) (λ _. all)
+still-all m (Store address bytes) o all = either (λ (x : Outcome). AreAllPages x.0.pages) (is_callers_access o.1) _ _ (λ _. length-set m (address / 4096) _ ∙ all) (λ _. all)
+still-all m (Load address count) o all = either (λ (x : Outcome). AreAllPages x.0.pages) (is_callers_access o.1) _ _ (λ _. all) (λ _. all)
 still-all m e o all = all
 
 pub run-completed : (s : State) (m : Memory) (es : List Event) → s.pages ≡ [] → AreAllPages m → run_of (holding s m) es ≡ completed_run s m es

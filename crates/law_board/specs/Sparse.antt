@@ -35,9 +35,9 @@ stored_in memory address bytes = slice_set memory (address / 4096) (overwritten 
 abbrev pub loaded_from : Memory → Address → ℕ → List ℕ
 loaded_from memory address count = take count (drop (address % 4096) (page_at memory address))
 
-abbrev pub is_elsewhere : Reply → Bool
-is_elsewhere (Refused Elsewhere) = true
-is_elsewhere reply = false
+abbrev pub is_callers_access : Reply → Bool
+is_callers_access (Refused Elsewhere) = true
+is_callers_access reply = false
 
 -- an outcome on a board that holds these guest pages too
 abbrev pub with_memory : Memory → Outcome → Outcome
@@ -45,8 +45,8 @@ with_memory memory o = (holding o.0 memory, o.1, o.2)
 
 -- an outcome on a sparse board, together with the guest's memory: the caller performs there a load or a store that the board refused as Elsewhere
 abbrev pub completed : Memory → Event → Outcome → Outcome
-completed memory (Store address bytes) o = if is_elsewhere o.1 then unchanged (holding o.0 (stored_in memory address bytes.items)) Done else with_memory memory o
-completed memory (Load address count) o = if is_elsewhere o.1 then unchanged (holding o.0 memory) (Bytes (record { items = loaded_from memory address count })) else with_memory memory o
+completed memory (Store address bytes) o = if is_callers_access o.1 then unchanged (holding o.0 (stored_in memory address bytes.items)) Done else with_memory memory o
+completed memory (Load address count) o = if is_callers_access o.1 then unchanged (holding o.0 memory) (Bytes (record { items = loaded_from memory address count })) else with_memory memory o
 completed memory event o = with_memory memory o
 
 -- events one after another on a sparse board, with the guest's memory

@@ -17,7 +17,7 @@ ghost use Rattle.synic_board.specs.Step.{step};
 ghost use Rattle.synic_board.specs.Bounds.{most_notices};
 ghost use Rattle.synic_board.specs.Sound.{IsSound, PayloadFits, HasShape};
 ghost use Rattle.synic_board.specs.Buffers.{HasBuffers};
-ghost use Rattle.synic_board.specs.Settled.{HasOneSuspension, IsSettled};
+ghost use Rattle.synic_board.specs.Paired.{HasOneSuspension, HasPairedTimers};
 ghost use Rattle.synic_board.specs.Locations.{Conserves};
 ghost use Rattle.synic_board.specs.Restoring.{with_message, MayJoin};
 ghost use Rattle.board_terms.specs.declared.messages.Message.{Message};
@@ -181,8 +181,8 @@ pub fn no_message_waits_unnoticed_after_eom()
 /// What is saved of a board's state leads back to it: the timers of a processor are suspended iff its
 /// local APIC is, so their marks are not saved. No two such states are saved alike.
 pub fn a_saved_state_is_restored()
-    ensures restored { (s : State) → HasShape s → IsSettled s → restored (saved s) ≡ s }
-    ensures once { (s t : State) → HasShape s → IsSettled s → HasShape t → IsSettled t → saved s ≡ saved t → s ≡ t }
+    ensures restored { (s : State) → HasShape s → HasPairedTimers s → restored (saved s) ≡ s }
+    ensures once { (s t : State) → HasShape s → HasPairedTimers s → HasShape t → HasPairedTimers t → saved s ≡ saved t → s ≡ t }
 {}
 
 /// Any events from any sound state, such as one that was restored: the state stays sound, the timers
@@ -191,7 +191,7 @@ pub fn a_saved_state_is_restored()
 pub fn a_sound_board_stays_sound()
     ensures sound { (s : State) (events : List Event) → All PayloadFits events → IsSound s → IsSound (run_of s events).0 }
     ensures buffers { (s : State) (events : List Event) → HasBuffers s → HasBuffers (run_of s events).0 }
-    ensures settled { (s : State) (events : List Event) → IsSettled s → IsSettled (run_of s events).0 }
+    ensures settled { (s : State) (events : List Event) → HasPairedTimers s → HasPairedTimers (run_of s events).0 }
     ensures conserves { (s : State) (events : List Event) → All PayloadFits events → IsSound s → Conserves s (run_of s events).0 (run_of s events).2 }
     ensures bound { (s : State) (events : List Event) (event : Event) → HasBuffers s → length (step (run_of s events).0 event).2 ≤ most_notices event }
 {}

@@ -82,9 +82,9 @@ module _ (s : State) (h : IsBoardState s) where
       (passes-append (point with_guests n (place 5 0 0 0)) (point with_owns n (place 6 0 0 0)) end (each_below n (own_lines s)) _
       (owns-passed s h with_guests refl (λ p i low. no-ticket (16 * n) (16 * p + i)))
       (passes-append (point with_owns n (place 6 0 0 0)) (point with_ports n (place 7 0 0 0)) end (each_below 16 (port_lines s)) _ (ports-passed s h with_owns refl)
-      (passes-append (point with_ports n (place 7 0 0 0)) (point with_timers n (place 8 0 0 0)) end (each_below n (timers_lines s)) _ (timers-passed s h with_ports refl)
+      (passes-append (point with_ports n (place 7 0 0 0)) (point with_timers n (place 8 0 0 0)) end (each_below n (timers_lines s)) _ (timers-passed s h with_ports refl refl)
       (passes-append (point with_timers n (place 8 0 0 0)) (point with_queues n (place 9 0 0 0)) end (each_below n (queues_lines s)) (each_below n (slots_lines s))
-      (queues-passed s h with_timers refl refl refl (λ x. none-in x (16 * n)))
+      (queues-passed s h with_timers refl refl refl (λ x. none-in x (16 * n)) refl)
       (slots-passed s h with_queues refl refl refl refl)))))))
     where
       end : Point

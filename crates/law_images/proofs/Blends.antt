@@ -10,8 +10,8 @@ use Rattle.gpa_space.specs.Page.{zero_page, overwritten}
 use Rattle.synic_board.specs.State.{State}
 use Rattle.text_image.specs.declared.piece.Piece.{Piece}
 use Rattle.text_image.specs.Image.{each_below}
-use Rattle.text_image.specs.Pieces.{IsBlock}
-use Rattle.text_restore.specs.Restoring.{IsBlock as MayCome}
+use Rattle.text_image.specs.Pieces.{IsPageBlock}
+use Rattle.text_restore.specs.Restoring.{IsBlock}
 use Rattle.law_images.proofs.Printed.{block_of, block_printed}
 use Rattle.law_images.proofs.Blocks.{length-block, byte-at, zero-block}
 use Rattle.law_images.proofs.Walks.{Point, point, Passes, Fits, passes-unless, passes-none, passes-each, passes-to}
@@ -65,7 +65,7 @@ blend-still page c l h is =
     ∙ append_assoc (take (256 * c) page) (block_of zero_page c) (drop (256 * c + 256) zero_page)
     ∙ ap (λ (y : List ℕ). take (256 * c) page ++ y) (sym (drop_split zero_page (256 * c) (256 * c + 256) (omega arith)))
 
-pub block-fits : (page : List ℕ) (c : ℕ) → length page ≡ 4096 → AreBytes page → c < 16 → IsBlock (256 * c) (block_of page c)
+pub block-fits : (page : List ℕ) (c : ℕ) → length page ≡ 4096 → AreBytes page → c < 16 → IsPageBlock (256 * c) (block_of page c)
 block-fits page c l bytes h = (omega (arith, h), each, length-block page c l h)
   where
     each : AreBytes (block_of page c)
@@ -75,7 +75,7 @@ block-fits page c l bytes h = (omega (arith, h), each, length-block page c l h)
         ap (λ (xs : List ℕ). get_or xs i d) (between_is page (256 * c) (256 * c + 256)) ∙ byte-at page c i d low in
         subst (λ (b : ℕ). b < 256) (sym same) (bytes (256 * c + i) d (omega (arith, l, h, low)))
 
-pub block-comes : (c : ℕ) (bytes : List ℕ) → c < 16 → bytes_eq bytes (replicate 256 0) ≡ false → MayCome (256 * c) bytes
+pub block-comes : (c : ℕ) (bytes : List ℕ) → c < 16 → bytes_eq bytes (replicate 256 0) ≡ false → IsBlock (256 * c) bytes
 block-comes c bytes h off = (omega (arith, h), omega arith, off)
 
 -- A page, block by block.

@@ -25,7 +25,7 @@ module _ (n m ticket : ℕ) (s : State) (last lapics : ℕ) (new : State) (sizes
   to x now after e h = subst (λ (t : State). Extends n m ticket s lapics x t after) (sym e) h
 
   pub extends : (x : Piece) → IsInner x → IsPiece x → IsLater last x → IsInTurn n lapics x → Restores s x new → Extends n m ticket s lapics x new (lapics_after lapics x)
-  extends (pieces.Moment t) inner fits later turn h = to (pieces.Moment t) _ lapics h.1 (moment-extends n m ticket s last lapics t shaped blank later h.0)
+  extends (pieces.Moment t) inner fits later turn h = to (pieces.Moment t) _ lapics h.2 (moment-extends n m ticket s last lapics t shaped blank later h.0)
   extends (pieces.Lapic p a) inner fits later turn h = to (pieces.Lapic p a) _ _ h.1 (lapic-extends n m ticket s last lapics p a shaped blank later (on p h.0) turn)
   extends (pieces.Control p value) inner fits later turn h = to (pieces.Control p value) _ lapics h.2 (control-extends n m ticket s last lapics p value shaped blank later (on p h.0) h.1)
   extends (pieces.Overlay p kind value) inner fits later turn h = to (pieces.Overlay p kind value) _ lapics h.2

@@ -5,7 +5,7 @@ use Rattle.stimer_bank.specs.Bank.{idle_timer}
 use Rattle.synic_board.specs.State.{State, IsWithinLimits, processors}
 use Rattle.synic_board.specs.Sound.{IsSound, HasShape}
 use Rattle.synic_board.specs.Buffers.{HasBuffers}
-use Rattle.synic_board.specs.Settled.{IsSettled}
+use Rattle.synic_board.specs.Paired.{HasPairedTimers}
 use Rattle.synic_board.specs.Ranges.{HasRanges}
 
 -- what `Board::facts` ensures of the state of every board
@@ -13,7 +13,7 @@ pub record IsBoardState (s : State) : Type 0 where
   pub sizes : IsWithinLimits (processors s) (length s.pages)
   pub sound : IsSound s
   pub buffers : HasBuffers s
-  pub settled : IsSettled s
+  pub settled : HasPairedTimers s
   pub shape : HasShape s
   pub timers : (n : ℕ) → IsSoundTimer (slice_index_or s.timers n idle_timer)
   pub ranges : HasRanges s

@@ -1,21 +1,30 @@
 -- Filling a slot, word by word.
-use Rattle.std.proofs.Common.{◌≡◌, ◌≢◌, ◌⊎◌, inl, inr, ℕ, ◌+◌, ◌*◌, ◌/◌, ◌<◌, ◌≤◌, true, false, List, [], ◌∷◌, refl, sym, ap, ◌∙◌, subst, arith, append-nil}
+use Rattle.std.proofs.Common.{◌≡◌, ◌≢◌, ◌⊎◌, inl, inr, ℕ, ◌+◌, ◌*◌, ◌/◌, ◌<◌, ◌≤◌, true, false, List, [], ◌∷◌, length, get_or, set, refl, sym, ap, ◌∙◌, subst, arith, append-nil}
 use Rattle.std.specs.Prelude.{◌==◌, slice_index}
 use Rattle.std.proofs.lemmas.Bool.{cases_eq}
+use Rattle.std.proofs.lemmas.List.{get_or-set_same, get_or-set_other}
 use Rattle.std.proofs.lemmas.Bool.Decides.{nat_tests}
 use Rattle.board_terms.specs.declared.pages.Kind.{Kind}
 use Rattle.synic_board.specs.State.{State}
 use Rattle.live_pages.specs.Slot.{known, type_of}
 use Rattle.live_pages.specs.declared.access.Access.{Access}
 use Rattle.live_pages.specs.declared.access.Access.TheVariants.{Load, FetchOr, Store}
-use Rattle.live_board.specs.Live.{explained}
-use Rattle.live_board.specs.inside.Parts.{AreStores, IsFilled, IsFilling}
+use Rattle.live_board.specs.Live.{explained, AreStores}
+use Rattle.live_board.specs.inside.Parts.{IsFilled, IsFilling}
 
 same : (x h : ℕ) → x ≡ h → (x == h) ≡ true
 same x h e = grind (arith, nat_tests)
 
 apart : (x h : ℕ) → x ≢ h → (x == h) ≡ false
 apart x h e = grind (arith, nat_tests)
+
+-- an array whose first words are given, and one more
+pub extended : (words : List ℕ) (k v : ℕ) (f : ℕ → ℕ) → k < length words → v ≡ f k → ((j : ℕ) → j < k → get_or words j 0 ≡ f j) → (j : ℕ) → j < k + 1 → get_or (set words k v) j 0 ≡ f j
+extended words k v f long is before j below = by (cases_eq j k)
+  where
+    by : (j ≡ k) ⊎ (j ≢ k) → get_or (set words k v) j 0 ≡ f j
+    by (inl e) = ap (λ n. get_or (set words k v) n 0) e ∙ get_or-set_same words k v 0 long ∙ is ∙ ap f (sym e)
+    by (inr ne) = get_or-set_other words k j v 0 ne ∙ before j (omega (arith, ne))
 
 pub stored-here : (w v : ℕ) (log : List Access) (x : ℕ) → x ≡ w → known (Store w v ∷ log) x ≡ v
 stored-here w v log x e = rw (same x w e) refl

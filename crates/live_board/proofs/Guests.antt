@@ -1,6 +1,6 @@
 -- What a guest does to a live board.
-use Rattle.std.proofs.Common.{◌≡◌, ◌≢◌, ◌⊎◌, inl, inr, ℕ, zero, suc, ◌+◌, ◌*◌, ◌<◌, ◌≤◌, Bool, true, false, List, [], ◌∷◌, ◌++◌, refl, sym, ap, ◌∙◌, subst, arith, All, append-nil}
-use Rattle.std.specs.Prelude.{◌==◌, if◌then◌else◌}
+use Rattle.std.proofs.Common.{◌≡◌, ◌≢◌, ◌⊎◌, inl, inr, ℕ, zero, suc, ◌+◌, ◌*◌, ◌<◌, ◌≤◌, Bool, true, false, List, [], ◌∷◌, ◌++◌, get_or, refl, sym, ap, ◌∙◌, subst, arith, All, append-nil}
+use Rattle.std.specs.Prelude.{◌==◌, bit_or, if◌then◌else◌}
 use Rattle.std.specs.Int.{to_le_bytes, w64}
 use Rattle.std.proofs.lemmas.Bool.{cases_eq}
 use Rattle.std.proofs.lemmas.List.Elements.{All-append, All-cons, All-nil, All-head, All-tail}
@@ -24,7 +24,7 @@ use Rattle.synic_board.proofs.keeping.Steps.{keeps-step}
 use Rattle.live_pages.specs.Slot.{known}
 use Rattle.live_pages.specs.declared.access.Access.{Access}
 use Rattle.live_pages.specs.declared.access.Access.TheVariants.{Load, FetchOr, Store}
-use Rattle.live_board.specs.Live.{LiveModel, IsLive, IsObserved, number_at, IsShown, IsOwnStore, AreLooks, store_of, shown_by, explained, log_of}
+use Rattle.live_board.specs.Live.{LiveModel, IsLive, IsObserved, number_at, IsShown, IsOwnStore, AreLooks, store_of, shown_by, explained, log_of, IsTimed, IsTicked, IsReset, marked_by, explained_after, looked_from, marked_from}
 use Rattle.live_board.proofs.Joined.{run-append, rest-number, rest-shown}
 use Rattle.live_board.proofs.Shown.{with_word, stored-word, still-in}
 
@@ -41,6 +41,15 @@ stores-by s p k (Store w value) log = All-nil (IsOwnStore s p k)
 pub guest-stores : (s : State) (p : ℕ) (k : Kind) (news log : List Access) → All (IsOwnStore s p k) (explained s p k news log)
 guest-stores s p k [] log = All-nil (IsOwnStore s p k)
 guest-stores s p k (a ∷ news) log = All-append (IsOwnStore s p k) (explained s p k news log) (shown_by s p k a (news ++ log)) (guest-stores s p k news log) (stores-by s p k a (news ++ log))
+
+marks-by : (s : State) (p : ℕ) (a : Access) (log : List Access) → All (IsOwnStore s p Sim) (marked_by s p a log)
+marks-by s p (Load w found) log = All-nil (IsOwnStore s p Sim)
+marks-by s p (FetchOr w mask found) log = one-store s p Sim w (bit_or found mask) (bit_or found mask == bit_or (known log w) mask)
+marks-by s p (Store w value) log = All-nil (IsOwnStore s p Sim)
+
+pub late-stores : (s : State) (p : ℕ) (marks log : List Access) → All (IsOwnStore s p Sim) (explained_after s p marks log)
+late-stores s p [] log = All-nil (IsOwnStore s p Sim)
+late-stores s p (a ∷ marks) log = All-append (IsOwnStore s p Sim) (explained_after s p marks log) (marked_by s p a (marks ++ log)) (late-stores s p marks log) (marks-by s p a (marks ++ log))
 
 -- a run from a sound state
 keeps-run : (n : ℕ) (s : State) (es : List Event) → All PayloadFits es → IsIntact n s → KeepsMessages n s ((run_of s es).0, (run_of s es).2)
@@ -72,6 +81,40 @@ event-conserves old now event reply notices h fits live =
     let es : List Event = explained s live.vp live.kind live.news (log_of old live.vp live.kind) in
     let all = All-append PayloadFits es (event ∷ []) (fits-all s live.vp live.kind es (guest-stores s live.vp live.kind live.news (log_of old live.vp live.kind))) (All-cons PayloadFits event [] fits (All-nil PayloadFits)) in
     kept-by s now.board.state (es ++ event ∷ []) _ notices all h live.run
+
+-- stores before an event, and after it
+fits-around : (before after : List Event) (event : Event) → All PayloadFits before → PayloadFits event → All PayloadFits after → All PayloadFits (before ++ event ∷ after)
+fits-around before after event a b c = All-append PayloadFits before (event ∷ after) a (All-cons PayloadFits event after b c)
+
+fits-looks : (s : State) (p : ℕ) (looks log : List Access) → All PayloadFits (explained s p Sim looks log)
+fits-looks s p looks log = fits-all s p Sim (explained s p Sim looks log) (guest-stores s p Sim looks log)
+
+fits-marks : (s : State) (p : ℕ) (marks log : List Access) → All PayloadFits (explained_after s p marks log)
+fits-marks s p marks log = fits-all s p Sim (explained_after s p marks log) (late-stores s p marks log)
+
+pub timer-conserves : (p : ℕ) (old now : LiveModel) (event : Event) (reply : Reply) (owed : Bool) (notices : List Notice) → IsSound old.board.state → PayloadFits event → IsTimed p old event now reply owed notices
+    → IsSound now.board.state × Conserves old.board.state now.board.state notices
+timer-conserves p old now event reply owed notices h fits timed =
+    let s : State = old.board.state in
+    kept-by s now.board.state _ _ notices (fits-around _ _ event (fits-looks s p timed.looks (log_of old p Sim)) fits (fits-marks s p timed.marks (timed.stores ++ (timed.looks ++ log_of old p Sim)))) h timed.run
+
+fits-looked : (m k : ℕ) (s : State) (pages : List (List Access)) (looks : ℕ → List Access) → All PayloadFits (looked_from s pages looks k m)
+fits-looked zero k s pages looks = All-nil PayloadFits
+fits-looked (suc m) k s pages looks = All-append PayloadFits _ (looked_from s pages looks (suc k) m) (fits-looks s k (looks k) (get_or pages (2 * k) [])) (fits-looked m (suc k) s pages looks)
+
+fits-marked : (m k : ℕ) (s : State) (pages : List (List Access)) (looks stores marks : ℕ → List Access) → All PayloadFits (marked_from s pages looks stores marks k m)
+fits-marked zero k s pages looks stores marks = All-nil PayloadFits
+fits-marked (suc m) k s pages looks stores marks =
+    All-append PayloadFits (marked_from s pages looks stores marks (suc k) m) _ (fits-marked m (suc k) s pages looks stores marks) (fits-marks s k (marks k) (stores k ++ (looks k ++ get_or pages (2 * k) [])))
+
+pub tick-conserves : (old now : LiveModel) (moment : ℕ) (reply : Reply) (owed : List Bool) (notices late : List Notice) → IsSound old.board.state → IsTicked old moment now reply owed notices late
+    → IsSound now.board.state × Conserves old.board.state now.board.state (notices ++ late)
+tick-conserves old now moment reply owed notices late h t =
+    let s : State = old.board.state in
+    kept-by s now.board.state _ _ (notices ++ late) (fits-around _ _ (event.Tick moment) (fits-looked (processors s) 0 s old.pages t.looks) tt (fits-marked (processors s) 0 s old.pages t.looks t.stores t.marks)) h t.run
+
+pub reset-conserves : (p : ℕ) (old now : LiveModel) (reply : Reply) (notices : List Notice) → IsSound old.board.state → IsReset p old now reply notices → IsSound now.board.state × Conserves old.board.state now.board.state notices
+reset-conserves p old now reply notices h r = kept-by old.board.state now.board.state _ _ notices (fits-around _ [] (event.Reset p) (fits-looks old.board.state p r.looks (log_of old p Sim)) tt (All-nil PayloadFits)) h r.run
 
 pub look-conserves : (p : ℕ) (old now : LiveModel) (notices : List Notice) → IsSound old.board.state → IsObserved p old now notices → IsSound now.board.state × Conserves old.board.state now.board.state notices
 look-conserves p old now notices h seen =

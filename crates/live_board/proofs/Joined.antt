@@ -73,7 +73,7 @@ rest-shown s now p k rest shown = subst (λ t. IsShown t p k) (sym rest) (same k
     same kind.Sief h = h
 
 -- looks after looks
-pub watched-then : (s mid now : State) (p : ℕ) (k : Kind) (log log-mid log-now : List Access) (first second : List Notice) → IsWatched s p k log mid log-mid first → IsWatched mid p k log-mid now log-now second
+unfoldable pub watched-then : (s mid now : State) (p : ℕ) (k : Kind) (log log-mid log-now : List Access) (first second : List Notice) → IsWatched s p k log mid log-mid first → IsWatched mid p k log-mid now log-now second
     → IsWatched s p k log now log-now (first ++ second)
 watched-then s mid now p k log log-mid log-now first second a b = record {
   news = b.news ++ a.news;
@@ -83,6 +83,7 @@ watched-then s mid now p k log log-mid log-now first second a b = record {
   rest = b.rest ∙ ap (λ (t : State). record t { own = now.own; slots = now.slots }) a.rest;
   count = b.count ∙ a.count;
   others = λ j w low ne. b.others j w low ne ∙ a.others j w low ne;
+  same = λ j ne. b.same j ne ∙ a.same j ne;
 }
   where
     ea : List Event
@@ -100,8 +101,8 @@ watched-then s mid now p k log log-mid log-now first second a b = record {
         ∙ ap (λ (rs : List Reply). (now, rs, first ++ second)) (sym (done-append ea eb)) ∙ ap (λ (es : List Event). (now, all_done es, first ++ second)) (sym events)
 
 -- the same looks, with the same notices
-renoted : (s now : State) (p : ℕ) (log log-now : List Access) (ns other : List Notice) → ns ≡ other → IsWatched s p kind.Sim log now log-now ns → IsWatched s p kind.Sim log now log-now other
-renoted s now p log log-now ns other is w = record { news = w.news; page = w.page; run = w.run ∙ ap (λ x. (now, all_done (explained s p kind.Sim w.news log), x)) is; careful = w.careful; rest = w.rest; count = w.count; others = w.others }
+unfoldable pub renoted : (s now : State) (p : ℕ) (log log-now : List Access) (ns other : List Notice) → ns ≡ other → IsWatched s p kind.Sim log now log-now ns → IsWatched s p kind.Sim log now log-now other
+renoted s now p log log-now ns other is w = record { news = w.news; page = w.page; run = w.run ∙ ap (λ x. (now, all_done (explained s p kind.Sim w.news log), x)) is; careful = w.careful; rest = w.rest; count = w.count; others = w.others; same = w.same }
 
 -- one look more at a message page
 pub look-more : (s mid now : State) (p : ℕ) (log log-mid log-now : List Access) (found : ℕ) (before after : List Notice) (n : ℕ) → IsLooks s p log mid log-mid before n → IsLook mid p kind.Sim (32 * n) log-mid now log-now found before after
@@ -109,7 +110,7 @@ pub look-more : (s mid now : State) (p : ℕ) (log log-mid log-now : List Access
 unfolding renoted watched-then
 look-more s mid now p log log-mid log-now found before after n h one = record {
   watched = renoted s now p log log-now (before ++ one.emitted) after (sym one.notices) (watched-then s mid now p kind.Sim log log-mid log-now before one.emitted h.watched one.watched);
-  shadow = one.shadow;
+  shadow = one.shadow h.shadow;
   few = omega (arith, h.few, one.few, ap length one.notices, length-append before one.emitted);
   looks = subst (λ m. AreLooks m (one.watched.news ++ h.watched.news)) (let e : suc n ≡ n + 1 = omega arith in e) (found, h.watched.news, ap (λ l. l ++ h.watched.news) one.news, h.looks);
 }

@@ -78,7 +78,7 @@ run-then s mid now p k log log-mid more event reply first second w same is =
     ∙ ap (λ (x : List Event). (now, all_done x ++ reply ∷ [], first ++ second)) (sym same)
 
 -- the header, and a mark of it
-type-marked : (h : ℕ) → type_of (bit_or h (2 ^ 40)) ≡ type_of h
+pub type-marked : (h : ℕ) → type_of (bit_or h (2 ^ 40)) ≡ type_of h
 type-marked h = or_mod h (2 ^ 40) 32 ∙ or_zero_r (h % 2 ^ 32)
 
 pub left-type : (s : State) (number kind : ℕ) (port : Port) (header left : ℕ)
@@ -86,7 +86,7 @@ pub left-type : (s : State) (number kind : ℕ) (port : Port) (header left : ℕ
 left-type s number kind port header left (inl h) = ap type_of h.0
 left-type s number kind port header left (inr h) = ap type_of h.0 ∙ type-marked header
 
-bit-set : (h : ℕ) → is_pending h ≡ true → bit_at h 40 ≡ 1
+pub bit-set : (h : ℕ) → is_pending h ≡ true → bit_at h 40 ≡ 1
 bit-set h e = grind (arith, nat_tests)
 
 same-true : (x h : ℕ) → x ≡ h → (x == h) ≡ true
@@ -178,12 +178,12 @@ part-filled s mid now number kind port log log-mid log-now left event reply firs
 -- no looks
 pub not-watched : (s : State) (p : ℕ) (log : List Access) → IsWatched s p Sim log s log []
 unfolding run_of
-not-watched s p log = record { news = []; page = refl; run = refl; careful = tt; rest = refl; count = refl; others = λ j w _ _. refl }
+not-watched s p log = record { news = []; page = refl; run = refl; careful = tt; rest = refl; count = refl; others = λ j w _ _. refl; same = λ j _. refl }
 
 pub no-looks : (s : State) (p : ℕ) (log : List Access) (notices : List Notice) → notices ≡ [] → IsShadow s (2 * p) log → IsLooks s p log s log notices 0
 unfolding run_of
 no-looks s p log notices none shadow = record {
-  watched = record { news = []; page = refl; run = ap (λ (ns : List Notice). (s, [], ns)) (sym none); careful = tt; rest = refl; count = refl; others = λ j w _ _. refl };
+  watched = record { news = []; page = refl; run = ap (λ (ns : List Notice). (s, [], ns)) (sym none); careful = tt; rest = refl; count = refl; others = λ j w _ _. refl; same = λ j _. refl };
   shadow = shadow;
   few = omega (arith, ap length none);
   looks = refl;
@@ -196,11 +196,11 @@ header-bytes s p i shape ranges on under b low =
     ranges.own (2 * p) [] inside (8 * (32 * i) + b) 0 (omega (arith, shape.own (2 * p) [] inside, under, low))
 
 pub viewed-looks : (s : State) (p : ℕ) (log : List Access) (now : State) (log-now : List Access) (notices : List Notice) → IsShown s p Sim → IsLooks s p log now log-now notices 16 → IsViewed s p log now log-now notices
-viewed-looks s p log now log-now notices shown h = record { watched = h.watched; shadow = h.shadow; shown = λ _. h.looks; hidden = λ no. absurd (no shown) }
+viewed-looks s p log now log-now notices shown h = record { watched = h.watched; shadow = h.shadow; few = h.few; shown = λ _. h.looks; hidden = λ no. absurd (no shown) }
 
 pub viewed-none : (s : State) (p : ℕ) (log : List Access) (notices : List Notice) → (IsShown s p Sim → ⊥) → notices ≡ [] → IsShadow s (2 * p) log → IsViewed s p log s log notices
 unfolding no-looks
-viewed-none s p log notices hidden none shadow = record { watched = (no-looks s p log notices none shadow).watched; shadow = shadow; shown = λ shown. absurd (hidden shown); hidden = λ _. refl }
+viewed-none s p log notices hidden none shadow = record { watched = (no-looks s p log notices none shadow).watched; shadow = shadow; few = omega (arith, ap length none); shown = λ shown. absurd (hidden shown); hidden = λ _. refl }
 
 -- more accesses after a look
 pub looked-more : (w : ℕ) (log mid now more : List Access) → now ≡ more ++ mid → HasLooked w log mid → HasLooked w log now

@@ -28,7 +28,7 @@ use Rattle.live_board.proofs.Bytes.{word-written, word-elsewhere}
 use Rattle.live_board.proofs.Shown.{with_word, stored-word, still-in}
 
 same-has : (s : State) (o w value : ℕ) → value ≡ word_of s o w → HasWord s o w value s
-same-has s o w value is = record { rest = refl; count = refl; here = sym is; others = λ j x _. refl }
+same-has s o w value is = record { rest = refl; count = refl; here = sym is; others = λ j x _. refl; same = λ j _. refl }
 
 stored-has : (s now : State) (o w value : ℕ) → o < length s.own → length (get_or s.own o []) ≡ 4096 → w < 512 → value < 2 ^ 64 → now ≡ record (with_word s o w value) { slots = now.slots } → HasWord s o w value now
 stored-has s now o w value inside long low small is = record {
@@ -36,6 +36,7 @@ stored-has s now o w value inside long low small is = record {
   count = ap length own ∙ length-set s.own o page;
   here = ap (λ l. word_of (record s { own = l }) o w) own ∙ ap (λ l. word_of (record s { own = l ∷ [] }) 0 w) (get_or-set_same s.own o page [] inside) ∙ word-written (get_or s.own o []) w value (omega (arith, long, low)) small;
   others = λ j x apart. ap (λ l. word_of (record s { own = l }) j x) own ∙ elsewhere j x (cases_eq j o) apart;
+  same = λ j ne. ap (λ l. get_or l j []) own ∙ get_or-set_other s.own o j page [] ne;
 }
   where
     page : List ℕ

@@ -24,9 +24,10 @@ use Rattle.synic_board.specs.Delivery.{delivers, accepted, delivered}
 use Rattle.synic_board.specs.Posts.{post_refusal, posted_at, posted}
 use Rattle.synic_board.specs.Sound.{IsSound, IsWhole, IsMessage}
 use Rattle.synic_board.proofs.keeping.Placements.{page_of, page-long, queue-good}
+use Rattle.live_board.specs.Live.{is_waiting}
 use Rattle.live_board.specs.Words.{word_of}
 use Rattle.live_board.specs.inside.Parts.{Attempts, is_attempted}
-use Rattle.live_board.proofs.Tried.{is_tried, pages-tried, tries-is}
+use Rattle.live_board.proofs.Tried.{pages-tried, tries-is}
 
 -- nothing changes
 pub still-attempts : (s now : State) (p i : ℕ) (made : Bool) → now.own ≡ s.own → made ≡ false → Attempts s p i made now
@@ -38,7 +39,7 @@ still-attempts s now p i made own none = record {
 }
 
 -- a message that is accepted is attempted if the SynIC and its message page are enabled
-accepted-whole : (n : ℕ) (s : State) (p i : ℕ) (m : Message) → IsWhole n s → p < n → i < 16 → IsMessage m → IsWhole n (accepted s p i m).0
+pub accepted-whole : (n : ℕ) (s : State) (p i : ℕ) (m : Message) → IsWhole n s → p < n → i < 16 → IsMessage m → IsWhole n (accepted s p i m).0
 accepted-whole n s p i m h below under good =
     let q : List Message = queue_of s.queues p i ++ m ∷ [] in
     let more : All IsMessage q = All-append IsMessage (queue_of s.queues p i) (m ∷ []) (queue-good n s p i h below under) (All-cons IsMessage m [] good (All-nil IsMessage)) in
@@ -53,7 +54,7 @@ accepted-whole n s p i m h below under good =
       messages = All-set (All IsMessage) s.queues (source_number p i) q more h.messages;
     }
 
-attempted : (n : ℕ) (s : State) (p i : ℕ) (m : Message) → IsWhole n s → p < n → i < 16 → IsMessage m → is_tried (accepted s p i m).0 p i ≡ delivers s p
+attempted : (n : ℕ) (s : State) (p i : ℕ) (m : Message) → IsWhole n s → p < n → i < 16 → IsMessage m → is_waiting (accepted s p i m).0 p i ≡ delivers s p
 attempted n s p i m h below under good =
     let q : List Message = queue_of s.queues p i in
     let there = get_or-set_same s.queues (source_number p i) (q ++ m ∷ []) [] (omega (arith, h.queues)) in

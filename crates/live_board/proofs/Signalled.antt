@@ -147,9 +147,9 @@ part-untouched s now p k log event reply before after empty shadow own one = rec
 }
 
 -- a flag that was set in the live page, and then signalled
-pub part-marked : (s mid now : State) (p : ℕ) (w mask found : ℕ) (log log-mid : List Access) (event : Event) (reply : Reply) (before between after : List Notice) → before ≡ [] → w < 512
+pub part-marked : (s mid now : State) (p : ℕ) (w mask found : ℕ) (log log-mid : List Access) (event : Event) (reply : Reply) (before between after : List Notice) → before ≡ [] → w < 512 → IsShadow s (2 * p + 1) log
     → IsMark s p Sief w mask log mid log-mid found before between → IsStep mid event now reply between after → SetsFlag mid p w mask now → IsPart s p Sief log event now log-mid reply after
-part-marked s mid now p w mask found log log-mid event reply before between after empty low m one f = record {
+part-marked s mid now p w mask found log log-mid event reply before between after empty low shadow m one f = record {
   news = m.watched.news;
   page = m.watched.page;
   run = run-then s mid now p Sief log log-mid [] event reply m.emitted one.emitted m.watched refl one.step
@@ -162,7 +162,7 @@ part-marked s mid now p w mask found log log-mid event reply before between afte
   where
     by : (x : ℕ) → x < 512 → (x ≡ w) ⊎ (x ≢ w) → known log-mid x ≡ word_of now (2 * p + 1) x
     by x small (inl e) = ap (known log-mid) e ∙ m.here ∙ ap (λ n. bit_or n mask) (sym m.word.here) ∙ sym f.here ∙ ap (word_of now (2 * p + 1)) (sym e)
-    by x small (inr ne) = m.others x small ne ∙ sym (f.others (2 * p + 1) x (inr ne))
+    by x small (inr ne) = m.others x ne ∙ shadow x small ∙ sym (m.word.others (2 * p + 1) x (inr ne)) ∙ sym (f.others (2 * p + 1) x (inr ne))
 
 -- a flag that was signalled, and then stored
 pub part-stored : (s now : State) (p : ℕ) (w mask : ℕ) (log log-now : List Access) (event : Event) (reply : Reply) (before after : List Notice) → before ≡ [] → w < 512 → IsShadow s (2 * p + 1) log → IsStep s event now reply before after

@@ -17,13 +17,10 @@ use Rattle.synic_board.specs.Delivery.{delivers, is_slot_empty, placed_head, tri
 use Rattle.synic_board.specs.Sound.{IsWhole, IsMessage}
 use Rattle.synic_board.proofs.keeping.Requests.{either}
 use Rattle.synic_board.proofs.keeping.Placements.{page_of, image_of, queue-good, tail-good}
+use Rattle.live_board.specs.Live.{is_waiting}
 use Rattle.live_board.specs.Words.{word_at, word_of}
 use Rattle.live_board.specs.inside.Parts.{Attempts}
 use Rattle.live_board.proofs.Bytes.{bit-here, bit-elsewhere, slot-elsewhere}
-
--- an attempt at this source is made
-abbrev pub is_tried : State → ℕ → ℕ → Bool
-is_tried s p i = delivers s p && nat_lt 0 (length (queue_of s.queues p i))
 
 -- raising a vector changes no page
 pub own-requested : (s : State) (p v : ℕ) → (requested s p v).0.own ≡ s.own
@@ -35,21 +32,21 @@ own-raised s p i = elim (raised_by (regs_of s p) i) as (λ o. (option_map_or (re
 -- the own pages after an attempt
 abbrev pub Pages : State → ℕ → ℕ → List (List ℕ) → Type 0
 Pages s p i own =
-    (is_tried s p i ≡ false × own ≡ s.own)
-    ⊎ ((is_tried s p i ≡ true)
+    (is_waiting s p i ≡ false × own ≡ s.own)
+    ⊎ ((is_waiting s p i ≡ true)
     × ((is_slot_empty s p i ≡ false × own ≡ set s.own (2 * p) (with_bit (page_of s p) (pending_place i) 0))
     ⊎ (is_slot_empty s p i ≡ true × ((bytes : List ℕ) × (length bytes ≡ 256) × (own ≡ set s.own (2 * p) (with_slot (page_of s p) i bytes))))))
 
 pub pages-tried : (n : ℕ) (s : State) (p i : ℕ) → IsWhole n s → p < n → i < 16 → Pages s p i (tried s p i).0.own
 unfolding tried
 pages-tried n s p i h on under =
-    either (λ (e : Effect). Pages s p i e.0.own) (is_tried s p i) _ _
+    either (λ (e : Effect). Pages s p i e.0.own) (is_waiting s p i) _ _
     (λ tries. either (λ (e : Effect). Pages s p i e.0.own) (is_slot_empty s p i) _ _
     (λ empty. inr (tries, inr (empty, head (queue_of s.queues p i) refl (some tries))))
     (λ full. inr (tries, inl (full, refl))))
     (λ none. inl (none, refl))
   where
-    some : is_tried s p i ≡ true → nat_lt 0 (length (queue_of s.queues p i)) ≡ true
+    some : is_waiting s p i ≡ true → nat_lt 0 (length (queue_of s.queues p i)) ≡ true
     some tries = second (delivers s p) _ tries
       where
         second : (a b : Bool) → (a && b) ≡ true → b ≡ true
@@ -73,7 +70,7 @@ words own j x = word_at (get_or own j []) (8 * x)
 no-both : {b : Bool} → b ≡ true → b ≡ false → ⊥
 no-both {b} t f = let e : true ≡ false = sym t ∙ f in cc
 
-pub tries-is : (s now : State) (p i : ℕ) → 2 * p < length s.own → length (page_of s p) ≡ 4096 → i < 16 → ((b : ℕ) → b < 8 → get_or (page_of s p) (8 * (32 * i) + b) 0 < 256) → Pages s p i now.own → Attempts s p i (is_tried s p i) now
+pub tries-is : (s now : State) (p i : ℕ) → 2 * p < length s.own → length (page_of s p) ≡ 4096 → i < 16 → ((b : ℕ) → b < 8 → get_or (page_of s p) (8 * (32 * i) + b) 0 < 256) → Pages s p i now.own → Attempts s p i (is_waiting s p i) now
 unfolding words
 tries-is s now p i inside long under bytes (inl (none, own)) = record {
   count = ap length own;

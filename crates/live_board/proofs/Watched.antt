@@ -40,37 +40,48 @@ watched-by s p k w found log now-log news now notices shows careful page passed 
   rest = word.rest;
   count = word.count;
   others = λ j x _ ne. word.others j x (inl ne);
+  same = word.same;
 }
 
-pub look-is : (s : State) (p : ℕ) (k : Kind) (w found : ℕ) (log log-now : List Access) (now : State) (before after : List Notice) → w < 512 → IsShadow s (overlay_of p k) log → log-now ≡ Load w found ∷ log
+pub look-is : (s : State) (p : ℕ) (k : Kind) (w found : ℕ) (log log-now : List Access) (now : State) (before after : List Notice) → known log w ≡ word_of s (overlay_of p k) w → log-now ≡ Load w found ∷ log
     → IsPassedOn s p k w found now before after → IsLook s p k w log now log-now found before after
 unfolding watched-by
-look-is s p k w found log log-now now before after low shadow page on = record {
+look-is s p k w found log log-now now before after is page on = record {
   emitted = on.emitted;
   notices = on.notices;
   few = on.few;
   page = page;
-  watched = watched-by s p k w found log log-now (Load w found ∷ []) now on.emitted (look-shows s p k w found log (shadow w low)) tt page on.passed on.word;
+  watched = watched-by s p k w found log log-now (Load w found ∷ []) now on.emitted (look-shows s p k w found log is) tt page on.passed on.word;
   news = refl;
   word = on.word;
-  shadow = λ x small. ap (λ l. known l x) page ∙ by x small (cases_eq x w);
+  here = here;
+  others = others;
+  shadow = λ shadow x small. by shadow x small (cases_eq x w);
 }
   where
-    by : (x : ℕ) → x < 512 → (x ≡ w) ⊎ (x ≢ w) → known (Load w found ∷ log) x ≡ word_of now (overlay_of p k) x
-    by x small (inl here) = rw (same x w here) (sym on.word.here ∙ ap (word_of now (overlay_of p k)) (sym here))
-    by x small (inr other) = rw (apart x w other) (shadow x small ∙ sym (on.word.others (overlay_of p k) x (inr other)))
+    here : known log-now w ≡ found
+    here = ap (λ l. known l w) page ∙ rw (same w w refl) refl
 
-pub mark-is : (s : State) (p : ℕ) (k : Kind) (w mask found : ℕ) (log log-now : List Access) (now : State) (before after : List Notice) → w < 512 → IsShadow s (overlay_of p k) log → log-now ≡ FetchOr w mask found ∷ log
+    others : (x : ℕ) → x ≢ w → known log-now x ≡ known log x
+    others x other = ap (λ l. known l x) page ∙ rw (apart x w other) refl
+
+    by : IsShadow s (overlay_of p k) log → (x : ℕ) → x < 512 → (x ≡ w) ⊎ (x ≢ w) → known log-now x ≡ word_of now (overlay_of p k) x
+    by shadow x small (inl e) = ap (known log-now) e ∙ here ∙ sym on.word.here ∙ ap (word_of now (overlay_of p k)) (sym e)
+    by shadow x small (inr ne) = others x ne ∙ shadow x small ∙ sym (on.word.others (overlay_of p k) x (inr ne))
+
+pub mark-is : (s : State) (p : ℕ) (k : Kind) (w mask found : ℕ) (log log-now : List Access) (now : State) (before after : List Notice) → known log w ≡ word_of s (overlay_of p k) w → log-now ≡ FetchOr w mask found ∷ log
     → IsPassedOn s p k w found now before after → IsMark s p k w mask log now log-now found before after
-mark-is s p k w mask found log log-now now before after low shadow page on = record {
+unfolding watched-by
+mark-is s p k w mask found log log-now now before after is page on = record {
   emitted = on.emitted;
   notices = on.notices;
   few = on.few;
   page = page;
-  watched = watched-by s p k w found log log-now (FetchOr w mask found ∷ []) now on.emitted (mark-shows s p k w mask found log (shadow w low)) tt page on.passed on.word;
+  watched = watched-by s p k w found log log-now (FetchOr w mask found ∷ []) now on.emitted (mark-shows s p k w mask found log is) tt page on.passed on.word;
+  news = refl;
   word = on.word;
   here = ap (λ l. known l w) page ∙ rw (same w w refl) refl;
-  others = λ x small other. ap (λ l. known l x) page ∙ rw (apart x w other) (shadow x small ∙ sym (on.word.others (overlay_of p k) x (inr other)));
+  others = λ x other. ap (λ l. known l x) page ∙ rw (apart x w other) refl;
 }
 
 -- a list of at most one notice is appended by its first

@@ -1,4 +1,5 @@
 pub mod Words
 pub mod Live
-pub mod Quiet
+pub mod Timers
+pub mod Acting
 pub mod inside

@@ -1,20 +1,25 @@
 -- A board with live pages, and what it makes of the words that it finds there.
-use Rattle.std.specs.Prelude.{◌≡◌, ℕ, zero, suc, ◌+◌, ◌*◌, ◌/◌, ◌<◌, ◌==◌, List, [], ◌∷◌, ◌++◌, map, length, slice_index_or, slice_set, if◌then◌else◌}
+use Rattle.std.specs.Prelude.{◌≡◌, ◌≢◌, ◌⊎◌, ℕ, zero, suc, ◌+◌, ◌*◌, ◌/◌, ◌<◌, ◌==◌, ◌&&◌, ◌||◌, Bool, true, false, nat_lt, nat_le, bit_or, List, [], ◌∷◌, ◌++◌, map, length, slice_index_or, slice_set, if◌then◌else◌}
 use Rattle.std.specs.Int.{to_le_bytes, w64}
+use Rattle.std.specs.Option.{option_map_or}
+use Rattle.board_terms.specs.Dues.{least}
 use Rattle.board_terms.specs.declared.pages.Kind.{Kind}
 use Rattle.board_terms.specs.declared.pages.Kind.TheVariants as kind
 use Rattle.board_terms.specs.declared.pages.Owner.{Owner}
 use Rattle.board_terms.specs.declared.pages.Owner.TheVariants as owner
 use Rattle.board_terms.specs.declared.notices.Notice.{Notice}
 use Rattle.gpa_space.specs.Space.{page_of, overlay_of, owner_of}
+use Rattle.message_queues.specs.Queues.{queue_of}
+use Rattle.stimer_bank.specs.Bank.{dues}
 use Rattle.synic_board.specs.declared.event.Event.{Event}
 use Rattle.synic_board.specs.declared.event.Event.TheVariants as event
 use Rattle.synic_board.specs.declared.event.Reply.{Reply}
 use Rattle.synic_board.specs.declared.event.Reply.TheVariants as reply
-use Rattle.synic_board.specs.State.{State, BoardModel, regs_of, space_of}
+use Rattle.synic_board.specs.State.{State, BoardModel, processors, regs_of, space_of, bank_of}
+use Rattle.synic_board.specs.Delivery.{delivers}
 use Rattle.synic_board.specs.Performing.{Performs}
 use Rattle.synic_board.specs.Run.{run_of}
-use Rattle.live_pages.specs.Slot.{known, type_of}
+use Rattle.live_pages.specs.Slot.{known, type_of, is_pending, header, pending_mask}
 use Rattle.live_pages.specs.declared.access.Access.{Access}
 use Rattle.live_pages.specs.declared.access.Access.TheVariants.{Load, FetchOr, Store}
 use Rattle.live_board.specs.Words.{word_of}
@@ -99,6 +104,61 @@ pub record IsQuietly (old : LiveModel) (event : Event) (now : LiveModel) (reply 
 abbrev pub HasLooked : ℕ → List Access → List Access → Type 0
 HasLooked w log now = (later : List Access) × (found : ℕ) × (now ≡ later ++ Load w found ∷ log)
 
+-- stores alone
+abbrev pub AreStores : List Access → Type 0
+AreStores [] = Unit {0}
+AreStores (Store w value ∷ news) = AreStores news
+AreStores (Load w found ∷ news) = ⊥
+AreStores (FetchOr w mask found ∷ news) = ⊥
+
+-- a delivery attempt at a source has a message to deliver
+abbrev pub is_waiting : State → ℕ → ℕ → Bool
+is_waiting s p i = delivers s p && nat_lt 0 (length (queue_of s.queues p i))
+
+-- a look at the header of a slot, and a mark if it is occupied and not marked
+abbrev pub IsProbe : ℕ → List Access → Type 0
+IsProbe i news = (found : ℕ)
+    × (((news ≡ Load (header i) found ∷ []) × ((type_of found ≡ 0) ⊎ (is_pending found ≡ true)))
+    ⊎ ((marked : ℕ) × (news ≡ FetchOr (header i) pending_mask marked ∷ Load (header i) found ∷ []) × (type_of found ≢ 0) × (is_pending found ≡ false)))
+
+abbrev pub ProbesIf : Bool → ℕ → List Access → Type 0
+ProbesIf true i news = IsProbe i news
+ProbesIf false i news = news ≡ []
+
+-- probes of the slots below n whose sources wait, in order
+abbrev pub AreProbes : State → ℕ → ℕ → List Access → Type 0
+AreProbes s p zero news = news ≡ []
+AreProbes s p (suc n) news = (one : List Access) × (rest : List Access) × (news ≡ one ++ rest) × ProbesIf (is_waiting s p n) n one × AreProbes s p n rest
+
+-- the new accesses are probes of the slots of all sources that wait, and then stores
+abbrev pub HasProbed : State → ℕ → List Access → List Access → Type 0
+HasProbed s p log now = (stores : List Access) × (probes : List Access) × (now ≡ stores ++ (probes ++ log)) × AreStores stores × AreProbes s p 16 probes
+
+-- the guest's store that a mark after an event shows, if the event has made the mark: the word is another one than the event left
+abbrev pub marked_by : State → ℕ → Access → List Access → List Event
+marked_by s p (Load w found) log = []
+marked_by s p (FetchOr w mask found) log = if bit_or found mask == bit_or (known log w) mask then [] else store_of s p kind.Sim w (bit_or found mask) ∷ []
+marked_by s p (Store w value) log = []
+
+-- the guest's stores that some marks after an event show
+abbrev pub explained_after : State → ℕ → List Access → List Access → List Event
+explained_after s p [] log = []
+explained_after s p (a ∷ marks) log = explained_after s p marks log ++ marked_by s p a (marks ++ log)
+
+-- marks alone
+abbrev pub AreMarks : List Access → Type 0
+AreMarks [] = Unit {0}
+AreMarks (FetchOr w mask found ∷ marks) = (i : ℕ) × (w ≡ header i) × (mask ≡ pending_mask) × AreMarks marks
+AreMarks (Load w found ∷ marks) = ⊥
+AreMarks (Store w value ∷ marks) = ⊥
+
+-- one of some marks found an empty slot: the guest may not see MessagePending there
+abbrev pub finds_empty : List Access → Bool
+finds_empty [] = false
+finds_empty (FetchOr w mask found ∷ marks) = (type_of found == 0) || finds_empty marks
+finds_empty (Load w found ∷ marks) = finds_empty marks
+finds_empty (Store w value ∷ marks) = finds_empty marks
+
 -- loads of the headers of the slots below n, in order
 abbrev pub AreLooks : ℕ → List Access → Type 0
 AreLooks zero news = news ≡ []
@@ -112,3 +172,69 @@ pub record IsObserved (p : ℕ) (old : LiveModel) (now : LiveModel) (notices : L
   pub shown : IsShown old.board.state p kind.Sim → AreLooks 16 news
   pub hidden : (IsShown old.board.state p kind.Sim → ⊥) → news ≡ []
   pub run : run_of old.board.state (explained old.board.state p kind.Sim news (log_of old p kind.Sim)) ≡ (now.board.state, all_done (explained old.board.state p kind.Sim news (log_of old p kind.Sim)), notices)
+
+-- what a write of a timer may access in a message page: a look at each slot, then the event and stores, then marks of slots that the
+-- event marked and the host did not
+pub record AreTimed (s : State) (p : ℕ) (looks stores marks log : List Access) : Type 0 where
+  pub shown : IsShown s p kind.Sim → AreLooks 16 looks
+  pub hidden : (IsShown s p kind.Sim → ⊥) → (looks ≡ []) × (marks ≡ [])
+  pub stored : AreStores stores
+  pub marked : AreMarks marks
+  pub careful : IsShown s p kind.Sim → AreCareful kind.Sim stores (looks ++ log)
+
+-- a live board performs a write of a timer of a processor: the reference model performs the guest's stores that the looks show, then
+-- the event, and then the guest's stores that the marks show. The processor is owed an EOM if a mark found an empty slot
+pub record IsTimed (p : ℕ) (old : LiveModel) (event : Event) (now : LiveModel) (reply : Reply) (owed : Bool) (notices : List Notice) : Type 0 where
+  pub looks : List Access
+  pub stores : List Access
+  pub marks : List Access
+  pub are : AreTimed old.board.state p looks stores marks (log_of old p kind.Sim)
+  pub pages : now.pages ≡ slice_set old.pages (2 * p) (marks ++ (stores ++ (looks ++ log_of old p kind.Sim)))
+  pub run : run_of old.board.state (explained old.board.state p kind.Sim looks (log_of old p kind.Sim) ++ event ∷ explained_after old.board.state p marks (stores ++ (looks ++ log_of old p kind.Sim)))
+      ≡ (now.board.state, all_done (explained old.board.state p kind.Sim looks (log_of old p kind.Sim)) ++ reply ∷ all_done (explained_after old.board.state p marks (stores ++ (looks ++ log_of old p kind.Sim))), notices)
+  pub owes : owed ≡ finds_empty marks
+
+-- some timer is due at a time
+abbrev pub is_any_due : State → ℕ → Bool
+is_any_due s moment = option_map_or (λ r. nat_le r.0 moment) (least (dues (bank_of s))) false
+
+-- the guest's stores that looks at the m message pages from k on show, and those that marks there show, the last page first
+abbrev pub looked_from : State → List (List Access) → (ℕ → List Access) → ℕ → ℕ → List Event
+looked_from s pages looks k zero = []
+looked_from s pages looks k (suc m) = explained s k kind.Sim (looks k) (slice_index_or pages (2 * k) []) ++ looked_from s pages looks (suc k) m
+
+abbrev pub marked_from : State → List (List Access) → (ℕ → List Access) → (ℕ → List Access) → (ℕ → List Access) → ℕ → ℕ → List Event
+marked_from s pages looks stores marks k zero = []
+marked_from s pages looks stores marks k (suc m) = marked_from s pages looks stores marks (suc k) m ++ explained_after s k (marks k) (stores k ++ (looks k ++ slice_index_or pages (2 * k) []))
+
+-- a live board performs a tick. If a timer is due, it may access at each message page what a write of a timer may access: the reference
+-- model performs the guest's stores that the looks show, then the tick, and then the guest's stores that the marks show, whose notices
+-- are `late`. A processor is owed an EOM if a mark at its page found an empty slot. If none is due, nothing is accessed
+pub record IsTicked (old : LiveModel) (moment : ℕ) (now : LiveModel) (reply : Reply) (owed : List Bool) (notices late : List Notice) : Type 0 where
+  pub looks : ℕ → List Access
+  pub stores : ℕ → List Access
+  pub marks : ℕ → List Access
+  pub due : is_any_due old.board.state moment ≡ true → (p : ℕ) → p < processors old.board.state → AreTimed old.board.state p (looks p) (stores p) (marks p) (log_of old p kind.Sim)
+  pub idle : is_any_due old.board.state moment ≡ false → (p : ℕ) → (looks p ≡ []) × (stores p ≡ []) × (marks p ≡ [])
+  pub logs : (p : ℕ) → p < processors old.board.state → log_of now p kind.Sim ≡ marks p ++ (stores p ++ (looks p ++ log_of old p kind.Sim))
+  pub flags : (p : ℕ) → log_of now p kind.Sief ≡ log_of old p kind.Sief
+  pub run : run_of old.board.state (looked_from old.board.state old.pages looks 0 (processors old.board.state) ++ event.Tick moment ∷ marked_from old.board.state old.pages looks stores marks 0 (processors old.board.state))
+      ≡ (now.board.state, all_done (looked_from old.board.state old.pages looks 0 (processors old.board.state)) ++ reply ∷ all_done (marked_from old.board.state old.pages looks stores marks 0 (processors old.board.state)), notices ++ late)
+  pub owes : (p : ℕ) → p < processors old.board.state → slice_index_or owed p false ≡ finds_empty (marks p)
+
+-- stores of zero to the words below n, in order
+abbrev pub AreClears : ℕ → List Access → Type 0
+AreClears zero news = news ≡ []
+AreClears (suc n) news = (rest : List Access) × (news ≡ Store n 0 ∷ rest) × AreClears n rest
+
+-- a live board resets a processor: a look at the header of each slot of its message page, if the guest sees it, the event after the
+-- guest's stores that these show, and stores of zero to all words of both its pages
+pub record IsReset (p : ℕ) (old : LiveModel) (now : LiveModel) (reply : Reply) (notices : List Notice) : Type 0 where
+  pub looks : List Access
+  pub messages : List Access
+  pub flags : List Access
+  pub shown : IsShown old.board.state p kind.Sim → AreLooks 16 looks
+  pub hidden : (IsShown old.board.state p kind.Sim → ⊥) → looks ≡ []
+  pub clears : AreClears 512 messages × AreClears 512 flags
+  pub pages : now.pages ≡ slice_set (slice_set old.pages (2 * p) (messages ++ (looks ++ log_of old p kind.Sim))) (2 * p + 1) (flags ++ log_of old p kind.Sief)
+  pub run : run_of old.board.state (explained old.board.state p kind.Sim looks (log_of old p kind.Sim) ++ event.Reset p ∷ []) ≡ (now.board.state, all_done (explained old.board.state p kind.Sim looks (log_of old p kind.Sim)) ++ reply ∷ [], notices)

@@ -1,20 +1,27 @@
 // What a guest can do by its stores to live pages, and what it cannot.
-ghost use Rattle.std.specs.Prelude.{◌≡◌, ℕ, List};
+ghost use Rattle.std.specs.Prelude.{◌≡◌, ℕ, ◌++◌, Bool, List};
 ghost use Rattle.std.specs.List.{All};
 ghost use Rattle.board_terms.specs.declared.notices.Notice.{Notice};
 ghost use Rattle.board_terms.specs.declared.pages.Kind.{Kind};
+ghost use Rattle.board_terms.specs.declared.pages.Kind.TheVariants.{Sim};
 ghost use Rattle.synic_board.specs.declared.event.Event.{Event};
 ghost use Rattle.synic_board.specs.declared.event.Reply.{Reply};
 ghost use Rattle.synic_board.specs.State.{State};
 ghost use Rattle.synic_board.specs.Locations.{Conserves};
 ghost use Rattle.synic_board.specs.Sound.{IsSound, PayloadFits};
 ghost use Rattle.live_pages.specs.declared.access.Access.{Access};
-ghost use Rattle.live_board.specs.Live.{LiveModel, IsLive, IsObserved, IsOwnStore, explained};
+ghost use Rattle.live_board.specs.Live.{LiveModel, IsLive, IsQuietly, IsTimed, IsTicked, IsReset, IsObserved, IsOwnStore, explained, explained_after};
 
 /// Whatever the host finds in a live page, the events that explain it are stores of words of that
 /// page, where the guest sees it. So what is proved of all events of all guests holds of them.
 pub fn a_guest_only_stores()
-    ensures { (s : State) (p : ℕ) (k : Kind) (news log : List Access) → All (IsOwnStore s p k) (explained s p k news log) }
+    ensures before { (s : State) (p : ℕ) (k : Kind) (news log : List Access) → All (IsOwnStore s p k) (explained s p k news log) }
+    ensures after { (s : State) (p : ℕ) (marks log : List Access) → All (IsOwnStore s p Sim) (explained_after s p marks log) }
+{}
+
+/// An event that accesses no live page is one whose accesses are none.
+pub fn an_event_without_accesses_is_live()
+    ensures { (old now : LiveModel) (event : Event) (reply : Reply) (notices : List Notice) → IsQuietly old event now reply notices → IsLive old event now reply notices }
 {}
 
 /// Whatever a guest stores meanwhile, an event of a live board conserves the messages: each accepted
@@ -22,6 +29,23 @@ pub fn a_guest_only_stores()
 pub fn an_event_conserves_messages()
     ensures { (old now : LiveModel) (event : Event) (reply : Reply) (notices : List Notice) → IsSound old.board.state → PayloadFits event → IsLive old event now reply notices
         → IsSound now.board.state × Conserves old.board.state now.board.state notices }
+{}
+
+/// The same for a write of a timer.
+pub fn a_timer_write_conserves_messages()
+    ensures { (p : ℕ) (old now : LiveModel) (event : Event) (reply : Reply) (owed : Bool) (notices : List Notice) → IsSound old.board.state → PayloadFits event → IsTimed p old event now reply owed notices
+        → IsSound now.board.state × Conserves old.board.state now.board.state notices }
+{}
+
+/// The same for a tick.
+pub fn a_tick_conserves_messages()
+    ensures { (old now : LiveModel) (moment : ℕ) (reply : Reply) (owed : List Bool) (notices late : List Notice) → IsSound old.board.state → IsTicked old moment now reply owed notices late
+        → IsSound now.board.state × Conserves old.board.state now.board.state (notices ++ late) }
+{}
+
+/// The same for a reset.
+pub fn a_reset_conserves_messages()
+    ensures { (p : ℕ) (old now : LiveModel) (reply : Reply) (notices : List Notice) → IsSound old.board.state → IsReset p old now reply notices → IsSound now.board.state × Conserves old.board.state now.board.state notices }
 {}
 
 /// The same for a look at the slots of a processor.

@@ -1,20 +1,26 @@
 // A board with live pages.
-ghost use Rattle.std.specs.Prelude.{◌≡◌, ◌<◌, ◌≤◌, ◌+◌, ◌*◌, [], length, IfOk, IsTrue, Some};
+ghost use Rattle.std.specs.Prelude.{◌≡◌, ℕ, ◌<◌, ◌≤◌, ◌+◌, ◌*◌, [], length, false, IfOk, IfErr, IsTrue, None, Some};
 ghost use Rattle.board_terms.specs.declared.pages.Kind.TheVariants.{Sim};
 ghost use Rattle.gpa_space.specs.Space.{overlay_of};
 ghost use Rattle.synic_board.specs.declared.event.Event.TheVariants.{Post, Signal};
 ghost use Rattle.synic_board.specs.State.{processors, ports_of};
+ghost use Rattle.synic_board.specs.Step.{step};
 ghost use Rattle.event_ports.specs.Ports.{port_at};
 ghost use Rattle.event_ports.specs.declared.ports.Port.{Port};
-ghost use Rattle.live_board.specs.Live.{IsShown, HasLooked, log_of, IsLive, IsQuietly, IsObserved, Shadows};
-ghost use Rattle.live_board.specs.Quiet.{is_quiet};
+ghost use Rattle.live_board.specs.Live.{IsShown, HasLooked, HasProbed, log_of, IsLive, IsQuietly, IsTimed, IsTicked, IsReset, IsObserved, Shadows};
+ghost use Rattle.live_board.specs.Timers.{is_timer_write, timer_of};
+ghost use Rattle.live_board.specs.inside.Kinds.{is_eom, eom_of};
 ghost use Rattle.live_board.specs.inside.Parts.{IsShadow};
 
+use crate::ending::{end_on, ended_by};
 use crate::observing::view_slots;
 use crate::posting::post_to;
+use crate::resetting::{clear, reset_messages};
 use crate::signalling::signal_to;
+use crate::ticking::{is_any_due, tick_from};
+use crate::timing::{time_on, timed_by};
 use crate::words::word_at;
-use board_terms::{Kind, Notices, Vp};
+use board_terms::{Kind, Moment, Notices, Vp};
 use live_pages::{LivePage, WORDS};
 use std::alloc::{AllocError, Global};
 use std::marker::Model;
@@ -88,13 +94,14 @@ fn copy_pages(alloc: Global, board: &Board) -> Result<Vec<LivePage>, AllocError>
 impl LiveBoard {
     /// A live board around a board of any kind, with live pages that have the words of the board's own
     /// pages: two blocks of 4096 bytes for each processor, in the order of visibility, the message
-    /// page first. Allocates all memory that events need. If an allocation fails, the board is
-    /// dropped.
-    pub fn open(alloc: Global, board: Board) -> Result<LiveBoard, AllocError>
-        ensures { IfOk result (λ live. live.board ≡ board) }
+    /// page first. Allocates all memory that events need. If an allocation fails, returns the board.
+    pub fn open(alloc: Global, board: Board) -> Result<LiveBoard, Board>
+        ensures live { IfOk result (λ live. live.board ≡ board) }
+        ensures kept { IfErr result (λ back. back ≡ board) }
     {
-        let scratch = Notices::open(alloc)?;
-        let pages = copy_pages(alloc, &board)?;
+        let (Ok(scratch), Ok(pages)) = (Notices::open(alloc), copy_pages(alloc, &board)) else {
+            return Err(board);
+        };
         Ok(LiveBoard {
             board,
             pages,
@@ -147,13 +154,116 @@ impl LiveBoard {
         signal_to(board, page, &target, port, flag, scratch, notices)
     }
 
-    /// Performs an event that changes no message page and no event flags page (`is_quiet`), without an
-    /// access to a live page. Replaces `notices` by those of the event.
-    pub fn perform(&mut self, event: &Event, notices: &mut Notices) -> Reply
-        requires { IsTrue (is_quiet event.now) }
+    /// Performs an event that changes no own page, without an access to a live page.
+    pub(crate) fn perform_apart(&mut self, event: &Event, notices: &mut Notices) -> Reply
+        requires { (step self.old.board.state event.now).0.own ≡ self.old.board.state.own }
         ensures { IsQuietly self.old event.now self.new result notices.new }
     {
-        self.board.perform(event, notices)
+        let LiveBoard { board, .. } = self;
+        board.perform(event, notices)
+    }
+
+    /// Performs an EOM. Before it the host looks at the header of the slot of each source that waits:
+    /// the SynIC and its message page are enabled, and a message is queued. If the slot is occupied and
+    /// not marked, the host sets MessagePending by an atomic or, and what that found decides. After it,
+    /// the host stores the messages that the board placed, each header last. Replaces `notices` by those
+    /// of the guest's stores that were found, and then those of the event.
+    pub(crate) fn end_message(&mut self, event: &Event, notices: &mut Notices) -> Reply
+        requires { IsTrue (is_eom event.now) }
+        ensures live { IsLive self.old event.now self.new result notices.new }
+        ensures probed { (p : ℕ) → eom_of self.old.board.state event.now ≡ Some p → IsShown self.old.board.state p Sim → HasProbed self.old.board.state p (log_of self.old p Sim) (log_of self.new p Sim) }
+    {
+        let LiveBoard {
+            board,
+            pages,
+            scratch,
+        } = self;
+        board.facts();
+        notices.clear();
+        let Some(vp) = ended_by(board, event) else {
+            return board.perform(event, notices);
+        };
+        let page = &mut pages[index_of(vp, Kind::Sim)];
+        end_on(board, page, vp, event, scratch, notices)
+    }
+
+    /// Performs a write of a timer's CONFIG or COUNT, which may send a message at once. If the guest sees
+    /// the message page of the processor, the host looks at the header of each slot first. After the
+    /// event it stores a message that the board placed, the header last, or sets MessagePending by an
+    /// atomic or where the board has set it. If the guest has emptied that slot since the look, it may
+    /// not see MessagePending: then the second answer is true, and the caller performs an EOM of the
+    /// processor, which places the message. Replaces `notices` by those of the guest's stores that the
+    /// looks found, of the event, and of the stores that the or found.
+    pub fn write_timer(&mut self, event: &Event, notices: &mut Notices) -> (Reply, bool)
+        requires { IsTrue (is_timer_write event.now) }
+        ensures timed { (p : ℕ) → timer_of self.old.board.state event.now ≡ Some p → IsTimed p self.old event.now self.new result.0 result.1 notices.new }
+        ensures refused { timer_of self.old.board.state event.now ≡ None → IsQuietly self.old event.now self.new result.0 notices.new × (result.1 ≡ false) }
+    {
+        let LiveBoard {
+            board,
+            pages,
+            scratch,
+        } = self;
+        board.facts();
+        notices.clear();
+        let Some(vp) = timed_by(board, event) else {
+            return (board.perform(event, notices), false);
+        };
+        let page = &mut pages[index_of(vp, Kind::Sim)];
+        time_on(board, page, vp, event, scratch, notices)
+    }
+
+    /// Moves the clock, in units of 100 ns. If a timer is due, the host looks at the header of each slot
+    /// of each message page that the guest sees first. After the tick it stores the messages that the
+    /// board placed, each header last, and sets MessagePending by an atomic or where the board has set
+    /// it. If the guest has emptied such a slot since the look, it may not see MessagePending: then the
+    /// answer for that processor is true, and the caller performs an EOM of it, which places the
+    /// message. Replaces `notices` by those of the guest's stores that the looks found, and of the tick,
+    /// and `late` by those of the stores that the ors found.
+    pub fn tick(
+        &mut self,
+        moment: Moment,
+        notices: &mut Notices,
+        late: &mut Notices,
+    ) -> (Reply, [bool; 8])
+        ensures { IsTicked self.old moment self.new result.0 result.1 notices.new late.new }
+    {
+        let LiveBoard {
+            board,
+            pages,
+            scratch,
+        } = self;
+        board.facts();
+        notices.clear();
+        late.clear();
+        let event = Event::Tick { moment };
+        if !is_any_due(board, moment) {
+            return (board.perform(&event, notices), [false; 8]);
+        }
+        tick_from(board, pages, 0, &event, scratch, notices, late)
+    }
+
+    /// Resets a processor on the board. The host looks at the header of each slot first, so that what
+    /// the guest has consumed is not withdrawn, and stores zero to all words of both live pages after
+    /// the event. Replaces `notices` by those of the guest's stores that were found, and then those of
+    /// the event.
+    pub fn reset(&mut self, vp: Vp, notices: &mut Notices) -> Reply
+        requires { vp < processors self.old.board.state }
+        ensures { IsReset vp self.old self.new result notices.new }
+    {
+        let LiveBoard {
+            board,
+            pages,
+            scratch,
+        } = self;
+        board.facts();
+        notices.clear();
+        let event = Event::Reset { vp: vp.number() };
+        let messages = &mut pages[index_of(vp, Kind::Sim)];
+        let reply = reset_messages(board, messages, vp, &event, scratch, notices);
+        let flags = &mut pages[index_of(vp, Kind::Sief)];
+        clear(flags);
+        reply
     }
 
     /// Looks at the header of each message slot of a processor, if the guest sees its message page,

@@ -14,7 +14,7 @@ use synic_board::Board;
 const SLOTS: usize = 16;
 
 /// Looks at the header of each slot of a message page that the guest sees.
-fn look_at_slots(
+pub(crate) fn look_at_slots(
     board: &mut Board,
     page: &mut LivePage,
     vp: Vp,

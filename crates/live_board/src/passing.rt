@@ -2,10 +2,11 @@
 ghost use Rattle.std.specs.Prelude.{◌≡◌, ◌<◌, ◌↔◌, ◌^◌, IsTrue, length};
 ghost use Rattle.gpa_space.specs.Space.{overlay_of};
 ghost use Rattle.synic_board.specs.State.{processors};
+ghost use Rattle.live_pages.specs.Slot.{known};
 ghost use Rattle.live_board.specs.Live.{number_at, IsShown};
 ghost use Rattle.live_board.specs.inside.Parts.{IsPassed};
 ghost use Rattle.live_board.specs.Words.{word_of};
-ghost use Rattle.live_board.specs.inside.Parts.{IsShadow, IsPassedOn, IsLook, IsMark};
+ghost use Rattle.live_board.specs.inside.Parts.{IsPassedOn, IsLook, IsMark};
 
 use crate::words::word_at;
 use board_terms::{Kind, Notices, Owner, Vp};
@@ -76,7 +77,7 @@ fn store_found(
 
 /// The same, and appends the notices of the store to those that are there, with the help of a
 /// second list.
-fn pass(
+pub(crate) fn pass(
     board: &mut Board,
     vp: Vp,
     kind: Kind,
@@ -111,7 +112,7 @@ pub(crate) fn look(
     requires on { vp < processors board.old.state }
     requires word { word < 512 }
     requires shown { IsShown board.old.state vp kind }
-    requires shadow { IsShadow board.old.state (overlay_of vp kind) page.old }
+    requires known { known page.old word ≡ word_of board.old.state (overlay_of vp kind) word }
     requires capacity { length notices.old < 320 }
     ensures { IsLook board.old.state vp kind word page.old board.new.state page.new result notices.old notices.new }
 {
@@ -135,7 +136,7 @@ pub(crate) fn mark(
     requires on { vp < processors board.old.state }
     requires word { word < 512 }
     requires shown { IsShown board.old.state vp kind }
-    requires shadow { IsShadow board.old.state (overlay_of vp kind) page.old }
+    requires known { known page.old word ≡ word_of board.old.state (overlay_of vp kind) word }
     requires capacity { length notices.old < 320 }
     ensures { IsMark board.old.state vp kind word mask page.old board.new.state page.new result notices.old notices.new }
 {

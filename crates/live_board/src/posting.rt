@@ -12,13 +12,14 @@ ghost use Rattle.live_board.specs.inside.Parts.{IsShadow, IsFound, IsStep, IsInt
 use crate::attempt::is_attempted;
 use crate::filling::{fill, slot_words};
 use crate::passing::{is_shown, look, mark, own_word};
+use crate::performing::append;
 use board_terms::{Kind, Notices};
 use event_ports::Port;
 use live_pages::LivePage;
 use synic_board::{Board, Reply};
 
 /// MessagePending, in the header of a slot.
-const PENDING: u64 = 1 << 40;
+pub(crate) const PENDING: u64 = 1 << 40;
 
 /// Whether the type in a header is 0.
 pub(crate) fn is_empty(header: u64) -> bool
@@ -28,14 +29,14 @@ pub(crate) fn is_empty(header: u64) -> bool
 }
 
 /// Whether MessagePending is set in a header.
-fn is_pending(header: u64) -> bool
+pub(crate) fn is_pending(header: u64) -> bool
     ensures { result ≡ is_pending header }
 {
     (header >> 40) & 1 == 1
 }
 
 /// Looks at the header of a port's slot, and marks it if a post would find it occupied and not
-/// marked. Returns the header as it was found last, and as the host left it.
+/// marked. Returns the header that the last access found, and the one that the host left.
 fn find_header(
     board: &mut Board,
     page: &mut LivePage,
@@ -68,16 +69,6 @@ fn find_header(
         notices,
     );
     (header, header | PENDING)
-}
-
-/// Appends notices to those that are there.
-pub(crate) fn append(more: &Notices, notices: &mut Notices)
-    requires { length notices.old + length more.now ≤ 320 }
-    ensures { notices.new ≡ notices.old ++ more.now }
-{
-    for notice in more.as_slice() {
-        notices.push(*notice);
-    }
 }
 
 /// Performs a post, and appends its notices to those that are there, at most two.

@@ -9,7 +9,7 @@ ghost use Rattle.live_board.specs.inside.Parts.{IsShadow, IsPart, IsStep, signal
 
 use crate::attempt::ENABLE;
 use crate::passing::{is_shown, mark, own_word};
-use crate::posting::append;
+use crate::performing::perform_after;
 use board_terms::{Kind, Notices, PortShape};
 use event_ports::Port;
 use live_pages::LivePage;
@@ -49,13 +49,12 @@ fn perform_signal(
     requires { length notices.old ≤ 2 }
     ensures { IsStep board.old.state (Signal number flag) board.new.state result notices.old notices.new }
 {
-    let event = Event::Signal { port: number, flag };
-    if notices.as_slice().is_empty() {
-        return board.perform(&event, notices);
-    }
-    let reply = board.perform(&event, scratch);
-    append(scratch, notices);
-    reply
+    perform_after(
+        board,
+        &Event::Signal { port: number, flag },
+        scratch,
+        notices,
+    )
 }
 
 /// Performs a signal of an event flag, 0 to 2047, that the board accepts, where the guest sees the

@@ -21,7 +21,7 @@ pub fn no_wake_up_is_missed()
     ensures { NoWakeUpIsMissed }
 {}
 
-/// The same for the first word of a slot, as it is in memory: the mark is an atomic or of the word,
+/// The same for the first word of a slot in memory: the mark is an atomic or of the word,
 /// and the guest's store of type 0 writes 32 of its bits.
 pub fn no_wake_up_is_missed_in_memory()
     ensures { headers.NoWakeUpIsMissed }

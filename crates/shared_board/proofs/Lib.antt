@@ -1,2 +1,5 @@
+pub mod Published
 pub mod Rows
 pub mod Runs
+pub mod Absorbed
+pub mod Spread

@@ -1,5 +1,5 @@
 -- What holds under the lock, after a call and after an actor is added.
-use Rattle.std.proofs.Common.{◌≡◌, ℕ, ◌+◌, ◌<◌, List, [], ◌∷◌, ◌++◌, All, map, set, refl, sym, ap, subst, ◌∙◌, arith}
+use Rattle.std.proofs.Common.{◌≡◌, ℕ, ◌+◌, ◌<◌, List, [], ◌∷◌, ◌++◌, All, set, refl, sym, ap, subst, ◌∙◌, arith}
 use Rattle.std.proofs.lemmas.List.{append-nil}
 use Rattle.board_terms.specs.declared.notices.Notice.{Notice}
 use mathlib.Core.Option.{some}
@@ -16,7 +16,7 @@ use Rattle.synic_board.specs.declared.event.Reply.{Reply}
 use Rattle.synic_board.specs.declared.history.Entry.{Entry}
 use Rattle.synic_board.proofs.keeping.Steps.{keeps-step}
 use Rattle.ghost_history.specs.Rows.{Row, row, IsExtended}
-use Rattle.shared_board.specs.Witnessed.{Witnessed, witnessed, with_entry, IsOneThread}
+use Rattle.shared_board.specs.Witnessed.{witnessed, with_entry}
 use Rattle.shared_board.specs.inside.Rostered.{entries_by, rows_of, IsRostered}
 use Rattle.shared_board.proofs.Rows.{row-of, rows-push, rows-more, set-same, all-push, all-more}
 

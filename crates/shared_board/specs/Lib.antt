@@ -1,3 +1,5 @@
 pub mod Calling
 pub mod Witnessed
+pub mod Sweeping
+pub mod Publishing
 pub mod inside

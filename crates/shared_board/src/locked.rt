@@ -71,6 +71,13 @@ impl<S: Sharing> LockedBoard<S> {
         &self.board
     }
 
+    /// The history of all calls.
+    pub(crate) fn history(&self) -> &History
+        ensures { result.now.entries ≡ self.now.history }
+    {
+        &self.history
+    }
+
     /// Adds an actor, which has the next number and no calls. `None`, and no change, if there are
     /// 2^64 - 1 actors.
     pub fn enroll(&mut self) -> Option<Actor<S>>
@@ -88,6 +95,8 @@ impl<S: Sharing> LockedBoard<S> {
 
     /// Performs an event for an actor. Takes no memory and has no fault: what the board refuses is a
     /// reply like any other.
+    // So that each caller has an instance of `Board::perform` of its own.
+    #[inline(always)]
     pub fn perform(&mut self, actor: &mut Actor<S>, event: &Event, notices: &mut Notices) -> Reply
         ensures performs { Performs self.old.board event.now self.new.board result notices.new }
         ensures history { self.new.history ≡ with_entry self.old.history actor.old.number event.now result }

@@ -7,7 +7,7 @@ use Rattle.std.specs.List.{insert, position_or_len}
 use Rattle.std.proofs.lemmas.Bool.Decides.{nat_tests}
 use Rattle.std.proofs.lemmas.Nat.Bits.{bit_at_ones}
 use Rattle.board_terms.specs.Dues.{Dues, number_of, timer_of, due_of, least, IsLeast}
-use Rattle.timer_heap.proofs.Leasts.{finds-least}
+use Rattle.deadline_tree.proofs.Leasts.{finds-least}
 use Rattle.stimer_bank.specs.Bank.{is_later, due_below, due_list}
 use Rattle.stimer_bank.specs.DueList.{Timers, Each, Has, Before, InOrder, IsDueBy}
 use Rattle.stimer_bank.proofs.Sorted.{sorted, each_more, placed, inserted}

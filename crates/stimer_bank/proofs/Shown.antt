@@ -5,7 +5,7 @@ use Rattle.std.proofs.lemmas.Bool.{cases_eq, cases_lt}
 use Rattle.std.proofs.lemmas.List.{get_or-set_same, get_or-set_other, get_or_past, length-set, same_lists, get_or_default}
 use Rattle.std.proofs.lemmas.List.FromFn.{length-map-range_with_len, get_or-map-range_with_len}
 use Rattle.board_terms.specs.Dues.{Dues, number_of, timer_of}
-use Rattle.timer_heap.specs.Heap.{no_dues, without_processor}
+use Rattle.deadline_tree.specs.Deadlines.{no_dues, without_processor}
 use Rattle.stimer_bank.specs.declared.timer.Timer.{Timer}
 use Rattle.stimer_bank.specs.Bank.{Bank, idle_timer, opened, timer_in, with_timer, is_suspended, with_suspension, reset, active_due, dues, is_due_in}
 use Rattle.stimer_bank.specs.Timer.{is_due}
@@ -169,7 +169,7 @@ dues-none = dues-are no_dues opened refl (λ k _. all-default 32 k None ∙ sym 
 pub dues-opened : (k : ℕ) → get_or (dues opened) k None ≡ None
 dues-opened k = ap (λ m. get_or m k None) dues-none ∙ all-default 32 k None
 
--- the heap is updated for a timer that is written
+-- the tree is updated for a timer that is written
 module _ (b : Bank) (t : ℕ × ℕ) (x : Timer) (i : ℕ) (at : i ≡ number_of t) (index : t.1 < 4) (h : Dues) (was : h ≡ dues b) where
   pub follows : (h' : Dues) → number_of t < length b.timers → is_suspended b t.0 ≡ false → h' ≡ set h (number_of t) x.due → h' ≡ dues (record b { timers = set b.timers i x })
   follows h' l e is = is ∙ ap (λ m. set m (number_of t) x.due) was ∙ sym (dues-timer b t x index l e) ∙ ap (λ j. dues (record b { timers = set b.timers j x })) (sym at)
@@ -177,7 +177,7 @@ module _ (b : Bank) (t : ℕ × ℕ) (x : Timer) (i : ℕ) (at : i ≡ number_of
   pub stays : is_suspended b t.0 ≡ true → h ≡ dues (record b { timers = set b.timers i x })
   stays e = was ∙ sym (dues-timer-suspended b t x index e) ∙ ap (λ j. dues (record b { timers = set b.timers j x })) (sym at)
 
--- the heap gets the deadlines of a resumed processor, one by one
+-- the tree gets the deadlines of a resumed processor, one by one
 pub restored : (b : Bank) (p : ℕ) (h : Dues) → h ≡ dues b
     → (h0 : Dues) → h0 ≡ set h (4 * p + 0) (due_by_number b (4 * p + 0))
     → (h1 : Dues) → h1 ≡ set h0 (4 * p + 1) (due_by_number b (4 * p + 1))

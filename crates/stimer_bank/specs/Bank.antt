@@ -4,7 +4,7 @@ use Rattle.std.specs.List.{insert, position_or_len, range_with_len}
 use Rattle.std.specs.Option.{option_map_or}
 use Rattle.board_terms.specs.Quantities.{Processor, TimerId, Moment, Word}
 use Rattle.board_terms.specs.Dues.{Dues, number_of, timer_of, due_of}
-use Rattle.timer_heap.specs.Heap.{is_due_by}
+use Rattle.deadline_tree.specs.Deadlines.{is_due_by}
 use Rattle.stimer_bank.specs.declared.timer.Timer.{Timer}
 use Rattle.stimer_bank.specs.declared.timer.Expiry.{Expiry}
 use Rattle.stimer_bank.specs.Timer.{after_config, after_count, after_expiry}

@@ -30,7 +30,7 @@ pub use board_terms::{
     TimerId, Vector, Vp,
 };
 pub use board_threads::{
-    Actor, ActorCalls, CallFault, CrewEnd, CrewFault, Ended, Gate, Line, OpenGate, Raised,
+    Actor, ActorCalls, CallFault, CrewEnd, CrewFault, Ended, Gate, Line, OpenGate, Origin, Raised,
     RecordedBoard, Scripts, SettleFault, Setup, Standing, Step, Worker, run_crew,
 };
 pub use synic_board::{Board, Entry, Event, OpenFault, Reply, Stopped, Summary, msr, run};

@@ -1,12 +1,12 @@
 -- A board that is being restored is sound at each moment.
-use Rattle.std.proofs.Common.{◌≡◌, ◌≢◌, ◌⊎◌, inl, inr, ℕ, ◌+◌, ◌*◌, ◌<◌, ◌≤◌, Bool, true, false, cond, List, [], ◌∷◌, ◌++◌, ◌||◌, IsTrue, length, length-set, refl, ap, sym, subst, ◌∙◌, arith}
-use Rattle.std.specs.Prelude.{◌==◌, ◌↔◌, nat_lt, not, count_by, Option, None, Some}
+use Rattle.std.proofs.Common.{◌≡◌, ◌≢◌, ◌⊎◌, inl, inr, ℕ, suc, ◌+◌, ◌-◌, ◌*◌, ◌%◌, ◌<◌, ◌≤◌, Bool, true, false, cond, List, [], ◌∷◌, ◌++◌, ◌||◌, IsTrue, length, length-set, refl, ap, sym, subst, ◌∙◌, arith}
+use Rattle.std.specs.Prelude.{◌==◌, ◌↔◌, slice_get, nat_lt, not, count_by, Option, None, Some}
 use Rattle.std.specs.List.{All, list_any}
 use Rattle.std.specs.Option.{option_map_or}
 use Rattle.std.proofs.lemmas.Bool.{cases_eq}
 use Rattle.std.proofs.lemmas.Bool.Decides.{nat_tests}
 use Rattle.std.proofs.lemmas.List.{get_or-set_other}
-use Rattle.std.proofs.lemmas.List.Elements.{All-set, All-append, All-cons, All-nil}
+use Rattle.std.proofs.lemmas.List.Elements.{All-set, All-append, All-push, All-cons, All-nil, All-head, All-tail}
 use Rattle.std.proofs.lemmas.List.Sums.{sum_by-set, sum_by-cons, sum_by_push}
 use Rattle.board_terms.specs.declared.messages.Message.{Message}
 use Rattle.board_terms.specs.declared.messages.PortShape.TheVariants.{Messages}
@@ -35,12 +35,13 @@ use Rattle.synic_board.specs.Registers.{stored}
 use Rattle.synic_board.specs.Step.{step}
 use Rattle.synic_board.specs.State.{State, processors, opened, regs_of, with_regs, space_of, ports_of, bank_of, with_apic, slot_of, with_slot_ticket}
 use Rattle.synic_board.specs.Timers.{at_moment}
-use Rattle.synic_board.specs.Delivery.{is_slot_empty, accepted}
+use Rattle.synic_board.specs.Delivery.{is_slot_empty}
 use Rattle.synic_board.specs.Locations.{times, locations, AreTickets}
 use Rattle.synic_board.specs.Sound.{IsMessage, IsFree}
+use Rattle.synic_board.specs.Timed.{Ascends, HasExpired, IsTimed}
 use Rattle.synic_board.specs.Buffers.{IsHome, SendsTo}
-use Rattle.synic_board.specs.Settled.{IsSettled}
-use Rattle.synic_board.specs.Restoring.{with_processor, with_saved_timer, with_own_bytes, with_guest_bytes, with_message, HasNoTickets, IsUnplaced, HasFreeBuffer, IsWithinShare, MayJoin, MayOccupy}
+use Rattle.synic_board.specs.Paired.{HasPairedTimers}
+use Rattle.synic_board.specs.Restoring.{with_processor, with_saved_timer, with_own_bytes, with_guest_bytes, with_message, HasNoTickets, IsUnplaced, HasFreeBuffer, IsWithinShare, MayCount, MayJoin, MayOccupy}
 use Rattle.synic_board.specs.inside.Drafts.{IsDraft}
 use Rattle.synic_board.proofs.Clocks.{idle-marked}
 use Rattle.synic_board.proofs.keeping.Counts.{in_queue, in_queues, in_slot, in_slots, one, times-locations, in_queue-push}
@@ -51,16 +52,17 @@ use Rattle.synic_board.proofs.keeping.Posts.{keeps-opened_port}
 use Rattle.synic_board.proofs.keeping.Stores.{own-whole, own-other, length-overwritten}
 use Rattle.synic_board.proofs.keeping.Slots.{other_place}
 use Rattle.synic_board.proofs.keeping.Placements.{queue-good}
-use Rattle.synic_board.proofs.keeping.Uses.{alike, Fits, port-fits, timer-fits, buffers-accepted}
+use Rattle.synic_board.proofs.keeping.Uses.{unmoved, alike, Fits, port-fits, timer-fits, buffers-joined}
+use Rattle.synic_board.proofs.keeping.Timed.{ascends-push, timed-same, timed-moment, timed-queue, timed-timer}
 use Rattle.synic_board.proofs.keeping.Opened.{sound-opened, no-locations}
 use Rattle.synic_board.proofs.keeping.Buffers.{buffers-opened, buffers-opened_port}
 use Rattle.synic_board.proofs.keeping.Settled.{settled-same, settled-processor, settled-timer, settled-step, settled-opened}
 
 -- a change that moves no message
-pub draft-still : (s now : State) (tickets : List ℕ) → IsIntact (processors s) now → AreStill s now → now.ports ≡ s.ports → IsSettled now → IsDraft s tickets → IsDraft now tickets
-draft-still s now tickets intact same ports settled h = record {
+pub draft-still : (s now : State) (tickets : List ℕ) → IsIntact (processors s) now → AreStill s now → now.ports ≡ s.ports → IsTimed now → HasPairedTimers now → IsDraft s tickets → IsDraft now tickets
+draft-still s now tickets intact same ports timed settled h = record {
   sound = sound_from_kept (processors s) now intact (tickets-conserved s now [] (omega (arith, same.next)) (still s now [] same (λ t. refl)) h.sound.tickets);
-  buffers = alike s now same.queues ports h.buffers;
+  buffers = unmoved s now same.queues ports timed h.buffers;
   settled = settled;
   listed = λ t. omega (arith, h.listed t, times-locations t s, times-locations t now, ap (in_queues t) same.queues, ap (in_slots t) same.slots);
 }
@@ -73,9 +75,9 @@ draft-opened n pages ticket bound = record {
   listed = λ t. sym (no-locations n pages ticket t);
 }
 
-pub draft-moment : (s : State) (moment : ℕ) (tickets : List ℕ) → IsDraft s tickets → IsDraft (at_moment s moment) tickets
-draft-moment s moment tickets h = draft-still s (at_moment s moment) tickets (kept-moment (processors s) s moment (kept_from_sound s h.sound))
-    (record { queues = refl; slots = refl; next = refl }) refl (settled-same s _ refl refl refl h.settled) h
+pub draft-moment : (s : State) (moment : ℕ) (tickets : List ℕ) → s.moment ≤ moment → IsDraft s tickets → IsDraft (at_moment s moment) tickets
+draft-moment s moment tickets later h = draft-still s (at_moment s moment) tickets (kept-moment (processors s) s moment (kept_from_sound s h.sound))
+    (record { queues = refl; slots = refl; next = refl }) refl (timed-moment s moment later h.buffers.timed) (settled-same s _ refl refl refl h.settled) h
 
 pub draft-processor : (s : State) (p : ℕ) (a : Apic) (tickets : List ℕ) → p < processors s → IsDraft s tickets → IsDraft (with_processor s p a) tickets
 draft-processor s p a tickets on h =
@@ -83,21 +85,21 @@ draft-processor s p a tickets on h =
     let first = kept-apic n s p a (kept_from_sound s h.sound) in
     let marked = bank_with_suspension (bank_of s) p a.suspended in
     draft-still s (with_processor s p a) tickets (kept-bank n (with_apic s p a) marked (idle-marked (bank_of s) p n a.suspended on h.sound.whole.idle) first)
-    (record { queues = refl; slots = refl; next = refl }) refl (settled-processor s p a on h.settled) h
+    (record { queues = refl; slots = refl; next = refl }) refl (timed-same s (with_processor s p a) refl refl refl refl h.buffers.timed) (settled-processor s p a on h.settled) h
 
-pub draft-timer : (s : State) (t : ℕ × ℕ) (x : Timer) (tickets : List ℕ) → t.0 < processors s → t.1 < 4 → IsDraft s tickets → IsDraft (with_saved_timer s t x) tickets
-draft-timer s t x tickets on low h =
+pub draft-timer : (s : State) (t : ℕ × ℕ) (x : Timer) (tickets : List ℕ) → t.0 < processors s → t.1 < 4 → MayCount s x → IsDraft s tickets → IsDraft (with_saved_timer s t x) tickets
+draft-timer s t x tickets on low may h =
     draft-still s (with_saved_timer s t x) tickets (kept-timer (processors s) s t x (omega (arith, on, low)) (kept_from_sound s h.sound))
-    (record { queues = refl; slots = refl; next = refl }) refl (settled-timer s t x on low h.settled) h
+    (record { queues = refl; slots = refl; next = refl }) refl (timed-timer s t x may.sound may.near h.buffers.timed) (settled-timer s t x on low h.settled) h
 
 pub draft-regs : (s : State) (p : ℕ) (r : Regs) (tickets : List ℕ) → IsDraft s tickets → IsDraft (with_regs s p r) tickets
 draft-regs s p r tickets h = draft-still s (with_regs s p r) tickets (kept-regs (processors s) s p r (kept_from_sound s h.sound))
-    (record { queues = refl; slots = refl; next = refl }) refl (settled-same s _ refl refl refl h.settled) h
+    (record { queues = refl; slots = refl; next = refl }) refl (timed-same s (with_regs s p r) refl refl refl refl h.buffers.timed) (settled-same s _ refl refl refl h.settled) h
 
 pub draft-stored : (s : State) (p : ℕ) (r : Register) (value : ℕ) (tickets : List ℕ) → IsDraft s tickets → IsDraft (stored s p r value).0 tickets
 draft-stored s p r value tickets h = either (λ (o : Outcome). IsDraft o.0 tickets) (is_refused r value) _ _ (λ _. h) (λ _. draft-regs s p (with_value (regs_of s p) r value) tickets h)
 
-settled-opened_port : (s : State) (port p i : ℕ) (shape : PortShape) → IsSettled s → IsSettled (opened_port s port p i shape).0
+settled-opened_port : (s : State) (port p i : ℕ) (shape : PortShape) → HasPairedTimers s → HasPairedTimers (opened_port s port p i shape).0
 unfolding step
 settled-opened_port s port p i shape h = settled-step s (OpenPort port p i shape) h
 
@@ -139,7 +141,7 @@ draft-guest s page at bytes tickets h =
         messages = whole.whole.messages;
       };
       empty = whole.empty;
-    }) (record { queues = refl; slots = refl; next = refl }) refl (settled-same s _ refl refl refl h.settled) h
+    }) (record { queues = refl; slots = refl; next = refl }) refl (timed-same s (with_guest_bytes s page at bytes) refl refl refl refl h.buffers.timed) (settled-same s _ refl refl refl h.settled) h
 
 pub draft-own : (s : State) (p : ℕ) (kind : Kind) (at : ℕ) (bytes : List ℕ) (tickets : List ℕ) → p < processors s → at + length bytes ≤ 4096 → HasNoTickets s p →
     IsDraft s tickets → IsDraft (with_own_bytes s p kind at bytes) tickets
@@ -148,7 +150,7 @@ draft-own s p kind at bytes tickets below fits none h =
       count = refl;
       whole = own-whole n s k page whole.whole long;
       empty = λ q j within inside. free q j within inside (cases_eq q p);
-    }) (record { queues = refl; slots = refl; next = refl }) refl (settled-same s _ refl refl refl h.settled) h
+    }) (record { queues = refl; slots = refl; next = refl }) refl (timed-same s (with_own_bytes s p kind at bytes) refl refl refl refl h.buffers.timed) (settled-same s _ refl refl refl h.settled) h
   where
     n : ℕ
     n = processors s
@@ -243,7 +245,7 @@ pub draft-message : (s : State) (p i : ℕ) (m : Message) (tickets : List ℕ) �
     IsDraft (with_message s p i m) (tickets ++ ticket_of m ∷ [])
 draft-message s p i m tickets below under may h = record {
   sound = sound_from_kept n now intact (tickets-joined s now (ticket_of m) refl may.ticket moved h.sound.tickets);
-  buffers = alike (accepted s p i m).0 now refl refl (buffers-accepted s p i m (fits-of s p i m under may.home may.buffer may.share) h.buffers);
+  buffers = buffers-joined s s.next_ticket p i m (fits-of s p i m under may.home may.buffer may.share) timed h.buffers;
   settled = settled-same s now refl refl refl h.settled;
   listed = listed-joined s now tickets (ticket_of m) moved h.listed;
 }
@@ -259,6 +261,15 @@ draft-message s p i m tickets below under may h = record {
 
     q : List Message
     q = queue_of s.queues p i ++ m ∷ []
+
+    place : source_number p i % 16 ≡ i
+    place = omega (arith, under)
+
+    timed : IsTimed now
+    timed = timed-queue s now (source_number p i) q refl refl refl refl
+        (ascends-push s.next_ticket (queue_of s.queues p i) m may.order may.ticket.given (h.buffers.timed.order (source_number p i)))
+        (All-push (HasExpired s.moment (source_number p i % 16)) (queue_of s.queues p i) m (h.buffers.timed.timely (source_number p i))
+        (subst (λ k. HasExpired s.moment k m) (sym place) may.time)) h.buffers.timed
 
     intact : IsIntact n now
     intact = record {
@@ -290,7 +301,7 @@ draft-message s p i m tickets below under may h = record {
 pub draft-ticket : (s : State) (p i x : ℕ) (tickets : List ℕ) → p < processors s → i < 16 → MayOccupy s p i x → IsDraft s tickets → IsDraft (with_slot_ticket s p i (Some x)) (tickets ++ x ∷ [])
 draft-ticket s p i x tickets below under may h = record {
   sound = sound_from_kept n now intact (tickets-joined s now x refl may.ticket moved h.sound.tickets);
-  buffers = alike s now refl refl h.buffers;
+  buffers = alike s now refl refl refl refl refl h.buffers;
   settled = settled-same s now refl refl refl h.settled;
   listed = listed-joined s now tickets x moved h.listed;
 }
@@ -367,3 +378,25 @@ loose-of s tickets t r h given is = (forth, back)
 
     back : IsUnplaced s t → IsTrue (not r)
     back loose = ap not (is ∙ none-found (λ y. y == t) tickets (h.listed t ∙ loose.nowhere))
+
+-- of messages in the order of tickets, the last one has the greatest
+pub in-order : (next : ℕ) (q : List Message) → Ascends next q → (o : Option Message) → slice_get q (length q - 1) ≡ o → (t : ℕ) →
+    IsTrue (option_map_or (λ m. nat_lt (ticket_of m) t) o true) ↔ All (λ x. ticket_of x < t) q
+in-order next [] h None is t = (λ _. All-nil (λ x. ticket_of x < t), λ _. refl)
+in-order next [] h (Some m) is t = absurd (cc)
+in-order next (x ∷ []) h None is t = absurd (cc)
+in-order next (x ∷ []) h (Some m) is t =
+    let same : ticket_of x ≡ ticket_of m = ap (λ (o : Option Message). option_map_or ticket_of o 0) is in (
+      λ low. All-cons (λ x. ticket_of x < t) x [] (grind (arith, nat_tests, same, low)) (All-nil (λ x. ticket_of x < t)),
+      λ all. let first = All-head (λ x. ticket_of x < t) x [] all in grind (arith, nat_tests, same, first),
+    )
+in-order next (x ∷ y ∷ q) h o is t =
+    let at : length (x ∷ y ∷ q) - 1 ≡ suc (length (y ∷ q) - 1) = omega arith in
+    let rest = in-order next (y ∷ q) h.2 o (ap (slice_get (x ∷ y ∷ q)) (sym at) ∙ is) t in
+    let before : ticket_of x < ticket_of y = All-head (λ z. ticket_of x < ticket_of z) y q h.1 in (
+      λ low.
+          let all = rest.0 low in
+          let second = All-head (λ z. ticket_of z < t) y q all in
+          All-cons (λ z. ticket_of z < t) x (y ∷ q) (omega (arith, before, second)) all,
+      λ all. rest.1 (All-tail (λ z. ticket_of z < t) x (y ∷ q) all),
+    )

@@ -1,4 +1,4 @@
--- The invariant of the queues and ports: each owner stays within its buffers, and each message is in a queue that its owner may post to.
+-- The invariant of the queues and ports: each owner stays within its buffers, and each message is in a queue that its owner may post to, in the order of tickets.
 use Rattle.std.specs.Prelude.{◌≡◌, ◌≤◌, ◌<◌, ℕ, true, List, length, slice_index_or, Option, None, Some}
 use Rattle.std.specs.List.{All}
 use Rattle.board_terms.specs.declared.messages.Message.{Message}
@@ -10,6 +10,7 @@ use Rattle.event_ports.specs.Shapes.{fits}
 use Rattle.message_queues.specs.Queues.{port_used, timer_used, queue_of}
 use Rattle.synic_board.specs.State.{State, ports_of}
 use Rattle.synic_board.specs.Posts.{buffers_of}
+use Rattle.synic_board.specs.Timed.{IsTimed}
 
 -- a port of a board is open for messages to source i of processor p, with some number of buffers
 abbrev pub SendsTo : List (Option Port) → ℕ → ℕ → ℕ → Type 0
@@ -27,6 +28,8 @@ pub record HasBuffers (s : State) : Type 0 where
   pub within : (k : ℕ) (p : Port) → port_at (ports_of s) k ≡ Some p → port_used s.queues k ≤ buffers_of p.shape
   -- a source has only messages of the ports that send to it and of its processor's timers
   pub home : (p i : ℕ) → i < 16 → All (IsHome s.ports p i) (queue_of s.queues p i)
+  -- queues are in the order of tickets, and no timer is further ahead than its period
+  pub timed : IsTimed s
   -- there are 16 ports, and the source and the shape of each open one are in range
   pub ports : length s.ports ≡ 16
   pub shapes : (k : ℕ) (p : Port) → port_at (ports_of s) k ≡ Some p → fits p.shape ≡ true

@@ -20,7 +20,8 @@ pub mod Run
 pub mod History
 pub mod Sound
 pub mod Ranges
+pub mod Timed
 pub mod Buffers
-pub mod Settled
+pub mod Paired
 pub mod Restoring
 pub mod inside

@@ -1,4 +1,5 @@
 -- The pieces of a board that is being restored.
+use Rattle.std.specs.List.{All}
 use Rattle.std.specs.Prelude.{◌≡◌, ◌<◌, ℕ, false, None, Some, List, [], slice_index_or}
 use Rattle.board_terms.specs.Quantities.{Processor, Source, PortNumber, Ticket, TimerId, PageNumber}
 use Rattle.board_terms.specs.Messages.{ticket_of}
@@ -13,14 +14,16 @@ use Rattle.gpa_space.specs.Page.{overwritten}
 use Rattle.gpa_space.specs.Space.{own_page, with_own_page, with_guest_page}
 use Rattle.event_ports.specs.declared.ports.Port.{Port}
 use Rattle.event_ports.specs.Ports.{port_at}
-use Rattle.message_queues.specs.Queues.{HasBuffer, appended, port_used}
+use Rattle.message_queues.specs.Queues.{HasBuffer, appended, queue_of, port_used}
 use Rattle.stimer_bank.specs.declared.timer.Timer.{Timer}
+use Rattle.stimer_bank.specs.Timer.{IsSoundTimer}
 use Rattle.stimer_bank.specs.Bank.{with_timer, with_suspension as bank_with_suspension}
 use Rattle.synic_board.specs.State.{State, with_apic, with_bank, with_space, space_of, bank_of, slot_of, ports_of}
 use Rattle.synic_board.specs.Posts.{buffers_of}
 use Rattle.synic_board.specs.Delivery.{is_slot_empty}
 use Rattle.synic_board.specs.Locations.{times, locations}
 use Rattle.synic_board.specs.Sound.{IsMessage}
+use Rattle.synic_board.specs.Timed.{HasExpired, IsNear}
 use Rattle.synic_board.specs.Buffers.{IsHome}
 
 -- the register of an overlay
@@ -64,13 +67,20 @@ abbrev pub IsWithinShare : State → Message → Type 0
 IsWithinShare s (FromPort ticket port kind payload) = HasFreeBuffer s port
 IsWithinShare s (FromTimer ticket timer expiration) = Unit {0}
 
--- a message can be queued at source i of processor p
+-- a timer can be so: its registers and its deadline belong together, and it is no further ahead than its period
+pub record MayCount (s : State) (x : Timer) : Type 0 where
+  pub sound : IsSoundTimer x
+  pub near : IsNear s.moment x
+
+-- a message can be queued at source i of processor p, after those that are there
 pub record MayJoin (s : State) (p : Processor) (i : Source) (m : Message) : Type 0 where
   pub message : IsMessage m
   pub home : IsHome s.ports p i m
   pub buffer : HasBuffer s.queues m
   pub share : IsWithinShare s m
   pub ticket : IsUnplaced s (ticket_of m)
+  pub order : All (λ x. ticket_of x < ticket_of m) (queue_of s.queues p i)
+  pub time : HasExpired s.moment i m
 
 -- a slot can hold a ticket: it holds a message, and no ticket yet
 pub record MayOccupy (s : State) (p : Processor) (i : Source) (t : Ticket) : Type 0 where

@@ -1,6 +1,9 @@
 // A board that is being restored.
 ghost use Rattle.std.specs.Prelude.{◌≡◌, ◌↔◌, ◌<◌, ◌≤◌, ◌+◌, IsTrue, IfOk, OnErr, IsErrOf, Some, [], length, if◌then◌else◌};
-ghost use Rattle.stimer_bank.specs.Timer.{IsSoundTimer};
+ghost use Rattle.std.specs.List.{All};
+ghost use Rattle.board_terms.specs.Messages.{ticket_of};
+ghost use Rattle.message_queues.specs.Queues.{queue_of};
+ghost use Rattle.synic_board.specs.Timed.{HasExpired, IsNear};
 ghost use Rattle.synic_regs.specs.Regs.{after_write, with_value};
 ghost use Rattle.synic_regs.specs.declared.register.Register.TheVariants as register;
 ghost use Rattle.event_ports.specs.Ports.{is_posted_type};
@@ -10,7 +13,7 @@ ghost use Rattle.synic_board.specs.Posts.{opened_port};
 ghost use Rattle.synic_board.specs.Timers.{at_moment};
 ghost use Rattle.synic_board.specs.Sound.{IsMessage};
 ghost use Rattle.synic_board.specs.Buffers.{IsHome, SendsTo};
-ghost use Rattle.synic_board.specs.Restoring.{overlay_register, with_processor, with_saved_timer, with_own_bytes, with_guest_bytes, with_message, HasNoTickets, IsUnplaced, HasFreeBuffer, IsWithinShare, MayJoin, MayOccupy};
+ghost use Rattle.synic_board.specs.Restoring.{overlay_register, with_processor, with_saved_timer, with_own_bytes, with_guest_bytes, with_message, HasNoTickets, IsUnplaced, HasFreeBuffer, IsWithinShare, MayCount, MayJoin, MayOccupy};
 
 use crate::board::{Board, OpenFault};
 use crate::event::Reply;
@@ -88,11 +91,16 @@ impl Draft {
         self.machine.pages()
     }
 
-    /// Sets the present time, in units of 100 ns.
-    pub fn set_moment(&mut self, moment: Moment)
-        ensures { self.new ≡ at_moment self.old moment }
+    /// Sets the present time, in units of 100 ns, unless it would go back, and returns whether it did.
+    pub fn set_moment(&mut self, moment: Moment) -> bool
+        ensures valid { IsTrue result ↔ (self.old.moment ≤ moment) }
+        ensures restored { self.new ≡ (if result then at_moment self.old moment else self.old) }
     {
+        if moment < self.machine.moment() {
+            return false;
+        }
         self.machine.restore_moment(moment);
+        true
     }
 
     /// Sets the local APIC of a processor. The processor's timers are suspended iff the local APIC is.
@@ -158,14 +166,15 @@ impl Draft {
         self.machine.restore_guest(page, at, bytes);
     }
 
-    /// Sets the registers and the deadline of a timer, if a timer can have them, and returns whether it
-    /// can.
+    /// Sets the registers and the deadline of a timer, if a timer can have them at the present time, and
+    /// returns whether it can.
     pub fn set_timer(&mut self, timer: TimerId, config: u64, count: u64, due: Option<u128>) -> bool
         requires { timer.0 < processors self.old }
-        ensures valid { IsTrue result ↔ IsSoundTimer (record { config = config; count = count; due = due }) }
+        ensures valid { IsTrue result ↔ MayCount self.old (record { config = config; count = count; due = due }) }
         ensures restored { self.new ≡ (if result then with_saved_timer self.old timer (record { config = config; count = count; due = due }) else self.old) }
     {
-        self.machine.restore_timer(timer, config, count, due)
+        is_near(self.machine.moment(), config, count, due)
+            && self.machine.restore_timer(timer, config, count, due)
     }
 
     /// Appends a message to a queue, if it can be queued there, and returns whether it can.
@@ -198,17 +207,29 @@ impl Draft {
         Ok(true)
     }
 
-    /// Whether a message can be queued at a source.
+    /// Whether a message can be queued at a source, after those that are there.
     fn may_join(&self, vp: Vp, sint: Sint, message: &Message) -> bool
+        requires { vp < processors self.now }
         ensures { IsTrue result ↔ MayJoin self.now vp sint message.now }
     {
         if !is_message(message) || !self.is_home(vp, sint, message) {
             return false;
         }
-        if !self.machine.has_buffer(message) {
+        if !self.machine.has_buffer(message) || !is_timely(self.machine.moment(), sint, message) {
             return false;
         }
-        self.is_unplaced(message.ticket())
+        self.is_in_order(vp, sint, message.ticket()) && self.is_unplaced(message.ticket())
+    }
+
+    /// Whether a ticket is greater than those of all messages in a queue.
+    fn is_in_order(&self, vp: Vp, sint: Sint, ticket: Ticket) -> bool
+        requires { vp < processors self.now }
+        ensures { IsTrue result ↔ All (λ x. ticket_of x < ticket) (queue_of self.now.queues vp sint) }
+    {
+        match self.machine.last_message(vp, sint) {
+            Some(last) => last.ticket() < ticket,
+            None => true,
+        }
     }
 
     /// Whether a message is from a port that sends to this source and leaves it within its buffers,
@@ -265,6 +286,27 @@ impl Draft {
         ensures { result.state ≡ self }
     {
         Board::from_machine(self.machine)
+    }
+}
+
+/// Whether a timer is due no further ahead than its period.
+fn is_near(moment: Moment, config: u64, count: u64, due: Option<u128>) -> bool
+    ensures { IsTrue result ↔ IsNear moment (record { config = config; count = count; due = due }) }
+{
+    let is_periodic = config / 2 % 2 == 1;
+    match due {
+        Some(due) if is_periodic => due <= u128::from(moment) + u128::from(count),
+        _ => true,
+    }
+}
+
+/// Whether a message is at a source that its owner may name, with a time that has passed.
+fn is_timely(moment: Moment, sint: Sint, message: &Message) -> bool
+    ensures { IsTrue result ↔ HasExpired moment sint message.now }
+{
+    match message {
+        Message::FromPort { .. } => true,
+        Message::FromTimer { expiration, .. } => sint.number() > 0 && *expiration <= moment,
     }
 }
 

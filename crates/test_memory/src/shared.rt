@@ -1,23 +1,38 @@
 // Calls of a shared board.
 ghost use Rattle.std.specs.Prelude.{◌≡◌, ◌<◌, true, IfOk, length};
 ghost use Rattle.posted_words.specs.Words.{IsOf};
+ghost use Rattle.synic_board.specs.State.{opened};
 ghost use Rattle.board_threads.specs.Settling.{only_raises};
 
 use crate::stopped::{Stopped, ended};
 use board_terms::{Vector, Vp};
-use board_threads::{Actor, CallFault, Ended, Line, RecordedBoard};
+use board_threads::{Actor, CallFault, Ended, Line, Origin, RecordedBoard};
 use std::alloc::Global;
 use std::sync::Wait;
 use synic_board::{Entry, Event, Reply};
 
+/// The largest board, with first ticket 7.
+struct Largest;
+
+impl Origin for Largest {
+    ghost start = { opened 8 64 7 };
+}
+
+/// The smallest board, with first ticket 0.
+struct Smallest;
+
+impl Origin for Smallest {
+    ghost start = { opened 1 1 0 };
+}
+
 pub(crate) fn opened(alloc: Global) -> Result<bool, Stopped> {
-    let (board, actors, lines) = RecordedBoard::open(alloc, 8, 64, 7, 16, 16)?;
+    let (board, actors, lines) = RecordedBoard::<Largest>::open(alloc, 8, 64, 7, 16, 16)?;
     ended(board.processors() == 8 && (actors.len(), lines.len()) == (16, 16))
 }
 
 /// Settles a board of many actors and lines that did nothing.
 pub(crate) fn settled(alloc: Global) -> Result<bool, Stopped> {
-    let (board, actors, lines) = RecordedBoard::open(alloc, 8, 1, 7, 16, 16)?;
+    let (board, actors, lines) = RecordedBoard::<Largest>::open(alloc, 8, 64, 7, 16, 16)?;
     let settled = board.settle(actors, lines)?;
     ended(
         settled.history.is_empty()
@@ -30,7 +45,7 @@ pub(crate) fn settled(alloc: Global) -> Result<bool, Stopped> {
 /// failed.
 fn tick<R: Wait>(
     rt: &R,
-    board: &RecordedBoard,
+    board: &RecordedBoard<Smallest>,
     actor: &mut Actor,
     moment: u64,
     again: bool,
@@ -52,11 +67,11 @@ fn tick<R: Wait>(
 /// Absorbs part 1 of processor 0, in the same way.
 fn absorb<R: Wait>(
     rt: &R,
-    board: &RecordedBoard,
+    board: &RecordedBoard<Smallest>,
     actor: &mut Actor,
     again: bool,
 ) -> Result<usize, CallFault>
-    requires { actor.old.of ≡ board.now.words.name }
+    requires { actor.old.of ≡ board.now.name }
     ensures { actor.new.of ≡ actor.old.of }
 {
     match board.absorb(rt, actor, 0, 1) {
@@ -75,17 +90,17 @@ fn absorb<R: Wait>(
 /// often an allocation failed.
 fn take_turns<R: Wait>(
     rt: &R,
-    board: &RecordedBoard,
+    board: &RecordedBoard<Smallest>,
     actor: &mut Actor,
     line: &mut Line,
     again: bool,
 ) -> Result<usize, CallFault>
-    requires some_processor { 0 < board.now.words.processors }
-    requires actor { actor.old.of ≡ board.now.words.name }
-    requires line { IsOf board.now.words.name line.old }
+    requires some_processor { 0 < board.now.processors }
+    requires actor { actor.old.of ≡ board.now.name }
+    requires line { IsOf board.now.name line.old }
     requires raises { only_raises line.old.actions ≡ true }
     ensures actor { actor.new.of ≡ actor.old.of }
-    ensures line { IsOf board.now.words.name line.new }
+    ensures line { IsOf board.now.name line.new }
     ensures raises { only_raises line.new.actions ≡ true }
 {
     let mut wanted = 0usize;
@@ -103,7 +118,7 @@ fn take_turns<R: Wait>(
 fn settled_turns<R: Wait>(rt: &R, alloc: Global, again: bool) -> Result<(Ended, usize), Stopped>
     ensures { IfOk result (λ r. length r.0.standing ≡ 4) }
 {
-    let (board, mut actors, mut lines) = RecordedBoard::open(alloc, 1, 1, 0, 1, 1)?;
+    let (board, mut actors, mut lines) = RecordedBoard::<Smallest>::open(alloc, 1, 1, 0, 1, 1)?;
     let (Some(mut actor), Some(mut line)) = (actors.pop(), lines.pop()) else {
         return Err(Stopped::Otherwise);
     };

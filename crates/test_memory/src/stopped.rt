@@ -60,7 +60,7 @@ impl From<CallFault> for Stopped {
     fn from(fault: CallFault) -> Stopped {
         match fault {
             CallFault::Memory => Stopped::Memory,
-            CallFault::AbsorbEvent | CallFault::Full | CallFault::WrongBoard => Stopped::Otherwise,
+            CallFault::AbsorbEvent | CallFault::Full => Stopped::Otherwise,
         }
     }
 }

@@ -2,7 +2,7 @@
 #![tactic(auto)]
 
 #[cfg(test)]
-mod heaps;
+mod deadlines;
 #[cfg(test)]
 mod images;
 #[cfg(test)]

@@ -3,3 +3,5 @@
 
 #[cfg(test)]
 mod sharing;
+#[cfg(test)]
+mod watching;

@@ -1,4 +1,4 @@
-// Boards that are given: shared in the state that they are in, and settled on another board.
+// Boards that are given: shared in the state that they are in.
 ghost use Rattle.std.specs.Prelude.{◌≡◌, IfOk, length};
 ghost use Rattle.synic_board.specs.State.{processors};
 
@@ -7,10 +7,11 @@ use crate::scenes::{ALL, Answer, Back, Call, Scene};
 use crate::scripts::{raise_60, say, with_port};
 use board_terms::{Notices, Vp};
 use board_threads::{
-    CrewEnd, CrewFault, OpenGate, Raised, RecordedBoard, Scripts, SettleFault, Setup, Step,
+    CrewEnd, CrewFault, OpenGate, Origin, Raised, RecordedBoard, Scripts, SettleFault, Setup, Step,
     run_crew_on,
 };
 use std::alloc::{AllocError, Global};
+use std::marker::Brand;
 use std::sync::Wait;
 use std::test::Fail;
 use std::thread::Threads;
@@ -52,12 +53,11 @@ fn with_message(alloc: Global) -> Result<Board, Fail> {
     }
 }
 
-/// Calls on a board in the state `given`, which is settled on one in the state `start`.
+/// Calls on a board in the state `given`, and the result of settling it.
 struct Story {
     name: &'static str,
     given: State,
     calls: &'static [(Call, Answer)],
-    start: State,
     back: Back,
     end: Result<End, SettleFault>,
 }
@@ -65,7 +65,7 @@ struct Story {
 /// Vector 0x60 is bit 32 of part 1.
 const BIT_60: u64 = 1 << 32;
 
-const STORIES: [Story; 6] = [
+const STORIES: [Story; 4] = [
     Story {
         name: "a board goes on where it was",
         given: State::WithMessage,
@@ -75,7 +75,6 @@ const STORIES: [Story; 6] = [
             (Call::AbsorbAsOther, Answer::Absorbed(BIT_60)),
             (Call::Raise(0x60), Answer::Raised(Raised::Fresh)),
         ],
-        start: State::WithMessage,
         back: ALL,
         end: Ok(End {
             entries: 2,
@@ -87,40 +86,20 @@ const STORIES: [Story; 6] = [
         }),
     },
     Story {
-        name: "no entry, and the board is the other one",
+        name: "no entry, and the board is as it was",
         given: State::WithMessage,
         calls: &[],
-        start: State::New,
         back: ALL,
         end: Ok(End {
-            next_ticket: 5,
+            next: Some(0x50),
+            next_ticket: 6,
             ..NEW
         }),
-    },
-    Story {
-        name: "another state answers otherwise",
-        given: State::WithMessage,
-        calls: &[(Call::Take { vp: 0 }, Answer::Taken(Some(0x50)))],
-        start: State::New,
-        back: ALL,
-        end: Err(SettleFault::Mismatch),
-    },
-    Story {
-        name: "only the last reply differs",
-        given: State::New,
-        calls: &[
-            (Call::Ticks(1), Answer::Ticked(1)),
-            (Call::Take { vp: 0 }, Answer::Taken(None)),
-        ],
-        start: State::WithMessage,
-        back: ALL,
-        end: Err(SettleFault::Mismatch),
     },
     Story {
         name: "a sparse board",
         given: State::Sparse,
         calls: &[(Call::Take { vp: 0 }, Answer::Taken(None))],
-        start: State::Sparse,
         back: ALL,
         end: Ok(End {
             entries: 1,
@@ -133,7 +112,6 @@ const STORIES: [Story; 6] = [
         name: "an actor is missing that did nothing",
         given: State::New,
         calls: &[],
-        start: State::New,
         back: Back {
             actors: 1,
             lines: 1,
@@ -142,48 +120,43 @@ const STORIES: [Story; 6] = [
     },
 ];
 
-/// The scene of a story after its calls.
-fn told<R: Wait>(rt: &R, alloc: Global, story: &Story) -> Result<Scene, Fail> {
-    let mut scene = Scene::share(alloc, in_state(alloc, story.given)?).ok_or("memory")?;
+/// The result of settling a board after the calls of a story.
+fn settled<S: Origin, R: Wait>(
+    rt: &R,
+    alloc: Global,
+    board: Board,
+    story: &Story,
+) -> Result<Result<End, SettleFault>, Fail>
+    requires start { board.state ≡ S.start }
+    requires processor { processors board.state ≡ 1 }
+{
+    let mut scene = Scene::<S>::share(alloc, board).ok_or("memory")?;
     for (call, expected) in story.calls {
         if scene.answer(rt, alloc, *call) != *expected {
             return Err(Fail::from(story.name));
         }
     }
-    Ok(scene)
-}
-
-fn settled(scene: Scene, alloc: Global, start: Board, back: Back) -> Result<End, SettleFault> {
-    match scene.settle_on(alloc, start, back) {
-        Ok(ended) => Ok(end_of(&ended)),
-        Err(fault) => Err(fault),
+    match scene.settle(alloc, story.back) {
+        Ok(ended) => Ok(Ok(end_of(&ended))),
+        Err(fault) => Ok(Err(fault)),
     }
 }
 
 #[test]
-fn a_board_that_is_given_is_settled_on_another(rt: HostRuntime) -> Result<(), Fail> {
+fn a_board_that_is_given_is_settled(rt: HostRuntime) -> Result<(), Fail> {
     for story in &STORIES {
-        let scene = told(&rt, rt.alloc(), story)?;
-        let start = in_state(rt.alloc(), story.start)?;
-        let end = settled(scene, rt.alloc(), start, story.back);
+        let board = in_state(rt.alloc(), story.given)?;
+        let end = settled::<Brand, _>(&rt, rt.alloc(), board, story)?;
         assert_eq!(rt; end, story.end, "{}", story.name);
     }
     Ok(())
 }
 
-#[test]
-fn only_a_board_that_was_opened_is_settled_alone(rt: HostRuntime) -> Result<(), Fail> {
-    for story in &STORIES {
-        let scene = told(&rt, rt.alloc(), story)?;
-        match scene.settle(rt.alloc(), ALL) {
-            Err(fault) => assert_eq!(rt; fault, SettleFault::Mismatch, "{}", story.name),
-            Ok(_) => assert!(rt; false, "{}", story.name),
-        }
-    }
-    let start = Board::open(rt.alloc(), 1, 1, 0)?;
-    let scene = Scene::open(rt.alloc()).ok_or("memory")?;
-    assert_eq!(rt; settled(scene, rt.alloc(), start, ALL), Ok(NEW));
-    Ok(())
+/// The fault of sharing a board with that many actors and lines.
+fn share_fault<S: Origin>(alloc: Global, board: Board, actors: u8, lines: u8) -> Option<OpenFault>
+    requires { board.state ≡ S.start }
+{
+    RecordedBoard::<S>::share(alloc, board, actors, lines).err()
 }
 
 #[test]
@@ -196,7 +169,7 @@ fn the_sizes_of_a_board_that_is_given_are_checked(rt: HostRuntime) -> Result<(),
         (1, 17, Some(OpenFault::BadSize)),
     ] {
         let board = in_state(rt.alloc(), State::New)?;
-        let shared = RecordedBoard::share(rt.alloc(), board, actors, lines).err();
+        let shared = share_fault::<Brand>(rt.alloc(), board, actors, lines);
         assert_eq!(rt; shared, fault, "{actors} {lines}");
     }
     Ok(())
@@ -207,20 +180,17 @@ fn the_sizes_of_a_board_that_is_given_are_checked(rt: HostRuntime) -> Result<(),
 #[derive(Clone, Copy)]
 struct Crew {
     given: State,
-    start: State,
     /// Whether the actor posts; else it ticks.
     posts: bool,
 }
 
 const POSTS: Crew = Crew {
     given: State::WithMessage,
-    start: State::WithMessage,
     posts: true,
 };
 
 const SPARSE: Crew = Crew {
     given: State::Sparse,
-    start: State::Sparse,
     posts: false,
 };
 
@@ -233,28 +203,20 @@ const RAISED: End = End {
     ..NEW
 };
 
-const CREWS: [(Crew, Result<End, CrewFault>); 3] = [
+const CREWS: [(Crew, End); 2] = [
     (
         POSTS,
-        Ok(End {
+        End {
             next_ticket: 7,
             ..RAISED
-        }),
+        },
     ),
     (
         SPARSE,
-        Ok(End {
+        End {
             next_ticket: 5,
             ..RAISED
-        }),
-    ),
-    // It has no port 3.
-    (
-        Crew {
-            start: State::New,
-            ..POSTS
         },
-        Err(CrewFault::Unsettled),
     ),
 ];
 
@@ -293,10 +255,9 @@ fn ran<R: Threads + Wait + Sync>(
     ensures { IfOk result (λ ran. processors ≡ 1 → IfOk ran (λ c. length c.ended.standing ≡ 4)) }
 {
     let board = in_state(alloc, crew.given)?;
-    let start = in_state(alloc, crew.start)?;
     let setup = setup_of(alloc, processors)?;
     let scripts = scripts_of(alloc, crew.posts)?;
-    Ok(run_crew_on(rt, alloc, board, start, &setup, &scripts, &OpenGate))
+    Ok(run_crew_on(rt, alloc, board, &setup, &scripts, &OpenGate))
 }
 
 fn end_of_crew<R: Threads + Wait + Sync>(
@@ -314,7 +275,7 @@ fn end_of_crew<R: Threads + Wait + Sync>(
 fn a_crew_runs_on_a_board_that_is_given(rt: HostRuntime) -> Result<(), Fail> {
     for (at, (crew, expected)) in CREWS.iter().enumerate() {
         let end = end_of_crew(&rt, rt.alloc(), crew)?;
-        assert_eq!(rt; end, *expected, "at {at}");
+        assert_eq!(rt; end, Ok(*expected), "at {at}");
     }
     Ok(())
 }

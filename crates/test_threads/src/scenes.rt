@@ -4,26 +4,26 @@ ghost use Rattle.posted_words.specs.Words.{IsOf};
 ghost use Rattle.synic_board.specs.State.{processors};
 ghost use Rattle.board_threads.specs.Settling.{only_raises};
 
-use crate::boards::{opened, shared, take_actor, take_line};
+use crate::boards::{Smallest, opened, shared, take_actor, take_line};
 use board_terms::{Refusal, Vector, Vp};
-use board_threads::{Actor, CallFault, Ended, Line, Raised, RecordedBoard, SettleFault};
+use board_threads::{Actor, CallFault, Ended, Line, Origin, Raised, RecordedBoard, SettleFault};
 use std::alloc::Global;
 use std::sync::Wait;
 use synic_board::{Board, Event, Reply};
 
-/// A board with one processor, one page and first ticket 0.
+/// A board with one processor, its actors and its line.
 #[derive(Drop)]
-pub(crate) struct Scene {
-    board: RecordedBoard,
+pub(crate) struct Scene<S: Origin> {
+    board: RecordedBoard<S>,
     /// Number 0.
     actor: Actor,
     /// Number 1.
     other: Actor,
     line: Line,
-    ghost processor: { board.words.processors ≡ 1 },
-    ghost own_actor: { actor.of ≡ board.words.name },
-    ghost own_other: { other.of ≡ board.words.name },
-    ghost own_line: { line.of ≡ board.words.name },
+    ghost processor: { board.processors ≡ 1 },
+    ghost own_actor: { actor.of ≡ board.name },
+    ghost own_other: { other.of ≡ board.name },
+    ghost own_line: { line.of ≡ board.name },
     ghost raises: { only_raises line.actions ≡ true },
 }
 
@@ -72,25 +72,28 @@ pub(crate) const ALL: Back = Back {
     lines: 1,
 };
 
-impl Scene {
+impl Scene<Smallest> {
     /// `None` if an allocation fails.
-    pub(crate) fn open(alloc: Global) -> Option<Scene> {
-        let (board, actors, lines) = opened(alloc, 1, 2, 1)?;
+    pub(crate) fn open(alloc: Global) -> Option<Scene<Smallest>> {
+        let (board, actors, lines) = opened(alloc, 2, 1)?;
         Scene::of(board, actors, lines)
     }
+}
 
+impl<S: Origin> Scene<S> {
     /// A scene of a board that is given. `None` if an allocation fails.
-    pub(crate) fn share(alloc: Global, board: Board) -> Option<Scene>
-        requires { processors board.state ≡ 1 }
+    pub(crate) fn share(alloc: Global, board: Board) -> Option<Scene<S>>
+        requires start { board.state ≡ S.start }
+        requires processor { processors board.state ≡ 1 }
     {
         let (board, actors, lines) = shared(alloc, board, 2, 1)?;
         Scene::of(board, actors, lines)
     }
 
-    fn of(board: RecordedBoard, mut actors: Vec<Actor>, mut lines: Vec<Line>) -> Option<Scene>
-        requires processor { board.words.processors ≡ 1 }
-        requires actors { All (λ a. a.of ≡ board.words.name) actors.items }
-        requires lines { All (IsOf board.words.name) lines.items }
+    fn of(board: RecordedBoard<S>, mut actors: Vec<Actor>, mut lines: Vec<Line>) -> Option<Scene<S>>
+        requires processor { board.processors ≡ 1 }
+        requires actors { All (λ a. a.of ≡ board.name) actors.items }
+        requires lines { All (IsOf board.name) lines.items }
         requires raises { All (λ l. only_raises l.actions ≡ true) lines.items }
     {
         match (
@@ -194,32 +197,6 @@ impl Scene {
         lines.truncate(back.lines);
         board.settle(actors, lines)
         // README board_threads: end
-    }
-
-    /// Returns the remaining actors and lines, and settles the board on another one.
-    pub(crate) fn settle_on(
-        self,
-        alloc: Global,
-        start: Board,
-        back: Back,
-    ) -> Result<Ended, SettleFault>
-        ensures { IfOk result (λ e. length e.standing ≡ 4) }
-    {
-        let Scene {
-            board,
-            actor,
-            other,
-            line,
-        } = self;
-        let Ok(mut actors) = Vec::from_array(alloc, [actor, other]) else {
-            return Err(SettleFault::Memory);
-        };
-        let Ok(mut lines) = Vec::from_array(alloc, [line]) else {
-            return Err(SettleFault::Memory);
-        };
-        actors.truncate(back.actors);
-        lines.truncate(back.lines);
-        board.settle_on(start, actors, lines)
     }
 }
 

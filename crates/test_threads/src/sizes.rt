@@ -1,6 +1,10 @@
 // Sizes of shared boards.
-use board_threads::{OpenFault, RecordedBoard};
+ghost use Rattle.std.specs.Prelude.{◌≡◌};
+ghost use Rattle.synic_board.specs.State.{opened};
+
+use board_threads::{OpenFault, Origin, RecordedBoard};
 use std::alloc::Global;
+use std::marker::Brand;
 
 #[derive(Clone, Copy)]
 struct Sizes {
@@ -103,14 +107,16 @@ const OPENINGS: [(Sizes, Result<Opened, OpenFault>); 12] = [
     ),
 ];
 
-fn open(alloc: Global, sizes: Sizes) -> Result<Opened, OpenFault> {
+fn open<S: Origin>(alloc: Global, sizes: Sizes) -> Result<Opened, OpenFault>
+    requires { S.start ≡ opened sizes.processors sizes.pages 0 }
+{
     let Sizes {
         processors,
         pages,
         actors,
         lines,
     } = sizes;
-    match RecordedBoard::open(alloc, processors, pages, 0, actors, lines) {
+    match RecordedBoard::<S>::open(alloc, processors, pages, 0, actors, lines) {
         Ok((board, actors, lines)) => Ok(Opened {
             processors: board.processors(),
             actors: actors.len(),
@@ -126,6 +132,7 @@ fn open(alloc: Global, sizes: Sizes) -> Result<Opened, OpenFault> {
 #[test]
 fn sizes_of_a_shared_board_are_judged(rt: HostRuntime) {
     for (at, (sizes, expected)) in OPENINGS.iter().enumerate() {
-        assert_eq!(rt; open(rt.alloc(), *sizes), *expected, "at {at}");
+        let opened = open::<Brand>(rt.alloc(), *sizes);
+        assert_eq!(rt; opened, *expected, "at {at}");
     }
 }

@@ -2,7 +2,7 @@
 use crate::ends::{End, NEW, end_of};
 use crate::scenes::{ALL, Answer, Back, Call, Scene};
 use board_terms::Refusal;
-use board_threads::{CallFault, Raised, SettleFault};
+use board_threads::{CallFault, Origin, Raised, SettleFault};
 use std::alloc::Global;
 use std::test::Fail;
 
@@ -179,7 +179,7 @@ const STORIES: [Story; 12] = [
     },
 ];
 
-fn settled(scene: Scene, alloc: Global, back: Back) -> Result<End, SettleFault> {
+fn settled<S: Origin>(scene: Scene<S>, alloc: Global, back: Back) -> Result<End, SettleFault> {
     match scene.settle(alloc, back) {
         Ok(ended) => Ok(end_of(&ended)),
         Err(fault) => Err(fault),

@@ -20,7 +20,7 @@ use Rattle.board_threads.specs.Judging.{is_bad_step, is_bad_raise}
 use Rattle.board_threads.specs.Sweeps.{is_absorb}
 use Rattle.board_threads.specs.declared.script.Step.{Step}
 use Rattle.board_threads.specs.declared.script.Step.TheVariants.{Sweep}
-use Rattle.text_driver.specs.Judging.{Follows}
+use Rattle.text_driver.specs.Judging.{AreGoodLines}
 use Rattle.text_crew.specs.Crew.{Section, InSetup, InActor, InLine, Crew, new_crew, over, finished, entries}
 use Rattle.text_crew.specs.inside.Good.{HasBoard, IsGoodOn}
 use Rattle.text_crew.specs.Reading.{Read, no_absorb, parse_act, parse_sweep, on_board, parse_raise, step_of, parse_step, parse_line_step, with_entry, with_event, with_step, with_raise, section_line, with_actor, with_line, with_board, parse_fields, parse_line}
@@ -222,7 +222,7 @@ module _ (board : Option State) where
       (λ _. cond_both (is_skipped line) (Ok crew) rest Kept (λ _. g) (λ _. fields-kept crew (fields_of line) g))
 
   -- What good lines add is valid.
-  pub all-good : {J : Type 0} (seen : J → Option Crew) (old new : J) (lines : List (List ℕ)) (answers : List ℕ) → AllGood (seen old) → Follows (Good seen) old lines answers new → AllGood (seen new)
+  pub all-good : {J : Type 0} (seen : J → Option Crew) (old new : J) (lines : List (List ℕ)) (answers : List ℕ) → AllGood (seen old) → AreGoodLines (Good seen) old lines answers new → AllGood (seen new)
   all-good {J} seen old new [] answers g h = subst (λ (j : J). AllGood (seen j)) (sym h.1) g
   all-good seen old new (line ∷ lines) answers g h = all-good seen h.2 new lines h.1 (subst Kept h.4.1 (kept (seen old) line g)) h.5
 

@@ -2,7 +2,7 @@
 use Rattle.std.proofs.Common.{◌≡◌, ℕ, ◌+◌, ◌<◌, ◌≤◌, List, [], ◌∷◌, ◌++◌, length, refl, sym, ap, ◌∙◌, arith, Bool, Option, None, Some, Ok, Err, le-ltb}
 use Rattle.std.proofs.lemmas.Bool.Decides.{Decides-ltb}
 use Rattle.text_base.specs.Lines.{rest_of}
-use Rattle.text_driver.specs.Judging.{Follows}
+use Rattle.text_driver.specs.Judging.{AreGoodLines}
 use Rattle.text_driver.specs.Driving.{Stops, place, Ends, next_of}
 use Rattle.text_driver.specs.declared.driving.End.{End}
 use Rattle.text_driver.specs.declared.driving.End.TheVariants as ends
@@ -20,7 +20,7 @@ module _ {J : Type 0} (seen : J → Option Crew) where
   Wrong state line fault = parse_line (seen state) line ≡ Err fault
 
   -- good lines have no answers, and lead to the next state
-  followed : (old new : J) (lines left : List (List ℕ)) (answers rest : List ℕ) (k j : ℕ) → j ≡ k + length lines → Follows Good old lines answers new →
+  followed : (old new : J) (lines left : List (List ℕ)) (answers rest : List ℕ) (k j : ℕ) → j ≡ k + length lines → AreGoodLines Good old lines answers new →
       (answers ≡ []) × (parse_lines k (seen old) (lines ++ left) rest ≡ parse_lines j (seen new) left rest)
   followed old new [] left answers rest k j count h = (h.0, let same : k ≡ j = omega (arith, count) in λ i. parse_lines (same i) (seen (sym h.1 i)) left rest)
   followed old new (line ∷ lines) left answers rest k j count h =

@@ -10,14 +10,14 @@ use Rattle.text_trace.specs.declared.format.Format.{Format}
 use Rattle.text_trace.specs.declared.format.Format.TheVariants.{Two, Four}
 use Rattle.text_trace.specs.Trace.{IsBeginning, IsEntry, board_text, trace, trace_text}
 use Rattle.text_crew.specs.Crew.{Crew}
-use Rattle.text_crew.specs.Running.{IsHistory, IsCrewTrace, IsOpenedTrace, IsTraceOn, line_pages, opened_format}
+use Rattle.text_crew.specs.Running.{IsScriptHistory, IsCrewTrace, IsOpenedTrace, IsTraceOn, line_pages, opened_format}
 use Rattle.text_crew.specs.inside.Tracing.{IsTraced}
 use Rattle.text_crew.specs.inside.Reporting.{Prepares}
 use Rattle.text_crew.specs.declared.outcome.Outcome.{Outcome}
 use Rattle.text_crew.specs.declared.outcome.Outcome.TheVariants as outcomes
 
 -- the printed history is a legal trace
-traced : (format : Format) (beginning : List ℕ) (start : State) (crew : Crew) (history : List Entry) (text : List ℕ) → IsHistory crew start history →
+traced : (format : Format) (beginning : List ℕ) (start : State) (crew : Crew) (history : List Entry) (text : List ℕ) → IsScriptHistory crew start history →
     IsBeginning format beginning start → All (IsEntry format) history → text ≡ trace format beginning start history → IsCrewTrace format beginning start crew text
 traced format beginning start crew history text is begins fits written = record {
   history = history;
@@ -38,7 +38,7 @@ traced format beginning start crew history text is begins fits written = record 
 
 -- what was written is the trace, if the board has the state to which its history leads
 pub prepared : (board : Option State) (format : Format) (beginning : List ℕ) (start : State) (crew : Crew) (outcome : Outcome) (ended : Ended) (text : List ℕ) →
-    IsHistory crew start ended.history.items → IsBeginning format beginning start → ended.board.state ≡ leads_to start ended.history.items → IsTraced format beginning outcome ended [] text →
+    IsScriptHistory crew start ended.history.items → IsBeginning format beginning start → ended.board.state ≡ leads_to start ended.history.items → IsTraced format beginning outcome ended [] text →
     (IsCrewTrace format beginning start crew text → IsTraceOn board crew text) → Prepares board outcome crew text
 prepared board format beginning start crew outcomes.Done ended text is begins leads written on =
     let next = ap (λ (s : State). trace_text format beginning ended.history.items s.next_ticket) leads in

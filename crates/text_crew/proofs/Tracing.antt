@@ -5,7 +5,7 @@ use Rattle.std.proofs.KnownBytes.{Appends-trans}
 use Rattle.synic_board.specs.State.{State}
 use Rattle.text_lines.specs.declared.fault.ScriptFault.{ScriptFault}
 use Rattle.text_crew.specs.Crew.{Crew, finished}
-use Rattle.text_crew.specs.Running.{IsOutput, Writes, CrewsOn, parse_on}
+use Rattle.text_crew.specs.Running.{IsOutput, IsKnownOutput, IsSent, Writes, parse_on}
 use Rattle.text_crew.specs.inside.Reporting.{Refusal, Report}
 use Rattle.text_crew.specs.declared.running.CrewRun.{CrewRun}
 use Rattle.text_crew.specs.declared.running.CrewRun.TheVariants.{Done, Script, Unsettled, Memory, NoThread, Reading, Writing}
@@ -17,17 +17,15 @@ known (Some input) P Q step h = step input h
 -- A report that nothing precedes is the whole output.
 module _ (board : Option State) (tells : CrewRun → List ℕ → Type 0) (r0 w0 w w1 : Option (List ℕ)) (P : List ℕ → Type 0)
     (step : (input : List ℕ) → P input → (end : CrewRun) (text : List ℕ) → tells end text → IsOutput board input end text) (read : IfSome r0 P) (first : Appends w0 w []) where
-  plain : (end : CrewRun) → (text : List ℕ) × tells end text × Appends w w1 text → (text : List ℕ) × IfSome r0 (λ input. IsOutput board input end text) × Appends w0 w1 text
-  plain end h = (h.0, known r0 P (λ input. IsOutput board input end h.0) (λ input p. step input p end h.0 h.1) read, Appends-trans w0 w w1 [] h.0 first h.2)
+  output : (end : CrewRun) (text : List ℕ) → tells end text → IsKnownOutput board r0 end text
+  output end text told = known r0 P (λ input. IsOutput board input end text) (λ input p. step input p end text told) read
 
-  pub spoken : (end : CrewRun) → Writes tells end w w1 → CrewsOn board end r0 w0 w1
-  spoken Done h = plain Done h
-  spoken (Script line fault) h = plain (Script line fault) h
-  spoken Unsettled h = plain Unsettled h
-  spoken Memory h = plain Memory h
-  spoken NoThread h = plain NoThread h
-  spoken Reading h = plain Reading h
-  spoken Writing h = (h.0, h.1, h.2, known r0 P (λ input. IsOutput board input h.0 (h.1 ++ h.2)) (λ input p. step input p h.0 (h.1 ++ h.2) h.3) read, Appends-trans w0 w w1 [] h.1 first h.4)
+  sends : (end : CrewRun) (sent : List ℕ) → IsSent tells end sent → IsSent (IsKnownOutput board r0) end sent
+  sends Writing sent part = record { end = part.end; unsent = part.unsent; text = output part.end (sent ++ part.unsent) part.text }
+  sends end sent told = output end sent told
+
+  pub spoken : (end : CrewRun) → Writes tells end w w1 → Writes (IsKnownOutput board r0) end w0 w1
+  spoken end h = record { sent = h.sent; is = sends end h.sent h.is; appended = Appends-trans w0 w w1 [] h.sent first h.appended }
 
 pub tells-refusal : (board : Option State) (line : ℕ) (fault : ScriptFault) (input : List ℕ) → parse_on board input ≡ Err (line, fault) → (end : CrewRun) (text : List ℕ) →
     Refusal line fault end text → IsOutput board input end text
@@ -41,11 +39,11 @@ tells-refusal board line fault input is Writing text h = absurd h
 
 pub tells-report : (board : Option State) (last : Crew) (input : List ℕ) → parse_on board input ≡ Ok (Some last) → (end : CrewRun) (text : List ℕ) → Report board (finished last) end text →
     IsOutput board input end text
-tells-report board last input is Done text h = (finished last, (last, is, refl), h)
+tells-report board last input is Done text h = record { last = last; parsed = is; has = h }
 tells-report board last input is (Script l f) text h = absurd h
-tells-report board last input is Unsettled text h = (finished last, (last, is, refl), h)
+tells-report board last input is Unsettled text h = record { last = last; parsed = is; has = h }
 tells-report board last input is Memory text h = h
-tells-report board last input is NoThread text h = (finished last, (last, is, refl), h)
+tells-report board last input is NoThread text h = record { last = last; parsed = is; has = h }
 tells-report board last input is Reading text h = absurd h
 tells-report board last input is Writing text h = absurd h
 

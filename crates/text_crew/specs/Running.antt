@@ -1,6 +1,6 @@
 -- The output for a crew script.
 use Rattle.std.specs.Prelude.{◌≡◌, ℕ, zero, suc, ◌*◌, List, [], ◌++◌, length, Option, None, Some, Result, Ok, Err, IfSome, codes}
-use Rattle.std.specs.List.{AllZip}
+use Rattle.std.specs.List.{All, AllZip}
 use Rattle.std.specs.Option.{option_map}
 use Rattle.std.specs.Io.KnownBytes.{Appends}
 use Rattle.synic_board.specs.State.{State, opened, processors}
@@ -13,7 +13,6 @@ use Rattle.text_lines.specs.Faults.{fault_text}
 use Rattle.text_lines.specs.declared.fault.ScriptFault.{ScriptFault}
 use Rattle.text_driver.specs.Driving.{ReadsNear}
 use Rattle.text_image.specs.Image.{image}
-use Rattle.text_restore.specs.Images.{IsImage}
 use Rattle.text_trace.specs.Trace.{board_text, trace, IsTrace}
 use Rattle.text_trace.specs.declared.format.Format.{Format}
 use Rattle.text_trace.specs.declared.format.Format.TheVariants.{Two, Three, Four}
@@ -23,19 +22,20 @@ use Rattle.text_crew.specs.declared.running.CrewRun.{CrewRun}
 use Rattle.text_crew.specs.declared.running.CrewRun.TheVariants.{Done, Script, Unsettled, Memory, NoThread, Reading, Writing}
 
 -- A history of a crew on a board in this state, under any schedule: a run of one thread that has the setup, the actors' scripts and the last absorbs
--- in their places and no other entry, and in which each Fresh raise of a line was absorbed once, or its bit is set at the end.
-pub record IsHistory (crew : Crew) (start : State) (history : List Entry) : Type 0 where
+-- in their places and no other entry, in which each Fresh raise of a line was absorbed once, and after which no bit is set.
+pub record IsScriptHistory (crew : Crew) (start : State) (history : List Entry) : Type 0 where
   pub legal : IsLegal start history
   pub crewed : IsCrewHistory crew.processors crew.setup crew.actors history
   pub answers : List (List Raised)
   pub standing : List ℕ
   pub each : AllZip HasEach crew.lines answers
   pub raises : AreAbsorbed (4 * crew.processors) (logs_of crew.lines answers) history standing
+  pub clear : All (λ (word : ℕ). word ≡ 0) standing
 
 -- The trace of a history of a crew. It is the trace of a legal history with as many entries as the script has.
 pub record IsCrewTrace (format : Format) (beginning : List ℕ) (start : State) (crew : Crew) (text : List ℕ) : Type 0 where
   pub history : List Entry
-  pub is : IsHistory crew start history
+  pub is : IsScriptHistory crew start history
   pub written : text ≡ trace format beginning start history
   pub legal : IsTrace text (entries_of crew)
 
@@ -54,9 +54,9 @@ abbrev pub IsOpenedTrace : Crew → List ℕ → Type 0
 IsOpenedTrace crew =
     IsCrewTrace (opened_format crew.pages) (board_text crew.processors (line_pages crew.pages) crew.first_ticket) (opened crew.processors crew.pages crew.first_ticket) crew
 
--- Of a crew on a board that is given, in format 3: it begins with the image of the board's state, and its history starts in a state that has this image.
+-- of a crew on a board in this state, in format 3: it begins with the image of the state
 abbrev pub IsGivenTrace : State → Crew → List ℕ → Type 0
-IsGivenTrace s crew text = (start : State) × IsImage (image s) start × IsCrewTrace Three (image s) start crew text
+IsGivenTrace s = IsCrewTrace Three (image s) s
 
 -- the board of a crew: one in this state, or one that its script opens
 abbrev pub IsTraceOn : Option State → Crew → List ℕ → Type 0
@@ -70,31 +70,40 @@ crew_on s = new_crew (processors s) (length s.pages) s.next_ticket
 abbrev pub parse_on : Option State → List ℕ → Result (Option Crew) (ℕ × ScriptFault)
 parse_on board = parse_from (option_map crew_on board)
 
--- the script has no fault, and its crew is this one
-abbrev pub IsCrewOf : Option State → List ℕ → Crew → Type 0
-IsCrewOf board input crew = (last : Crew) × (parse_on board input ≡ Ok (Some last)) × (crew ≡ finished last)
+-- The script has no fault, and its crew has this property.
+pub record HasCrew (board : Option State) (script : List ℕ) (Property : Crew → Type 0) : Type 0 where
+  pub last : Crew
+  pub parsed : parse_on board script ≡ Ok (Some last)
+  pub has : Property (finished last)
 
--- the output for an input at each end
+-- the text for a script, by the end of its run
 abbrev pub IsOutput : Option State → List ℕ → CrewRun → List ℕ → Type 0
-IsOutput board input Done text = (crew : Crew) × IsCrewOf board input crew × IsTraceOn board crew text
-IsOutput board input (Script line fault) text = (parse_on board input ≡ Err (line, fault)) × (text ≡ fault_text (Some (line, fault)))
-IsOutput board input Unsettled text = (crew : Crew) × IsCrewOf board input crew × (text ≡ codes "! settle\n")
-IsOutput board input NoThread text = (crew : Crew) × IsCrewOf board input crew × (text ≡ [])
-IsOutput board input Memory text = text ≡ []
-IsOutput board input Reading text = text ≡ []
-IsOutput board input Writing text = text ≡ []
+IsOutput board script Done text = HasCrew board script (λ (crew : Crew). IsTraceOn board crew text)
+IsOutput board script (Script line fault) text = (parse_on board script ≡ Err (line, fault)) × (text ≡ fault_text (Some (line, fault)))
+IsOutput board script Unsettled text = HasCrew board script (λ (crew : Crew). text ≡ codes "! settle\n")
+IsOutput board script NoThread text = HasCrew board script (λ (crew : Crew). text ≡ [])
+IsOutput board script end text = text ≡ []
 
--- The output of an end was written; if a write failed, a prefix of the output of some end.
-abbrev pub Writes : (CrewRun → List ℕ → Type 0) → CrewRun → Option (List ℕ) → Option (List ℕ) → Type 0
-Writes texts Writing w0 w1 = (end : CrewRun) × (sent : List ℕ) × (unsent : List ℕ) × texts end (sent ++ unsent) × Appends w0 w1 sent
-Writes texts end w0 w1 = (text : List ℕ) × texts end text × Appends w0 w1 text
+-- the same, if the contract can see the bytes of the script
+abbrev pub IsKnownOutput : Option State → Option (List ℕ) → CrewRun → List ℕ → Type 0
+IsKnownOutput board script end text = IfSome script (λ bytes. IsOutput board bytes end text)
 
--- the reader before, and the writer before and after
-abbrev pub CrewsOn : Option State → CrewRun → Option (List ℕ) → Option (List ℕ) → Option (List ℕ) → Type 0
-CrewsOn board end r0 w0 w1 = Writes (λ (e : CrewRun) (text : List ℕ). IfSome r0 (λ input. IsOutput board input e text)) end w0 w1
+-- a part of the text for some end, from its beginning
+pub record IsCut (IsText : CrewRun → List ℕ → Type 0) (sent : List ℕ) : Type 0 where
+  pub end : CrewRun
+  pub unsent : List ℕ
+  pub text : IsText end (sent ++ unsent)
 
-abbrev pub Crews : CrewRun → Option (List ℕ) → Option (List ℕ) → Option (List ℕ) → Type 0
-Crews = CrewsOn None
+-- the text for the end; if a write failed, a part of a text
+abbrev pub IsSent : (CrewRun → List ℕ → Type 0) → CrewRun → List ℕ → Type 0
+IsSent IsText Writing sent = IsCut IsText sent
+IsSent IsText end sent = IsText end sent
+
+-- A run with this end appended what it sent to the contents of its writer.
+pub record Writes (IsText : CrewRun → List ℕ → Type 0) (end : CrewRun) (old new : Option (List ℕ)) : Type 0 where
+  pub sent : List ℕ
+  pub is : IsSent IsText end sent
+  pub appended : Appends old new sent
 
 -- the greatest number of bytes read: the byte beyond the limit only if reading ends there
 abbrev pub most_read : CrewRun → ℕ

@@ -1,5 +1,5 @@
 // Running the crew of a whole script, and its trace.
-ghost use Rattle.std.specs.Prelude.{◌≡◌, ◌≢◌, ◌<◌, ◌^◌, [], None, Some, IfOk, IfErr};
+ghost use Rattle.std.specs.Prelude.{◌≡◌, ◌≢◌, ◌<◌, ◌^◌, [], None, Some, IfOk};
 ghost use Rattle.synic_board.specs.State.{IsCount, opened};
 ghost use Rattle.text_image.specs.Image.{image};
 ghost use Rattle.text_restore.specs.Images.{IsImage};
@@ -11,12 +11,12 @@ ghost use Rattle.text_crew.specs.inside.View.{crew_of};
 
 use crate::held::CrewScript;
 use board_threads::{CrewFault, Ended, Gate, Setup, run_crew, run_crew_on};
+use law_images::laws::a_board_is_restored_from_its_image;
 use std::alloc::{AllocError, Global};
 use std::sync::Wait;
 use std::thread::Threads;
 use synic_board::{Board, OpenFault};
 use text_image::put_image;
-use text_restore::{RestoreEnd, restore};
 use text_trace::{Format, put_sparse_trace, put_trace, put_trace_from_image};
 
 /// The result of running a crew.
@@ -66,7 +66,7 @@ fn run_whole<T: Threads + Wait + Sync, G: Gate + Sync>(
     }
 }
 
-/// Runs a crew on a sparse board. A second one is that on which the history is performed once more.
+/// Runs a crew on a sparse board.
 fn run_sparse<T: Threads + Wait + Sync, G: Gate + Sync>(
     rt: &T,
     alloc: Global,
@@ -82,18 +82,7 @@ fn run_sparse<T: Threads + Wait + Sync, G: Gate + Sync>(
     let Ok(board) = sparse_board(alloc, &script.setup) else {
         return Outcome::Memory;
     };
-    let Ok(start) = sparse_board(alloc, &script.setup) else {
-        return Outcome::Memory;
-    };
-    match run_crew_on(
-        rt,
-        alloc,
-        board,
-        start,
-        &script.setup,
-        &script.scripts,
-        gate,
-    ) {
+    match run_crew_on(rt, alloc, board, &script.setup, &script.scripts, gate) {
         Ok(end) => put_sparse(&script.setup, &end.ended, out),
         Err(fault) => outcome_of(fault),
     }
@@ -127,19 +116,7 @@ pub(crate) fn run_given<T: Threads + Wait + Sync, G: Gate + Sync>(
     let Ok(image) = image_of(alloc, &board) else {
         return Outcome::Memory;
     };
-    let start = match restored_from(alloc, image.as_slice()) {
-        Ok(start) => start,
-        Err(outcome) => return outcome,
-    };
-    match run_crew_on(
-        rt,
-        alloc,
-        board,
-        start,
-        &script.setup,
-        &script.scripts,
-        gate,
-    ) {
+    match run_crew_on(rt, alloc, board, &script.setup, &script.scripts, gate) {
         Ok(end) => put_given(image.as_slice(), &end.ended, out),
         Err(fault) => outcome_of(fault),
     }
@@ -147,23 +124,13 @@ pub(crate) fn run_given<T: Threads + Wait + Sync, G: Gate + Sync>(
 
 /// The image of a board.
 fn image_of(alloc: Global, board: &Board) -> Result<Vec<u8>, AllocError>
-    ensures { IfOk result (λ text. text.items ≡ image board.now.state) }
+    ensures text { IfOk result (λ text. text.items ≡ image board.now.state) }
+    ensures image { IsImage (image board.now.state) board.now.state }
 {
+    a_board_is_restored_from_its_image(board);
     let mut text = Vec::new(alloc);
     put_image(&mut text, board)?;
     Ok(text)
-}
-
-/// A board that is restored from an image.
-fn restored_from(alloc: Global, mut image: &[u8]) -> Result<Board, Outcome>
-    ensures image { IfOk result (λ board. IsImage image.entry.now board.state) }
-    ensures never_done { IfErr result (λ outcome. outcome ≢ Outcome.Done) }
-{
-    match restore(alloc, &mut image) {
-        RestoreEnd::Restored(board) => Ok(board),
-        RestoreEnd::Memory => Err(Outcome::Memory),
-        RestoreEnd::Refused(_) | RestoreEnd::Reading => Err(Outcome::Unsettled),
-    }
 }
 
 /// Appends the trace of a crew that has ended, on a board that its script opened. It is separate

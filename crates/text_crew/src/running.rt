@@ -1,10 +1,10 @@
 // Running a crew script from a reader, and writing the trace of its crew.
-ghost use Rattle.std.specs.Prelude.{◌≡◌, [], Some};
+ghost use Rattle.std.specs.Prelude.{◌≡◌, [], None, Some};
 ghost use Rattle.text_base.specs.Streams.{ReadsUpTo};
 ghost use Rattle.text_crew.specs.Crew.{finished};
-ghost use Rattle.text_crew.specs.Running.{Crews, CrewsOn, most_read, StopsNear};
+ghost use Rattle.text_crew.specs.Running.{IsKnownOutput, Writes, most_read, StopsNear};
 ghost use Rattle.text_crew.specs.inside.Good.{IsGoodOn};
-ghost use Rattle.text_crew.specs.inside.Reporting.{Refuses, Runs, Prepares};
+ghost use Rattle.text_crew.specs.inside.Reporting.{Refusal, Report, Prepares};
 ghost use Rattle.text_crew.specs.inside.View.{crew_of, state_in};
 
 use crate::held::CrewScript;
@@ -51,7 +51,7 @@ pub fn crew<T: Threads + Wait + Sync, R: Read, W: Write, G: Gate + Sync>(
     writer: &mut W,
     gate: &G,
 ) -> CrewRun
-    ensures text { Crews result (R.remaining reader.old) (W.contents writer.old) (W.contents writer.new) }
+    ensures text { Writes (IsKnownOutput None (R.remaining reader.old)) result (W.contents writer.old) (W.contents writer.new) }
     ensures limit { ReadsUpTo (most_read result) (R.remaining reader.old) (R.remaining reader.new) }
     ensures near { StopsNear result (R.remaining reader.old) (R.remaining reader.new) }
 {
@@ -59,8 +59,8 @@ pub fn crew<T: Threads + Wait + Sync, R: Read, W: Write, G: Gate + Sync>(
 }
 
 /// Runs a crew on a board that is open, such as one that was restored. The script has no board line,
-/// and the trace, of format 3, begins with the image of the board. Otherwise the same as `crew`. It
-/// also allocates that image, and a second board, on which the history is performed once more.
+/// and the trace, of format 3, begins with the image of the board, which it also allocates. Otherwise
+/// the same as `crew`.
 pub fn crew_on<T: Threads + Wait + Sync, R: Read, W: Write, G: Gate + Sync>(
     rt: &T,
     alloc: Global,
@@ -69,7 +69,7 @@ pub fn crew_on<T: Threads + Wait + Sync, R: Read, W: Write, G: Gate + Sync>(
     writer: &mut W,
     gate: &G,
 ) -> CrewRun
-    ensures text { CrewsOn (Some board.state) result (R.remaining reader.old) (W.contents writer.old) (W.contents writer.new) }
+    ensures text { Writes (IsKnownOutput (Some board.state) (R.remaining reader.old)) result (W.contents writer.old) (W.contents writer.new) }
     ensures limit { ReadsUpTo (most_read result) (R.remaining reader.old) (R.remaining reader.new) }
     ensures near { StopsNear result (R.remaining reader.old) (R.remaining reader.new) }
 {
@@ -85,7 +85,7 @@ fn run_script<T: Threads + Wait + Sync, R: Read, W: Write, G: Gate + Sync>(
     writer: &mut W,
     gate: &G,
 ) -> CrewRun
-    ensures text { CrewsOn (state_in board) result (R.remaining reader.old) (W.contents writer.old) (W.contents writer.new) }
+    ensures text { Writes (IsKnownOutput (state_in board) (R.remaining reader.old)) result (W.contents writer.old) (W.contents writer.new) }
     ensures limit { ReadsUpTo (most_read result) (R.remaining reader.old) (R.remaining reader.new) }
     ensures near { StopsNear result (R.remaining reader.old) (R.remaining reader.new) }
 {
@@ -110,7 +110,7 @@ fn run_script<T: Threads + Wait + Sync, R: Read, W: Write, G: Gate + Sync>(
 
 /// Writes a fault's line.
 fn refuse<W: Write>(alloc: Global, writer: &mut W, line: u64, fault: ScriptFault) -> CrewRun
-    ensures { Refuses result line fault (W.contents writer.old) (W.contents writer.new) }
+    ensures { Writes (Refusal line fault) result (W.contents writer.old) (W.contents writer.new) }
 {
     let mut out = Vec::new(alloc);
     if put_fault(&mut out, line, fault).is_err() {
@@ -133,7 +133,7 @@ fn run<T: Threads + Wait + Sync, W: Write, G: Gate + Sync>(
     gate: &G,
 ) -> CrewRun
     requires good { IsGoodOn (state_in board) (finished (crew_of script)) }
-    ensures { Runs (state_in board) result (crew_of script) (W.contents writer.old) (W.contents writer.new) }
+    ensures { Writes (Report (state_in board) (finished (crew_of script))) result (W.contents writer.old) (W.contents writer.new) }
 {
     let mut out = Vec::new(alloc);
     match prepare(rt, alloc, board, &mut script, gate, &mut out) {

@@ -8,7 +8,7 @@ use Rattle.text_base.specs.Lines.{IsOneLine, lines_of, rest_of, joined}
 use Rattle.text_base.specs.Streams.{ReadsUpTo}
 use Rattle.text_base.proofs.LineLemmas.{lines_of-line, lines_of-more, rest_of-more, lines_of-rest, rest_of-rest, before_lines, before_rest, AreLines, lines-append, joined-snoc, lines_of-joined, rest_of-joined}
 use Rattle.text_driver.proofs.Budgets.{less_left, on-input}
-use Rattle.text_driver.specs.Judging.{Follows}
+use Rattle.text_driver.specs.Judging.{AreGoodLines}
 use Rattle.text_driver.specs.Driving.{next_of, place, Ends, Stops, Sends, Drives, ReadsNear}
 use Rattle.text_driver.specs.declared.driving.End.{End}
 use Rattle.text_driver.specs.declared.driving.End.TheVariants as ends
@@ -18,7 +18,7 @@ joined-length [] = omega arith
 joined-length (l ∷ lines) = let h = joined-length lines in omega (arith, h, length-append l (10 ∷ joined lines))
 
 follows-snoc : {J : Type 0} (good : J → List ℕ → List ℕ → J → Type 0) (old now next : J) (lines : List (List ℕ)) (sent line answer : List ℕ) →
-    Follows good old lines sent now → length line ≤ 640 → good now line answer next → Follows good old (lines ++ line ∷ []) (sent ++ answer) next
+    AreGoodLines good old lines sent now → length line ≤ 640 → good now line answer next → AreGoodLines good old (lines ++ line ∷ []) (sent ++ answer) next
 follows-snoc {J} good old now next [] sent line answer h short is =
     (answer, [], next, short, subst (λ (s : J). good s line answer next) h.1 is, (refl, refl), ap (λ (x : List ℕ). x ++ answer) h.0 ∙ sym (append-nil answer))
 follows-snoc good old now next (l ∷ lines) sent line answer h short is =
@@ -30,7 +30,7 @@ pub record Progress {J : Type 0} (good : J → List ℕ → List ℕ → J → T
   pub each : AreLines lines
   pub counted : number ≡ length lines
   pub reads : Consumes r0 r (joined lines ++ source.waiting)
-  pub follows : Follows good old lines answers now
+  pub follows : AreGoodLines good old lines answers now
   pub spent : length (joined lines) + (length source.waiting + source.budget) ≡ 1073741824
 
 -- and the answers were sent
@@ -83,7 +83,7 @@ within {source = source} r1 came most h reads bound =
     (joined h.lines ++ (source.waiting ++ came), reads-on r1 came h reads, omega (arith, bound, h.spent, length-append (joined h.lines) (source.waiting ++ came), length-append source.waiting came))
 
 stops : {J F : Type 0} (good : J → List ℕ → List ℕ → J → Type 0) (wrong : J → List ℕ → F → Type 0) (end : End F) (old now new : J) (lines : List (List ℕ)) (answers more : List ℕ) → AreLines lines →
-    Follows good old lines answers now → Ends wrong end (place (length lines + 1) now (lines_of more) (rest_of more)) new → Stops good wrong end old new answers (joined lines ++ more)
+    AreGoodLines good old lines answers now → Ends wrong end (place (length lines + 1) now (lines_of more) (rest_of more)) new → Stops good wrong end old new answers (joined lines ++ more)
 stops good wrong end old now new lines answers more each follows is = record {
   lines = lines;
   left = lines_of more;

@@ -2,7 +2,7 @@
 use Rattle.std.specs.Prelude.{◌≡◌, ℕ, ◌+◌, ◌≤◌, ◌<◌, List, [], ◌∷◌, ◌++◌, length, take, Option, IfSome}
 use Rattle.std.specs.Io.KnownBytes.{Consumes, Appends}
 use Rattle.text_base.specs.Lines.{lines_of, rest_of, joined}
-use Rattle.text_driver.specs.Judging.{Follows}
+use Rattle.text_driver.specs.Judging.{AreGoodLines}
 use Rattle.text_driver.specs.declared.driving.End.{End}
 use Rattle.text_driver.specs.declared.driving.End.TheVariants as ends
 
@@ -40,7 +40,7 @@ pub record Stops {J F : Type 0} (good : J → List ℕ → List ℕ → J → Ty
   pub left : List (List ℕ)
   pub state : J
   pub split : lines_of text ≡ lines ++ left
-  pub follows : Follows good old lines answers state
+  pub follows : AreGoodLines good old lines answers state
   pub ends : Ends wrong end (place (length lines + 1) state left (rest_of text)) new
 
 -- the answers were sent; if a write failed, a prefix of them

@@ -16,6 +16,6 @@ GoesOn ready (taken.Wrong fault) old new = Unit {0}
 GoesOn ready taken.Memory old new = Unit {0}
 
 -- Starting in one state and ending in another, each of these lines is good and has at most 640 bytes, and these answers are sent.
-abbrev pub Follows : {J : Type 0} → (J → List ℕ → List ℕ → J → Type 0) → J → List (List ℕ) → List ℕ → J → Type 0
-Follows good old [] sent new = (sent ≡ []) × (new ≡ old)
-Follows {J} good old (line ∷ lines) sent new = (answer rest : List ℕ) × (next : J) × (length line ≤ 640) × good old line answer next × Follows good next lines rest new × (sent ≡ answer ++ rest)
+abbrev pub AreGoodLines : {J : Type 0} → (J → List ℕ → List ℕ → J → Type 0) → J → List (List ℕ) → List ℕ → J → Type 0
+AreGoodLines good old [] sent new = (sent ≡ []) × (new ≡ old)
+AreGoodLines {J} good old (line ∷ lines) sent new = (answer rest : List ℕ) × (next : J) × (length line ≤ 640) × good old line answer next × AreGoodLines good next lines rest new × (sent ≡ answer ++ rest)

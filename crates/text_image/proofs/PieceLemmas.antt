@@ -13,22 +13,22 @@ use Rattle.text_lines.proofs.WrittenLemmas.{bytes-plain}
 use Rattle.text_image.specs.Image.{status_word, source_name, kind_word}
 use Rattle.text_image.specs.declared.piece.Piece.{Piece}
 use Rattle.text_image.specs.declared.piece.Piece.TheVariants as pieces
-use Rattle.text_image.specs.Pieces.{overlay_name, piece_fields, IsPiece, Denotes}
+use Rattle.text_image.specs.Pieces.{overlay_name, piece_fields, IsPiece, DenotesPiece}
 use Rattle.text_image.specs.Parsing.{piece_at, parse_piece}
 use Rattle.text_image.proofs.ParsedLemmas.{piece-says}
 use Rattle.text_image.proofs.SpelledLemmas.{says-piece}
 
-pub reading-means : (line : List ℕ) (piece : Piece) → (piece_at line ≡ Some piece) ↔ Denotes line piece
+pub reading-means : (line : List ℕ) (piece : Piece) → (piece_at line ≡ Some piece) ↔ DenotesPiece line piece
 unfolding piece_at
 reading-means line piece = (
   λ e. let h = piece-says (fields_of line) piece e in record { fields = h.same; fits = h.fits },
   λ h. ap parse_piece h.fields ∙ says-piece piece h.fits,
 )
 
-pub means-one_piece : (line : List ℕ) (a b : Piece) → Denotes line a → Denotes line b → a ≡ b
+pub means-one_piece : (line : List ℕ) (a b : Piece) → DenotesPiece line a → DenotesPiece line b → a ≡ b
 means-one_piece line a b h k = let is = (reading-means line a).1 h in let is' = (reading-means line b).1 k in cc
 
-pub means-one_line : (a b : List ℕ) (piece : Piece) → Denotes a piece → Denotes b piece → a ≡ b
+pub means-one_line : (a b : List ℕ) (piece : Piece) → DenotesPiece a piece → DenotesPiece b piece → a ≡ b
 means-one_line a b piece h k = sym (join_with_byte-slice_split 32 a) ∙ ap spaced (h.fields ∙ sym k.fields) ∙ join_with_byte-slice_split 32 b
 
 -- The words of a piece have no spaces.
@@ -156,5 +156,5 @@ piece-read (pieces.Queued vp sint message) = message-read vp sint message
 piece-read (pieces.Slot vp sint ticket) = fields-words _ _ (plain_by (codes "slot") refl, (digits-plain 10 vp, (digits-plain 10 sint, (digits-plain 10 ticket, tt))))
 piece-read pieces.End = refl
 
-pub piece-means : (piece : Piece) → IsPiece piece → Denotes (spaced (piece_fields piece)) piece
+pub piece-means : (piece : Piece) → IsPiece piece → DenotesPiece (spaced (piece_fields piece)) piece
 piece-means piece h = record { fields = piece-read piece; fits = h }

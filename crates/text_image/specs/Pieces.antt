@@ -31,8 +31,8 @@ piece_fields (pieces.Queued vp sint message) = message_fields vp sint message
 piece_fields (pieces.Slot vp sint ticket) = slot_fields vp sint ticket
 piece_fields pieces.End = end_fields
 
-abbrev pub IsBlock : ℕ → List ℕ → Type 0
-IsBlock at bytes = (at < 4096) × AreBytes bytes × (length bytes ≡ 256)
+abbrev pub IsPageBlock : ℕ → List ℕ → Type 0
+IsPageBlock at bytes = (at < 4096) × AreBytes bytes × (length bytes ≡ 256)
 
 -- the ranges of a piece's fields
 abbrev pub IsPiece : Piece → Type 0
@@ -41,14 +41,14 @@ IsPiece (pieces.Lapic vp lapic) = (vp < 256) × IsApic lapic
 IsPiece (pieces.Control vp value) = (vp < 256) × (value < 2 ^ 64)
 IsPiece (pieces.Overlay vp kind value) = (vp < 256) × (value < 2 ^ 64)
 IsPiece (pieces.Source vp sint value) = (vp < 256) × (sint < 16) × (value < 2 ^ 64)
-IsPiece (pieces.Guest page at bytes) = (page < 256) × IsBlock at bytes.items
-IsPiece (pieces.Own vp kind at bytes) = (vp < 256) × IsBlock at bytes.items
+IsPiece (pieces.Guest page at bytes) = (page < 256) × IsPageBlock at bytes.items
+IsPiece (pieces.Own vp kind at bytes) = (vp < 256) × IsPageBlock at bytes.items
 IsPiece (pieces.Port port vp sint shape) = (port < 256) × (vp < 256) × (sint < 256) × IsShape shape
 IsPiece (pieces.Timer vp index config count due) = (vp < 256) × (index < 256) × (config < 2 ^ 64) × (count < 2 ^ 64) × IfSome due (λ d. d < 2 ^ 128)
 IsPiece (pieces.Queued vp sint message) = (vp < 256) × (sint < 256) × HasMessageRanges message
 IsPiece (pieces.Slot vp sint ticket) = (vp < 256) × (sint < 256) × (ticket < 2 ^ 64)
 IsPiece pieces.End = Unit {0}
 
-pub record Denotes (line : List ℕ) (piece : Piece) : Type 0 where
+pub record DenotesPiece (line : List ℕ) (piece : Piece) : Type 0 where
   pub fields : fields_of line ≡ piece_fields piece
   pub fits : IsPiece piece

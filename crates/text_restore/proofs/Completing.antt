@@ -109,7 +109,7 @@ refused-kept n None f y h k = k
 refused-kept n (Some r) f y h k = h r
 
 kept : (s : State) (x : Piece) (t : State) → Restores s x t → processors t ≡ processors s
-kept s (pieces.Moment m) t h = ap processors h.1
+kept s (pieces.Moment m) t h = ap processors h.2
 kept s (pieces.Lapic p a) t h = ap processors h.1 ∙ length-set s.apics p a
 kept s (pieces.Control p value) t h = ap processors h.2
 kept s (pieces.Overlay p kind value) t h = ap processors h.2

@@ -2,13 +2,13 @@
 use Rattle.std.proofs.Common.{◌≡◌, ℕ, ◌+◌, ◌<◌, ◌≤◌, List, [], ◌∷◌, ◌++◌, length, append-nil, Option, Some, None, refl, sym, ap, subst, ◌∙◌, arith}
 use Rattle.std.specs.Option.{IfSome}
 use Rattle.text_base.specs.Lines.{lines_of, rest_of}
-use Rattle.text_driver.specs.Judging.{Follows as LinesFollow}
+use Rattle.text_driver.specs.Judging.{AreGoodLines as LinesFollow}
 use Rattle.text_driver.specs.Driving.{next_of, NextLine, Stops, Drives}
 use Rattle.text_driver.specs.declared.driving.End.{End}
 use Rattle.text_driver.specs.declared.driving.End.TheVariants as ends
 use Rattle.synic_board.specs.State.{State}
 use Rattle.text_restore.specs.Restoring.{Stage, Untitled, IsComplete}
-use Rattle.text_restore.specs.Images.{Leads, IsImage, IsStuck, FirstWrong, Ends}
+use Rattle.text_restore.specs.Images.{Leads, IsImage, IsStuck, FirstWrong, EndsRestore}
 use Rattle.text_restore.specs.declared.restoring.RestoreEnd.{RestoreEnd}
 use Rattle.text_restore.specs.declared.restoring.RestoreEnd.TheVariants as results
 use Rattle.text_restore.specs.Taking.{IsGood, IsWrong}
@@ -86,22 +86,22 @@ module _ {J : Type 0} (seen : J → Stage) (old new : J) (start : seen old ≡ U
         whole = h.ends.3;
       }
 
-  at-last : (line : ℕ) (result : RestoreEnd) (answers text : List ℕ) → Finishes line (seen new) result → Ended (ends.Last line) answers text → Ends result text
+  at-last : (line : ℕ) (result : RestoreEnd) (answers text : List ℕ) → Finishes line (seen new) result → Ended (ends.Last line) answers text → EndsRestore result text
   at-last line (results.Restored board) answers text says h = whole line answers text board.state says h
   at-last line (results.Refused k) answers text says h = subst (λ (n : ℕ). FirstWrong text n) (sym says.0) (missing line answers text says.1 h)
   at-last line results.Memory answers text says h = absurd says
   at-last line results.Reading answers text says h = absurd says
 
-  concluded : (end : End (Unit {0})) (result : RestoreEnd) (answers text : List ℕ) → Concludes end (seen new) result → Ended end answers text → Ends result text
+  concluded : (end : End (Unit {0})) (result : RestoreEnd) (answers text : List ℕ) → Concludes end (seen new) result → Ended end answers text → EndsRestore result text
   concluded (ends.Last line) result answers text says h = at-last line result answers text says h
-  concluded (ends.Wrong line fault) result answers text says h = subst (λ (r : RestoreEnd). Ends r text) (sym says) (at-line (ends.Wrong line fault) line answers text refl h)
-  concluded (ends.Long line) result answers text says h = subst (λ (r : RestoreEnd). Ends r text) (sym says) (at-line (ends.Long line) line answers text refl h)
-  concluded (ends.Cut line) result answers text says h = subst (λ (r : RestoreEnd). Ends r text) (sym says) (at-line (ends.Cut line) line answers text refl h)
-  concluded ends.Memory result answers text says h = subst (λ (r : RestoreEnd). Ends r text) (sym says) tt
-  concluded ends.Reading result answers text says h = subst (λ (r : RestoreEnd). Ends r text) (sym says) tt
-  concluded ends.Writing result answers text says h = subst (λ (r : RestoreEnd). Ends r text) (sym says) tt
+  concluded (ends.Wrong line fault) result answers text says h = subst (λ (r : RestoreEnd). EndsRestore r text) (sym says) (at-line (ends.Wrong line fault) line answers text refl h)
+  concluded (ends.Long line) result answers text says h = subst (λ (r : RestoreEnd). EndsRestore r text) (sym says) (at-line (ends.Long line) line answers text refl h)
+  concluded (ends.Cut line) result answers text says h = subst (λ (r : RestoreEnd). EndsRestore r text) (sym says) (at-line (ends.Cut line) line answers text refl h)
+  concluded ends.Memory result answers text says h = subst (λ (r : RestoreEnd). EndsRestore r text) (sym says) tt
+  concluded ends.Reading result answers text says h = subst (λ (r : RestoreEnd). EndsRestore r text) (sym says) tt
+  concluded ends.Writing result answers text says h = subst (λ (r : RestoreEnd). EndsRestore r text) (sym says) tt
 
   -- the result of a restore says of the whole input what it is to say
   pub restored : (end : End (Unit {0})) (result : RestoreEnd) (r0 r1 w0 w1 : Option (List ℕ)) → Concludes end (seen new) result → Drives (Good seen) (Wrong seen) end old new r0 r1 w0 w1 →
-      IfSome r0 (Ends result)
-  restored end result r0 r1 w0 w1 says d = some-on r0 (Ended end d.answers) (Ends result) (λ text h. concluded end result d.answers text says h) d.whole
+      IfSome r0 (EndsRestore result)
+  restored end result r0 r1 w0 w1 says d = some-on r0 (Ended end d.answers) (EndsRestore result) (λ text h. concluded end result d.answers text says h) d.whole

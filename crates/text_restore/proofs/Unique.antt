@@ -8,7 +8,7 @@ use Rattle.text_restore.specs.Restoring.{Stage, Untitled, Titled, Body, place_of
 
 -- a piece restores one state
 one-restored : (s : State) (x : Piece) (a b : State) → Restores s x a → Restores s x b → a ≡ b
-one-restored s (pieces.Moment t) a b h k = h.1 ∙ sym k.1
+one-restored s (pieces.Moment t) a b h k = h.2 ∙ sym k.2
 one-restored s (pieces.Lapic p apic) a b h k = h.1 ∙ sym k.1
 one-restored s (pieces.Control p value) a b h k = h.2 ∙ sym k.2
 one-restored s (pieces.Overlay p kind value) a b h k = h.2 ∙ sym k.2

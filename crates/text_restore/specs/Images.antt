@@ -35,11 +35,11 @@ pub record FirstWrong (text : List ℕ) (k : ℕ) : Type 0 where
   pub stuck : IsStuck stage left (rest_of text)
 
 -- what the end of a restore says of the text
-abbrev pub Ends : RestoreEnd → List ℕ → Type 0
-Ends (ends.Restored board) text = IsImage text board.state
-Ends (ends.Refused k) text = FirstWrong text k
-Ends ends.Memory text = Unit {0}
-Ends ends.Reading text = Unit {0}
+abbrev pub EndsRestore : RestoreEnd → List ℕ → Type 0
+EndsRestore (ends.Restored board) text = IsImage text board.state
+EndsRestore (ends.Refused k) text = FirstWrong text k
+EndsRestore ends.Memory text = Unit {0}
+EndsRestore ends.Reading text = Unit {0}
 
 -- the greatest number of bytes read: the byte beyond the limit only if reading ends there
 abbrev pub most_read : RestoreEnd → ℕ

@@ -5,13 +5,12 @@ use Rattle.board_terms.specs.declared.pages.Kind.{Kind}
 use Rattle.board_terms.specs.declared.pages.Kind.TheVariants as kind
 use Rattle.synic_regs.specs.Regs.{after_write, with_value, masked}
 use Rattle.synic_regs.specs.declared.register.Register.TheVariants as register
-use Rattle.stimer_bank.specs.Timer.{IsSoundTimer}
 use Rattle.synic_board.specs.declared.event.Reply.TheVariants.{Done}
 use Rattle.synic_board.specs.State.{State, IsWithinLimits, opened, processors, regs_of, with_regs, with_slot_ticket}
 use Rattle.synic_board.specs.Registers.{stored}
 use Rattle.synic_board.specs.Posts.{opened_port}
 use Rattle.synic_board.specs.Timers.{at_moment}
-use Rattle.synic_board.specs.Restoring.{overlay_register, with_processor, with_saved_timer, with_own_bytes, with_guest_bytes, with_message, HasNoTickets, MayJoin, MayOccupy}
+use Rattle.synic_board.specs.Restoring.{overlay_register, with_processor, with_saved_timer, with_own_bytes, with_guest_bytes, with_message, HasNoTickets, MayCount, MayJoin, MayOccupy}
 use Rattle.text_lines.specs.Items.{Opening}
 use Rattle.text_lines.specs.Reading.{item_at}
 use Rattle.text_image.specs.declared.piece.Piece.{Piece}
@@ -65,7 +64,7 @@ IsBlock at bytes = (at < 4096) × (at % 256 ≡ 0) × (bytes_eq bytes (replicate
 
 -- A piece states what differs from a newly opened board and what a board can have, and leads to this state.
 abbrev pub Restores : State → Piece → State → Type 0
-Restores s (piece.Moment t) new = (t ≢ 0) × (new ≡ at_moment s t)
+Restores s (piece.Moment t) new = (t ≢ 0) × (s.moment ≤ t) × (new ≡ at_moment s t)
 Restores s (piece.Lapic p a) new = (p < processors s) × (new ≡ with_processor s p a)
 Restores s (piece.Control p value) new = (p < processors s) × (value ≢ 0) × (new ≡ with_regs s p (with_value (regs_of s p) register.Control value))
 Restores s (piece.Overlay p k value) new = (p < processors s) × (value ≢ 0) × (new ≡ with_regs s p (after_write (regs_of s p) (overlay_register k) value))
@@ -75,7 +74,7 @@ Restores s (piece.Own p k at bytes) new = (p < processors s) × HasNoTickets s p
 Restores s (piece.Port n p i shape) new = (new, Done, []) ≡ opened_port s n p i shape
 Restores s (piece.Timer p i config count due) new =
     (p < processors s) × (i < 4) × ((config == 0) && ((count == 0) && is_none due) ≡ false)
-    × IsSoundTimer (record { config = config; count = count; due = due }) × (new ≡ with_saved_timer s (p, i) (record { config = config; count = count; due = due }))
+    × MayCount s (record { config = config; count = count; due = due }) × (new ≡ with_saved_timer s (p, i) (record { config = config; count = count; due = due }))
 Restores s (piece.Queued p i m) new = (p < processors s) × (i < 16) × MayJoin s p i m × (new ≡ with_message s p i m)
 Restores s (piece.Slot p i ticket) new = (p < processors s) × (i < 16) × MayOccupy s p i ticket × (new ≡ with_slot_ticket s p i (Some ticket))
 Restores s piece.End new = new ≡ s

@@ -66,11 +66,7 @@ fn on_board(draft: &Draft, number: u8) -> Option<Vp>
 fn restore_moment(draft: &mut Draft, moment: Moment) -> bool
     ensures { Tries result draft.old (piece.Moment moment) draft.new }
 {
-    if moment == 0 {
-        return false;
-    }
-    draft.set_moment(moment);
-    true
+    moment != 0 && draft.set_moment(moment)
 }
 
 fn restore_lapic(draft: &mut Draft, vp: u8, lapic: Lapic) -> bool

@@ -1,7 +1,7 @@
 // Restoring a board from the image of a reader.
 ghost use Rattle.std.specs.Prelude.{IfSome};
 ghost use Rattle.text_base.specs.Streams.{ReadsUpTo};
-ghost use Rattle.text_restore.specs.Images.{Ends, most_read, StopsNear};
+ghost use Rattle.text_restore.specs.Images.{EndsRestore, most_read, StopsNear};
 ghost use Rattle.text_restore.specs.Taking.{stage_of};
 ghost use Rattle.text_restore.specs.inside.Concluding.{Concludes, Finishes};
 
@@ -30,7 +30,7 @@ pub enum RestoreEnd {
 /// or leads to a board on which everything holds that holds on an opened one. Allocates the board,
 /// and 8 bytes for each message.
 pub fn restore<R: Read>(alloc: Global, reader: &mut R) -> RestoreEnd
-    ensures text { IfSome (R.remaining reader.old) (Ends result) }
+    ensures text { IfSome (R.remaining reader.old) (EndsRestore result) }
     ensures limit { ReadsUpTo (most_read result) (R.remaining reader.old) (R.remaining reader.new) }
     ensures near { StopsNear result (R.remaining reader.old) (R.remaining reader.new) }
 {

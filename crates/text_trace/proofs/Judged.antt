@@ -6,13 +6,13 @@ use Rattle.std.proofs.KnownBytes.{Appends-trans}
 use Rattle.std.specs.Option.{IfSome}
 use Rattle.text_base.specs.Lines.{IsOneLine, lines_of, rest_of, joined}
 use Rattle.text_base.proofs.LineLemmas.{AreLines, lines-front, lines-behind, joined-append, joined-snoc, cut}
-use Rattle.text_driver.specs.Judging.{Follows}
+use Rattle.text_driver.specs.Judging.{AreGoodLines}
 use Rattle.text_driver.specs.Driving.{next_of, place, Ends, Stops, Sends, Drives}
 use Rattle.text_driver.specs.declared.driving.End.{End}
 use Rattle.text_driver.specs.declared.driving.End.TheVariants as ends
 use Rattle.text_trace.specs.Trace.{IsTrace, Begins}
 use Rattle.text_trace.specs.inside.Stages.{Stage, Title, Over, IsOver, IsGood, IsWrong}
-use Rattle.text_trace.specs.Verdicts.{FirstWrong, Judges, verdict_text, Checks}
+use Rattle.text_trace.specs.Verdicts.{FirstIllegal, IsVerdict, verdict_text, Checks}
 use Rattle.text_trace.specs.inside.Concluding.{conclusion, Concludes, WritesVerdict}
 use Rattle.text_trace.specs.declared.check.Verdict.{Verdict}
 use Rattle.text_trace.specs.declared.check.Verdict.TheVariants as verdicts
@@ -33,11 +33,11 @@ module _ {J : Type 0} (seen : J → Stage) where
   abbrev Wrong : J → List ℕ → Unit {0} → Type 0
   Wrong state line fault = IsWrong (seen state) line fault
 
-  silent : (old new : J) (lines : List (List ℕ)) (answers : List ℕ) → Follows Good old lines answers new → answers ≡ []
+  silent : (old new : J) (lines : List (List ℕ)) (answers : List ℕ) → AreGoodLines Good old lines answers new → answers ≡ []
   silent old new [] answers h = h.0
   silent old new (line ∷ lines) answers h = rw (h.6, h.4.1, silent h.2 new lines h.1 h.5) refl
 
-  leads : (old new : J) (lines : List (List ℕ)) (answers : List ℕ) → Fits (seen old) → AreLines lines → Follows Good old lines answers new → Leads (seen old) (seen new) lines
+  leads : (old new : J) (lines : List (List ℕ)) (answers : List ℕ) → Fits (seen old) → AreLines lines → AreGoodLines Good old lines answers new → Leads (seen old) (seen new) lines
   leads old new [] answers fits each h =
       let same = ap seen h.1 in
       record {
@@ -60,7 +60,7 @@ module _ {J : Type 0} (seen : J → Stage) where
 -- The lines lead to a stage from which the rest continues no trace.
 first-wrong : (text : List ℕ) (lines left : List (List ℕ)) (stage : Stage) → lines_of text ≡ lines ++ left → Leads Title stage lines →
     ((line : List ℕ) (later : List (List ℕ)) (rest : List ℕ) (n : ℕ) → left ≡ line ∷ later → Continues stage (line ++ 10 ∷ rest) n → ⊥) →
-    ((n : ℕ) → Continues stage (joined left ++ rest_of text) n → ⊥) → FirstWrong text (length lines + 1)
+    ((n : ℕ) → Continues stage (joined left ++ rest_of text) n → ⊥) → FirstIllegal text (length lines + 1)
 first-wrong text lines left stage split leads wrong none = record {
   before = length lines;
   number = refl;
@@ -101,7 +101,7 @@ no_long stage line rest n fits one long h = by (starts stage (line ++ 10 ∷ res
 
 -- The next line is not allowed there.
 wrong-line : (text : List ℕ) (lines left : List (List ℕ)) (stage : Stage) (k : ℕ) (fault : Unit {0}) → lines_of text ≡ lines ++ left → Leads Title stage lines →
-    AreLines left → Ends IsWrong (ends.Wrong k fault) (place (length lines + 1) stage left (rest_of text)) stage → FirstWrong text (length lines + 1)
+    AreLines left → Ends IsWrong (ends.Wrong k fault) (place (length lines + 1) stage left (rest_of text)) stage → FirstIllegal text (length lines + 1)
 wrong-line text lines [] stage k fault split leads each h = absurd h
 wrong-line text lines (bad ∷ later) stage k fault split leads each h =
     first-wrong text lines (bad ∷ later) stage split leads
@@ -113,7 +113,7 @@ wrong-line text lines (bad ∷ later) stage k fault split leads each h =
 
 -- The next line is too long.
 long-line : (text : List ℕ) (lines left : List (List ℕ)) (stage : Stage) → lines_of text ≡ lines ++ left → Leads Title stage lines → AreLines left →
-    IsOneLine (rest_of text) → 640 < length (next_of left (rest_of text)) → FirstWrong text (length lines + 1)
+    IsOneLine (rest_of text) → 640 < length (next_of left (rest_of text)) → FirstIllegal text (length lines + 1)
 long-line text lines [] stage split leads each one long =
     first-wrong text lines [] stage split leads (λ line ls rest n is t. cc)
     (λ n t. no_part stage (rest_of text) n leads.fits one (λ m over empty. let none = ap length empty in omega (arith, long, none)) t)
@@ -124,7 +124,7 @@ long-line text lines (bad ∷ later) stage split leads each one long =
 
 -- No whole line is left, and the trace is not complete.
 part-left : (text : List ℕ) (lines left : List (List ℕ)) (stage : Stage) → lines_of text ≡ lines ++ left → Leads Title stage lines → left ≡ [] →
-    IsOneLine (rest_of text) → ((n : ℕ) → stage ≡ Over n → rest_of text ≡ [] → ⊥) → FirstWrong text (length lines + 1)
+    IsOneLine (rest_of text) → ((n : ℕ) → stage ≡ Over n → rest_of text ≡ [] → ⊥) → FirstIllegal text (length lines + 1)
 part-left text lines left stage split leads none one still =
     first-wrong text lines left stage split leads
     (λ line ls rest n is t. let off : [] ≡ line ∷ ls = sym none ∙ is in cc)
@@ -147,11 +147,11 @@ nothing-sent ends.Writing answers (b ∷ sent) none h = let off : [] ≡ b ∷ (
 nothing-sent end answers sent none h = sym h ∙ none
 
 -- A verdict that was reached is written.
-checks-said : (end : CheckEnd) (verdict : Verdict) (r0 w0 w w1 : Option (List ℕ)) → IfSome r0 (Judges verdict) → Appends w0 w [] → WritesVerdict end verdict w w1 → Checks end r0 w0 w1
+checks-said : (end : CheckEnd) (verdict : Verdict) (r0 w0 w w1 : Option (List ℕ)) → IfSome r0 (IsVerdict verdict) → Appends w0 w [] → WritesVerdict end verdict w w1 → Checks end r0 w0 w1
 checks-said (Legal n) verdict r0 w0 w w1 is silent says =
-    (subst (λ (v : Verdict). IfSome r0 (Judges v)) says.0 is, subst (λ (v : Verdict). Appends w0 w1 (verdict_text v)) says.0 (Appends-trans w0 w w1 [] (verdict_text verdict) silent says.1))
+    (subst (λ (v : Verdict). IfSome r0 (IsVerdict v)) says.0 is, subst (λ (v : Verdict). Appends w0 w1 (verdict_text v)) says.0 (Appends-trans w0 w w1 [] (verdict_text verdict) silent says.1))
 checks-said (Refused k) verdict r0 w0 w w1 is silent says =
-    (subst (λ (v : Verdict). IfSome r0 (Judges v)) says.0 is, subst (λ (v : Verdict). Appends w0 w1 (verdict_text v)) says.0 (Appends-trans w0 w w1 [] (verdict_text verdict) silent says.1))
+    (subst (λ (v : Verdict). IfSome r0 (IsVerdict v)) says.0 is, subst (λ (v : Verdict). Appends w0 w1 (verdict_text v)) says.0 (Appends-trans w0 w w1 [] (verdict_text verdict) silent says.1))
 checks-said Memory verdict r0 w0 w w1 is silent says = rw says silent
 checks-said Reading verdict r0 w0 w w1 is silent says = absurd says
 checks-said Writing verdict r0 w0 w w1 is silent says = record { sent = says.0; writes = Appends-trans w0 w w1 [] says.0 silent says.2; begins = inr (verdict, says.1, is, says.3) }
@@ -168,27 +168,27 @@ module _ {J : Type 0} (seen : J → Stage) (old new : J) (start : seen old ≡ T
       let each = lines-front h.lines h.left (subst AreLines h.split (cut text).each) in
       subst (λ (s : Stage). Leads s (seen h.state) h.lines) start (leads seen old h.state h.lines answers (subst Fits (sym start) tt) each h.follows)
 
-  refused : (end : End (Unit {0})) (k : ℕ) (answers text : List ℕ) → IsAt end k → Ended end answers text → FirstWrong text k
+  refused : (end : End (Unit {0})) (k : ℕ) (answers text : List ℕ) → IsAt end k → Ended end answers text → FirstIllegal text k
   refused (ends.Wrong line fault) k answers text is h =
       let each = lines-behind h.lines h.left (subst AreLines h.split (cut text).each) in
       at_line h.left h.ends (λ e. wrong-line text h.lines h.left (seen h.state) line fault h.split (led (ends.Wrong line fault) answers text h) each e)
     where
       at_line : (left : List (List ℕ)) → Ends (Wrong seen) (ends.Wrong line fault) (place (length h.lines + 1) h.state left (rest_of text)) new →
-          (Ends IsWrong (ends.Wrong line fault) (place (length h.lines + 1) (seen h.state) left (rest_of text)) (seen h.state) → FirstWrong text (length h.lines + 1)) → FirstWrong text k
+          (Ends IsWrong (ends.Wrong line fault) (place (length h.lines + 1) (seen h.state) left (rest_of text)) (seen h.state) → FirstIllegal text (length h.lines + 1)) → FirstIllegal text k
       at_line [] e f = absurd e
-      at_line (bad ∷ later) e f = subst (λ (n : ℕ). FirstWrong text n) (sym e.0 ∙ is) (f e)
+      at_line (bad ∷ later) e f = subst (λ (n : ℕ). FirstIllegal text n) (sym e.0 ∙ is) (f e)
   refused (ends.Long line) k answers text is h =
       let each = lines-behind h.lines h.left (subst AreLines h.split (cut text).each) in
-      subst (λ (n : ℕ). FirstWrong text n) (sym h.ends.0 ∙ is) (long-line text h.lines h.left (seen h.state) h.split (led (ends.Long line) answers text h) each (cut text).one h.ends.2)
+      subst (λ (n : ℕ). FirstIllegal text n) (sym h.ends.0 ∙ is) (long-line text h.lines h.left (seen h.state) h.split (led (ends.Long line) answers text h) each (cut text).one h.ends.2)
   refused (ends.Cut line) k answers text is h =
       let some = h.ends.3 in
-      subst (λ (n : ℕ). FirstWrong text n) (sym h.ends.0 ∙ is) (part-left text h.lines h.left (seen h.state) h.split (led (ends.Cut line) answers text h) h.ends.2
+      subst (λ (n : ℕ). FirstIllegal text n) (sym h.ends.0 ∙ is) (part-left text h.lines h.left (seen h.state) h.split (led (ends.Cut line) answers text h) h.ends.2
       (cut text).one (λ n over empty. let none = ap length empty in omega (arith, some, none)))
   refused end k answers text is h = absurd is
 
-  unfinished : (line : ℕ) (answers text : List ℕ) → ((n : ℕ) → seen new ≡ Over n → ⊥) → Ended (ends.Last line) answers text → FirstWrong text line
+  unfinished : (line : ℕ) (answers text : List ℕ) → ((n : ℕ) → seen new ≡ Over n → ⊥) → Ended (ends.Last line) answers text → FirstIllegal text line
   unfinished line answers text still h =
-      subst (λ (n : ℕ). FirstWrong text n) (sym h.ends.0)
+      subst (λ (n : ℕ). FirstIllegal text n) (sym h.ends.0)
       (part-left text h.lines h.left (seen h.state) h.split (led (ends.Last line) answers text h) h.ends.2 (cut text).one (λ n over empty. still n (ap seen h.ends.1 ∙ over)))
 
   finished : (line n : ℕ) (answers text : List ℕ) → seen new ≡ Over n → Ended (ends.Last line) answers text → IsTrace text n
@@ -205,12 +205,12 @@ module _ {J : Type 0} (seen : J → Stage) (old new : J) (start : seen old ≡ T
   refused-said : (end : End (Unit {0})) (result : CheckEnd) (k : ℕ) (r0 r1 w0 w w1 : Option (List ℕ)) → IsAt end k → Driven end r0 r1 w0 w →
       WritesVerdict result (verdicts.Refused k) w w1 → Checks result r0 w0 w1
   refused-said end result k r0 r1 w0 w w1 is d says = checks-said result (verdicts.Refused k) r0 w0 w w1
-      (some-on r0 (Ended end d.answers) (λ text. FirstWrong text k) (λ text h. refused end k d.answers text is h) d.whole) (quiet end r0 r1 w0 w d) says
+      (some-on r0 (Ended end d.answers) (λ text. FirstIllegal text k) (λ text h. refused end k d.answers text is h) d.whole) (quiet end r0 r1 w0 w d) says
 
   unfinished-said : (result : CheckEnd) (line : ℕ) (r0 r1 w0 w w1 : Option (List ℕ)) → ((n : ℕ) → seen new ≡ Over n → ⊥) → Driven (ends.Last line) r0 r1 w0 w →
       WritesVerdict result (verdicts.Refused line) w w1 → Checks result r0 w0 w1
   unfinished-said result line r0 r1 w0 w w1 still d says = checks-said result (verdicts.Refused line) r0 w0 w w1
-      (some-on r0 (Ended (ends.Last line) d.answers) (λ text. FirstWrong text line) (λ text h. unfinished line d.answers text still h) d.whole) (quiet (ends.Last line) r0 r1 w0 w d) says
+      (some-on r0 (Ended (ends.Last line) d.answers) (λ text. FirstIllegal text line) (λ text h. unfinished line d.answers text still h) d.whole) (quiet (ends.Last line) r0 r1 w0 w d) says
 
   finished-said : (result : CheckEnd) (line n : ℕ) (r0 r1 w0 w w1 : Option (List ℕ)) → seen new ≡ Over n → Driven (ends.Last line) r0 r1 w0 w →
       WritesVerdict result (verdicts.Legal n) w w1 → Checks result r0 w0 w1

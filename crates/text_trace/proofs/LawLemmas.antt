@@ -11,7 +11,7 @@ use Rattle.synic_board.specs.declared.history.Entry.{Entry}
 use Rattle.text_trace.specs.declared.format.Format.{Format}
 use Rattle.text_trace.specs.Trace.{IsEntry, IsBeginning, IsTrace, Begins, trace}
 use Rattle.text_trace.specs.inside.Stages.{Stage, Title, Over}
-use Rattle.text_trace.specs.Verdicts.{FirstWrong}
+use Rattle.text_trace.specs.Verdicts.{FirstIllegal}
 use Rattle.text_trace.proofs.StageLemmas.{Continues, Fits, back, one-follow, reached, Starts, starts}
 
 begins-front : (text more : List ℕ) → Begins (text ++ more) → Begins text
@@ -22,10 +22,10 @@ begins-fewer lines m n le b =
     let split : take n lines ≡ take m lines ++ drop m (take n lines) = sym (take-append-drop m (take n lines)) ∙ ap (λ (x : List (List ℕ)). x ++ drop m (take n lines)) (take-take m n lines le) in
     begins-front (joined (take m lines)) (joined (drop m (take n lines))) (subst (λ (x : List ℕ). Begins x) (ap joined split ∙ joined-append (take m lines) (drop m (take n lines))) b)
 
-not-before : (text : List ℕ) (k l : ℕ) (a : FirstWrong text k) (b : FirstWrong text l) → a.before < b.before → ⊥
+not-before : (text : List ℕ) (k l : ℕ) (a : FirstIllegal text k) (b : FirstIllegal text l) → a.before < b.before → ⊥
 not-before text k l a b less = a.wrong (omega (arith, b.there)) (begins-fewer (lines_of text) (a.before + 1) b.before (omega arith) b.good)
 
-pub wrong-once : (text : List ℕ) (k l : ℕ) → FirstWrong text k → FirstWrong text l → k ≡ l
+pub wrong-once : (text : List ℕ) (k l : ℕ) → FirstIllegal text k → FirstIllegal text l → k ≡ l
 wrong-once text k l a b = by (cases_order a.before b.before)
   where
     by : (a.before ≡ b.before) ⊎ ((a.before < b.before) ⊎ (b.before < a.before)) → k ≡ l

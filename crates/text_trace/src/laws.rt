@@ -6,11 +6,11 @@ ghost use Rattle.synic_board.specs.History.{IsLegal};
 ghost use Rattle.synic_board.specs.declared.history.Entry.{Entry};
 ghost use Rattle.text_trace.specs.Trace.{IsEntry, IsBeginning, IsTrace, trace};
 ghost use Rattle.text_trace.specs.declared.format.Format.{Format};
-ghost use Rattle.text_trace.specs.Verdicts.{FirstWrong};
+ghost use Rattle.text_trace.specs.Verdicts.{FirstIllegal};
 
 /// A text has at most one first wrong line.
 pub fn one_wrong_line()
-    ensures { (text : List ℕ) (k l : ℕ) → FirstWrong text k → FirstWrong text l → k ≡ l }
+    ensures { (text : List ℕ) (k l : ℕ) → FirstIllegal text k → FirstIllegal text l → k ≡ l }
 {}
 
 /// A text determines how many entries it has.

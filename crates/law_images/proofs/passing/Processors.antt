@@ -18,7 +18,7 @@ moment-passed s h t = passes-unless (s.moment == 0) old (pieces.Moment s.moment)
   fits = h.ranges.moment;
   later = λ last below. below;
   turn = refl;
-  restores = (other s.moment 0 e, refl);
+  restores = (other s.moment 0 e, omega arith, refl);
   count = refl;
   before = omega arith;
 })

@@ -1,10 +1,12 @@
 -- The queued messages.
-use Rattle.std.proofs.Common.{◌≡◌, ◌⊎◌, inl, inr, ℕ, zero, suc, ◌+◌, ◌*◌, ◌<◌, ◌≤◌, Bool, true, List, [], ◌∷◌, ◌++◌, cond, length, get_or, set, take, replicate, refl, sym, ap, subst, ◌∙◌, arith}
+use Rattle.std.proofs.Common.{◌≡◌, ◌⊎◌, inl, inr, ℕ, zero, suc, ◌+◌, ◌*◌, ◌%◌, ◌<◌, ◌≤◌, Bool, true, List, [], ◌∷◌, ◌++◌, cond, length, get_or, set, take, replicate, refl, sym, ap, subst, ◌∙◌, arith}
 use Rattle.std.specs.Prelude.{◌==◌, Option, None, Some, slice_get, slice_index_or, sum_by, count_by}
 use Rattle.std.specs.Option.{option_map_or}
+use Rattle.std.specs.List.{All}
 use Rattle.std.proofs.lemmas.Bool.{cases_lt}
 use Rattle.std.proofs.lemmas.Bool.Decides.{nat_tests}
 use Rattle.std.proofs.lemmas.List.{get_or-set_same, set-set, take_all}
+use Rattle.std.proofs.lemmas.List.Elements.{All-nil, All-cons}
 use Rattle.std.proofs.lemmas.List.Sums.{sum_by-cons, sum_by_more_le}
 use Rattle.board_terms.specs.declared.messages.Message.{Message}
 use Rattle.board_terms.specs.declared.messages.Message.TheVariants.{FromPort, FromTimer}
@@ -15,6 +17,7 @@ use Rattle.event_ports.specs.declared.ports.Port.{Port}
 use Rattle.synic_board.specs.State.{State, processors}
 use Rattle.synic_board.specs.Locations.{times, locations}
 use Rattle.synic_board.specs.Sound.{IsMessage}
+use Rattle.synic_board.specs.Timed.{Ascends, HasExpired}
 use Rattle.synic_board.specs.Buffers.{IsHome}
 use Rattle.synic_board.specs.Restoring.{IsWithinShare, MayJoin}
 use Rattle.synic_board.proofs.keeping.Counts.{one, in_queue, in_queues, in_slots, in_queue-cons, times-locations}
@@ -82,6 +85,14 @@ module _ (qs : Queues) (j k : ℕ) (m : Message) (inside : j < length qs) (g : G
       part : in_queue t (take k q) + 1 ≤ in_queue t q
       part = omega (arith, last, in_queue-sum t (take k q), in_queue-sum t q, sum_by_more_le (λ (x : Message). one (ticket_of x) t) q k m g.within)
 
+-- the tickets before a message of a queue are less than its own
+before-all : (next : ℕ) (q : List Message) (k : ℕ) (m : Message) → k < length q → get_or q k m ≡ m → Ascends next q → All (λ x. ticket_of x < ticket_of m) (take k q)
+before-all next [] k m within is h = absurd (omega (arith, within))
+before-all next (x ∷ q) zero m within is h = All-nil (λ x. ticket_of x < ticket_of m)
+before-all next (x ∷ q) (suc k) m within is h =
+    All-cons (λ x. ticket_of x < ticket_of m) x (take k q) (subst (λ (y : Message). ticket_of x < ticket_of y) is (h.1 k m (omega (arith, within))))
+    (before-all next q k m (omega (arith, within)) is h.2)
+
 -- a message of a board has a buffer before it is queued
 has-buffer : (s : State) → IsBoardState s → (p j k : ℕ) (m : Message) (inside : j < length s.queues) (g : Got (get_or s.queues j []) k m) → (i : ℕ) → IsHome s.ports p i m →
     HasBuffer (drafted s.queues j k m inside g) m
@@ -108,7 +119,8 @@ has-share s h j k (FromPort ticket port kind payload) inside g now queues ports 
     )
 has-share s h j k (FromTimer ticket timer expiration) inside g now queues ports = tt
 
-module _ (s : State) (h : IsBoardState s) (t : State) (full : processors t ≡ processors s) (same_ports : t.ports ≡ s.ports) (next : t.next_ticket ≡ s.next_ticket) (no_slots : (x : ℕ) → in_slots x t.slots ≡ 0) where
+module _ (s : State) (h : IsBoardState s) (t : State) (full : processors t ≡ processors s) (same_ports : t.ports ≡ s.ports) (next : t.next_ticket ≡ s.next_ticket) (no_slots : (x : ℕ) → in_slots x t.slots ≡ 0)
+    (same_time : t.moment ≡ s.moment) where
   abbrev with_queues : Queues → State
   with_queues queues = record t { queues = queues }
 
@@ -121,10 +133,19 @@ module _ (s : State) (h : IsBoardState s) (t : State) (full : processors t ≡ p
     buffer = has-buffer s h p j k m inside g i home;
     share = has-share s h j k m inside g board refl same_ports;
     ticket = record { given = given; nowhere = nowhere };
+    order = subst (λ (xs : List Message). All (λ x. ticket_of x < ticket_of m) xs) (sym drafted_queue)
+        (before-all s.next_ticket (get_or s.queues j []) k m g.within (g.is m) (h.buffers.timed.order j));
+    time = subst (λ n. HasExpired n i m) (sym same_time) (subst (λ n. HasExpired s.moment n m) source (subst (HasExpired s.moment (j % 16)) (g.is m) (h.buffers.timed.timely j k m g.within)));
   }
     where
       j : ℕ
       j = 16 * p + i
+
+      source : j % 16 ≡ i
+      source = omega (arith, low)
+
+      drafted_queue : get_or (drafted s.queues j k m inside g) j [] ≡ take k (get_or s.queues j [])
+      drafted_queue = get_or-set_same (front j s.queues []) j (take k (get_or s.queues j [])) [] (omega (arith, length-front j s.queues [], inside))
 
       home : IsHome s.ports p i m
       home = subst (IsHome s.ports p i) (g.is m) (h.buffers.home p i low k m g.within)

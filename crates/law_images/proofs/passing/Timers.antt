@@ -1,9 +1,10 @@
 -- The timers.
-use Rattle.std.proofs.Common.{◌≡◌, ℕ, suc, ◌+◌, ◌*◌, ◌<◌, Bool, true, false, List, ◌&&◌, length, get_or, replicate, refl, sym, ap, ◌∙◌, arith}
+use Rattle.std.proofs.Common.{◌≡◌, ℕ, suc, ◌+◌, ◌*◌, ◌<◌, Bool, true, false, List, ◌&&◌, length, get_or, replicate, refl, sym, ap, subst, ◌∙◌, arith}
 use Rattle.std.specs.Prelude.{Option, None, Some, is_none, ◌==◌}
 use Rattle.stimer_bank.specs.declared.timer.Timer.{Timer}
 use Rattle.stimer_bank.specs.Bank.{idle_timer}
 use Rattle.synic_board.specs.State.{State, processors}
+use Rattle.synic_board.specs.Timed.{IsNear}
 use Rattle.text_image.specs.declared.piece.Piece.TheVariants as pieces
 use Rattle.text_image.specs.Image.{each_below, timer_lines, timers_lines}
 use Rattle.text_restore.specs.Restoring.{place}
@@ -31,7 +32,7 @@ is-idle x e = by (x.config == 0) (x.count == 0) (is_none x.due) refl refl refl e
     by true false z a b c e = absurd (cc)
     by false y z a b c e = absurd (cc)
 
-module _ (s : State) (h : IsBoardState s) (t : State) (full : processors t ≡ processors s) where
+module _ (s : State) (h : IsBoardState s) (t : State) (full : processors t ≡ processors s) (same_time : t.moment ≡ s.moment) where
   abbrev with_timers : List Timer → State
   with_timers timers = record t { timers = timers }
 
@@ -45,7 +46,7 @@ module _ (s : State) (h : IsBoardState s) (t : State) (full : processors t ≡ p
         fits = (omega (arith, h.settled.bound, below), omega (arith, low), is.0, is.1, is.2);
         later = λ last before. before;
         turn = sym full;
-        restores = (omega (arith, full, below), low, e, h.timers j, ap with_timers (next ∙ front-more j s.timers idle_timer idle_timer inside));
+        restores = (omega (arith, full, below), low, e, record { sound = h.timers j; near = subst (λ m. IsNear m x) (sym same_time) (h.buffers.timed.near j) }, ap with_timers (next ∙ front-more j s.timers idle_timer idle_timer inside));
         count = refl;
         before = omega arith;
       })

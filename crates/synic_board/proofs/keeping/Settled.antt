@@ -28,7 +28,7 @@ use Rattle.synic_board.specs.Resetting.{emptied, cleared}
 use Rattle.synic_board.specs.Restoring.{with_processor, with_saved_timer}
 use Rattle.synic_board.specs.Step.{step}
 use Rattle.synic_board.specs.Run.{run_of}
-use Rattle.synic_board.specs.Settled.{IsSettled}
+use Rattle.synic_board.specs.Paired.{HasPairedTimers}
 use Rattle.synic_board.proofs.keeping.Requests.{either}
 use Rattle.synic_board.proofs.Throughout.{OfEffects, expiry_made, throughout}
 
@@ -100,7 +100,7 @@ left = record {
 
 -- an effect from a state with the same processors and flags
 from : (s t : State) (e : Effect) → t.apics ≡ s.apics → t.suspended ≡ s.suspended →
-    ((n : ℕ) → 4 * processors s ≤ n → timer_at s n ≡ idle_timer → timer_at t n ≡ idle_timer) → Leaves t e → IsSettled s → IsSettled e.0
+    ((n : ℕ) → 4 * processors s ≤ n → timer_at s n ≡ idle_timer → timer_at t n ≡ idle_timer) → Leaves t e → HasPairedTimers s → HasPairedTimers e.0
 from s t e apics marks timers h a = record {
   bound = omega (arith, a.bound, many);
   marks = ap (λ (l : List Bool). length l) (h.marks ∙ marks) ∙ a.marks;
@@ -112,12 +112,12 @@ from s t e apics marks timers h a = record {
     many = h.many ∙ ap (λ (l : List Apic). length l) apics
 
 -- a change of neither local APICs nor timers
-pub settled-same : (s now : State) → now.apics ≡ s.apics → now.suspended ≡ s.suspended → now.timers ≡ s.timers → IsSettled s → IsSettled now
+pub settled-same : (s now : State) → now.apics ≡ s.apics → now.suspended ≡ s.suspended → now.timers ≡ s.timers → HasPairedTimers s → HasPairedTimers now
 settled-same s now apics marks timers a = from s s (now, []) refl refl (λ n _ h. h) (mute s (now, []) apics marks timers) a
 
 -- both flags of a processor are written
 written : (s t : State) (p : ℕ) (x : Apic) → t.apics ≡ set s.apics p x → t.suspended ≡ set s.suspended p x.suspended →
-    ((n : ℕ) → timer_at s n ≡ idle_timer → timer_at t n ≡ idle_timer) → p < processors s → IsSettled s → IsSettled t
+    ((n : ℕ) → timer_at s n ≡ idle_timer → timer_at t n ≡ idle_timer) → p < processors s → HasPairedTimers s → HasPairedTimers t
 written s t p x apics marks timers on a = record {
   bound = omega (arith, a.bound, many);
   marks = ap (λ (l : List Bool). length l) marks ∙ length-set s.suspended p x.suspended ∙ a.marks;
@@ -134,7 +134,7 @@ written s t p x apics marks timers on a = record {
         ∙ sym (ap (λ i. (get_or (set s.apics p x) i empty_apic).suspended) here ∙ ap (λ (y : Apic). y.suspended) (get_or-set_same s.apics p x empty_apic on))
     by q (inr away) = get_or-set_other s.suspended p q x.suspended false away ∙ a.suspended q ∙ sym (ap (λ (y : Apic). y.suspended) (get_or-set_other s.apics p q x empty_apic away))
 
-pub settled-processor : (s : State) (p : ℕ) (x : Apic) → p < processors s → IsSettled s → IsSettled (with_processor s p x)
+pub settled-processor : (s : State) (p : ℕ) (x : Apic) → p < processors s → HasPairedTimers s → HasPairedTimers (with_processor s p x)
 settled-processor s p x on a = written s (with_processor s p x) p x refl refl (λ n h. h) on a
 
 -- a timer of a processor on the board is written
@@ -142,7 +142,7 @@ idle-written : (s : State) (t : ℕ × ℕ) (n : ℕ) (x : Timer) → t.0 < proc
     get_or (set s.timers (number_of t) x) n idle_timer ≡ idle_timer
 idle-written s t n x on low high h = idle-set s.timers (number_of t) n x (λ same. absurd (omega (arith, same, on, low, high))) h
 
-pub settled-timer : (s : State) (t : ℕ × ℕ) (x : Timer) → t.0 < processors s → t.1 < 4 → IsSettled s → IsSettled (with_saved_timer s t x)
+pub settled-timer : (s : State) (t : ℕ × ℕ) (x : Timer) → t.0 < processors s → t.1 < 4 → HasPairedTimers s → HasPairedTimers (with_saved_timer s t x)
 settled-timer s t x on low a = let now : State = with_saved_timer s t x in from s now (now, []) refl refl (λ n high h. idle-written s t n x on low high h) (mute now (now, []) refl refl refl) a
 
 index-below : (number : ℕ) (r : Register) → register_of number ≡ Some r → Exists r
@@ -155,9 +155,9 @@ idle-cleared s p n h =
     idle _ 3 (idle _ 2 (idle _ 1 (idle s.timers 0 h)))
 
 abbrev Keeps : State → Event → Outcome → Type 0
-Keeps s event outcome = IsSettled s → IsSettled outcome.0
+Keeps s event outcome = HasPairedTimers s → HasPairedTimers outcome.0
 
-pub settled-step : (s : State) (event : Event) → IsSettled s → IsSettled (step s event).0
+pub settled-step : (s : State) (event : Event) → HasPairedTimers s → HasPairedTimers (step s event).0
 settled-step s event = throughout Leaves Keeps left (record {
   refuses = λ s event r a. a;
   faults = λ s event a. a;
@@ -178,14 +178,14 @@ settled-step s event = throughout Leaves Keeps left (record {
       (from s s e refl refl (λ n _ h. h) h a);
 }) s event
 
-pub settled-run : (s : State) (events : List Event) → IsSettled s → IsSettled (run_of s events).0
+pub settled-run : (s : State) (events : List Event) → HasPairedTimers s → HasPairedTimers (run_of s events).0
 unfolding run_of
 settled-run s [] a = a
 settled-run s (event ∷ events) a = settled-run (step s event).0 events (settled-step s event a)
 
 -- an event that is performed
-pub settled : (s now : State) (e : Event) (reply : Reply) (notices : List Notice) → (now, reply, notices) ≡ step s e → IsSettled s → IsSettled now
-settled s now e reply notices is a = subst (λ (o : Outcome). IsSettled o.0) (sym is) (settled-step s e a)
+pub settled : (s now : State) (e : Event) (reply : Reply) (notices : List Notice) → (now, reply, notices) ≡ step s e → HasPairedTimers s → HasPairedTimers now
+settled s now e reply notices is a = subst (λ (o : Outcome). HasPairedTimers o.0) (sym is) (settled-step s e a)
 
 -- a newly opened board
 all-same : {X : Type 0} (n k : ℕ) (x : X) → get_or (replicate n x) k x ≡ x
@@ -193,7 +193,7 @@ all-same zero k x = refl
 all-same (suc n) zero x = refl
 all-same (suc n) (suc k) x = all-same n k x
 
-pub settled-opened : (n pages ticket : ℕ) → n ≤ 8 → IsSettled (opened n pages ticket)
+pub settled-opened : (n pages ticket : ℕ) → n ≤ 8 → HasPairedTimers (opened n pages ticket)
 settled-opened n pages ticket bound = record {
   bound = let l = length-replicate n empty_apic in omega (arith, l, bound);
   marks = length-replicate 8 false;

@@ -1,5 +1,5 @@
 -- How many buffers are in use after a queue is written.
-use Rattle.std.proofs.Common.{◌≡◌, ◌≢◌, ◌⊎◌, inl, inr, ℕ, zero, suc, ◌+◌, ◌*◌, ◌/◌, ◌%◌, ◌<◌, ◌≤◌, Bool, true, false, cond, ◌&&◌, List, [], ◌∷◌, ◌++◌, length, set, get_or, refl, ap, sym, ◌∙◌, subst, arith}
+use Rattle.std.proofs.Common.{◌≡◌, ◌≢◌, ◌⊎◌, inl, inr, ℕ, zero, suc, ◌+◌, ◌/◌, ◌%◌, ◌<◌, ◌≤◌, Bool, true, false, cond, ◌&&◌, List, [], ◌∷◌, ◌++◌, length, set, get_or, refl, ap, sym, ◌∙◌, subst, arith}
 use Rattle.std.specs.Prelude.{Option, None, Some, not, ◌==◌, sum_by, count_by, slice_index_or}
 use Rattle.std.specs.Option.{option_map_or}
 use Rattle.std.specs.List.{All}
@@ -12,7 +12,7 @@ use Rattle.arrayvec.specs.ArrayVec.{ArrayVec}
 use Rattle.board_terms.specs.declared.messages.Message.{Message}
 use Rattle.board_terms.specs.declared.messages.Message.TheVariants.{FromPort, FromTimer}
 use Rattle.board_terms.specs.Sources.{source_number}
-use Rattle.message_queues.specs.Queues.{Queues, is_from_port, is_from_timer, port_used, timer_used, is_timer_free, queue_of, left_of}
+use Rattle.message_queues.specs.Queues.{Queues, is_from_port, is_from_timer, port_used, timer_used, is_timer_free, queue_of, left_of, appended}
 use Rattle.board_terms.specs.declared.messages.PortShape.TheVariants.{Messages}
 use Rattle.event_ports.specs.declared.ports.Port.{Port}
 use Rattle.event_ports.specs.Ports.{port_at, is_posted_type}
@@ -21,20 +21,28 @@ use Rattle.synic_board.specs.Posts.{buffers_of}
 use Rattle.synic_board.specs.Effects.{Effect, nothing}
 use Rattle.synic_board.specs.Delivery.{accepted}
 use Rattle.synic_board.specs.Resetting.{withdrawn_ticket, slot_emptied, queue_emptied, emptied_below}
+use Rattle.synic_board.specs.Timed.{Ascends, HasExpired, IsTimed}
 use Rattle.synic_board.specs.Buffers.{SendsTo, IsHome, HasBuffers}
 use Rattle.synic_board.proofs.keeping.Requests.{either}
+use Rattle.synic_board.proofs.keeping.Timed.{ascends-left, timed-same, timed-queue}
 
-pub alike : (s now : State) → now.queues ≡ s.queues → now.ports ≡ s.ports → HasBuffers s → HasBuffers now
-alike s now queues ports h = record {
+-- the same queues and ports
+pub unmoved : (s now : State) → now.queues ≡ s.queues → now.ports ≡ s.ports → IsTimed now → HasBuffers s → HasBuffers now
+unmoved s now queues ports timed h = record {
   room = λ k. omega (arith, ap (λ qs. port_used qs k) queues, h.room k);
   one_each = λ t. omega (arith, ap (λ qs. timer_used qs t) queues, h.one_each t);
   within = λ k p e. omega (arith, ap (λ qs. port_used qs k) queues, h.within k p (ap (λ xs. slice_index_or xs k None) (sym ports) ∙ e));
   home = λ p i below. subst (λ qs. All (IsHome now.ports p i) (queue_of qs p i)) (sym queues)
       (subst (λ ps. All (IsHome ps p i) (queue_of s.queues p i)) (sym ports) (h.home p i below));
+  timed = timed;
   ports = ap length ports ∙ h.ports;
   shapes = λ k p e. h.shapes k p (ap (λ xs. slice_index_or xs k None) (sym ports) ∙ e);
   sources = λ k p e. h.sources k p (ap (λ xs. slice_index_or xs k None) (sym ports) ∙ e);
 }
+
+-- and the same tickets, time and timers
+pub alike : (s now : State) → now.queues ≡ s.queues → now.ports ≡ s.ports → now.next_ticket ≡ s.next_ticket → now.moment ≡ s.moment → now.timers ≡ s.timers → HasBuffers s → HasBuffers now
+alike s now queues ports next moment timers h = unmoved s now queues ports (timed-same s now queues next moment timers h.timed) h
 
 -- how many queued messages satisfy a predicate
 abbrev pub found_in : (Message → Bool) → Queues → ℕ
@@ -97,12 +105,14 @@ none-used s port closed h = sum-none (count_by (is_from_port port)) s.queues (λ
 pub record IsPart (q whole : List Message) : Type 0 where
   pub counts : (f : Message → Bool) → count_by f q ≤ count_by f whole
   pub home : (ports : List (Option Port)) (p i : ℕ) → All (IsHome ports p i) whole → All (IsHome ports p i) q
+  pub order : (next : ℕ) → Ascends next whole → Ascends next q
+  pub timely : (moment i : ℕ) → All (HasExpired moment i) whole → All (HasExpired moment i) q
 
 pub part-rest : (m : Message) (q : List Message) → IsPart q (m ∷ q)
-part-rest m q = record { counts = λ f. omega (arith, sum_by-cons (λ x. cond (f x) 1 0) m q); home = λ ports p i h. All-tail (IsHome ports p i) m q h }
+part-rest m q = record { counts = λ f. omega (arith, sum_by-cons (λ x. cond (f x) 1 0) m q); home = λ ports p i h. All-tail (IsHome ports p i) m q h; order = λ next h. h.2; timely = λ moment i h. All-tail (HasExpired moment i) m q h }
 
 pub part-none : (q : List Message) → IsPart [] q
-part-none q = record { counts = λ f. omega arith; home = λ ports p i h. All-nil (IsHome ports p i) }
+part-none q = record { counts = λ f. omega arith; home = λ ports p i h. All-nil (IsHome ports p i); order = λ next h. tt; timely = λ moment i h. All-nil (HasExpired moment i) }
 
 count-left : (f : Message → Bool) (port : ℕ) (q : List Message) → count_by f (left_of port q) ≤ count_by f q
 count-left f port [] = omega arith
@@ -113,15 +123,22 @@ count-left f port (m ∷ q) =
     (λ _. omega (arith, more, sum_by-cons (λ x. cond (f x) 1 0) m q))
 
 pub part-left : (port : ℕ) (q : List Message) → IsPart (left_of port q) q
-part-left port q = record { counts = λ f. count-left f port q; home = λ ports p i h. All-filter (λ m. not (is_from_port port m)) (IsHome ports p i) q h }
+part-left port q = record {
+  counts = λ f. count-left f port q;
+  home = λ ports p i h. All-filter (λ m. not (is_from_port port m)) (IsHome ports p i) q h;
+  order = λ next h. ascends-left port next q h;
+  timely = λ moment i h. All-filter (λ m. not (is_from_port port m)) (HasExpired moment i) q h;
+}
 
-pub fewer-queued : (s now : State) (j : ℕ) (q : List Message) → now.queues ≡ set s.queues j q → now.ports ≡ s.ports → IsPart q (get_or s.queues j []) → HasBuffers s → HasBuffers now
-fewer-queued s now j q is ports part h = alike written now is ports (record {
+pub fewer-queued : (s now : State) (j : ℕ) (q : List Message) → now.queues ≡ set s.queues j q → now.ports ≡ s.ports → now.next_ticket ≡ s.next_ticket → now.moment ≡ s.moment → now.timers ≡ s.timers →
+    IsPart q (get_or s.queues j []) → HasBuffers s → HasBuffers now
+fewer-queued s now j q is ports next moment timers part h = alike written now is ports next moment timers (record {
   room = λ k. omega (arith, fewer (is_from_port k), h.room k);
   one_each = λ t. omega (arith, fewer (is_from_timer t), h.one_each t);
   within = λ k p e. omega (arith, fewer (is_from_port k), h.within k p e);
   home = each-set (IsHome s.ports) s.queues j q
       (λ p i below same. part.home s.ports p i (subst (λ k. All (IsHome s.ports p i) (get_or s.queues k [])) same (h.home p i below))) (λ p i below _. h.home p i below);
+  timed = timed-queue s written j q refl refl refl refl (part.order s.next_ticket (h.timed.order j)) (part.timely s.moment (j % 16) (h.timed.timely j)) h.timed;
   ports = h.ports;
   shapes = h.shapes;
   sources = h.sources;
@@ -188,14 +205,19 @@ more-found f s p i m d bound free = elim (f m) as (λ b. f m ≡ b → found_in 
     more : found_in f (accepted s p i m).0.queues ≤ found_in f s.queues + cond (f m) 1 0
     more = used-set f s.queues (source_number p i) (cond (f m) 1 0) (queue_of s.queues p i ++ m ∷ []) (omega (arith, sum_by_push (λ x. cond (f x) 1 0) (queue_of s.queues p i) m))
 
-pub buffers-accepted : (s : State) (p i : ℕ) (m : Message) → Fits s p i m → HasBuffers s → HasBuffers (accepted s p i m).0
-buffers-accepted s p i m fit h = record {
+-- a message joins a queue
+abbrev with_joined : State → ℕ → ℕ → ℕ → Message → State
+with_joined s next p i m = record s { queues = appended s.queues p i m; next_ticket = next }
+
+pub buffers-joined : (s : State) (next p i : ℕ) (m : Message) → Fits s p i m → IsTimed (with_joined s next p i m) → HasBuffers s → HasBuffers (with_joined s next p i m)
+buffers-joined s next p i m fit timed h = record {
   room = λ k. more-found (is_from_port k) s p i m 16 (h.room k) (fit.ports k);
   one_each = λ t. more-found (is_from_timer t) s p i m 1 (h.one_each t) (fit.timers t);
   within = λ k x e. more-found (is_from_port k) s p i m (buffers_of x.shape) (h.within k x e) (λ f. fit.share k x f e);
   home = each-set (IsHome s.ports) s.queues (source_number p i) (queue_of s.queues p i ++ m ∷ [])
       (λ q j below same. All-push (IsHome s.ports q j) (queue_of s.queues p i) m (subst (λ k. All (IsHome s.ports q j) (get_or s.queues k [])) same (h.home q j below)) (fit.home q j below same))
       (λ q j below _. h.home q j below);
+  timed = timed;
   ports = h.ports;
   shapes = h.shapes;
   sources = h.sources;
@@ -207,10 +229,10 @@ buffers-slot s p i h = held (slot_of s p i)
   where
     held : (o : Option ℕ) → HasBuffers (option_map_or (withdrawn_ticket s p i) o (nothing s)).0
     held None = h
-    held (Some t) = alike s _ refl refl h
+    held (Some t) = alike s _ refl refl refl refl refl h
 
 pub buffers-queue : (s : State) (p i : ℕ) → HasBuffers s → HasBuffers (queue_emptied s p i).0
-buffers-queue s p i h = fewer-queued s (queue_emptied s p i).0 (source_number p i) [] refl refl (part-none (queue_of s.queues p i)) h
+buffers-queue s p i h = fewer-queued s (queue_emptied s p i).0 (source_number p i) [] refl refl refl refl refl (part-none (queue_of s.queues p i)) h
 
 pub buffers-emptied_below : (s : State) (p n : ℕ) → HasBuffers s → HasBuffers (emptied_below s p n).0
 unfolding emptied_below

@@ -1,5 +1,5 @@
 // Setting and reading the parts of a machine, for a board that is restored or saved.
-ghost use Rattle.std.specs.Prelude.{◌≡◌, ◌≢◌, ℕ, slice_index_or, ◌↔◌, ◌<◌, ◌≤◌, ◌+◌, IsTrue, Some, None, slice_get, length, if◌then◌else◌};
+ghost use Rattle.std.specs.Prelude.{◌≡◌, ◌≢◌, ℕ, slice_index_or, ◌↔◌, ◌<◌, ◌≤◌, ◌+◌, ◌-◌, IsTrue, Some, None, slice_get, length, if◌then◌else◌};
 ghost use Rattle.message_queues.specs.Queues.{HasBuffer, port_used};
 ghost use Rattle.stimer_bank.specs.Timer.{IsSoundTimer};
 ghost use Rattle.std.specs.List.{All};
@@ -203,6 +203,15 @@ impl Machine {
         ensures { option_copied result ≡ slice_get (queue_of self.now.state.queues vp sint) index }
     {
         self.queues.message(vp, sint, index)
+    }
+
+    /// The last message of a queue.
+    pub(crate) fn last_message(&self, vp: Vp, sint: Sint) -> Option<&Message>
+        requires { vp < processors self.now.state }
+        ensures { option_copied result ≡ slice_get (queue_of self.now.state.queues vp sint) (length (queue_of self.now.state.queues vp sint) - 1) }
+    {
+        let count = self.queues.count(vp, sint);
+        self.queues.message(vp, sint, count.saturating_sub(1))
     }
 
     /// The ticket in a slot.

@@ -5,5 +5,5 @@ use Rattle.board_threads.proofs.threads.start_lines.Given as goal
 abbrev pub invariant-loop-line : goal.invariant-loop-line
 invariant-loop-line g l =
     (l.index ≡ length l.yielded)
-    × (map {B = TableId × List (ℕ × ℕ)} (λ h. (h.promise.board.now.words.name, h.promise.script.now)) l.threads.items ≡ map {B = TableId × List (ℕ × ℕ)}
-    (λ s. (l.board.words.name, s.items)) (take l.index l.scripts))
+    × (map {B = TableId × List (ℕ × ℕ)} (λ h. (h.promise.board.now.name, h.promise.script.now)) l.threads.items ≡ map {B = TableId × List (ℕ × ℕ)}
+    (λ s. (l.board.name, s.items)) (take l.index l.scripts))

@@ -10,14 +10,14 @@ use Rattle.board_threads.proofs.working.work.Goals as goal
 
 pub run_all-requires-clause-new_actors : goal.run_all-requires-clause-new_actors
 run_all-requires-clause-new_actors g c κs within =
-    let name = c.args.board.now.words.name in
+    let name = c.args.board.now.name in
     let n = vec_len c.args.scripts.now.actors in
     let parts = cut name c.args.actors.items n (n + 1) c.requires.actors (omega arith) in
     λ k d lt. subst (All (IsNewActor name)) (sym (c.in-Ok.ensures.tail ∙ parts.1)) (all-new name (range_with_len 1 n)) k d lt
 
 pub run_all-requires-clause-each_actor : goal.run_all-requires-clause-each_actor
 run_all-requires-clause-each_actor g c κs within =
-    let name = c.args.board.now.words.name in
+    let name = c.args.board.now.name in
     let n = vec_len c.args.scripts.now.actors in
     omega (arith, c.in-Ok.ensures.tail_len, c.args.actors.ok.0, ap (λ l. length l) c.requires.actors, length-map-range_with_len (new_actor name) 0 (n + 1))
 
@@ -28,7 +28,7 @@ run_all-requires-clause-there g c κs within =
 
 pub returns : goal.returns
 returns g c =
-    let name = c.args.board.now.words.name in
+    let name = c.args.board.now.name in
     let scripts = c.args.scripts.now.actors in
     let n = vec_len scripts in
     let parts = cut name c.args.actors.items n (n + 1) c.requires.actors (omega arith) in

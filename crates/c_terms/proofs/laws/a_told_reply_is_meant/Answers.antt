@@ -7,7 +7,7 @@ use Rattle.board_terms.specs.declared.refusal.Refusal.TheVariants as refusals
 use Rattle.synic_board.specs.declared.event.Reply.{Reply}
 use Rattle.synic_board.specs.declared.event.Reply.TheVariants.{Done, Value, Bytes, Taken, Accepted, FlagWasClear, FlagWasSet, GeneralProtection, Refused}
 use Rattle.c_terms.specs.Events.{bytes_from_c}
-use Rattle.c_terms.specs.Replies.{IsReply, padded, refusal_from_c, reply_to_c, reply_from_c}
+use Rattle.c_terms.specs.Replies.{IsReplyInRange, padded, refusal_from_c, reply_to_c, reply_from_c}
 use Rattle.c_terms.proofs.laws.a_told_reply_is_meant.Goals as goal
 
 padded-meant : (bytes : ArrayVec ℕ) → length bytes.items ≤ 8 → bytes_from_c 8 (padded bytes.items) (length bytes.items) ≡ Some bytes
@@ -37,7 +37,7 @@ refusal-meant refusals.AlreadySuspended = refl
 refusal-meant refusals.NotSuspended = refl
 refusal-meant refusals.Elsewhere = refl
 
-told-meant : (reply : Reply) (notices : ℕ) → IsReply reply → reply_from_c (reply_to_c reply notices) ≡ Some reply
+told-meant : (reply : Reply) (notices : ℕ) → IsReplyInRange reply → reply_from_c (reply_to_c reply notices) ≡ Some reply
 told-meant Done n h = refl
 told-meant (Value value) n h = refl
 told-meant (Bytes bytes) n h = ap (option_map Bytes) (padded-meant bytes h)

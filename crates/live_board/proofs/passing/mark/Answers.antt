@@ -2,4 +2,4 @@ use Rattle.live_board.proofs.Watched.{mark-is}
 use Rattle.live_board.proofs.passing.mark.Goals as goal
 
 pub returns : goal.returns
-returns c = mark-is _ _ _ _ _ _ _ _ _ _ _ c.requires.word c.requires.shadow c.fetch_or-found.ensures c.pass.ensures
+returns c = mark-is _ _ _ _ _ _ _ _ _ _ _ c.requires.known c.fetch_or-found.ensures c.pass.ensures

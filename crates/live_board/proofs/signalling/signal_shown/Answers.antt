@@ -17,4 +17,4 @@ returns c =
     let place = rest-signalled s mid c.args.flag c.args.port.now m.watched.rest ∙ c.requires.place in
     let on : c.args.port.now.vp < processors mid = omega (arith, c.requires.on, ap processors m.watched.rest) in
     let set = set-by mid _ c.args.number c.args.flag c.args.place c.args.port.now _ _ _ there place c.requires.range c.requires.source c.facts-2.ensures.shape c.facts-2.ensures.ranges on one in
-    part-marked s mid _ c.args.port.now.vp (32 * c.args.port.now.sint + c.args.place / 64) _ _ _ _ _ _ _ _ _ c.requires.empty (omega (arith, c.requires.source, c.requires.range)) marked one set
+    part-marked s mid _ c.args.port.now.vp (32 * c.args.port.now.sint + c.args.place / 64) _ _ _ _ _ _ _ _ _ c.requires.empty (omega (arith, c.requires.source, c.requires.range)) c.requires.shadow marked one set

@@ -6,6 +6,6 @@ use Rattle.test_threads.proofs.boards.opened.Goals as goal
 
 pub returns-in-Ok-clause-actors : goal.returns-in-Ok-clause-actors
 returns-in-Ok-clause-actors c =
-    let name = c.in-Ok.opened.0.words.name in
+    let name = c.in-Ok.opened.0.name in
     let numbers = range_with_len 0 c.args.actors in
     λ k d lt. subst (All (λ (a : Acting). a.of ≡ name)) (sym c.in-Ok.ensures.actors) (All-map (λ (a : Acting). a.of ≡ name) (new_actor name) numbers (λ i e below. refl)) k d lt

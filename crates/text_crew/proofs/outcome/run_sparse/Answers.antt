@@ -9,7 +9,7 @@ use Rattle.text_trace.specs.declared.format.Format.TheVariants.{Four}
 use Rattle.text_trace.specs.Trace.{board_text}
 use Rattle.text_crew.specs.inside.View.{crew_of}
 use Rattle.text_crew.specs.inside.Tracing.{IsTraced}
-use Rattle.text_crew.specs.Running.{IsHistory}
+use Rattle.text_crew.specs.Running.{IsScriptHistory}
 use Rattle.text_crew.proofs.Judged.{script-sized, none-bad, one-sparse}
 use Rattle.text_crew.proofs.Traced.{prepared, opened-sparse}
 use Rattle.text_crew.proofs.outcome.run_sparse.Goals as goal
@@ -34,15 +34,16 @@ returns-in-Ok-run_crew_on g c =
     let ended = c.in-Ok-run_crew_on.end.ended in
     let out = c.put_sparse.new.out.items in
     let start = opened s.setup.processors 0 s.setup.first_ticket in
-    let same = c.in-Ok-sparse_board.ensures in
+    let same = c.in-Ok.ensures in
     let text = board_text s.setup.processors None s.setup.first_ticket in
-    let is : IsHistory (crew_of s) start ended.history.items = record {
+    let is : IsScriptHistory (crew_of s) start ended.history.items = record {
       legal = subst (λ (t : State). IsLegal t ended.history.items) same e.settled.legal;
       crewed = e.crewed;
       answers = lists c.in-Ok-run_crew_on.end.raised.items;
       standing = ended.standing;
       each = e.each;
       raises = e.raises;
+      clear = e.clear;
     } in
     let was : IsTraced Four text c.put_sparse.result ended [] out = subst (λ (old : List ℕ). IsTraced Four text c.put_sparse.result ended old out) c.requires.empty c.put_sparse.ensures.traced in
     prepared None Four text start (crew_of s) c.put_sparse.result ended out is

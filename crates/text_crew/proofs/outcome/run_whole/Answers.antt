@@ -8,7 +8,7 @@ use Rattle.text_trace.specs.declared.format.Format.TheVariants.{Two}
 use Rattle.text_trace.specs.Trace.{board_text}
 use Rattle.text_crew.specs.inside.View.{crew_of}
 use Rattle.text_crew.specs.inside.Tracing.{IsTraced}
-use Rattle.text_crew.specs.Running.{IsHistory}
+use Rattle.text_crew.specs.Running.{IsScriptHistory}
 use Rattle.text_crew.proofs.Judged.{some-page, sized, none-bad}
 use Rattle.text_crew.proofs.Traced.{prepared, opened-whole}
 use Rattle.text_crew.proofs.outcome.run_whole.Goals as goal
@@ -30,13 +30,14 @@ returns-in-Ok g c =
     let start = opened s.setup.processors s.setup.pages s.setup.first_ticket in
     let text = board_text s.setup.processors (Some s.setup.pages) s.setup.first_ticket in
     let some = some-page s.setup.pages c.requires.pages in
-    let is : IsHistory (crew_of s) start ended.history.items = record {
+    let is : IsScriptHistory (crew_of s) start ended.history.items = record {
       legal = e.settled.legal;
       crewed = e.crewed;
       answers = lists c.in-Ok.end.raised.items;
       standing = ended.standing;
       each = e.each;
       raises = e.raises;
+      clear = e.clear;
     } in
     let was : IsTraced Two text c.put_opened.result ended [] out = subst (λ (old : List ℕ). IsTraced Two text c.put_opened.result ended old out) c.requires.empty c.put_opened.ensures.traced in
     prepared None Two text start (crew_of s) c.put_opened.result ended out is

@@ -6,4 +6,8 @@ pub returns-then-not-close : goal.returns-then-not-close
 returns-then-not-close g c =
     let s = c.close.ensures in
     let whole : s.0 ++ s.1 ≡ c.put_fault.new.out.items = search rules in
-    (Script c.args.line c.args.fault, s.0, s.1, (refl, refl, whole ∙ search rules), s.2)
+    record {
+      sent = s.0;
+      is = record { end = Script c.args.line c.args.fault; unsent = s.1; text = (refl, refl, whole ∙ search rules) };
+      appended = s.2;
+    }

@@ -3,9 +3,10 @@ use Rattle.std.specs.Io.KnownBytes.{Appends}
 use Rattle.text_driver.specs.declared.driving.End.TheVariants as ends
 use Rattle.text_lines.specs.declared.fault.ScriptFault.TheVariants as faults
 use Rattle.text_crew.specs.Crew.{Crew, finished}
+use Rattle.text_crew.specs.Running.{Writes}
 use Rattle.text_crew.specs.inside.Good.{IsGoodOn}
 use Rattle.text_crew.specs.inside.View.{crew_of, optional_crew, state_in}
-use Rattle.text_crew.specs.inside.Reporting.{Refusal, Report, Runs}
+use Rattle.text_crew.specs.inside.Reporting.{Refusal, Report}
 use Rattle.text_crew.specs.declared.judge.CrewJudge.{CrewJudge}
 use Rattle.text_crew.specs.declared.running.CrewRun.TheVariants.{Memory}
 use Rattle.text_crew.proofs.Limits.{within, run-near, fault-near}
@@ -33,7 +34,7 @@ returns-in-Some-clause-text g c =
     let last = crew_of c.in-Some.script in
     let here : seen c.drive.new.judge ≡ Some last = ap optional_crew c.in-Some.is in
     let first = subst (Appends _ _) (sym d.sends ∙ nothing-sent seen _ _ _ c.on.ensures.value (ends.Last c.in-Last.line) _ _ d.read) d.writes in
-    let ran : Runs (state_in c.args.board) c.run.result last (g.W.Write.contents c.drive.new.writer) (g.W.Write.contents c.run.new.writer) = rw c.in-Some.is at c.run.ensures in
+    let ran : Writes (Report board (finished last)) c.run.result (g.W.Write.contents c.drive.new.writer) (g.W.Write.contents c.run.new.writer) = rw c.in-Some.is at c.run.ensures in
     spoken board (Report board (finished last)) _ _ _ _ _
     (λ input p. tells-report board last input (optional_crew-for seen _ _ _ c.on.ensures.value c.in-Last.line d.answers input last here p)) d.whole first c.run.result ran
 
@@ -56,13 +57,13 @@ returns-in-Wrong-clause-text g c =
 
 pub returns-in-Some-clause-limit : goal.returns-in-Some-clause-limit
 returns-in-Some-clause-limit g c =
-    let ran : Runs (state_in c.args.board) c.run.result (crew_of c.in-Some.script) (g.W.Write.contents c.drive.new.writer) (g.W.Write.contents c.run.new.writer) = rw c.in-Some.is at c.run.ensures in
+    let ran : Writes (Report (state_in c.args.board) (finished (crew_of c.in-Some.script))) c.run.result (g.W.Write.contents c.drive.new.writer) (g.W.Write.contents c.run.new.writer) = rw c.in-Some.is at c.run.ensures in
     within c.run.result (Report (state_in c.args.board) (finished (crew_of c.in-Some.script))) _ _ _ _ (λ _ none. none) ran c.in-Last.ensures.limit
 
 pub returns-in-Some-clause-near : goal.returns-in-Some-clause-near
 returns-in-Some-clause-near g c =
-    let ran : Runs (state_in c.args.board) c.run.result (crew_of c.in-Some.script) (g.W.Write.contents c.drive.new.writer) (g.W.Write.contents c.run.new.writer) = rw c.in-Some.is at c.run.ensures in
-    run-near (state_in c.args.board) c.run.result (crew_of c.in-Some.script) _ _ _ _ ran
+    let ran : Writes (Report (state_in c.args.board) (finished (crew_of c.in-Some.script))) c.run.result (g.W.Write.contents c.drive.new.writer) (g.W.Write.contents c.run.new.writer) = rw c.in-Some.is at c.run.ensures in
+    run-near (state_in c.args.board) c.run.result (finished (crew_of c.in-Some.script)) _ _ _ _ ran
 
 pub returns-in-None-clause-limit : goal.returns-in-None-clause-limit
 returns-in-None-clause-limit g c = within _ (Refusal c.in-Last.line faults.First) _ _ _ _ (λ _ none. none) c.refuse.ensures c.in-Last.ensures.limit
@@ -108,16 +109,16 @@ pub returns-in-Memory-clause-text : goal.returns-in-Memory-clause-text
 returns-in-Memory-clause-text g c =
     let d = c.in-Memory.ensures.lines in
     let none = sym d.sends ∙ nothing-sent seen _ _ _ c.on.ensures.value ends.Memory _ _ d.read in
-    (d.sent, known _ _ (λ _. d.sent ≡ []) (λ _ _. none) d.whole, d.writes)
+    record { sent = d.sent; is = known _ _ (λ _. d.sent ≡ []) (λ _ _. none) d.whole; appended = d.writes }
 
 pub returns-in-Reading-clause-text : goal.returns-in-Reading-clause-text
 returns-in-Reading-clause-text g c =
     let d = c.in-Reading.ensures.lines in
     let none = sym d.sends ∙ nothing-sent seen _ _ _ c.on.ensures.value ends.Reading _ _ d.read in
-    (d.sent, known _ _ (λ _. d.sent ≡ []) (λ _ _. none) d.whole, d.writes)
+    record { sent = d.sent; is = known _ _ (λ _. d.sent ≡ []) (λ _ _. none) d.whole; appended = d.writes }
 
 pub returns-in-Writing-clause-text : goal.returns-in-Writing-clause-text
 returns-in-Writing-clause-text g c =
     let d = c.in-Writing.ensures.lines in
     let none = none-sent d.sent d.sends.0 (sym d.sends.1 ∙ nothing-sent seen _ _ _ c.on.ensures.value ends.Writing _ _ d.read) in
-    (Memory, [], [], known _ _ (λ _. [] ≡ []) (λ _ _. refl) d.whole, subst (Appends _ _) none d.writes)
+    record { sent = []; is = record { end = Memory; unsent = []; text = known _ _ (λ _. [] ≡ []) (λ _ _. refl) d.whole }; appended = subst (Appends _ _) none d.writes }

@@ -1,42 +1,37 @@
-use Rattle.std.proofs.Common.{◌≡◌, ◌*◌, false, map, sym, ap, ◌∙◌, subst, Result, Ok, Err, IfOk, OnOk}
-use Rattle.std.proofs.lemmas.Result.{IfOk-weaker}
-use Rattle.synic_board.specs.State.{State, BoardModel, opened}
-use Rattle.synic_board.specs.History.{IsLegal, leads_to}
-use Rattle.posted_words.specs.Words.{actions_of}
-use Rattle.board_threads.specs.declared.recorded.Opening.{Opening}
+use Rattle.std.proofs.Common.{◌≡◌, ◌*◌, All, map, sym, ap, ◌∙◌, subst, Result, Ok, Err, IfOk}
+use Rattle.std.proofs.lemmas.List.Elements.{All-map}
+use Rattle.posted_words.specs.Words.{Words, Token, token, actions_of}
 use Rattle.board_threads.specs.declared.settling.Ended.{Ended}
-use Rattle.board_threads.specs.Sharing.{Sharing, start}
+use Rattle.board_threads.specs.Sharing.{Acting}
 use Rattle.board_threads.specs.Settling.{AreAllOf, AreAbsorbed, IsSettled}
-use Rattle.board_threads.specs.inside.Ending.{IsEnd}
+use Rattle.board_threads.proofs.Absorbs.{are-absorbed}
 use Rattle.board_threads.proofs.recorded_board.RecordedBoard.settle.Goals as goal
 
--- consequences of the result of settling, if it succeeded
-at_end : {F : Type 0} (r : Result Ended F) (Same : Type 0) (Is So : Ended → Type 0) → ((e : Ended) → Same → Is e → So e) → OnOk r Same → IfOk r Is → IfOk r So
-at_end (Ok e) Same Is So so same is = so e same is
-at_end (Err f) Same Is So so same is = tt
+-- a consequence of three facts about a value, if there is one
+of-three : {A F : Type 0} (P Q R S : A → Type 0) → ((a : A) → P a → Q a → R a → S a) → (r : Result A F) → IfOk r P → IfOk r Q → IfOk r R → IfOk r S
+of-three P Q R S f (Ok a) p q r = f a p q r
+of-three P Q R S f (Err e) p q r = tt
 
-pub returns-clause-settled : goal.returns-clause-settled
-returns-clause-settled c =
-    let r = c.in_ok-recorded.recorded in
-    let v = c.self.view_is in
-    let Is = IsEnd r.board r.history.entries c.in_ok-recorded.actors.items c.in_ok-recorded.standing in
-    let ended : (e : Ended) → r.opening ≡ c.self.inside.opening → Is e → IsSettled (start c.args.self) e = λ e same h.
-    let own : r.opening.is_given ≡ false = ap (λ (o : Opening). o.is_given) same ∙ c.if-opening.false in
-    let number = ap (λ (o : Opening). o.processors) same ∙ sym c.self.invariant ∙ ap (λ (s : Sharing). s.words.processors) v in
-    let pages = ap (λ (o : Opening). o.pages) same ∙ ap (λ (s : Sharing). s.pages) v in
-    let ticket = ap (λ (o : Opening). o.first_ticket) same ∙ ap (λ (s : Sharing). s.first_ticket) v in
-    let begins : opened r.opening.processors r.opening.pages r.opening.first_ticket ≡ start c.args.self = λ i. opened (number i) (pages i) (ticket i) in
-    record {
-      legal = subst (IsLegal (start c.args.self)) (sym h.entries) (subst (λ (s : State). IsLegal s r.history.entries) begins (r.legal own));
-      leads = ap (λ (b : BoardModel). b.state) h.same_board ∙ r.leads own ∙ ap (λ (s : State). leads_to s r.history.entries) begins ∙ ap (leads_to (start c.args.self)) (sym h.entries);
-      actors = h.all;
-    } in
-    at_end c.end.result (r.opening ≡ c.self.inside.opening) Is (IsSettled (start c.args.self)) ended c.end.ensures.opening c.end.ensures.ended
+pub gather-requires-clause-sweepers : goal.gather-requires-clause-sweepers
+gather-requires-clause-sweepers g c =
+    let name = ap (λ (w : Words). w.name) c.self.view_is in
+    let own = All-map (λ (t : Token). t.of ≡ c.args.self.name) (λ (a : Acting). token a.of a.actions) c.args.actors.items c.requires.actors in
+    let all = subst (All (λ (t : Token). t.of ≡ c.args.self.name)) (sym c.in_ok-sweepers.ensures.sweepers) own in
+    λ k d lt. all k d lt ∙ sym name
+
+pub gather-requires-clause-lines : goal.gather-requires-clause-lines
+gather-requires-clause-lines g c = λ k d lt. c.requires.lines k d lt ∙ sym (ap (λ (w : Words). w.name) c.self.view_is)
 
 pub returns-clause-raises : goal.returns-clause-raises
-returns-clause-raises c =
-    let r = c.in_ok-recorded.recorded in
-    let So = λ (e : Ended). AreAbsorbed (4 * c.args.self.words.processors) (map actions_of c.args.lines.items) e.history.items e.standing in
-    IfOk-weaker c.end.result (IsEnd r.board r.history.entries c.in_ok-recorded.actors.items c.in_ok-recorded.standing) So (λ e h.
-    subst (AreAbsorbed (4 * c.args.self.words.processors) (map actions_of c.args.lines.items) e.history.items) (sym h.standing)
-    (c.in_ok-recorded.ensures.raises e.history.items (subst (AreAllOf e.history.items) h.actors h.all))) c.end.ensures.ended
+returns-clause-raises g c =
+    let n = c.args.self.processors in
+    let actors = c.in_ok-sweepers.actors.items in
+    let standing = c.in_ok-standing.standing in
+    let So = λ (e : Ended). AreAbsorbed (4 * n) (map actions_of c.args.lines.items) e.history.items e.standing in
+    of-three (IsSettled g.S.Origin.start) (λ e. e.actors.items ≡ actors) (λ e. e.standing ≡ standing) So (λ e settled same left.
+    subst (AreAbsorbed (4 * n) (map actions_of c.args.lines.items) e.history.items) (sym left)
+    (subst (λ m. AreAbsorbed (4 * m) (map actions_of c.args.lines.items) e.history.items standing) (ap (λ (w : Words). w.processors) c.self.view_is)
+    (are-absorbed _ c.in_ok-sweepers.sweepers.items c.args.actors.items actors c.args.lines.items e.history.items standing
+    c.in_ok-sweepers.ensures.sweepers c.in_ok-sweepers.ensures.actors c.in_ok-sweepers.ensures.sweeps c.requires.raises (subst (AreAllOf e.history.items) same settled.actors)
+    c.in_ok-standing.ensures.width c.in_ok-standing.ensures.settled)))
+    c.end.result c.end.ensures.settled c.end.ensures.actors c.end.ensures.standing

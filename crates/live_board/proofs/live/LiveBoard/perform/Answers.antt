@@ -1,6 +1,23 @@
-use Rattle.live_board.proofs.Shadowed.{same-shadows}
-use Rattle.live_board.proofs.Calm.{quiet-own}
+use Rattle.std.proofs.Common.{rules, ◌≡◌, ℕ, false, nat_lt, List, refl, sym, subst}
+use Rattle.synic_board.specs.declared.event.Event.{Event}
+use Rattle.synic_board.specs.declared.event.Event.TheVariants.{Post}
+use Rattle.synic_board.specs.State.{processors}
+use Rattle.synic_board.specs.Step.{step}
+use Rattle.live_board.specs.Live.{LiveModel, IsLive}
+use Rattle.live_board.specs.Acting.{Acts, none_owed}
+use Rattle.live_board.proofs.Calm.{same-own, not-reset}
 use Rattle.live_board.proofs.live.LiveBoard.perform.Goals as goal
 
-pub invariant_of-self : goal.invariant_of-self
-invariant_of-self c = same-shadows _ _ _ (quiet-own _ _ _ _ _ c.requires c.perform.ensures.performs.step) c.self.invariant
+pub perform_apart-requires : goal.perform_apart-requires
+perform_apart-requires c =
+    let off : nat_lt c.in-Reset.vp (processors c.args.self.now.board.state) ≡ false = search rules in
+    subst (λ (e : Event). (step c.args.self.now.board.state e).0.own ≡ c.args.self.now.board.state.own) (sym c.in-Reset.is) (not-reset _ _ off)
+
+pub perform_apart-requires-in_default : goal.perform_apart-requires-in_default
+perform_apart-requires-in_default c = same-own _ _ (search rules)
+
+pub returns-in-Post : goal.returns-in-Post
+returns-in-Post c =
+    let old : LiveModel = c.args.self.now in let now : LiveModel = c.post.new.self in
+    let live = subst (λ (bytes : List ℕ). IsLive old (Post c.in-Post.port c.in-Post.kind (record { items = bytes })) now c.post.result c.post.new.notices) c.as_slice.ensures.value c.post.ensures.live in
+    subst (λ (e : Event). Acts old e now c.post.result none_owed c.post.new.notices c.clear.new.self) (sym c.in-Post.is) (live, c.post.ensures.looked, refl, c.clear.ensures)

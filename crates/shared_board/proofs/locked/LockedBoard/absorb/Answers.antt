@@ -1,9 +1,7 @@
-use Rattle.std.proofs.Common.{◌≡◌, sym, ap, subst, ◌∙◌}
+use Rattle.std.proofs.Common.{sym, ap, ◌∙◌}
 use Rattle.posted_words.specs.Words.{token}
 use Rattle.synic_board.specs.Effects.{Outcome}
-use Rattle.synic_board.specs.State.{processors}
 use Rattle.board_threads.proofs.Sweeping.{absorb-sweeps, refused-absorb}
-use Rattle.shared_board.specs.Witnessed.{Witnessed}
 use Rattle.shared_board.proofs.locked.LockedBoard.absorb.Goals as goal
 
 pub returns-clause-swept : goal.returns-clause-swept

@@ -1,5 +1,4 @@
 use Rattle.std.proofs.Common.{refl, ap, sym, ◌∙◌}
-use Rattle.std.specs.Prelude.{IsTrue, ◌↔◌}
 use Rattle.event_ports.specs.Ports.{port_at}
 use Rattle.message_queues.specs.Queues.{port_used}
 use Rattle.synic_board.specs.State.{State, ports_of}

@@ -1,0 +1,6 @@
+use Rattle.synic_board.specs.State.{opened}
+use Rattle.board_threads.proofs.crew.run_crew.Given as goal
+
+-- the state in which the crew begins
+abbrev pub ghosts-run_judged : goal.ghosts-run_judged
+ghosts-run_judged g a = record { start = opened a.setup.now.processors a.setup.now.pages a.setup.now.first_ticket }

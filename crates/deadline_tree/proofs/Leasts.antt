@@ -1,0 +1,129 @@
+-- The least of a list of deadlines.
+use Rattle.std.proofs.Common.{◌≡◌, ℕ, zero, suc, ◌/◌, ◌%◌, ◌<◌, ◌≤◌, true, false, nat_lt, length, get_or, inl, inr, refl, sym, ap, ◌∙◌, arith}
+use Rattle.std.specs.Prelude.{Option, None, Some, if◌then◌else◌}
+use Rattle.std.specs.Option.{option_map_or, option_map}
+use Rattle.std.proofs.Math.ListN.{get_or-eq_default}
+use Rattle.std.proofs.lemmas.Bool.{cases_eq, cases_lt}
+use Rattle.std.proofs.lemmas.Bool.Decides.{nat_tests}
+use Rattle.std.proofs.lemmas.Option.{none-some, same_Some}
+use Rattle.board_terms.specs.Dues.{Dues, least, least_below, earlier, timer_of, IsLeast}
+use Rattle.deadline_tree.specs.Laws.{FindsLeast}
+
+-- what the scan of the numbers below n found
+pub record IsFound (m : Dues) (n : ℕ) (r : ℕ × ℕ) : Type 0 where
+  pub low : r.1 < n
+  pub due : get_or m r.1 None ≡ Some r.0
+  pub first : (k e : ℕ) → k < n → get_or m k None ≡ Some e → (r.0 ≤ e) × (e ≡ r.0 → r.1 ≤ k)
+
+abbrev pub Found : Dues → ℕ → Option (ℕ × ℕ) → Type 0
+Found m n None = (k : ℕ) → k < n → get_or m k None ≡ None
+Found m n (Some r) = IsFound m n r
+
+-- the number n has no deadline
+skip : (m : Dues) (n : ℕ) → get_or m n None ≡ None → (o : Option (ℕ × ℕ)) → Found m n o → Found m (suc n) o
+skip m n h None f = λ k l. elim (cases_eq k n) as (λ _. get_or m k None ≡ None) [ inl e ↦ rw e h | inr e ↦ f k (omega arith) ]
+skip m n h (Some r) f = record {
+  low = omega (arith, f.low);
+  due = f.due;
+  first = λ k e l g. elim (cases_eq k n) as
+      (λ _. (r.0 ≤ e) × (e ≡ r.0 → r.1 ≤ k)) [ inl x ↦ absurd (none-some e (sym h ∙ ap (λ j. get_or m j None) (sym x) ∙ g)) | inr x ↦ f.first k e (omega arith) g ];
+}
+
+-- the number n is due at d
+join : (m : Dues) (n d : ℕ) → get_or m n None ≡ Some d → (o : Option (ℕ × ℕ)) → Found m n o → IsFound m (suc n) (earlier o (d, n))
+join m n d h None f = record {
+  low = omega arith;
+  due = h;
+  first = λ k e l g. elim (cases_eq k n) as (λ _. (d ≤ e) × (e ≡ d → n ≤ k)) [
+    | inl x ↦ let y : d ≡ e = same_Some d e (sym h ∙ ap (λ j. get_or m j None) (sym x) ∙ g) in (omega arith, λ _. omega arith)
+    | inr x ↦ absurd (none-some e (sym (f k (omega arith)) ∙ g))
+  ];
+}
+join m n d h (Some r) f =
+    elim (nat_lt d r.0) as (λ t. nat_lt d r.0 ≡ t → IsFound m (suc n) (if t then (d, n) else r)) [
+      | true ↦ λ w. let less : d < r.0 = grind (arith, nat_tests) in record {
+        low = omega arith;
+        due = h;
+        first = λ k e l g. elim (cases_eq k n) as (λ _. (d ≤ e) × (e ≡ d → n ≤ k)) [
+          | inl x ↦ let y : d ≡ e = same_Some d e (sym h ∙ ap (λ j. get_or m j None) (sym x) ∙ g) in (omega arith, λ _. omega arith)
+          | inr x ↦ let z = f.first k e (omega arith) g in (omega (arith, z.0), λ y. absurd (omega (arith, z.0)))
+        ];
+      }
+      | false ↦ λ w. let more : r.0 ≤ d = grind (arith, nat_tests) in record {
+        low = omega (arith, f.low);
+        due = f.due;
+        first = λ k e l g. elim (cases_eq k n) as (λ _. (r.0 ≤ e) × (e ≡ r.0 → r.1 ≤ k)) [
+          | inl x ↦ let y : d ≡ e = same_Some d e (sym h ∙ ap (λ j. get_or m j None) (sym x) ∙ g) in (omega arith, λ _. omega (arith, f.low))
+          | inr x ↦ f.first k e (omega arith) g
+        ];
+      }
+    ] refl
+
+step : (m : Dues) (n : ℕ) (o : Option (ℕ × ℕ)) → Found m n o → (x : Option ℕ) → get_or m n None ≡ x → Found m (suc n) (option_map_or (λ d. Some (earlier o (d, n))) x o)
+step m n o f None h = skip m n h o f
+step m n o f (Some d) h = join m n d h o f
+
+pub found : (m : Dues) (n : ℕ) → Found m n (least_below m n)
+unfolding least_below
+found m zero = λ k l. absurd (omega arith)
+found m (suc n) = step m n (least_below m n) (found m n) (get_or m n None) refl
+
+same_least : (m : Dues) (d n : ℕ) → IsLeast m d n → (o : Option (ℕ × ℕ)) → Found m 32 o → o ≡ Some (d, n)
+same_least m d n l None h = absurd (none-some d (sym (h n l.low) ∙ l.due))
+same_least m d n l (Some r) h =
+    let one = l.first r.1 r.0 h.due in
+    let two = h.first n d l.low l.due in
+    let dues : r.0 ≡ d = omega (arith, one.0, two.0) in
+    let n_le : n ≤ r.1 = one.1 dues in
+    let r_le : r.1 ≤ n = two.1 (sym dues) in
+    let numbers : r.1 ≡ n = omega arith in
+    λ i. Some (dues i, numbers i)
+
+-- the least, given its properties
+pub least_is : (m : Dues) (d n : ℕ) → IsLeast m d n → least m ≡ Some (d, timer_of n)
+unfolding least
+least_is m d n l = ap (option_map (λ (r : ℕ × ℕ). (r.0, timer_of r.1))) (same_least m d n l (least_below m 32) (found m 32))
+
+same_none : (m : Dues) → ((k : ℕ) → get_or m k None ≡ None) → (o : Option (ℕ × ℕ)) → Found m 32 o → o ≡ None
+same_none m n None h = refl
+same_none m n (Some r) h = absurd (none-some r.0 (sym (n r.1) ∙ h.due))
+
+pub least_none : (m : Dues) → ((k : ℕ) → get_or m k None ≡ None) → least m ≡ None
+unfolding least
+least_none m n = ap (option_map (λ (r : ℕ × ℕ). (r.0, timer_of r.1))) (same_none m n (least_below m 32) (found m 32))
+
+-- a deadline with its timer
+abbrev with_timer : ℕ × ℕ → ℕ × (ℕ × ℕ)
+with_timer r = (r.0, timer_of r.1)
+
+-- the properties of the least
+beyond : (m : Dues) (k : ℕ) → length m ≡ 32 → 32 ≤ k → get_or m k None ≡ None
+beyond m k l above = get_or-eq_default m None (omega arith)
+
+from_found : (m : Dues) (d n : ℕ) → length m ≡ 32 → n < 32 → (o : Option (ℕ × ℕ)) → Found m 32 o → option_map with_timer o ≡ Some (d, timer_of n) → IsLeast m d n
+from_found m d n l low None h e = absurd (none-some (d, timer_of n) e)
+from_found m d n l low (Some r) h e =
+    let same = same_Some (r.0, timer_of r.1) (d, timer_of n) e in
+    let dues : r.0 ≡ d = ap (λ (x : ℕ × (ℕ × ℕ)). x.0) same in
+    let processors : r.1 / 4 ≡ n / 4 = ap (λ (x : ℕ × (ℕ × ℕ)). x.1.0) same in
+    let indices : r.1 % 4 ≡ n % 4 = ap (λ (x : ℕ × (ℕ × ℕ)). x.1.1) same in
+    let numbers : r.1 ≡ n = omega arith in
+    record {
+      low = low;
+      due = ap (λ k. get_or m k None) (sym numbers) ∙ h.due ∙ ap Some dues;
+      first = λ k e g. elim (cases_lt k 32) as (λ _. (d ≤ e) × (e ≡ d → n ≤ k)) [
+        | inl inside ↦ let f = h.first k e inside g in (omega (arith, f.0, dues), λ y. omega (arith, f.1 (y ∙ sym dues), numbers))
+        | inr outside ↦ absurd (none-some e (sym (beyond m k l outside) ∙ g))
+      ];
+    }
+
+none_found : (m : Dues) → length m ≡ 32 → (o : Option (ℕ × ℕ)) → Found m 32 o → option_map with_timer o ≡ None → (n : ℕ) → get_or m n None ≡ None
+none_found m l None h e n = elim (cases_lt n 32) as (λ _. get_or m n None ≡ None) [ inl inside ↦ h n inside | inr outside ↦ beyond m n l outside ]
+none_found m l (Some r) h e n = absurd (none-some (r.0, timer_of r.1) (sym e))
+
+pub finds-least : (m : Dues) → length m ≡ 32 → FindsLeast m
+unfolding least
+finds-least m l = record {
+  some = λ d n. (λ is. (is.low, least_is m d n is), λ h. from_found m d n l h.0 (least_below m 32) (found m 32) h.1);
+  none = (least_none m, λ e. none_found m l (least_below m 32) (found m 32) e);
+}

@@ -1,0 +1,5 @@
+pub mod Nodes
+pub mod Edits
+pub mod Leasts
+pub mod Whole
+pub mod Marks

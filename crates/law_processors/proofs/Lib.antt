@@ -1,0 +1,5 @@
+mod Cases
+mod Moved
+mod Forms
+mod Frames
+mod Commuting

@@ -1,0 +1,53 @@
+-- A message page is brought up to date after a tick.
+use Rattle.std.proofs.Common.{inl, inr, ℕ, Bool, true, false, List, [], ◌++◌, refl, sym, ap, ◌∙◌, arith, append-nil}
+use Rattle.board_terms.specs.declared.notices.Notice.{Notice}
+use Rattle.board_terms.specs.declared.pages.Kind.TheVariants.{Sim}
+use Rattle.synic_board.specs.State.{State}
+use Rattle.synic_board.specs.Run.{run_of}
+use Rattle.live_pages.specs.declared.access.Access.{Access}
+use Rattle.live_board.specs.Live.{IsShown, explained_after, all_done}
+use Rattle.live_board.specs.inside.Parts.{IsPublished, IsMarking, IsFinished}
+
+pub finished-hidden : (s : State) (p : ℕ) (words : List ℕ) (log log-now : List Access) (before : List Notice) → (IsShown s p Sim → ⊥) → IsPublished s p false words 16 log log-now → IsFinished s p log s log-now false before before
+unfolding run_of
+finished-hidden s p words log log-now before hidden published = record {
+  emitted = [];
+  notices = sym (append-nil before);
+  few = omega arith;
+  stores = published.news;
+  marks = [];
+  page = published.page;
+  stored = published.stores;
+  marked = tt;
+  careful = λ shown. absurd (hidden shown);
+  hidden = λ _. refl;
+  run = refl;
+  rest = refl;
+  count = refl;
+  others = λ j w _ _. refl;
+  same = λ j _. refl;
+  shadow = λ x low. published.done x low (omega (arith, low)) (inl refl);
+  owes = refl;
+}
+
+pub finished-shown : (s now : State) (p : ℕ) (words : List ℕ) (log between log-now : List Access) (owed : Bool) (before after : List Notice) → IsShown s p Sim → IsPublished s p true words 16 log between → IsMarking s p words between now log-now owed before after 16
+    → IsFinished s p log now log-now owed before after
+finished-shown s now p words log between log-now owed before after shown published m = record {
+  emitted = m.emitted;
+  notices = m.notices;
+  few = m.few;
+  stores = published.news;
+  marks = m.news;
+  page = m.page ∙ ap (λ l. m.news ++ l) published.page;
+  stored = published.stores;
+  marked = m.marks;
+  careful = λ _. published.careful refl;
+  hidden = λ no. absurd (no shown);
+  run = ap (λ l. run_of s (explained_after s p m.news l)) (sym published.page) ∙ m.run ∙ ap (λ l. (now, all_done (explained_after s p m.news l), m.emitted)) published.page;
+  rest = m.rest;
+  count = m.count;
+  others = m.others;
+  same = m.same;
+  shadow = λ x low. m.done x low (inr (omega (arith, low)));
+  owes = m.owes;
+}

@@ -1,0 +1,309 @@
+-- A tick on several message pages.
+use Rattle.std.proofs.Common.{◌≡◌, ◌≢◌, ◌⊎◌, inl, inr, ℕ, zero, suc, ◌+◌, ◌*◌, ◌<◌, ◌≤◌, Bool, true, false, List, [], ◌∷◌, ◌++◌, length, get_or, set, refl, sym, ap, ◌∙◌, subst, arith, append_assoc, length-append, length-set}
+use Rattle.std.specs.Prelude.{◌==◌, if◌then◌else◌}
+use Rattle.std.proofs.lemmas.Bool.{cases_eq}
+use Rattle.std.proofs.lemmas.Bool.Decides.{nat_tests}
+use Rattle.std.proofs.lemmas.List.{get_or-set_same, get_or-set_other}
+use Rattle.board_terms.specs.declared.notices.Notice.{Notice}
+use Rattle.board_terms.specs.declared.pages.Kind.TheVariants.{Sim}
+use Rattle.gpa_space.specs.Space.{page_of as page_in}
+use Rattle.synic_regs.specs.Regs.{Regs, reset_regs}
+use Rattle.synic_board.specs.declared.event.Event.{Event}
+use Rattle.synic_board.specs.declared.event.Event.TheVariants.{Tick}
+use Rattle.synic_board.specs.declared.event.Reply.{Reply}
+use Rattle.synic_board.specs.State.{State, processors}
+use Rattle.synic_board.specs.Effects.{Outcome}
+use Rattle.synic_board.specs.Delivery.{is_slot_empty}
+use Rattle.synic_board.specs.Run.{Run, run_of}
+use Rattle.synic_board.specs.Sound.{IsSound}
+use Rattle.synic_board.specs.Step.{step}
+use Rattle.synic_board.proofs.keeping.Wholes.{kept_from_sound}
+use Rattle.live_pages.specs.declared.access.Access.{Access}
+use Rattle.live_board.specs.Words.{word_at}
+use Rattle.live_board.specs.Live.{number_at, explained, explained_after, all_done, AreCareful, AreTimed, looked_from, marked_from, finds_empty}
+use Rattle.live_board.specs.inside.Parts.{IsShadow, IsStep, IsFirst, IsFinished, IsTick, IsTickFrom, SlotGrows}
+use Rattle.live_board.proofs.Grown.{Grows, Any, grows-ticked, slot-same, slot-trans, still-occupied}
+use Rattle.live_board.proofs.Joined as runs
+use Rattle.live_board.proofs.Marked.{same-after}
+use Rattle.live_board.proofs.Staying.{stays}
+use Rattle.live_board.proofs.TimedPart.{shown-same}
+
+same-true : (x h : ℕ) → x ≡ h → (x == h) ≡ true
+same-true x h e = grind (arith, nat_tests)
+
+other-false : (x h : ℕ) → x ≢ h → (x == h) ≡ false
+other-false x h e = grind (arith, nat_tests)
+
+-- what looks and marks show depends on the page numbers and on the accesses
+looked-cong : (m k : ℕ) (s t : State) (pages others : List (List Access)) (f g : ℕ → List Access) → ((p : ℕ) → number_at t p Sim ≡ number_at s p Sim) → ((p : ℕ) → k ≤ p → get_or others (2 * p) [] ≡ get_or pages (2 * p) []) → ((p : ℕ) → k ≤ p → g p ≡ f p)
+    → looked_from t others g k m ≡ looked_from s pages f k m
+looked-cong zero k s t pages others f g number logs same = refl
+looked-cong (suc m) k s t pages others f g number logs same =
+    let first = runs.same-explained s t k Sim (g k) (get_or others (2 * k) []) (number k) ∙ (λ i. explained s k Sim (same k (omega arith) i) (logs k (omega arith) i)) in
+    let rest = looked-cong m (suc k) s t pages others f g number (λ p le. logs p (omega (arith, le))) (λ p le. same p (omega (arith, le))) in
+    (λ i. first i ++ rest i)
+
+marked-cong : (m k : ℕ) (s t : State) (pages others : List (List Access)) (f g f2 g2 f3 g3 : ℕ → List Access) → ((p : ℕ) → number_at t p Sim ≡ number_at s p Sim) → ((p : ℕ) → k ≤ p → get_or others (2 * p) [] ≡ get_or pages (2 * p) [])
+    → ((p : ℕ) → k ≤ p → g p ≡ f p) → ((p : ℕ) → k ≤ p → g2 p ≡ f2 p) → ((p : ℕ) → k ≤ p → g3 p ≡ f3 p) → marked_from t others g g2 g3 k m ≡ marked_from s pages f f2 f3 k m
+marked-cong zero k s t pages others f g f2 g2 f3 g3 number logs a b c = refl
+marked-cong (suc m) k s t pages others f g f2 g2 f3 g3 number logs a b c =
+    let at : k ≤ k = omega arith in
+    let last = same-after s t k (g3 k) (g2 k ++ (g k ++ get_or others (2 * k) [])) (number k) ∙ (λ i. explained_after s k (c k at i) (b k at i ++ (a k at i ++ logs k at i))) in
+    let rest = marked-cong m (suc k) s t pages others f g f2 g2 f3 g3 number (λ p le. logs p (omega (arith, le))) (λ p le. a p (omega (arith, le))) (λ p le. b p (omega (arith, le))) (λ p le. c p (omega (arith, le))) in
+    (λ i. rest i ++ last i)
+
+tick-grows : (s now : State) (event : Event) (reply : Reply) (notices : List Notice) → IsTick event → (now, reply, notices) ≡ step s event → IsSound s → Grows (processors s) Any s now
+unfolding step
+tick-grows s now event reply notices (moment, e) is sound = subst (Grows (processors s) Any s) (sym (ap (λ (o : Outcome). o.0) (is ∙ ap (step s) e))) (grows-ticked (processors s) s moment (kept_from_sound s sound))
+
+tick-stays : (s now : State) (event : Event) (reply : Reply) (notices : List Notice) → IsTick event → IsSound s → (now, reply, notices) ≡ step s event → processors now ≡ processors s
+tick-stays s now event reply notices (moment, e) sound is = stays s now (Tick moment) reply notices tt sound (is ∙ ap (step s) e)
+
+-- the tick itself
+pub tick-base : (s now : State) (k : ℕ) (pages : List (List Access)) (event : Event) (reply : Reply) (owed : List Bool) (before after : List Notice) → k ≡ processors s → IsTick event → IsSound s → IsStep s event now reply before after → length owed ≡ 8
+    → IsTickFrom s k 0 pages event now pages reply owed before after []
+unfolding run_of
+tick-base s now k pages event reply owed before after all tick sound one eight = record {
+  looks = λ _. [];
+  stores = λ _. [];
+  marks = λ _. [];
+  emitted = one.emitted;
+  notices = one.notices;
+  few = omega arith;
+  are = λ p le less. absurd (omega (arith, le, less));
+  logs = λ p le less. absurd (omega (arith, le, less));
+  lower = λ p _. refl;
+  flags = λ p. refl;
+  size = refl;
+  run = ap (λ (o : Outcome). (o.0, o.1 ∷ [], o.2 ++ [])) (sym one.step);
+  shadow = λ p le less. absurd (omega (arith, le, less));
+  regs = g.regs;
+  guest = g.pages;
+  count = g.count;
+  processors = tick-stays s now event reply one.emitted tick sound one.step;
+  odd = λ p x low. ap (λ l. word_at l (8 * x)) (g.others (2 * p + 1) (λ may. omega (arith, may.1)));
+  slots = λ p i less under full. g.slots p i (omega (arith, less, all)) under full;
+  eight = eight;
+  owes = λ p le less. absurd (omega (arith, le, less));
+}
+  where
+    g : Grows (processors s) Any s now
+    g = tick-grows s now event reply one.emitted tick one.step sound
+
+-- three runs
+run-three : (s s1 s2 s3 : State) (a b c d : List Event) (event : Event) (reply : Reply) (first second third : List Notice) → run_of s a ≡ (s1, all_done a, first) → run_of s1 (b ++ event ∷ c) ≡ (s2, all_done b ++ reply ∷ all_done c, second)
+    → run_of s2 d ≡ (s3, all_done d, third) → run_of s ((a ++ b) ++ event ∷ (c ++ d)) ≡ (s3, all_done (a ++ b) ++ reply ∷ all_done (c ++ d), first ++ (second ++ third))
+run-three s s1 s2 s3 a b c d event reply first second third one two three =
+    ap (run_of s) events ∙ runs.run-append s a ((b ++ event ∷ c) ++ d) ∙ ap (λ (r : Run). runs.joined r (run_of r.0 ((b ++ event ∷ c) ++ d))) one
+    ∙ ap (runs.joined (s1, all_done a, first)) (runs.run-append s1 (b ++ event ∷ c) d ∙ ap (λ (r : Run). runs.joined r (run_of r.0 d)) two ∙ ap (runs.joined (s2, all_done b ++ reply ∷ all_done c, second)) three)
+    ∙ ap (λ (rs : List Reply). (s3, rs, first ++ (second ++ third))) (sym replies)
+  where
+    events : ((a ++ b) ++ event ∷ (c ++ d)) ≡ a ++ ((b ++ event ∷ c) ++ d)
+    events = append_assoc a b (event ∷ (c ++ d)) ∙ ap (λ l. a ++ l) (sym (append_assoc b (event ∷ c) d))
+
+    replies : (all_done (a ++ b) ++ reply ∷ all_done (c ++ d)) ≡ all_done a ++ ((all_done b ++ reply ∷ all_done c) ++ all_done d)
+    replies =
+        (λ i. runs.done-append a b i ++ reply ∷ runs.done-append c d i)
+        ∙ append_assoc (all_done a) (all_done b) (reply ∷ (all_done c ++ all_done d)) ∙ ap (λ l. all_done a ++ l) (sym (append_assoc (all_done b) (reply ∷ all_done c) (all_done d)))
+
+-- one page more
+module _ (s s1 s2 s3 : State) (k m : ℕ) (pages pages2 : List (List Access)) (log1 log3 : List Access) (words : List ℕ) (event : Event) (reply : Reply) (owed : List Bool) (owe : Bool) (before between after late2 late3 : List Notice)
+    (below : 2 * k < length pages) (few : k < 8)
+    (first : IsFirst s k (get_or pages (2 * k) []) s1 log1 words before between)
+    (inner : IsTickFrom s1 (suc k) m (set pages (2 * k) log1) event s2 pages2 reply owed between after late2)
+    (last : IsFinished s2 k (get_or pages2 (2 * k) []) s3 log3 owe late2 late3) where
+  looks : ℕ → List Access
+  looks p = if p == k then first.viewed.watched.news else inner.looks p
+
+  stores : ℕ → List Access
+  stores p = if p == k then last.stores else inner.stores p
+
+  marks : ℕ → List Access
+  marks p = if p == k then last.marks else inner.marks p
+
+  apart : (p : ℕ) → p ≢ k → 2 * p ≢ 2 * k
+  apart p ne e = ne (omega (arith, e))
+
+  pages1 : List (List Access)
+  pages1 = set pages (2 * k) log1
+
+  log-here : get_or pages2 (2 * k) [] ≡ first.viewed.watched.news ++ get_or pages (2 * k) []
+  unfolding pages1
+  log-here = inner.lower k (omega arith) ∙ get_or-set_same pages (2 * k) log1 [] below ∙ first.viewed.watched.page
+
+  log-other : (p : ℕ) → p ≢ k → get_or pages1 (2 * p) [] ≡ get_or pages (2 * p) []
+  unfolding pages1
+  log-other p ne = get_or-set_other pages (2 * k) (2 * p) log1 [] (apart p ne)
+
+  rest-regs : s1.regs ≡ s.regs
+  rest-regs = ap (λ (t : State). t.regs) first.viewed.watched.rest
+
+  rest-pages : s1.pages ≡ s.pages
+  rest-pages = ap (λ (t : State). t.pages) first.viewed.watched.rest
+
+  number1 : (p : ℕ) → number_at s1 p Sim ≡ number_at s p Sim
+  number1 p = runs.rest-number s s1 p Sim first.viewed.watched.rest
+
+  number2 : number_at s2 k Sim ≡ number_at s k Sim
+  number2 = ap (λ (rs : List Regs). page_in (get_or rs k reset_regs).sim) (inner.regs ∙ rest-regs)
+
+  are-here : AreTimed s k first.viewed.watched.news last.stores last.marks (get_or pages (2 * k) [])
+  are-here = record {
+    shown = first.viewed.shown;
+    hidden = λ no. (first.viewed.hidden no, last.hidden (λ shown. no (shown-same s2 s k (sym (inner.regs ∙ rest-regs)) (sym (inner.guest ∙ rest-pages)) shown)));
+    stored = last.stored;
+    marked = last.marked;
+    careful = λ shown. subst (AreCareful Sim last.stores) log-here (last.careful (shown-same s s2 k (inner.regs ∙ rest-regs) (inner.guest ∙ rest-pages) shown));
+  }
+
+  are-other : (p : ℕ) → p ≢ k → suc k ≤ p → p < suc k + m → AreTimed s p (inner.looks p) (inner.stores p) (inner.marks p) (get_or pages (2 * p) [])
+  unfolding pages1
+  are-other p ne le less =
+      let a = inner.are p le less in
+      record {
+        shown = λ shown. a.shown (shown-same s s1 p rest-regs rest-pages shown);
+        hidden = λ no. a.hidden (λ shown. no (shown-same s1 s p (sym rest-regs) (sym rest-pages) shown));
+        stored = a.stored;
+        marked = a.marked;
+        careful = λ shown. subst (λ l. AreCareful Sim (inner.stores p) (inner.looks p ++ l)) (log-other p ne) (a.careful (shown-same s s1 p rest-regs rest-pages shown));
+      }
+
+  are : (p : ℕ) → k ≤ p → p < k + suc m → AreTimed s p (looks p) (stores p) (marks p) (get_or pages (2 * p) [])
+  unfolding looks stores marks
+  are p le less = by (cases_eq p k)
+    where
+      by : (p ≡ k) ⊎ (p ≢ k) → AreTimed s p (if p == k then first.viewed.watched.news else inner.looks p) (if p == k then last.stores else inner.stores p) (if p == k then last.marks else inner.marks p) (get_or pages (2 * p) [])
+      by (inl e) = subst (λ b. AreTimed s p (if b then first.viewed.watched.news else inner.looks p) (if b then last.stores else inner.stores p) (if b then last.marks else inner.marks p) (get_or pages (2 * p) [])) (sym (same-true p k e))
+          (subst (λ q. AreTimed s q first.viewed.watched.news last.stores last.marks (get_or pages (2 * q) [])) (sym e) are-here)
+      by (inr ne) = subst (λ b. AreTimed s p (if b then first.viewed.watched.news else inner.looks p) (if b then last.stores else inner.stores p) (if b then last.marks else inner.marks p) (get_or pages (2 * p) [])) (sym (other-false p k ne))
+          (are-other p ne (omega (arith, le, ne)) (omega (arith, less)))
+
+  abbrev HasLogs : ℕ → Bool → Type 0
+  HasLogs q b = get_or (set pages2 (2 * k) log3) (2 * q) [] ≡ (if b then last.marks else inner.marks q) ++ ((if b then last.stores else inner.stores q) ++ ((if b then first.viewed.watched.news else inner.looks q) ++ get_or pages (2 * q) []))
+
+  logs : (p : ℕ) → k ≤ p → p < k + suc m → get_or (set pages2 (2 * k) log3) (2 * p) [] ≡ marks p ++ (stores p ++ (looks p ++ get_or pages (2 * p) []))
+  unfolding looks stores marks pages1
+  logs p le less = by (cases_eq p k)
+    where
+      by : (p ≡ k) ⊎ (p ≢ k) → HasLogs p (p == k)
+      by (inl e) = subst (HasLogs p) (sym (same-true p k e)) (subst (λ q. HasLogs q true) (sym e)
+          (get_or-set_same pages2 (2 * k) log3 [] (omega (arith, inner.size, length-set pages (2 * k) log1, below)) ∙ last.page ∙ ap (λ l. last.marks ++ (last.stores ++ l)) log-here))
+      by (inr ne) = subst (HasLogs p) (sym (other-false p k ne))
+          (get_or-set_other pages2 (2 * k) (2 * p) log3 [] (apart p ne) ∙ inner.logs p (omega (arith, le, ne)) (omega (arith, less)) ∙ ap (λ l. inner.marks p ++ (inner.stores p ++ (inner.looks p ++ l))) (log-other p ne))
+
+  looks-here : looks k ≡ first.viewed.watched.news
+  unfolding looks
+  looks-here = ap (λ b. if b then first.viewed.watched.news else inner.looks k) (same-true k k refl)
+
+  stores-here : stores k ≡ last.stores
+  unfolding stores
+  stores-here = ap (λ b. if b then last.stores else inner.stores k) (same-true k k refl)
+
+  marks-here : marks k ≡ last.marks
+  unfolding marks
+  marks-here = ap (λ b. if b then last.marks else inner.marks k) (same-true k k refl)
+
+  looks-other : (p : ℕ) → suc k ≤ p → inner.looks p ≡ looks p
+  unfolding looks
+  looks-other p le = sym (ap (λ b. if b then first.viewed.watched.news else inner.looks p) (other-false p k (λ e. omega (arith, e, le))))
+
+  stores-other : (p : ℕ) → suc k ≤ p → inner.stores p ≡ stores p
+  unfolding stores
+  stores-other p le = sym (ap (λ b. if b then last.stores else inner.stores p) (other-false p k (λ e. omega (arith, e, le))))
+
+  marks-other : (p : ℕ) → suc k ≤ p → inner.marks p ≡ marks p
+  unfolding marks
+  marks-other p le = sym (ap (λ b. if b then last.marks else inner.marks p) (other-false p k (λ e. omega (arith, e, le))))
+
+  e1 : List Event
+  e1 = explained s k Sim first.viewed.watched.news (get_or pages (2 * k) [])
+
+  m1 : List Event
+  m1 = explained_after s2 k last.marks (last.stores ++ get_or pages2 (2 * k) [])
+
+  looked : looked_from s pages looks k (suc m) ≡ e1 ++ looked_from s1 pages1 inner.looks (suc k) m
+  unfolding e1
+  looked = (λ i. explained s k Sim (looks-here i) (get_or pages (2 * k) []) ++ sym (looked-cong m (suc k) s s1 pages pages1 looks inner.looks number1 (λ p le. log-other p (λ e. omega (arith, e, le))) looks-other) i)
+
+  marked : marked_from s pages looks stores marks k (suc m) ≡ marked_from s1 pages1 inner.looks inner.stores inner.marks (suc k) m ++ m1
+  unfolding m1
+  marked =
+      let here = (λ i. explained_after s k (marks-here i) (stores-here i ++ (looks-here i ++ get_or pages (2 * k) []))) ∙ ap (λ l. explained_after s k last.marks (last.stores ++ l)) (sym log-here)
+      ∙ sym (same-after s s2 k last.marks (last.stores ++ get_or pages2 (2 * k) []) number2) in
+      (λ i. sym (marked-cong m (suc k) s s1 pages pages1 looks inner.looks stores inner.stores marks inner.marks number1 (λ p le. log-other p (λ e. omega (arith, e, le))) looks-other stores-other marks-other) i ++ here i)
+
+  run : run_of s (looked_from s pages looks k (suc m) ++ event ∷ marked_from s pages looks stores marks k (suc m))
+      ≡ (s3, all_done (looked_from s pages looks k (suc m)) ++ reply ∷ all_done (marked_from s pages looks stores marks k (suc m)), (first.emitted ++ inner.emitted) ++ late3)
+  unfolding e1 m1 pages1
+  run =
+      let le : List Event = looked_from s1 pages1 inner.looks (suc k) m in
+      let me : List Event = marked_from s1 pages1 inner.looks inner.stores inner.marks (suc k) m in
+      let notices : (first.emitted ++ ((inner.emitted ++ late2) ++ last.emitted)) ≡ (first.emitted ++ inner.emitted) ++ late3 =
+      ap (λ l. first.emitted ++ l) (append_assoc inner.emitted late2 last.emitted) ∙ sym (append_assoc first.emitted inner.emitted (late2 ++ last.emitted)) ∙ ap (λ l. (first.emitted ++ inner.emitted) ++ l) (sym last.notices) in
+      (λ i. run_of s (looked i ++ event ∷ marked i))
+      ∙ run-three s s1 s2 s3 e1 le me m1 event reply first.emitted (inner.emitted ++ late2) last.emitted first.viewed.watched.run inner.run last.run
+      ∙ (λ i. (s3, all_done (sym looked i) ++ reply ∷ all_done (sym marked i), notices i))
+
+  shadow : (p : ℕ) → k ≤ p → p < k + suc m → IsShadow s3 (2 * p) (get_or (set pages2 (2 * k) log3) (2 * p) [])
+  shadow p le less = by (cases_eq p k)
+    where
+      by : (p ≡ k) ⊎ (p ≢ k) → IsShadow s3 (2 * p) (get_or (set pages2 (2 * k) log3) (2 * p) [])
+      by (inl e) = subst (λ q. IsShadow s3 (2 * q) (get_or (set pages2 (2 * k) log3) (2 * q) [])) (sym e)
+          (subst (IsShadow s3 (2 * k)) (sym (get_or-set_same pages2 (2 * k) log3 [] (omega (arith, inner.size, length-set pages (2 * k) log1, below)))) last.shadow)
+      by (inr ne) = subst (IsShadow s3 (2 * p)) (sym (get_or-set_other pages2 (2 * k) (2 * p) log3 [] (apart p ne)))
+          (λ x low. inner.shadow p (omega (arith, le, ne)) (omega (arith, less)) x low ∙ sym (last.others (2 * p) x low (apart p ne)))
+
+  slots : (p i : ℕ) → p < k → i < 16 → is_slot_empty s p i ≡ false → SlotGrows s p i s3
+  slots p i less under full =
+      let other : 2 * p ≢ 2 * k = λ e. omega (arith, e, less) in
+      let a = slot-same s s1 p i (first.viewed.watched.same (2 * p) other) in
+      let b = inner.slots p i (omega (arith, less)) under (still-occupied s s1 p i a ∙ full) in
+      slot-trans s s2 s3 p i (slot-trans s s1 s2 p i a b) (slot-same s2 s3 p i (last.same (2 * p) other))
+
+  owes : (p : ℕ) → k ≤ p → p < k + suc m → get_or (set owed k owe) p false ≡ finds_empty (marks p)
+  unfolding marks
+  owes p le less = by (cases_eq p k)
+    where
+      by : (p ≡ k) ⊎ (p ≢ k) → get_or (set owed k owe) p false ≡ finds_empty (if p == k then last.marks else inner.marks p)
+      by (inl e) = ap (λ q. get_or (set owed k owe) q false) e ∙ get_or-set_same owed k owe false (omega (arith, inner.eight, few)) ∙ last.owes ∙ ap (λ b. finds_empty (if b then last.marks else inner.marks p)) (sym (same-true p k e))
+      by (inr ne) = get_or-set_other owed k p owe false ne ∙ inner.owes p (omega (arith, le, ne)) (omega (arith, less)) ∙ ap (λ b. finds_empty (if b then last.marks else inner.marks p)) (sym (other-false p k ne))
+
+  pub tick-step : IsTickFrom s k (suc m) pages event s3 (set pages2 (2 * k) log3) reply (set owed k owe) before after late3
+  tick-step = record {
+    looks = looks;
+    stores = stores;
+    marks = marks;
+    emitted = first.emitted ++ inner.emitted;
+    notices = inner.notices ∙ ap (λ ns. ns ++ inner.emitted) first.notices ∙ append_assoc before first.emitted inner.emitted;
+    few = omega (arith, inner.few, last.few, ap length last.notices, length-append late2 last.emitted);
+    are = are;
+    logs = logs;
+    lower = λ p less. (let other : 2 * p ≢ 2 * k = λ e. omega (arith, e, less) in get_or-set_other pages2 (2 * k) (2 * p) log3 [] other ∙ inner.lower p (omega (arith, less)) ∙ get_or-set_other pages (2 * k) (2 * p) log1 [] other);
+    flags = λ p. (let other : 2 * p + 1 ≢ 2 * k = λ e. omega (arith, e) in get_or-set_other pages2 (2 * k) (2 * p + 1) log3 [] other ∙ inner.flags p ∙ get_or-set_other pages (2 * k) (2 * p + 1) log1 [] other);
+    size = length-set pages2 (2 * k) log3 ∙ inner.size ∙ length-set pages (2 * k) log1;
+    run = run;
+    shadow = shadow;
+    regs = ap (λ (t : State). t.regs) last.rest ∙ inner.regs ∙ rest-regs;
+    guest = ap (λ (t : State). t.pages) last.rest ∙ inner.guest ∙ rest-pages;
+    count = last.count ∙ inner.count ∙ first.viewed.watched.count;
+    processors = ap (λ (t : State). length t.apics) last.rest ∙ inner.processors ∙ ap (λ (t : State). length t.apics) first.viewed.watched.rest;
+    odd = λ p x low. (let other : 2 * p + 1 ≢ 2 * k = λ e. omega (arith, e) in last.others (2 * p + 1) x low other ∙ inner.odd p x low ∙ first.viewed.watched.others (2 * p + 1) x low other);
+    slots = slots;
+    eight = length-set owed k owe ∙ inner.eight;
+    owes = owes;
+  }
+
+-- the same, with the numbers and pages of a call
+pub tick-step-at : (s s1 s2 s3 : State) (k m total v i j : ℕ) (pages pages2 : List (List Access)) (page1 page2 log1 log3 : List Access) (words : List ℕ) (event : Event) (reply : Reply) (owed : List Bool) (owe : Bool) (before between after late2 late3 : List Notice)
+    → v ≡ k → i ≡ 2 * k → j ≡ k → page1 ≡ get_or pages (2 * k) [] → page2 ≡ get_or pages2 (2 * k) [] → total ≡ suc m → 2 * k < length pages → k < 8
+    → IsFirst s v page1 s1 log1 words before between → IsTickFrom s1 (k + 1) m (set pages i log1) event s2 pages2 reply owed between after late2 → IsFinished s2 v page2 s3 log3 owe late2 late3
+    → IsTickFrom s k total pages event s3 (set pages2 i log3) reply (set owed j owe) before after late3
+tick-step-at s s1 s2 s3 k m total v i j pages pages2 page1 page2 log1 log3 words event reply owed owe before between after late2 late3 a b c d e f below few first inner last =
+    let first-at = subst (λ q. IsFirst s q (get_or pages (2 * k) []) s1 log1 words before between) a (subst (λ l. IsFirst s v l s1 log1 words before between) d first) in
+    let inner-at = subst (λ n. IsTickFrom s1 n m (set pages (2 * k) log1) event s2 pages2 reply owed between after late2) (let one : k + 1 ≡ suc k = omega arith in one)
+    (subst (λ n. IsTickFrom s1 (k + 1) m (set pages n log1) event s2 pages2 reply owed between after late2) b inner) in
+    let last-at = subst (λ q. IsFinished s2 q (get_or pages2 (2 * k) []) s3 log3 owe late2 late3) a (subst (λ l. IsFinished s2 v l s3 log3 owe late2 late3) e last) in
+    subst (λ n. IsTickFrom s k n pages event s3 (set pages2 i log3) reply (set owed j owe) before after late3) (sym f)
+    (subst (λ n. IsTickFrom s k (suc m) pages event s3 (set pages2 n log3) reply (set owed j owe) before after late3) (sym b)
+    (subst (λ n. IsTickFrom s k (suc m) pages event s3 (set pages2 (2 * k) log3) reply (set owed n owe) before after late3) (sym c)
+    (tick-step s s1 s2 s3 k m pages pages2 log1 log3 words event reply owed owe before between after late2 late3 below few first-at inner-at last-at)))

@@ -1,0 +1,20 @@
+use Rattle.synic_board.specs.State.{State}
+use Rattle.live_board.proofs.EndedPart.{rest-eom, eom-on, eom-ends, eom-stays, part-ended, has-probed}
+use Rattle.live_board.proofs.ending.end_shown.Goals as goal
+
+pub publish-requires-clause-on : goal.publish-requires-clause-on
+publish-requires-clause-on c =
+    let mid : State = c.probe_waiting-words.new.board.state in
+    eom-stays mid _ _ _ _ _ (rest-eom c.args.board.now.state mid _ _ c.probe_waiting-words.ensures.watched.rest c.requires.eom) c.facts.ensures.sound c.perform_after-reply.ensures.step
+
+pub returns-clause-part : goal.returns-clause-part
+returns-clause-part c =
+    let s : State = c.args.board.now.state in
+    let mid : State = c.probe_waiting-words.new.board.state in
+    let one = c.perform_after-reply.ensures in
+    let eom = rest-eom s mid _ _ c.probe_waiting-words.ensures.watched.rest c.requires.eom in
+    let ends = eom-ends mid _ _ _ _ _ eom one.step c.facts.ensures.sound c.facts.ensures.shape c.facts.ensures.ranges in
+    part-ended s mid _ _ _ _ _ _ _ _ _ _ c.probe_waiting-words.ensures c.facts.ensures.shape c.facts.ensures.ranges (eom-on mid _ _ eom) one ends c.publish.ensures
+
+pub returns-clause-probed : goal.returns-clause-probed
+returns-clause-probed c = has-probed c.args.board.now.state c.probe_waiting-words.new.board.state c.perform_after-reply.new.board.state _ _ _ _ _ _ c.probe_waiting-words.ensures c.publish.ensures

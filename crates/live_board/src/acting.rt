@@ -1,0 +1,126 @@
+// Any event of a board with live pages.
+ghost use Rattle.std.specs.Prelude.{◌≡◌, ◌/◌, nat_lt, true, false, Some, IfSome, IfNone};
+ghost use Rattle.gpa_space.specs.Space.{is_covered};
+ghost use Rattle.synic_regs.specs.Registers.{register_of};
+ghost use Rattle.synic_board.specs.State.{processors, space_of};
+ghost use Rattle.live_board.specs.Acting.{Acts, IsAccess, IsRegisterWrite, IsTimedWrite};
+ghost use Rattle.live_board.specs.inside.Kinds.{IsWriteTo, IsTimerWriteBy, accessed_at};
+
+use crate::live::LiveBoard;
+use board_terms::{Notices, Owner, Refusal, Vp};
+use synic_board::{Event, Reply};
+use synic_regs::{Register, decode};
+
+/// No processor is owed an EOM.
+const NONE_OWED: [bool; 8] = [false; 8];
+
+impl LiveBoard {
+    /// Performs an event. Replaces `notices` by those of the guest's stores that were found before it
+    /// and of the event, and `late` by those of stores that a tick found after it. The second answer has
+    /// a bool for each processor: whether it is owed an EOM, which the caller performs next. Only a write
+    /// of a timer and a tick owe one.
+    ///
+    /// `Post`, `Signal`, `Tick`, `Reset`, an EOM and a write of a timer are as `post`, `signal`, `tick`,
+    /// `reset` and `write_timer` describe. A load or a store at a page where the guest sees a live page is
+    /// refused as `Elsewhere`: the caller makes it in the live page. No other event accesses a live page.
+    pub fn perform(
+        &mut self,
+        event: &Event,
+        notices: &mut Notices,
+        late: &mut Notices,
+    ) -> (Reply, [bool; 8])
+        ensures { Acts self.old event.now self.new result.0 result.1 notices.new late.new }
+    {
+        late.clear();
+        match event {
+            Event::Post {
+                port,
+                kind,
+                payload,
+            } => (
+                self.post(*port, *kind, payload.as_slice(), notices),
+                NONE_OWED,
+            ),
+            Event::Signal { port, flag } => (self.signal(*port, *flag, notices), NONE_OWED),
+            Event::Write { vp, register, .. } => self.write(*vp, *register, event, notices),
+            Event::Store { address, .. } | Event::Load { address, .. } => {
+                (self.access(*address, event, notices), NONE_OWED)
+            }
+            Event::Tick { moment } => self.tick(*moment, notices, late),
+            Event::Reset { vp } => match self.on_board(*vp) {
+                Some(vp) => (self.reset(vp, notices), NONE_OWED),
+                None => (self.perform_apart(event, notices), NONE_OWED),
+            },
+            _ => (self.perform_apart(event, notices), NONE_OWED),
+        }
+    }
+
+    /// Performs a write of a register.
+    fn write(
+        &mut self,
+        vp: u8,
+        register: u32,
+        event: &Event,
+        notices: &mut Notices,
+    ) -> (Reply, [bool; 8])
+        requires { IsWriteTo vp register event.now }
+        ensures { IsRegisterWrite (register_of register) vp self.old event.now self.new result.0 result.1 notices.new }
+    {
+        match decode(register) {
+            Some(Register::Eom) => (self.end_message(event, notices), NONE_OWED),
+            Some(Register::TimerConfig(_) | Register::TimerCount(_)) => {
+                self.write_timer_of(vp, event, notices)
+            }
+            _ => (self.perform_apart(event, notices), NONE_OWED),
+        }
+    }
+
+    /// Performs a write of a timer of a processor.
+    fn write_timer_of(&mut self, vp: u8, event: &Event, notices: &mut Notices) -> (Reply, [bool; 8])
+        requires { IsTimerWriteBy vp event.now }
+        ensures { IsTimedWrite (nat_lt vp (processors self.old.board.state)) vp self.old event.now self.new result.0 result.1 notices.new }
+    {
+        let target = self.on_board(vp);
+        let (reply, is_owed) = self.write_timer(event, notices);
+        let mut owed = NONE_OWED;
+        if let Some(vp) = target {
+            owed[usize::from(vp.number())] = is_owed;
+        }
+        (reply, owed)
+    }
+
+    /// Performs an access of the guest to memory, unless it sees a live page there.
+    fn access(&mut self, address: u64, event: &Event, notices: &mut Notices) -> Reply
+        requires { accessed_at event.now ≡ Some address }
+        ensures { IsAccess (is_covered (space_of self.old.board.state) (address / 4096)) self.old event.now self.new result notices.new }
+    {
+        notices.clear();
+        if self.is_live_at(address) {
+            return Reply::Refused(Refusal::Elsewhere);
+        }
+        self.perform_apart(event, notices)
+    }
+
+    /// Whether the guest sees a live page at an address.
+    fn is_live_at(&self, address: u64) -> bool
+        ensures { result ≡ is_covered (space_of self.now.board.state) (address / 4096) }
+    {
+        matches!(
+            self.board().owner(address / 4096),
+            Owner::Sim(_) | Owner::Sief(_)
+        )
+    }
+
+    /// A processor, if it is on the board.
+    fn on_board(&self, vp: u8) -> Option<Vp>
+        ensures some { IfSome result (λ p. (p ≡ vp) × (nat_lt vp (processors self.now.board.state) ≡ true)) }
+        ensures none { IfNone result (nat_lt vp (processors self.now.board.state) ≡ false) }
+    {
+        self.board().facts();
+        if vp < self.board().processors() {
+            Vp::new(vp)
+        } else {
+            None
+        }
+    }
+}

@@ -1,0 +1,97 @@
+// An EOM of a processor, whose message page a guest may see.
+ghost use Rattle.std.specs.Prelude.{◌≡◌, ◌<◌, ◌*◌, [], IfSome};
+ghost use Rattle.board_terms.specs.declared.pages.Kind.TheVariants.{Sim};
+ghost use Rattle.synic_board.specs.State.{processors};
+ghost use Rattle.live_board.specs.Live.{IsShown, HasProbed};
+ghost use Rattle.live_board.specs.inside.Kinds.{is_eom, eom_of};
+ghost use Rattle.live_board.specs.inside.Parts.{IsShadow, IsPart, IsEomOf};
+
+use crate::passing::is_shown;
+use crate::performing::perform_after;
+use crate::probing::probe_waiting;
+use crate::publishing::{page_words, publish};
+use board_terms::{Kind, Notices, Vp};
+use live_pages::LivePage;
+use synic_board::{Board, Event, Reply};
+use synic_regs::{Register, decode};
+
+/// The processor whose EOM an event is, if it is on the board.
+pub(crate) fn ended_by(board: &Board, event: &Event) -> Option<Vp>
+    ensures value { result ≡ eom_of board.now.state event.now }
+    ensures eom { IfSome result (λ p. IsEomOf board.now.state p event.now) }
+{
+    let Event::Write { vp, register, .. } = event else {
+        return None;
+    };
+    if decode(*register) != Some(Register::Eom) || *vp >= board.processors() {
+        return None;
+    }
+    Vp::new(*vp)
+}
+
+/// Performs an EOM of a processor whose message page the guest sees.
+fn end_shown(
+    board: &mut Board,
+    page: &mut LivePage,
+    vp: Vp,
+    event: &Event,
+    scratch: &mut Notices,
+    notices: &mut Notices,
+) -> Reply
+    requires eom { IsEomOf board.old.state vp event.now }
+    requires shown { IsShown board.old.state vp Sim }
+    requires shadow { IsShadow board.old.state (2 * vp) page.old }
+    requires empty { notices.old ≡ [] }
+    ensures part { IsPart board.old.state vp Sim page.old event.now board.new.state page.new result notices.new }
+    ensures probed { HasProbed board.old.state vp page.old page.new }
+{
+    let words = probe_waiting(board, page, vp, scratch, notices);
+    board.facts();
+    let reply = perform_after(board, event, scratch, notices);
+    publish(board, page, vp, &words, true);
+    reply
+}
+
+/// The same where the guest does not see the page.
+fn end_hidden(
+    board: &mut Board,
+    page: &mut LivePage,
+    vp: Vp,
+    event: &Event,
+    scratch: &mut Notices,
+    notices: &mut Notices,
+) -> Reply
+    requires eom { IsEomOf board.old.state vp event.now }
+    requires hidden { IsShown board.old.state vp Sim → ⊥ }
+    requires shadow { IsShadow board.old.state (2 * vp) page.old }
+    requires empty { notices.old ≡ [] }
+    ensures { IsPart board.old.state vp Sim page.old event.now board.new.state page.new result notices.new }
+{
+    board.facts();
+    let words = page_words(board, vp);
+    let reply = perform_after(board, event, scratch, notices);
+    publish(board, page, vp, &words, false);
+    reply
+}
+
+/// Performs an EOM of a processor, and brings its message page up to date.
+pub(crate) fn end_on(
+    board: &mut Board,
+    page: &mut LivePage,
+    vp: Vp,
+    event: &Event,
+    scratch: &mut Notices,
+    notices: &mut Notices,
+) -> Reply
+    requires eom { IsEomOf board.old.state vp event.now }
+    requires shadow { IsShadow board.old.state (2 * vp) page.old }
+    requires empty { notices.old ≡ [] }
+    ensures part { IsPart board.old.state vp Sim page.old event.now board.new.state page.new result notices.new }
+    ensures probed { IsShown board.old.state vp Sim → HasProbed board.old.state vp page.old page.new }
+{
+    if is_shown(board, vp, Kind::Sim) {
+        end_shown(board, page, vp, event, scratch, notices)
+    } else {
+        end_hidden(board, page, vp, event, scratch, notices)
+    }
+}

@@ -1,0 +1,78 @@
+// Brings a message page up to date after an event.
+ghost use Rattle.std.specs.Prelude.{◌≡◌, ℕ, ◌<◌, ◌+◌, ◌*◌, slice_index, length};
+ghost use Rattle.synic_board.specs.State.{processors};
+ghost use Rattle.live_pages.specs.Slot.{known};
+ghost use Rattle.live_board.specs.Words.{word_of};
+ghost use Rattle.live_board.specs.inside.Parts.{IsFilledFrom, IsPublished};
+
+use crate::filling::{fill, slot_words};
+use crate::posting::is_empty;
+use crate::words::word_at;
+use board_terms::{Kind, Sint, Vp};
+use live_pages::{LivePage, SLOT_WORDS, WORDS};
+use synic_board::Board;
+
+/// The number of sources of a processor.
+pub(crate) const SOURCES: u8 = 16;
+
+/// The words of a board's own message page.
+pub(crate) fn page_words(board: &Board, vp: Vp) -> [u64; WORDS]
+    requires { vp < processors board.now.state }
+    ensures count { length result ≡ 512 }
+    ensures words { (x : ℕ) → x < 512 → slice_index result x ≡ word_of board.now.state (2 * vp) x }
+{
+    board.facts();
+    let Some(page) = board.own_page(vp, Kind::Sim) else {
+        unreachable!()
+    };
+    let mut words = [0; WORDS];
+    for word in 0..WORDS {
+        words[word] = word_at(page, 8 * word);
+    }
+    words
+}
+
+/// The words of a slot among those of its page.
+fn words_of_slot(words: &[u64; WORDS], sint: Sint) -> [u64; SLOT_WORDS]
+    ensures { (k : ℕ) → k < 32 → slice_index result k ≡ slice_index words.now (32 * sint + k) }
+{
+    let mut slot = [0; SLOT_WORDS];
+    for k in 0..SLOT_WORDS {
+        slot[k] = words[32 * usize::from(sint.number()) + k];
+    }
+    slot
+}
+
+/// Stores what differs in the slot of a source from the words that the host knows.
+fn publish_slot(board: &Board, page: &mut LivePage, vp: Vp, sint: Sint, words: &[u64; WORDS])
+    requires on { vp < processors board.now.state }
+    requires known { (k : ℕ) → k < 32 → known page.old (32 * sint + k) ≡ slice_index words.now (32 * sint + k) }
+    ensures { IsFilledFrom board.now.state vp sint (slice_index words.now (32 * sint)) page.old page.new }
+{
+    let before = words_of_slot(words, sint);
+    let after = slot_words(board, vp, sint);
+    fill(page, sint, before[0], &before, &after);
+}
+
+/// Stores what differs in a message page from the words that the host knows: in each slot, or in the
+/// empty ones if the guest sees the page.
+pub(crate) fn publish(
+    board: &Board,
+    page: &mut LivePage,
+    vp: Vp,
+    words: &[u64; WORDS],
+    is_shown: bool,
+)
+    requires on { vp < processors board.now.state }
+    requires known { (x : ℕ) → x < 512 → known page.old x ≡ slice_index words.now x }
+    ensures { IsPublished board.now.state vp is_shown words.now 16 page.old page.new }
+{
+    for number in 0..SOURCES {
+        let Some(sint) = Sint::new(number) else {
+            unreachable!()
+        };
+        if !is_shown || is_empty(words[32 * usize::from(number)]) {
+            publish_slot(board, page, vp, sint, words);
+        }
+    }
+}

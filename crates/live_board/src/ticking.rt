@@ -1,0 +1,108 @@
+// A tick, which may deliver messages to several sources of several processors.
+ghost use Rattle.std.specs.Prelude.{◌≡◌, ℕ, ◌<◌, ◌≤◌, ◌+◌, ◌-◌, ◌*◌, [], length, slice_index, slice_index_or};
+ghost use Rattle.synic_board.specs.State.{processors};
+ghost use Rattle.live_pages.specs.Slot.{known};
+ghost use Rattle.live_board.specs.Live.{is_any_due};
+ghost use Rattle.live_board.specs.inside.Parts.{IsShadow, IsFirst, IsFinished, IsTick, IsTickFrom, WordsGrow};
+
+use crate::marking::mark_slots;
+use crate::observing::view_slots;
+use crate::passing::is_shown;
+use crate::performing::{append, perform_after};
+use crate::publishing::{page_words, publish};
+use board_terms::{Kind, Moment, Notices, Vp};
+use live_pages::{LivePage, WORDS};
+use synic_board::{Board, Event, Reply};
+
+/// Whether some timer is due at a time.
+pub(crate) fn is_any_due(board: &Board, moment: Moment) -> bool
+    ensures { result ≡ is_any_due board.now.state moment }
+{
+    match board.summary().earliest() {
+        Some((due, _)) => due <= u128::from(moment),
+        None => false,
+    }
+}
+
+/// Looks at the header of each slot of a message page that the guest sees, and returns the words
+/// that the host knows then. `late` is empty before and after.
+fn look_first(
+    board: &mut Board,
+    page: &mut LivePage,
+    vp: Vp,
+    scratch: &mut Notices,
+    notices: &mut Notices,
+    late: &mut Notices,
+) -> [u64; WORDS]
+    requires on { vp < processors board.old.state }
+    requires shadow { IsShadow board.old.state (2 * vp) page.old }
+    requires capacity { length notices.old + 16 ≤ 320 }
+    requires empty { late.old ≡ [] }
+    ensures looks { IsFirst board.old.state vp page.old board.new.state page.new result notices.old notices.new }
+    ensures empty { late.new ≡ [] }
+{
+    view_slots(board, page, vp, scratch, late);
+    append(late, notices);
+    late.clear();
+    page_words(board, vp)
+}
+
+/// Brings a message page up to date after an event that sets at most MessagePending in its occupied
+/// slots. `words` are those that the host knows. Returns whether a mark found an empty slot.
+fn finish(
+    board: &mut Board,
+    page: &mut LivePage,
+    vp: Vp,
+    words: &[u64; WORDS],
+    scratch: &mut Notices,
+    notices: &mut Notices,
+) -> bool
+    requires on { vp < processors board.old.state }
+    requires known { (x : ℕ) → x < 512 → known page.old x ≡ slice_index words.now x }
+    requires grow { WordsGrow board.old.state vp words.now }
+    requires capacity { length notices.old + 16 ≤ 320 }
+    ensures { IsFinished board.old.state vp page.old board.new.state page.new result notices.old notices.new }
+{
+    if !is_shown(board, vp, Kind::Sim) {
+        publish(board, page, vp, words, false);
+        return false;
+    }
+    publish(board, page, vp, words, true);
+    mark_slots(board, page, vp, words, scratch, notices)
+}
+
+/// Performs a tick, and brings the message pages of the processors from `number` on up to date.
+/// Returns for each whether it is owed an EOM.
+pub(crate) fn tick_from(
+    board: &mut Board,
+    pages: &mut Vec<LivePage>,
+    number: u8,
+    event: &Event,
+    scratch: &mut Notices,
+    notices: &mut Notices,
+    late: &mut Notices,
+) -> (Reply, [bool; 8])
+    requires tick { IsTick event.now }
+    requires on { number ≤ processors board.old.state }
+    requires count { length pages.old.items ≡ 2 * processors board.old.state }
+    requires shadow { (p : ℕ) → number ≤ p → p < processors board.old.state → IsShadow board.old.state (2 * p) (slice_index_or pages.old.items (2 * p) []) }
+    requires capacity { length notices.old + 16 * (processors board.old.state - number) + 192 ≤ 320 }
+    requires empty { late.old ≡ [] }
+    ensures { IsTickFrom board.old.state number (processors board.old.state - number) pages.old.items event.now board.new.state pages.new.items result.0 result.1 notices.old notices.new late.new }
+{
+    board.facts();
+    if number >= board.processors() {
+        return (perform_after(board, event, scratch, notices), [false; 8]);
+    }
+    let Some(vp) = Vp::new(number) else {
+        unreachable!()
+    };
+    let index = 2 * usize::from(number);
+    let first = &mut pages[index];
+    let words = look_first(board, first, vp, scratch, notices, late);
+    board.facts();
+    let (reply, mut owed) = tick_from(board, pages, number + 1, event, scratch, notices, late);
+    let last = &mut pages[index];
+    owed[usize::from(number)] = finish(board, last, vp, &words, scratch, late);
+    (reply, owed)
+}

@@ -1,0 +1,102 @@
+// A write of a timer, which may deliver a message to one source of its processor.
+ghost use Rattle.std.specs.Prelude.{◌≡◌, ◌<◌, ◌*◌, [], IfSome};
+ghost use Rattle.board_terms.specs.declared.pages.Kind.TheVariants.{Sim};
+ghost use Rattle.synic_board.specs.State.{processors};
+ghost use Rattle.live_board.specs.Live.{IsShown};
+ghost use Rattle.live_board.specs.Timers.{timer_of};
+ghost use Rattle.live_board.specs.inside.Parts.{IsShadow, IsTimedPart, IsTimerOf};
+
+use crate::marking::mark_slots;
+use crate::observing::look_at_slots;
+use crate::passing::is_shown;
+use crate::performing::perform_after;
+use crate::publishing::{page_words, publish};
+use board_terms::{Kind, Notices, Vp};
+use live_pages::LivePage;
+use synic_board::{Board, Event, Reply};
+use synic_regs::{Register, decode};
+
+/// The processor whose timer an event writes, if it is on the board.
+pub(crate) fn timed_by(board: &Board, event: &Event) -> Option<Vp>
+    ensures value { result ≡ timer_of board.now.state event.now }
+    ensures timer { IfSome result (λ p. IsTimerOf board.now.state p event.now) }
+{
+    let Event::Write { vp, register, .. } = event else {
+        return None;
+    };
+    let (Some(Register::TimerConfig(_)) | Some(Register::TimerCount(_))) = decode(*register) else {
+        return None;
+    };
+    if *vp >= board.processors() {
+        return None;
+    }
+    Vp::new(*vp)
+}
+
+/// Performs a write of a timer of a processor whose message page the guest sees.
+fn time_shown(
+    board: &mut Board,
+    page: &mut LivePage,
+    vp: Vp,
+    event: &Event,
+    scratch: &mut Notices,
+    notices: &mut Notices,
+) -> (Reply, bool)
+    requires timer { IsTimerOf board.old.state vp event.now }
+    requires shown { IsShown board.old.state vp Sim }
+    requires shadow { IsShadow board.old.state (2 * vp) page.old }
+    requires empty { notices.old ≡ [] }
+    ensures { IsTimedPart board.old.state vp page.old event.now board.new.state page.new result.0 result.1 notices.new }
+{
+    look_at_slots(board, page, vp, scratch, notices);
+    board.facts();
+    let words = page_words(board, vp);
+    let reply = perform_after(board, event, scratch, notices);
+    publish(board, page, vp, &words, true);
+    let owed = mark_slots(board, page, vp, &words, scratch, notices);
+    (reply, owed)
+}
+
+/// The same where the guest does not see the page.
+fn time_hidden(
+    board: &mut Board,
+    page: &mut LivePage,
+    vp: Vp,
+    event: &Event,
+    scratch: &mut Notices,
+    notices: &mut Notices,
+) -> (Reply, bool)
+    requires timer { IsTimerOf board.old.state vp event.now }
+    requires hidden { IsShown board.old.state vp Sim → ⊥ }
+    requires shadow { IsShadow board.old.state (2 * vp) page.old }
+    requires empty { notices.old ≡ [] }
+    ensures { IsTimedPart board.old.state vp page.old event.now board.new.state page.new result.0 result.1 notices.new }
+{
+    board.facts();
+    let words = page_words(board, vp);
+    let reply = perform_after(board, event, scratch, notices);
+    publish(board, page, vp, &words, false);
+    (reply, false)
+}
+
+/// Performs a write of a timer of a processor, and brings its message page up to date. Returns
+/// whether the processor is owed an EOM.
+pub(crate) fn time_on(
+    board: &mut Board,
+    page: &mut LivePage,
+    vp: Vp,
+    event: &Event,
+    scratch: &mut Notices,
+    notices: &mut Notices,
+) -> (Reply, bool)
+    requires timer { IsTimerOf board.old.state vp event.now }
+    requires shadow { IsShadow board.old.state (2 * vp) page.old }
+    requires empty { notices.old ≡ [] }
+    ensures { IsTimedPart board.old.state vp page.old event.now board.new.state page.new result.0 result.1 notices.new }
+{
+    if is_shown(board, vp, Kind::Sim) {
+        time_shown(board, page, vp, event, scratch, notices)
+    } else {
+        time_hidden(board, page, vp, event, scratch, notices)
+    }
+}

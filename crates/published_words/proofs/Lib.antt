@@ -1,0 +1,4 @@
+pub mod Steps
+pub mod Stores
+pub mod Storing
+pub mod Told

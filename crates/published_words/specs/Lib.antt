@@ -1,0 +1,4 @@
+pub mod Values
+pub mod Words
+pub mod Storing
+pub mod inside

@@ -1,0 +1,3 @@
+-- The abstract view of the fields, and their invariant. Callers need neither.
+pub mod Rule
+pub mod Codes

@@ -1,0 +1,15 @@
+-- What the calls of an actor have to do with the posted words.
+use Rattle.std.specs.Prelude.{◌≡◌, List, true}
+use Rattle.posted_words.specs.declared.rule.Action.{Action}
+use Rattle.posted_words.specs.Words.{Token}
+use Rattle.board_threads.specs.Settling.{only_raises}
+use Rattle.board_threads.specs.Sweeps.{sweeps_of}
+use Rattle.shared_board.specs.Calling.{Calling}
+
+-- the sweeps of an actor's absorbs, the last one first
+abbrev pub swept_by : Calling → List Action
+swept_by a = sweeps_of a.calls
+
+-- a line sweeps nothing
+abbrev pub OnlyRaises : Token → Type 0
+OnlyRaises t = only_raises t.actions ≡ true

@@ -1,6 +1,0 @@
-use Rattle.std.proofs.Common.{arith}
-use Rattle.timer_heap.proofs.Tree.{climbed}
-use Rattle.timer_heap.proofs.table.Table.climb.Goals as goal
-
-pub returns-clause-ordered : goal.returns-clause-ordered
-returns-clause-ordered c = climbed _ _ (omega arith) c.compare.ensures.climbing

@@ -1,7 +1,0 @@
-use Rattle.std.specs.Prelude.{◌≡◌}
-use Rattle.board_terms.specs.Dues.{least_below, later_than}
-use Rattle.timer_heap.specs.inside.Table.{dues}
-use Rattle.timer_heap.proofs.table.Table.least_after.Given as goal
-
-abbrev pub invariant-loop-number : goal.invariant-loop-number
-invariant-loop-number l = l.first ≡ least_below (later_than l.moment (dues l.self)) l.number

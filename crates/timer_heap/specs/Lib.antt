@@ -1,3 +1,0 @@
-pub mod Heap
-pub mod Laws
-pub mod inside
