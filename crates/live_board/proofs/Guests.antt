@@ -6,7 +6,8 @@ use Rattle.std.proofs.lemmas.Bool.{cases_eq}
 use Rattle.std.proofs.lemmas.List.Elements.{All-append, All-cons, All-nil, All-head, All-tail}
 use Rattle.board_terms.specs.declared.notices.Notice.{Notice}
 use Rattle.board_terms.specs.declared.pages.Kind.{Kind}
-use Rattle.board_terms.specs.declared.pages.Kind.TheVariants.{Sim}
+use Rattle.board_terms.specs.declared.pages.Kind.TheVariants.{Sim, Sief}
+use Rattle.board_terms.specs.declared.pages.Kind.TheVariants as kind
 use Rattle.board_terms.specs.declared.pages.Owner.{Owner}
 use Rattle.board_terms.specs.declared.pages.Owner.TheVariants as owner
 use Rattle.gpa_space.specs.Space.{overlay_of, owner_of}
@@ -24,8 +25,9 @@ use Rattle.synic_board.proofs.keeping.Steps.{keeps-step}
 use Rattle.live_pages.specs.Slot.{known}
 use Rattle.live_pages.specs.declared.access.Access.{Access}
 use Rattle.live_pages.specs.declared.access.Access.TheVariants.{Load, FetchOr, Store}
-use Rattle.live_board.specs.Live.{LiveModel, IsLive, IsObserved, number_at, IsShown, IsOwnStore, AreLooks, store_of, shown_by, explained, log_of, IsTimed, IsTicked, IsReset, marked_by, explained_after, looked_from, marked_from}
-use Rattle.live_board.proofs.Joined.{run-append, rest-number, rest-shown}
+use Rattle.live_board.specs.Live.{LiveModel, IsLive, IsObserved, number_at, IsShown, IsOwnStore, AreLooks, owner_at, store_of, shown_by, explained, log_of, IsTimed, IsTicked, IsReset, marked_by, explained_after, looked_from, marked_from}
+use Rattle.live_board.specs.Settling.{AreLoads, IsSettled}
+use Rattle.live_board.proofs.Joined.{run-append, same-explained, rest-number, rest-shown, shown-before}
 use Rattle.live_board.proofs.Shown.{with_word, stored-word, still-in}
 
 -- each event that explains an access is a store
@@ -122,6 +124,14 @@ look-conserves p old now notices h seen =
     let es : List Event = explained s p Sim seen.news (log_of old p Sim) in
     kept-by s now.board.state es _ notices (fits-all s p Sim es (guest-stores s p Sim seen.news (log_of old p Sim))) h seen.run
 
+pub settle-conserves : (p : ℕ) (old now : LiveModel) (notices : List Notice) → IsSound old.board.state → IsSettled p old now notices → IsSound now.board.state × Conserves old.board.state now.board.state notices
+settle-conserves p old now notices h t =
+    let s : State = old.board.state in
+    let ea : List Event = explained s p Sim t.messages (log_of old p Sim) in
+    let eb : List Event = explained s p Sief t.flags (log_of old p Sief) in
+    let all = All-append PayloadFits ea eb (fits-all s p Sim ea (guest-stores s p Sim t.messages (log_of old p Sim))) (fits-all s p Sief eb (guest-stores s p Sief t.flags (log_of old p Sief))) in
+    kept-by s now.board.state (ea ++ eb) _ notices all h t.run
+
 -- only own pages and tickets of slots change
 abbrev Rest : State → State → Type 0
 Rest s now = now ≡ record s { own = now.own; slots = now.slots }
@@ -129,64 +139,107 @@ Rest s now = now ≡ record s { own = now.own; slots = now.slots }
 rest-after : (s mid now : State) → Rest s mid → Rest mid now → Rest s now
 rest-after s mid now h g = g ∙ ap (λ (t : State). record t { own = now.own; slots = now.slots }) h
 
-rest-store : (s : State) (p w found : ℕ) → IsShown s p Sim → w < 512 → Rest s (step s (store_of s p Sim w found)).0
-rest-store s p w found shown low =
-    let t : State = with_word s (overlay_of p Sim) w found in
-    let is : (step s (store_of s p Sim w found)).0 ≡ record t { slots = (step s (store_of s p Sim w found)).0.slots } =
-    ap (λ (o : Outcome). o.0) (stored-word s p Sim w found shown low) ∙ still-in t (owner.Sim p) ∙ ap (λ (o : Outcome). record t { slots = o.0.slots }) (sym (stored-word s p Sim w found shown low)) in
-    is ∙ ap (λ (l : List (List ℕ)). record s { own = l; slots = (step s (store_of s p Sim w found)).0.slots }) (sym (ap (λ (x : State). x.own) is))
+rest-store : (s : State) (p : ℕ) (k : Kind) (w found : ℕ) → IsShown s p k → w < 512 → Rest s (step s (store_of s p k w found)).0
+rest-store s p k w found shown low =
+    let t : State = with_word s (overlay_of p k) w found in
+    let is : (step s (store_of s p k w found)).0 ≡ record t { slots = (step s (store_of s p k w found)).0.slots } =
+    ap (λ (o : Outcome). o.0) (stored-word s p k w found shown low) ∙ still-in t (owner_at p k) ∙ ap (λ (o : Outcome). record t { slots = o.0.slots }) (sym (stored-word s p k w found shown low)) in
+    is ∙ ap (λ (l : List (List ℕ)). record s { own = l; slots = (step s (store_of s p k w found)).0.slots }) (sym (ap (λ (x : State). x.own) is))
 
-same-store : (s mid : State) (p w found : ℕ) → Rest s mid → store_of mid p Sim w found ≡ store_of s p Sim w found
-same-store s mid p w found h = ap (λ n. event.Store (n * 4096 + 8 * w) (record { items = to_le_bytes w64 found })) (rest-number s mid p Sim h)
+same-store : (s mid : State) (p : ℕ) (k : Kind) (w found : ℕ) → Rest s mid → store_of mid p k w found ≡ store_of s p k w found
+same-store s mid p k w found h = ap (λ n. event.Store (n * 4096 + 8 * w) (record { items = to_le_bytes w64 found })) (rest-number s mid p k h)
 
-looks-run : (n : ℕ) (s : State) (p : ℕ) (news log : List Access) → n ≤ 16 → IsShown s p Sim → AreLooks n news → Rest s (run_of s (explained s p Sim news log)).0
+-- loads alone, of words of a page
+abbrev AreOfPage : List Access → Type 0
+AreOfPage [] = Unit {0}
+AreOfPage (Load w found ∷ news) = (w < 512) × AreOfPage news
+AreOfPage (FetchOr w mask found ∷ news) = ⊥
+AreOfPage (Store w value ∷ news) = ⊥
+
+looks-of : (n : ℕ) (news : List Access) → n ≤ 16 → AreLooks n news → AreOfPage news
+looks-of zero news bound is = subst AreOfPage (sym is) tt
+looks-of (suc n) news bound (found, rest, is, more) = subst AreOfPage (sym is) (omega arith, looks-of n rest (omega arith) more)
+
+loads-of : (n : ℕ) (news : List Access) → n ≤ 512 → AreLoads n news → AreOfPage news
+loads-of zero news bound is = subst AreOfPage (sym is) tt
+loads-of (suc n) news bound (found, rest, is, more) = subst AreOfPage (sym is) (omega arith, loads-of n rest (omega arith) more)
+
+page-run : (s : State) (p : ℕ) (k : Kind) (news log : List Access) → IsShown s p k → AreOfPage news → Rest s (run_of s (explained s p k news log)).0
 unfolding run_of
-looks-run zero s p news log bound shown is = subst (λ l. Rest s (run_of s (explained s p Sim l log)).0) (sym is) refl
-looks-run (suc n) s p news log bound shown (found, rest, is, more) =
-    subst (λ l. Rest s (run_of s (explained s p Sim l log)).0) (sym is) (last (looks-run n s p rest log (omega arith) shown more) (found == known (rest ++ log) (32 * n)))
+page-run s p k [] log shown of = refl
+page-run s p k (FetchOr w mask found ∷ rest) log shown of = absurd of
+page-run s p k (Store w value ∷ rest) log shown of = absurd of
+page-run s p k (Load w found ∷ rest) log shown of = last (page-run s p k rest log shown of.1) (found == known (rest ++ log) w)
   where
     es : List Event
-    es = explained s p Sim rest log
+    es = explained s p k rest log
 
     mid : State
     mid = (run_of s es).0
 
-    last : Rest s mid → (b : Bool) → Rest s (run_of s (es ++ (if b then [] else store_of s p Sim (32 * n) found ∷ []))).0
+    last : Rest s mid → (b : Bool) → Rest s (run_of s (es ++ (if b then [] else store_of s p k w found ∷ []))).0
     last before true = subst (λ l. Rest s (run_of s l).0) (sym (append-nil es)) before
     last before false =
-        let one = rest-after s mid (step mid (store_of mid p Sim (32 * n) found)).0 before (rest-store mid p (32 * n) found (rest-shown s mid p Sim before shown) (omega arith)) in
-        subst (λ (r : Run). Rest s r.0) (sym (run-append s es (store_of s p Sim (32 * n) found ∷ []))) (subst (λ e. Rest s (step mid e).0) (same-store s mid p (32 * n) found before) one)
+        let one = rest-after s mid (step mid (store_of mid p k w found)).0 before (rest-store mid p k w found (rest-shown s mid p k before shown) of.0) in
+        subst (λ (r : Run). Rest s r.0) (sym (run-append s es (store_of s p k w found ∷ []))) (subst (λ e. Rest s (step mid e).0) (same-store s mid p k w found before) one)
 
-no-looks : (s : State) (p : ℕ) (news log : List Access) → news ≡ [] → Rest s (run_of s (explained s p Sim news log)).0
+no-loads : (s : State) (p : ℕ) (k : Kind) (news log : List Access) → news ≡ [] → Rest s (run_of s (explained s p k news log)).0
 unfolding run_of
-no-looks s p news log is = subst (λ l. Rest s (run_of s (explained s p Sim l log)).0) (sym is) refl
+no-loads s p k news log is = subst (λ l. Rest s (run_of s (explained s p k l log)).0) (sym is) refl
 
--- whether an owner is the message page of a processor
-is-sim : (o : Owner) (p : ℕ) → (o ≡ owner.Sim p) ⊎ (o ≡ owner.Sim p → ⊥)
-is-sim owner.Guest p = inr (λ e. cc)
-is-sim (owner.Sim q) p = by (cases_eq q p)
+-- whether an owner is that of an own page
+is-owner : (o : Owner) (p : ℕ) (k : Kind) → (o ≡ owner_at p k) ⊎ (o ≡ owner_at p k → ⊥)
+is-owner owner.Guest p kind.Sim = inr (λ e. cc)
+is-owner owner.Guest p kind.Sief = inr (λ e. cc)
+is-owner owner.Nothing p kind.Sim = inr (λ e. cc)
+is-owner owner.Nothing p kind.Sief = inr (λ e. cc)
+is-owner (owner.Sim q) p kind.Sief = inr (λ e. cc)
+is-owner (owner.Sief q) p kind.Sim = inr (λ e. cc)
+is-owner (owner.Sim q) p kind.Sim = by (cases_eq q p)
   where
     by : (q ≡ p) ⊎ (q ≢ p) → (owner.Sim q ≡ owner.Sim p) ⊎ (owner.Sim q ≡ owner.Sim p → ⊥)
     by (inl e) = inl (ap (λ n. owner.Sim n) e)
     by (inr ne) = inr (λ e. ne (cc))
-is-sim (owner.Sief q) p = inr (λ e. cc)
-is-sim owner.Nothing p = inr (λ e. cc)
+is-owner (owner.Sief q) p kind.Sief = by (cases_eq q p)
+  where
+    by : (q ≡ p) ⊎ (q ≢ p) → (owner.Sief q ≡ owner.Sief p) ⊎ (owner.Sief q ≡ owner.Sief p → ⊥)
+    by (inl e) = inl (ap (λ n. owner.Sief n) e)
+    by (inr ne) = inr (λ e. ne (cc))
+
+-- loads of a page that the guest sees, and none of one that it does not see
+page-changes : (s : State) (p : ℕ) (k : Kind) (news log : List Access) → (IsShown s p k → AreOfPage news) → ((IsShown s p k → ⊥) → news ≡ []) → Rest s (run_of s (explained s p k news log)).0
+page-changes s p k news log of none = by (is-owner (owner_of (space_of s) (number_at s p k)) p k)
+  where
+    by : (IsShown s p k) ⊎ (IsShown s p k → ⊥) → Rest s (run_of s (explained s p k news log)).0
+    by (inl shown) = page-run s p k news log shown (of shown)
+    by (inr hidden) = no-loads s p k news log (none hidden)
 
 pub look-changes : (p : ℕ) (old now : LiveModel) (notices : List Notice) → IsObserved p old now notices → now.board.state ≡ record old.board.state { own = now.board.state.own; slots = now.board.state.slots }
-look-changes p old now notices seen = by-number
+look-changes p old now notices seen =
+    let s : State = old.board.state in
+    subst (Rest s) (ap (λ (r : Run). r.0) seen.run) (page-changes s p Sim seen.news (log_of old p Sim) (λ shown. looks-of 16 seen.news (omega arith) (seen.shown shown)) seen.hidden)
+
+pub settle-changes : (p : ℕ) (old now : LiveModel) (notices : List Notice) → IsSettled p old now notices → now.board.state ≡ record old.board.state { own = now.board.state.own; slots = now.board.state.slots }
+settle-changes p old now notices t = subst (Rest s) (ap (λ (r : Run). r.0) (sym (run-append s ea eb) ∙ t.run)) (rest-after s mid (run_of mid eb).0 first second)
   where
     s : State
     s = old.board.state
 
-    log : List Access
-    log = log_of old p Sim
+    ea : List Event
+    ea = explained s p Sim t.messages (log_of old p Sim)
 
-    changed : Rest s (run_of s (explained s p Sim seen.news log)).0 → Rest s now.board.state
-    changed h = subst (Rest s) (ap (λ (r : Run). r.0) seen.run) h
+    eb : List Event
+    eb = explained s p Sief t.flags (log_of old p Sief)
 
-    by : (IsShown s p Sim) ⊎ (IsShown s p Sim → ⊥) → Rest s now.board.state
-    by (inl shown) = changed (looks-run 16 s p seen.news log (omega arith) shown (seen.shown shown))
-    by (inr hidden) = changed (no-looks s p seen.news log (seen.hidden hidden))
+    mid : State
+    mid = (run_of s ea).0
 
-    by-number : Rest s now.board.state
-    by-number = by (is-sim (owner_of (space_of s) (number_at s p Sim)) p)
+    first : Rest s mid
+    first = page-changes s p Sim t.messages (log_of old p Sim) (λ shown. loads-of 512 t.messages (omega arith) (t.are_messages.shown shown)) t.are_messages.hidden
+
+    there : Rest mid (run_of mid (explained mid p Sief t.flags (log_of old p Sief))).0
+    there = page-changes mid p Sief t.flags (log_of old p Sief) (λ shown. loads-of 512 t.flags (omega arith) (t.are_flags.shown (shown-before s mid p Sief first shown)))
+        (λ hidden. t.are_flags.hidden (λ shown. hidden (rest-shown s mid p Sief first shown)))
+
+    second : Rest mid (run_of mid eb).0
+    second = subst (λ es. Rest mid (run_of mid es).0) (same-explained s mid p Sief t.flags (log_of old p Sief) (rest-number s mid p Sief first)) there

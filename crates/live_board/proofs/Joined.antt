@@ -72,6 +72,13 @@ rest-shown s now p k rest shown = subst (λ t. IsShown t p k) (sym rest) (same k
     same kind.Sim h = h
     same kind.Sief h = h
 
+pub shown-before : (s now : State) (p : ℕ) (k : Kind) → now ≡ record s { own = now.own; slots = now.slots } → IsShown now p k → IsShown s p k
+shown-before s now p k rest shown = same k (subst (λ t. IsShown t p k) rest shown)
+  where
+    same : (k : Kind) → IsShown (record s { own = now.own; slots = now.slots }) p k → IsShown s p k
+    same kind.Sim h = h
+    same kind.Sief h = h
+
 -- looks after looks
 unfoldable pub watched-then : (s mid now : State) (p : ℕ) (k : Kind) (log log-mid log-now : List Access) (first second : List Notice) → IsWatched s p k log mid log-mid first → IsWatched mid p k log-mid now log-now second
     → IsWatched s p k log now log-now (first ++ second)

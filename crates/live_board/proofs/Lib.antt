@@ -21,6 +21,7 @@ pub mod Ticked
 pub mod EndedPart
 pub mod Cleared
 pub mod Shadowed
+pub mod Settled
 pub mod Signalled
 pub mod Clocked
 pub mod Calm

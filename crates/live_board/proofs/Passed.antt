@@ -1,5 +1,5 @@
 -- What a passed word leaves and changes.
-use Rattle.std.proofs.Common.{◌≡◌, ◌≢◌, ◌⊎◌, inl, inr, ℕ, ◌+◌, ◌*◌, ◌/◌, ◌^◌, ◌<◌, ◌≤◌, Bool, true, false, List, [], ◌∷◌, ◌++◌, length, get_or, set, Option, None, Some, refl, sym, ap, ◌∙◌, subst, arith, length-set, append-nil}
+use Rattle.std.proofs.Common.{◌≡◌, ◌≢◌, ◌⊎◌, inl, inr, ℕ, ◌+◌, ◌*◌, ◌/◌, ◌%◌, ◌^◌, ◌<◌, ◌≤◌, Bool, true, false, List, [], ◌∷◌, ◌++◌, length, get_or, set, Option, None, Some, refl, sym, ap, ◌∙◌, subst, arith, length-set, append-nil}
 use Rattle.std.specs.Prelude.{◌==◌, if◌then◌else◌}
 use Rattle.std.specs.Int.{to_le_bytes, w64}
 use Rattle.std.proofs.lemmas.Bool.{cases_eq, cases_lt}
@@ -17,7 +17,7 @@ use Rattle.synic_board.specs.Run.{Run, run_of}
 use Rattle.synic_board.specs.Sound.{IsSound, IsFree}
 use Rattle.synic_board.specs.Stores.{consumed_ticket, consumed, consumed_in}
 use Rattle.synic_board.specs.Delivery.{is_slot_empty}
-use Rattle.synic_board.proofs.Touching.{one-consumed}
+use Rattle.synic_board.proofs.Touching.{one-consumed, none-consumed}
 use Rattle.synic_board.proofs.keeping.Requests.{either}
 use Rattle.synic_board.proofs.keeping.Slots.{overwritten-other}
 use Rattle.live_board.specs.Live.{IsShown, owner_at, store_of, all_done}
@@ -129,3 +129,44 @@ has-word s now p k w value notices h on low small shown passed = by (value == wo
           stored-has s now o w value inside (h.whole.pages o [] inside) low small is,
           omega (arith, few-word s p k w value h on low, ap length emitted, ap length (append-nil e.1)),
         )
+
+-- a word without the type of a slot consumes nothing
+none-word : (s : State) (p : ℕ) (k : Kind) (w value : ℕ) → IsSound s → p < processors s → w < 512 → w % 32 ≢ 0 → (consumed_in (with_word s (overlay_of p k) w value) (owner_at p k)).1 ≡ []
+none-word s p kind.Sief w value h on low inner = refl
+none-word s p kind.Sim w value h on low inner = ap (λ (e : Effect). e.1) (none-consumed (with_word s (2 * p) w value) p (λ j under. free j under))
+  where
+    bytes : List ℕ
+    bytes = to_le_bytes w64 value
+
+    page : List ℕ
+    page = get_or s.own (2 * p) []
+
+    inside : 2 * p < length s.own
+    inside = omega (arith, h.whole.own, on)
+
+    long : length page ≡ 4096
+    long = h.whole.pages (2 * p) [] inside
+
+    free : (j : ℕ) → j < 16 → IsFree (with_word s (2 * p) w value) p j
+    free j under z =
+        let there = get_or-set_same s.own (2 * p) (overwritten page (8 * w) bytes) [] inside in
+        let byte = λ (b : ℕ) (small : b < 4). overwritten-other page bytes (8 * w) (256 * j + b) (omega (arith, long, low)) (side b small (cases_lt (w / 32) j)) in
+        let same : slot_type (overwritten page (8 * w) bytes) j ≡ slot_type page j = rw (byte 0 (omega arith), byte 1 (omega arith), byte 2 (omega arith), byte 3 (omega arith)) refl in
+        h.empty p j on under (sym same ∙ ap (λ l. slot_type l j) (sym there) ∙ z)
+      where
+        side : (b : ℕ) → b < 4 → (w / 32 < j) ⊎ (j ≤ w / 32) → (256 * j + b < 8 * w) ⊎ (8 * w + 8 ≤ 256 * j + b)
+        side b small (inl less) = inr (omega arith)
+        side b small (inr le) = inl (omega (arith, le, inner))
+
+pub no-notices : (s now : State) (p : ℕ) (k : Kind) (w value : ℕ) (notices : List Notice) → IsSound s → p < processors s → w < 512 → w % 32 ≢ 0 → IsShown s p k → IsPassed s p k w value now notices → notices ≡ []
+unfolding run_of
+no-notices s now p k w value notices h on low inner shown passed = by (value == word_of s (overlay_of p k) w) refl
+  where
+    by : (b : Bool) → (value == word_of s (overlay_of p k) w) ≡ b → notices ≡ []
+    by true is =
+        let run : (s, [], []) ≡ (now, [], notices) = ap (λ b. run_of s (if b then [] else store_of s p k w value ∷ [])) (sym is) ∙ passed ∙ ap (λ b. (now, all_done (if b then [] else store_of s p k w value ∷ []), notices)) is in
+        sym (ap (λ (r : Run). r.2) run)
+    by false is =
+        let run : run_of s (store_of s p k w value ∷ []) ≡ (now, all_done (store_of s p k w value ∷ []), notices) =
+        ap (λ b. run_of s (if b then [] else store_of s p k w value ∷ [])) (sym is) ∙ passed ∙ ap (λ b. (now, all_done (if b then [] else store_of s p k w value ∷ []), notices)) is in
+        sym (ap (λ (r : Run). r.2) run) ∙ ap (λ (x : Outcome). x.2 ++ []) (stored-word s p k w value shown low) ∙ ap (λ ns. ns ++ []) (none-word s p k w value h on low inner)

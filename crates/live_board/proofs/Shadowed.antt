@@ -28,7 +28,7 @@ abbrev pub live : BoardModel → List (List Access) → LiveModel
 live board pages = record { board = board; pages = pages }
 
 -- a call on one page keeps the shadow
-page-shadows : (s now : State) (pages : List (List Access)) (o : ℕ) (log-now : List Access) → o < length s.own → Shadows s pages → length now.own ≡ length s.own → LeavesOthers s o now → IsShadow now o log-now → Shadows now (set pages o log-now)
+pub page-shadows : (s now : State) (pages : List (List Access)) (o : ℕ) (log-now : List Access) → o < length s.own → Shadows s pages → length now.own ≡ length s.own → LeavesOthers s o now → IsShadow now o log-now → Shadows now (set pages o log-now)
 page-shadows s now pages o log-now inside h count others shadow = record {
   count = length-set pages o log-now ∙ h.count ∙ sym count;
   words = λ j w low small. by j w (omega (arith, low, count)) small (cases_eq j o);

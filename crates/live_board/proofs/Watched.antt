@@ -24,7 +24,7 @@ apart : (x h : ℕ) → x ≢ h → (x == h) ≡ false
 apart x h e = grind (arith, nat_tests)
 
 -- a look shows what is passed
-look-shows : (s : State) (p : ℕ) (k : Kind) (w found : ℕ) (log : List Access) → known log w ≡ word_of s (overlay_of p k) w → explained s p k (Load w found ∷ []) log ≡ found_stores s p k w found
+pub look-shows : (s : State) (p : ℕ) (k : Kind) (w found : ℕ) (log : List Access) → known log w ≡ word_of s (overlay_of p k) w → explained s p k (Load w found ∷ []) log ≡ found_stores s p k w found
 look-shows s p k w found log is = ap (λ n. if found == n then [] else store_of s p k w found ∷ []) is
 
 mark-shows : (s : State) (p : ℕ) (k : Kind) (w mask found : ℕ) (log : List Access) → known log w ≡ word_of s (overlay_of p k) w → explained s p k (FetchOr w mask found ∷ []) log ≡ found_stores s p k w found

@@ -1,5 +1,6 @@
 pub mod Words
 pub mod Live
+pub mod Settling
 pub mod Timers
 pub mod Acting
 pub mod inside

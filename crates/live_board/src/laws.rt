@@ -10,6 +10,7 @@ ghost use Rattle.synic_board.specs.State.{State};
 ghost use Rattle.synic_board.specs.Locations.{Conserves};
 ghost use Rattle.synic_board.specs.Sound.{IsSound, PayloadFits};
 ghost use Rattle.live_pages.specs.declared.access.Access.{Access};
+ghost use Rattle.live_board.specs.Settling.{IsSettled};
 ghost use Rattle.live_board.specs.Live.{LiveModel, IsLive, IsQuietly, IsTimed, IsTicked, IsReset, IsObserved, IsOwnStore, explained, explained_after};
 
 /// Whatever the host finds in a live page, the events that explain it are stores of words of that
@@ -58,5 +59,16 @@ pub fn a_look_conserves_messages()
 /// and not the next ticket.
 pub fn a_look_changes_only_pages()
     ensures { (p : ℕ) (old now : LiveModel) (notices : List Notice) → IsObserved p old now notices
+        → now.board.state ≡ record old.board.state { own = now.board.state.own; slots = now.board.state.slots } }
+{}
+
+/// The same for all words of both pages of a processor.
+pub fn a_settle_conserves_messages()
+    ensures { (p : ℕ) (old now : LiveModel) (notices : List Notice) → IsSound old.board.state → IsSettled p old now notices → IsSound now.board.state × Conserves old.board.state now.board.state notices }
+{}
+
+/// All words of both pages of a processor change own pages and the tickets in slots, and nothing else.
+pub fn a_settle_changes_only_pages()
+    ensures { (p : ℕ) (old now : LiveModel) (notices : List Notice) → IsSettled p old now notices
         → now.board.state ≡ record old.board.state { own = now.board.state.own; slots = now.board.state.slots } }
 {}

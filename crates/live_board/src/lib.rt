@@ -16,6 +16,7 @@ mod posting;
 mod probing;
 mod publishing;
 mod resetting;
+mod settling;
 mod signalling;
 mod ticking;
 mod timing;
@@ -23,7 +24,8 @@ mod words;
 
 pub use laws::{
     a_guest_only_stores, a_look_changes_only_pages, a_look_conserves_messages,
-    a_reset_conserves_messages, a_tick_conserves_messages, a_timer_write_conserves_messages,
-    an_event_conserves_messages, an_event_without_accesses_is_live,
+    a_reset_conserves_messages, a_settle_changes_only_pages, a_settle_conserves_messages,
+    a_tick_conserves_messages, a_timer_write_conserves_messages, an_event_conserves_messages,
+    an_event_without_accesses_is_live,
 };
 pub use live::LiveBoard;

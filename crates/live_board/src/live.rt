@@ -8,6 +8,7 @@ ghost use Rattle.synic_board.specs.Step.{step};
 ghost use Rattle.event_ports.specs.Ports.{port_at};
 ghost use Rattle.event_ports.specs.declared.ports.Port.{Port};
 ghost use Rattle.live_board.specs.Live.{IsShown, HasLooked, HasProbed, log_of, IsLive, IsQuietly, IsTimed, IsTicked, IsReset, IsObserved, Shadows};
+ghost use Rattle.live_board.specs.Settling.{IsSettled};
 ghost use Rattle.live_board.specs.Timers.{is_timer_write, timer_of};
 ghost use Rattle.live_board.specs.inside.Kinds.{is_eom, eom_of};
 ghost use Rattle.live_board.specs.inside.Parts.{IsShadow};
@@ -16,6 +17,7 @@ use crate::ending::{end_on, ended_by};
 use crate::observing::view_slots;
 use crate::posting::post_to;
 use crate::resetting::{clear, reset_messages};
+use crate::settling::settle_page;
 use crate::signalling::signal_to;
 use crate::ticking::{is_any_due, tick_from};
 use crate::timing::{time_on, timed_by};
@@ -282,6 +284,27 @@ impl LiveBoard {
         notices.clear();
         let page = &mut pages[index_of(vp, Kind::Sim)];
         view_slots(board, page, vp, scratch, notices);
+    }
+
+    /// Loads each word of both live pages of a processor that the guest sees, the message page first,
+    /// so that the board's own pages have what the guest stored: for an image of the board. Replaces
+    /// `notices` by those of the guest's stores that were found. Requires that the processor is on the
+    /// board.
+    pub fn settle(&mut self, vp: Vp, notices: &mut Notices)
+        requires { vp < processors self.old.board.state }
+        ensures { IsSettled vp self.old self.new notices.new }
+    {
+        let LiveBoard {
+            board,
+            pages,
+            scratch,
+        } = self;
+        board.facts();
+        notices.clear();
+        let sim = &mut pages[index_of(vp, Kind::Sim)];
+        settle_page(board, sim, vp, Kind::Sim, scratch, notices);
+        let sief = &mut pages[index_of(vp, Kind::Sief)];
+        settle_page(board, sief, vp, Kind::Sief, scratch, notices);
     }
 
     /// What holds between calls: each word of the board's own pages is what the host last found or

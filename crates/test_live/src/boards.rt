@@ -78,6 +78,13 @@ fn observe(live: &mut LiveBoard, vp: Vp, notices: &mut Notices) {
     }
 }
 
+/// Loads all words of the pages of a processor that is on the board.
+fn settle(live: &mut LiveBoard, vp: Vp, notices: &mut Notices) {
+    if vp.number() < live.board().processors() {
+        live.settle(vp, notices);
+    }
+}
+
 #[test]
 fn posts_and_signals_reach_the_pages(rt: HostRuntime) -> Result<(), Fail> {
     let mut notices = Notices::open(rt.alloc())?;
@@ -108,6 +115,12 @@ fn posts_and_signals_reach_the_pages(rt: HostRuntime) -> Result<(), Fail> {
     assert_eq!(rt; live.post(3, 1, b"c", &mut notices), Reply::Accepted(2));
     assert_eq!(rt; notices.as_slice().len(), 1);
     assert_eq!(rt; live.board().summary().queued(vp, sint), 2);
+    settle(&mut live, vp, &mut notices);
+    assert_eq!(rt; notices.as_slice().len(), 0); // each word is what the host stored
+    assert_eq!(rt;
+        live.post(3, 1, b"d", &mut notices),
+        Reply::Refused(Refusal::NoBuffers)
+    );
     assert_eq!(rt; live.into_board().next_ticket(), 3);
     Ok(())
 }
@@ -139,6 +152,8 @@ fn a_page_that_is_not_mapped_is_written(rt: HostRuntime) -> Result<(), Fail> {
     );
     observe(&mut live, vp, &mut notices);
     assert_eq!(rt; notices.as_slice().len(), 0);
+    settle(&mut live, vp, &mut notices);
+    assert_eq!(rt; live.signal(4, 7, &mut notices), Reply::FlagWasSet);
     Ok(())
 }
 

@@ -28,6 +28,7 @@ use Rattle.live_pages.specs.declared.access.Access.TheVariants.{Load, FetchOr}
 use Rattle.live_board.specs.Timers.{is_timer_register}
 use Rattle.std.specs.Option.{option_map_or}
 use Rattle.live_board.specs.Words.{word_of}
+use Rattle.live_board.specs.Settling.{AreLoads, AreAllLoads}
 use Rattle.live_board.specs.Live.{store_of, explained, all_done, AreCareful, HasLooked, AreLooks, AreStores, AreProbes, IsProbe, is_waiting, IsShown, explained_after, AreMarks, finds_empty, AreTimed, looked_from, marked_from, AreClears}
 
 -- a word that the host found is a guest's store if the reference model has another one
@@ -192,6 +193,24 @@ pub record IsViewed (s : State) (p : ℕ) (log : List Access) (now : State) (log
   pub few : length notices ≤ 16
   pub shown : IsShown s p Sim → AreLooks 16 watched.news
   pub hidden : (IsShown s p Sim → ⊥) → watched.news ≡ []
+
+-- loads of the words below n of an own page, after which it is a shadow. Only a word with a type may show that a message was consumed
+pub record IsLoads (s : State) (p : ℕ) (k : Kind) (log : List Access) (now : State) (log_now : List Access) (before after : List Notice) (n : ℕ) : Type 0 where
+  pub emitted : List Notice
+  pub notices : after ≡ before ++ emitted
+  pub few : length emitted ≤ (n + 31) / 32
+  pub watched : IsWatched s p k log now log_now emitted
+  pub shadow : IsShadow now (overlay_of p k) log_now
+  pub loads : AreLoads n watched.news
+
+-- loads of all words of an own page, if the guest sees it
+pub record IsLoaded (s : State) (p : ℕ) (k : Kind) (log : List Access) (now : State) (log_now : List Access) (before after : List Notice) : Type 0 where
+  pub emitted : List Notice
+  pub notices : after ≡ before ++ emitted
+  pub few : length emitted ≤ 16
+  pub watched : IsWatched s p k log now log_now emitted
+  pub shadow : IsShadow now (overlay_of p k) log_now
+  pub are : AreAllLoads s p k watched.news
 
 -- the header that a probe of a slot leaves: an occupied one is marked
 abbrev pub IsLeft : Bool → ℕ → ℕ → Type 0
