@@ -137,3 +137,9 @@ pub slot-elsewhere : (page bytes : List ℕ) (j i w : ℕ) → length page ≡ 4
 slot-elsewhere page bytes j i w long size inside under ne low =
     same-word (with_slot page j bytes) page (8 * (32 * i + w)) (λ b h. (let e : 8 * (32 * i + w) + b ≡ 256 * i + (8 * w + b) = omega arith in
     ap (λ n. get_or (with_slot page j bytes) n 0) e ∙ slot-other page bytes j i (8 * w + b) long size inside under ne (omega arith) ∙ ap (λ n. get_or page n 0) (sym e)))
+
+-- a bit of a word is one of a byte of the page
+pub bit-of : (page : List ℕ) (w j m : ℕ) → j < 8 → m < 8 → ((i : ℕ) → i < 8 → get_or page (8 * w + i) 0 < 256) → bit_at (word_at page (8 * w)) (8 * j + m) ≡ bit_at (get_or page (8 * w + j) 0) m
+bit-of page w j m low under bytes =
+    let f = λ (i : ℕ). get_or page (8 * w + i) 0 in
+    ap (λ n. bit_at n (8 * j + m)) (word-bytes page (8 * w) ∙ sym (tail-is f)) ∙ tail-bit 7 j m f (λ i h. bytes i (omega arith)) (omega arith) under

@@ -103,7 +103,7 @@ pub slot-word : (s now : State) (p i : ℕ) → ((b : ℕ) → b < 256 → slot_
 slot-word s now p i same w low = same-word (page_of now p) (page_of s p) (8 * (32 * i + w)) (λ b h. (let e : 8 * (32 * i + w) + b ≡ 256 * i + (8 * w + b) = omega arith in
     ap (λ n. get_or (page_of now p) n 0) e ∙ same (8 * w + b) (omega arith) ∙ ap (λ n. get_or (page_of s p) n 0) (sym e)))
 
-same-empty : (s now : State) (p i : ℕ) → ((b : ℕ) → b < 256 → slot_byte now p i b ≡ slot_byte s p i b) → is_slot_empty now p i ≡ is_slot_empty s p i
+pub same-empty : (s now : State) (p i : ℕ) → ((b : ℕ) → b < 256 → slot_byte now p i b ≡ slot_byte s p i b) → is_slot_empty now p i ≡ is_slot_empty s p i
 same-empty s now p i same = rw (same 0 (omega arith), same 1 (omega arith), same 2 (omega arith), same 3 (omega arith)) refl
 
 -- the attempts at the sources below n are made

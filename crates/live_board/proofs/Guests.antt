@@ -62,7 +62,7 @@ keeps-run n s (e ∷ es) fit h =
     let first = keeps-step n s e (All-head PayloadFits e es fit) h in
     messages-after n s (now, (step s e).2) ((run_of now es).0, (run_of now es).2) first (keeps-run n now es (All-tail PayloadFits e es fit) first.kept)
 
-kept-by : (s now : State) (es : List Event) (replies : List Reply) (notices : List Notice) → All PayloadFits es → IsSound s → run_of s es ≡ (now, replies, notices) → IsSound now × Conserves s now notices
+pub kept-by : (s now : State) (es : List Event) (replies : List Reply) (notices : List Notice) → All PayloadFits es → IsSound s → run_of s es ≡ (now, replies, notices) → IsSound now × Conserves s now notices
 kept-by s now es replies notices fit h is =
     let k = keeps-run (processors s) s es fit (kept_from_sound s h) in
     let sound = sound_from_kept (processors s) (run_of s es).0 k.kept (tickets-conserved s (run_of s es).0 (run_of s es).2 k.tickets_monotone k.conserves h.tickets) in (
@@ -70,7 +70,7 @@ kept-by s now es replies notices fit h is =
       subst (λ (r : Run). Conserves s r.0 r.2) is k.conserves,
     )
 
-fits-all : (s : State) (p : ℕ) (k : Kind) (es : List Event) → All (IsOwnStore s p k) es → All PayloadFits es
+pub fits-all : (s : State) (p : ℕ) (k : Kind) (es : List Event) → All (IsOwnStore s p k) es → All PayloadFits es
 fits-all s p k [] h = All-nil PayloadFits
 fits-all s p k (e ∷ es) h =
     let one = All-head (IsOwnStore s p k) e es h in

@@ -22,7 +22,10 @@ pub mod EndedPart
 pub mod Cleared
 pub mod Shadowed
 pub mod Settled
+pub mod Seen
 pub mod Signalled
 pub mod Clocked
 pub mod Calm
 pub mod Guests
+pub mod Woken
+pub mod Remembered

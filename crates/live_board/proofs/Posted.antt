@@ -75,10 +75,10 @@ delivered-attempts s p i m h below under good bytes =
     subst (λ made. Attempts s p i made (delivered s p i m).0) (attempted n s p i m h.whole below under good) (record { count = t.count; others = t.others; idle = t.idle; marks = t.marks })
 
 -- a valid type of a post
-some-kind : (kind : ℕ) → is_posted_type kind ≡ true → kind ≢ 0
+pub some-kind : (kind : ℕ) → is_posted_type kind ≡ true → kind ≢ 0
 some-kind kind e z = absurd (grind (arith, nat_tests))
 
-small-kind : (kind : ℕ) → is_posted_type kind ≡ true → kind < 2 ^ 32
+pub small-kind : (kind : ℕ) → is_posted_type kind ≡ true → kind < 2 ^ 32
 small-kind kind e = let low : kind < 0x80000000 = grind (arith, nat_tests) in omega arith
 
 pub posted-attempts : (s : State) (number kind : ℕ) (payload : ArrayVec ℕ) (port : Port) → port_at (ports_of s) number ≡ Some port → IsSound s → length payload.items ≤ 240

@@ -1,6 +1,7 @@
 pub mod Words
 pub mod Live
 pub mod Settling
+pub mod Waking
 pub mod Timers
 pub mod Acting
 pub mod inside

@@ -10,7 +10,7 @@ use Rattle.live_pages.specs.Protocol as protocol
 use Rattle.live_pages.specs.Headers.{Slot, Step, is_occupied, may, after, are_steps, led_to, start, is_stuck, NoWakeUpIsMissed, posts, looks, skips, marks, fills, clears, drains, sees, ends}
 use Rattle.live_pages.proofs.Protocol.{kept, preserved, never_stuck}
 
-abbrev world_of : Slot → protocol.World
+abbrev pub world_of : Slot → protocol.World
 world_of s = record { occupied = is_occupied s.header; pending = is_pending s.header; buffered = s.buffered; queued = s.queued; host = s.host; guest = s.guest }
 
 abbrev move_of : Step → protocol.Move
@@ -70,7 +70,7 @@ moves s drains m = (m, λ i. record { occupied = clear_type s.header i; pending 
 moves s sees m = (m, refl)
 moves s ends m = (m, refl)
 
-runs : (s : Slot) (steps : List Step) → kept (world_of s) ≡ true → are_steps s steps ≡ true → is_stuck (led_to s steps) ≡ false
+pub runs : (s : Slot) (steps : List Step) → kept (world_of s) ≡ true → are_steps s steps ≡ true → is_stuck (led_to s steps) ≡ false
 runs s [] k m = never_stuck (world_of s) [] k refl
 runs s (x ∷ xs) k m =
     let parts = both (may s x) (are_steps (after s x) xs) m in
