@@ -33,6 +33,17 @@ own-early s moment none = by (nat_lt moment s.moment) (moment == s.moment) refl 
         let ne : moment ≢ s.moment = grind (arith, nat_tests) in
         ap (λ (o : Outcome). o.0.own) (ticked_before s moment le ne none)
 
+pub early-queues : (s : State) (moment : ℕ) → is_any_due s moment ≡ false → (ticked s moment).0.queues ≡ s.queues
+early-queues s moment none = by (nat_lt moment s.moment) (moment == s.moment) refl refl
+  where
+    by : (a b : Bool) → nat_lt moment s.moment ≡ a → (moment == s.moment) ≡ b → (ticked s moment).0.queues ≡ s.queues
+    by true b back same = rw back refl
+    by false true back same = rw (back, same) refl
+    by false false back same =
+        let le : s.moment ≤ moment = grind (arith, nat_tests) in
+        let ne : moment ≢ s.moment = grind (arith, nat_tests) in
+        ap (λ (o : Outcome). o.0.queues) (ticked_before s moment le ne none)
+
 pub early-own : (s now : State) (moment : ℕ) (reply : Reply) (notices : List Notice) → is_any_due s moment ≡ false → (now, reply, notices) ≡ step s (Tick moment) → now.own ≡ s.own
 unfolding step
 early-own s now moment reply notices none is = ap (λ (o : Outcome). o.0.own) is ∙ own-early s moment none

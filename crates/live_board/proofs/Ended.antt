@@ -45,7 +45,7 @@ regs-raised s p i = elim (raised_by (regs_of s p) i) as (λ o. (option_map_or (r
 queues-requested : (s : State) (p v : ℕ) → (requested s p v).0.queues ≡ s.queues
 queues-requested s p v = either (λ (e : Effect). e.0.queues ≡ s.queues) _ _ _ (λ _. refl) (λ _. refl)
 
-queues-raised : (s : State) (p i : ℕ) → (raised s p i).0.queues ≡ s.queues
+pub queues-raised : (s : State) (p i : ℕ) → (raised s p i).0.queues ≡ s.queues
 queues-raised s p i = elim (raised_by (regs_of s p) i) as (λ o. (option_map_or (requested s p) o (nothing s)).0.queues ≡ s.queues) [ None ↦ refl | Some v ↦ queues-requested s p v ]
 
 pub pages-requested : (s : State) (p v : ℕ) → (requested s p v).0.pages ≡ s.pages

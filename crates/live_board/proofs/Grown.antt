@@ -152,7 +152,7 @@ grows-fired n s t mode h low names =
     grows-trans n (Only t.0) s now (fired s t mode).0 (grows-same n (Only t.0) s now refl refl refl) (grows-signalled n now t mode (expiry_at s t).signal whole (omega (arith, low)) names)
 
 -- a due timer belongs to a processor on the board
-due-on : (n : ℕ) (s : State) (t : ℕ × ℕ) → IsIntact n s → is_due_in (bank_of s) t s.moment ≡ true → number_of t < 4 * n
+pub due-on : (n : ℕ) (s : State) (t : ℕ × ℕ) → IsIntact n s → is_due_in (bank_of s) t s.moment ≡ true → number_of t < 4 * n
 due-on n s t h due = split (cases_lt (number_of t) (4 * n))
   where
     split : (number_of t < 4 * n) ⊎ (4 * n ≤ number_of t) → number_of t < 4 * n
@@ -161,7 +161,7 @@ due-on n s t h due = split (cases_lt (number_of t) (4 * n))
         let never : is_due_in (bank_of s) t s.moment ≡ false = ap (λ o. option_map_or (λ d. nat_le d s.moment) o false) (h.whole.idle (number_of t) high) in
         absurd (cc)
 
-first-of : (a b : Bool) → (a && b) ≡ true → a ≡ true
+pub first-of : (a b : Bool) → (a && b) ≡ true → a ≡ true
 first-of true b e = refl
 first-of false b e = absurd (cc)
 

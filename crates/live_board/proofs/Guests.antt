@@ -100,11 +100,11 @@ timer-conserves p old now event reply owed notices h fits timed =
     let s : State = old.board.state in
     kept-by s now.board.state _ _ notices (fits-around _ _ event (fits-looks s p timed.looks (log_of old p Sim)) fits (fits-marks s p timed.marks (timed.stores ++ (timed.looks ++ log_of old p Sim)))) h timed.run
 
-fits-looked : (m k : ℕ) (s : State) (pages : List (List Access)) (looks : ℕ → List Access) → All PayloadFits (looked_from s pages looks k m)
+pub fits-looked : (m k : ℕ) (s : State) (pages : List (List Access)) (looks : ℕ → List Access) → All PayloadFits (looked_from s pages looks k m)
 fits-looked zero k s pages looks = All-nil PayloadFits
 fits-looked (suc m) k s pages looks = All-append PayloadFits _ (looked_from s pages looks (suc k) m) (fits-looks s k (looks k) (get_or pages (2 * k) [])) (fits-looked m (suc k) s pages looks)
 
-fits-marked : (m k : ℕ) (s : State) (pages : List (List Access)) (looks stores marks : ℕ → List Access) → All PayloadFits (marked_from s pages looks stores marks k m)
+pub fits-marked : (m k : ℕ) (s : State) (pages : List (List Access)) (looks stores marks : ℕ → List Access) → All PayloadFits (marked_from s pages looks stores marks k m)
 fits-marked zero k s pages looks stores marks = All-nil PayloadFits
 fits-marked (suc m) k s pages looks stores marks =
     All-append PayloadFits (marked_from s pages looks stores marks (suc k) m) _ (fits-marked m (suc k) s pages looks stores marks) (fits-marks s k (marks k) (stores k ++ (looks k ++ get_or pages (2 * k) [])))
@@ -133,30 +133,30 @@ settle-conserves p old now notices h t =
     kept-by s now.board.state (ea ++ eb) _ notices all h t.run
 
 -- only own pages and tickets of slots change
-abbrev Rest : State → State → Type 0
+abbrev pub Rest : State → State → Type 0
 Rest s now = now ≡ record s { own = now.own; slots = now.slots }
 
-rest-after : (s mid now : State) → Rest s mid → Rest mid now → Rest s now
+pub rest-after : (s mid now : State) → Rest s mid → Rest mid now → Rest s now
 rest-after s mid now h g = g ∙ ap (λ (t : State). record t { own = now.own; slots = now.slots }) h
 
-rest-store : (s : State) (p : ℕ) (k : Kind) (w found : ℕ) → IsShown s p k → w < 512 → Rest s (step s (store_of s p k w found)).0
+pub rest-store : (s : State) (p : ℕ) (k : Kind) (w found : ℕ) → IsShown s p k → w < 512 → Rest s (step s (store_of s p k w found)).0
 rest-store s p k w found shown low =
     let t : State = with_word s (overlay_of p k) w found in
     let is : (step s (store_of s p k w found)).0 ≡ record t { slots = (step s (store_of s p k w found)).0.slots } =
     ap (λ (o : Outcome). o.0) (stored-word s p k w found shown low) ∙ still-in t (owner_at p k) ∙ ap (λ (o : Outcome). record t { slots = o.0.slots }) (sym (stored-word s p k w found shown low)) in
     is ∙ ap (λ (l : List (List ℕ)). record s { own = l; slots = (step s (store_of s p k w found)).0.slots }) (sym (ap (λ (x : State). x.own) is))
 
-same-store : (s mid : State) (p : ℕ) (k : Kind) (w found : ℕ) → Rest s mid → store_of mid p k w found ≡ store_of s p k w found
+pub same-store : (s mid : State) (p : ℕ) (k : Kind) (w found : ℕ) → Rest s mid → store_of mid p k w found ≡ store_of s p k w found
 same-store s mid p k w found h = ap (λ n. event.Store (n * 4096 + 8 * w) (record { items = to_le_bytes w64 found })) (rest-number s mid p k h)
 
 -- loads alone, of words of a page
-abbrev AreOfPage : List Access → Type 0
+abbrev pub AreOfPage : List Access → Type 0
 AreOfPage [] = Unit {0}
 AreOfPage (Load w found ∷ news) = (w < 512) × AreOfPage news
 AreOfPage (FetchOr w mask found ∷ news) = ⊥
 AreOfPage (Store w value ∷ news) = ⊥
 
-looks-of : (n : ℕ) (news : List Access) → n ≤ 16 → AreLooks n news → AreOfPage news
+pub looks-of : (n : ℕ) (news : List Access) → n ≤ 16 → AreLooks n news → AreOfPage news
 looks-of zero news bound is = subst AreOfPage (sym is) tt
 looks-of (suc n) news bound (found, rest, is, more) = subst AreOfPage (sym is) (omega arith, looks-of n rest (omega arith) more)
 
@@ -164,7 +164,7 @@ loads-of : (n : ℕ) (news : List Access) → n ≤ 512 → AreLoads n news → 
 loads-of zero news bound is = subst AreOfPage (sym is) tt
 loads-of (suc n) news bound (found, rest, is, more) = subst AreOfPage (sym is) (omega arith, loads-of n rest (omega arith) more)
 
-page-run : (s : State) (p : ℕ) (k : Kind) (news log : List Access) → IsShown s p k → AreOfPage news → Rest s (run_of s (explained s p k news log)).0
+pub page-run : (s : State) (p : ℕ) (k : Kind) (news log : List Access) → IsShown s p k → AreOfPage news → Rest s (run_of s (explained s p k news log)).0
 unfolding run_of
 page-run s p k [] log shown of = refl
 page-run s p k (FetchOr w mask found ∷ rest) log shown of = absurd of
@@ -188,7 +188,7 @@ unfolding run_of
 no-loads s p k news log is = subst (λ l. Rest s (run_of s (explained s p k l log)).0) (sym is) refl
 
 -- whether an owner is that of an own page
-is-owner : (o : Owner) (p : ℕ) (k : Kind) → (o ≡ owner_at p k) ⊎ (o ≡ owner_at p k → ⊥)
+pub is-owner : (o : Owner) (p : ℕ) (k : Kind) → (o ≡ owner_at p k) ⊎ (o ≡ owner_at p k → ⊥)
 is-owner owner.Guest p kind.Sim = inr (λ e. cc)
 is-owner owner.Guest p kind.Sief = inr (λ e. cc)
 is-owner owner.Nothing p kind.Sim = inr (λ e. cc)
@@ -207,7 +207,7 @@ is-owner (owner.Sief q) p kind.Sief = by (cases_eq q p)
     by (inr ne) = inr (λ e. ne (cc))
 
 -- loads of a page that the guest sees, and none of one that it does not see
-page-changes : (s : State) (p : ℕ) (k : Kind) (news log : List Access) → (IsShown s p k → AreOfPage news) → ((IsShown s p k → ⊥) → news ≡ []) → Rest s (run_of s (explained s p k news log)).0
+pub page-changes : (s : State) (p : ℕ) (k : Kind) (news log : List Access) → (IsShown s p k → AreOfPage news) → ((IsShown s p k → ⊥) → news ≡ []) → Rest s (run_of s (explained s p k news log)).0
 page-changes s p k news log of none = by (is-owner (owner_of (space_of s) (number_at s p k)) p k)
   where
     by : (IsShown s p k) ⊎ (IsShown s p k → ⊥) → Rest s (run_of s (explained s p k news log)).0

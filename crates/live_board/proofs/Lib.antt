@@ -28,4 +28,7 @@ pub mod Clocked
 pub mod Calm
 pub mod Guests
 pub mod Woken
+pub mod Fired
 pub mod Remembered
+pub mod WokenTimers
+pub mod WokenTicks

@@ -38,7 +38,7 @@ after-append s p (a ∷ later) news log =
 
 marks-append : (later news : List Access) → AreMarks later → AreMarks news → AreMarks (later ++ news)
 marks-append [] news h g = g
-marks-append (FetchOr w mask found ∷ later) news (i, at, is, h) g = (i, at, is, marks-append later news h g)
+marks-append (FetchOr w mask found ∷ later) news (i, low, at, is, h) g = (i, low, at, is, marks-append later news h g)
 marks-append (Load w found ∷ later) news h g = absurd h
 marks-append (Store w value ∷ later) news h g = absurd h
 
@@ -92,15 +92,15 @@ known-marked was left header (inl e) knows full other = absurd (other (sym e ∙
 known-marked was left header (inr (some, is)) knows full other = is ∙ ap (λ n. bit_or n (2 ^ 40)) (sym (knows full))
 
 -- a slot that is marked
-pub marked-one : (s : State) (p i found : ℕ) (log : List Access) (now : State) (log-now : List Access) (before after : List Notice) → log-now ≡ FetchOr (32 * i) (2 ^ 40) found ∷ log → word_of s (2 * p) (32 * i) ≡ bit_or (known log (32 * i)) (2 ^ 40)
+pub marked-one : (s : State) (p i found : ℕ) (log : List Access) (now : State) (log-now : List Access) (before after : List Notice) → i < 16 → log-now ≡ FetchOr (32 * i) (2 ^ 40) found ∷ log → word_of s (2 * p) (32 * i) ≡ bit_or (known log (32 * i)) (2 ^ 40)
     → IsPassedOn s p Sim (32 * i) (bit_or found (2 ^ 40)) now before after → IsMarked s p i log now log-now (type_of found == 0) before after
-marked-one s p i found log now log-now before after page header on = record {
+marked-one s p i found log now log-now before after under page header on = record {
   emitted = on.emitted;
   notices = on.notices;
   few = on.few;
   news = FetchOr (32 * i) (2 ^ 40) found ∷ [];
   page = page;
-  marks = (i, refl, refl, tt);
+  marks = (i, under, refl, refl, tt);
   run = ap (run_of s) shows ∙ on.passed ∙ ap (λ (es : List Event). (now, all_done es, on.emitted)) (sym shows);
   word = subst (λ v. HasWord s (2 * p) (32 * i) v now) (sym on.word.here) on.word;
   here = ap (λ l. known l (32 * i)) page ∙ rw (same-true (32 * i) (32 * i) refl) (sym on.word.here);

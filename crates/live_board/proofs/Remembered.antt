@@ -22,13 +22,13 @@ memory-of (FetchOr x mask found) turns log w h of = rw of refl
 memory-of (Store x value) turns log w h of = rw of refl
 
 -- an access to another word
-known-other : (a : Access) (log : List Access) (w : ℕ) → is_of w a ≡ false → known (a ∷ log) w ≡ known log w
+pub known-other : (a : Access) (log : List Access) (w : ℕ) → is_of w a ≡ false → known (a ∷ log) w ≡ known log w
 known-other (Load x found) log w of = rw of refl
 known-other (FetchOr x mask found) log w of = rw of refl
 known-other (Store x value) log w of = rw of refl
 
 -- the word is marked, as the host knows it
-record Marks (word : ℕ) : Type 0 where
+pub record Marks (word : ℕ) : Type 0 where
   pub occupied : type_of word ≢ 0
   pub pending : is_pending word ≡ true
 
@@ -37,7 +37,7 @@ was i turns [] log is some marks h = absurd (cc)
 was i [] (b ∷ news) log is some marks h = absurd (cc)
 was i (by_guest x value ∷ turns) (b ∷ news) log is some marks h =
     let r = was i turns (b ∷ news) log is some marks h in
-    record { since = by_guest x value ∷ r.since; before = r.before; split = ap (λ l. by_guest x value ∷ l) r.split; call = r.call; within = r.within; occupied = r.occupied; pending = r.pending; untouched = r.untouched }
+    record { since = by_guest x value ∷ r.since; before = r.before; split = ap (λ l. by_guest x value ∷ l) r.split; call = r.call; within = r.within; accessed = r.accessed; occupied = r.occupied; pending = r.pending; untouched = r.untouched }
 was i (by_host a ∷ turns) (b ∷ news) log is some marks h = by (is_of (header i) a) refl (λ other. was i turns news log rest (later other) (less other) h.1)
   where
     first : b ≡ a
@@ -56,7 +56,7 @@ was i (by_host a ∷ turns) (b ∷ news) log is some marks h = by (is_of (header
     here of = subst Marks (ap (λ c. known (c ∷ (news ++ log)) (header i)) first ∙ sym (memory-of a turns (news ++ log) (header i) h of)) marks
 
     by : (c : Bool) → is_of (header i) a ≡ c → (is_of (header i) a ≡ false → WasMarked i log turns) → WasMarked i log (by_host a ∷ turns)
-    by true of more = record { since = []; before = by_host a ∷ turns; split = refl; call = b ∷ news; within = is; occupied = (here of).occupied; pending = (here of).pending; untouched = refl }
+    by true of more = record { since = []; before = by_host a ∷ turns; split = refl; call = b ∷ news; within = is; accessed = some; occupied = (here of).occupied; pending = (here of).pending; untouched = refl }
     by false of more =
         let r = more of in
         record {
@@ -65,6 +65,7 @@ was i (by_host a ∷ turns) (b ∷ news) log is some marks h = by (is_of (header
           split = ap (λ l. by_host a ∷ l) r.split;
           call = r.call;
           within = r.within;
+          accessed = r.accessed;
           occupied = r.occupied;
           pending = r.pending;
           untouched = ap (λ c. c || is_accessed (header i) (accesses r.since)) of ∙ r.untouched;

@@ -151,11 +151,11 @@ accessed-left : (w : ℕ) (a b : List Access) → is_accessed w a ≡ true → i
 accessed-left w [] b e = absurd (cc)
 accessed-left w (x ∷ a) b e = or-left (is_of w x) (is_accessed w a) (is_accessed w (a ++ b)) (λ h. accessed-left w a b h) e
 
-accessed-right : (w : ℕ) (a b : List Access) → is_accessed w b ≡ true → is_accessed w (a ++ b) ≡ true
+pub accessed-right : (w : ℕ) (a b : List Access) → is_accessed w b ≡ true → is_accessed w (a ++ b) ≡ true
 accessed-right w [] b e = e
 accessed-right w (x ∷ a) b e = or-right (is_of w x) (is_accessed w (a ++ b)) (accessed-right w a b e)
 
-same : (w : ℕ) → (w == w) ≡ true
+pub same : (w : ℕ) → (w == w) ≡ true
 same w = grind (arith, nat_tests)
 
 -- a probe accesses the header
@@ -172,7 +172,7 @@ probes-access s p (suc n) i news low waits (one, rest, is, first, more) = ap (is
     by later (inr ne) = accessed-right (header i) one rest (later (omega (arith, low, ne)))
 
 -- a processor that is on the board stays there
-on-after : (mid now : State) (p : ℕ) (event : Event) → PayloadFits event → IsSound mid → now ≡ (step mid event).0 → p < processors mid → p < processors now
+pub on-after : (mid now : State) (p : ℕ) (event : Event) → PayloadFits event → IsSound mid → now ≡ (step mid event).0 → p < processors mid → p < processors now
 on-after mid now p event fits sound state on = subst (λ n. p < n) (sym (ap processors state ∙ stays mid (step mid event).0 event (step mid event).1 (step mid event).2 fits sound refl)) on
 
 pub eom-marked : (old now : LiveModel) (p i number value : ℕ) (reply : Reply) (notices : List Notice) → IsSound old.board.state → HasShape now.board.state → HasRanges now.board.state → Shadows now.board.state now.pages

@@ -145,10 +145,10 @@ abbrev pub explained_after : State → ℕ → List Access → List Access → L
 explained_after s p [] log = []
 explained_after s p (a ∷ marks) log = explained_after s p marks log ++ marked_by s p a (marks ++ log)
 
--- marks alone
+-- marks of slots alone
 abbrev pub AreMarks : List Access → Type 0
 AreMarks [] = Unit {0}
-AreMarks (FetchOr w mask found ∷ marks) = (i : ℕ) × (w ≡ header i) × (mask ≡ pending_mask) × AreMarks marks
+AreMarks (FetchOr w mask found ∷ marks) = (i : ℕ) × (i < 16) × (w ≡ header i) × (mask ≡ pending_mask) × AreMarks marks
 AreMarks (Load w found ∷ marks) = ⊥
 AreMarks (Store w value ∷ marks) = ⊥
 

@@ -1,6 +1,7 @@
 -- The guest's wake-up for a message that stays queued (TLFS, "Message Delivery"): it finds MessagePending in the slot that it empties.
 use Rattle.std.specs.Prelude.{◌≡◌, ◌≢◌, ℕ, ◌==◌, ◌||◌, ◌++◌, Bool, true, false, List, [], ◌∷◌}
 use Rattle.board_terms.specs.declared.pages.Kind.TheVariants.{Sim}
+use Rattle.message_queues.specs.Queues.{queue_of}
 use Rattle.live_pages.specs.Slot.{known, header, type_of, is_pending}
 use Rattle.live_pages.specs.Traces.{Turn, memory, accesses}
 use Rattle.live_pages.specs.Protocol.{idle, cleared}
@@ -32,14 +33,19 @@ pub record IsLeftMarked (i : ℕ) (log now : List Access) : Type 0 where
 abbrev pub LeavesMarked : ℕ → ℕ → LiveModel → LiveModel → Type 0
 LeavesMarked p i old now = IsShown old.board.state p Sim → is_waiting now.board.state p i ≡ true → IsLeftMarked i (log_of old p Sim) (log_of now p Sim)
 
--- in a history of a page there was a time, after the host's accesses of a log, when the header of a slot was occupied and had
--- MessagePending in memory, and since then the host has not accessed it
+-- the same if other messages wait for the source than before the call, unless the processor is owed an EOM
+abbrev pub LeavesMarkedUnlessOwed : ℕ → ℕ → LiveModel → LiveModel → Bool → Type 0
+LeavesMarkedUnlessOwed p i old now owed = queue_of now.board.state.queues p i ≢ queue_of old.board.state.queues p i → owed ≡ false → LeavesMarked p i old now
+
+-- in a history of a page there was a time in a call, whose accesses follow a log, when the host had accessed the header of a slot and
+-- memory had it occupied and with MessagePending, and since then the host has not accessed it
 pub record WasMarked (i : ℕ) (log : List Access) (turns : List Turn) : Type 0 where
   pub since : List Turn
   pub before : List Turn
   pub split : turns ≡ since ++ before
   pub call : List Access
   pub within : accesses before ≡ call ++ log
+  pub accessed : is_accessed (header i) call ≡ true
   pub occupied : type_of (memory before (header i)) ≢ 0
   pub pending : is_pending (memory before (header i)) ≡ true
   pub untouched : is_accessed (header i) (accesses since) ≡ false

@@ -1,5 +1,5 @@
 // What a guest can do by its stores to live pages, and what it cannot.
-ghost use Rattle.std.specs.Prelude.{◌≡◌, ℕ, ◌<◌, ◌≤◌, ◌++◌, Bool, true, false, List, length, Some};
+ghost use Rattle.std.specs.Prelude.{◌≡◌, ℕ, ◌<◌, ◌≤◌, ◌++◌, Bool, true, false, List, length, slice_index_or, Some};
 ghost use Rattle.std.specs.List.{All};
 ghost use Rattle.board_terms.specs.declared.notices.Notice.{Notice};
 ghost use Rattle.board_terms.specs.declared.pages.Kind.{Kind};
@@ -23,7 +23,8 @@ ghost use Rattle.live_pages.specs.Slot.{known, header};
 ghost use Rattle.live_pages.specs.Traces.{Turn, IsHistory, accesses};
 ghost use Rattle.live_board.specs.Acting.{HasLookedAt, HasProbedAt};
 ghost use Rattle.live_board.specs.Settling.{IsSettled};
-ghost use Rattle.live_board.specs.Waking.{LeavesMarked, IsLeftMarked, WasMarked, MayFollow};
+ghost use Rattle.live_board.specs.Timers.{is_timer_write};
+ghost use Rattle.live_board.specs.Waking.{LeavesMarked, LeavesMarkedUnlessOwed, IsLeftMarked, WasMarked, MayFollow};
 ghost use Rattle.live_board.specs.Live.{LiveModel, Shadows, IsLive, IsQuietly, IsTimed, IsTicked, IsReset, IsObserved, IsOwnStore, explained, explained_after};
 
 /// Whatever the host finds in a live page, the events that explain it are stores of words of that
@@ -86,17 +87,23 @@ pub fn a_settle_changes_only_pages()
         → now.board.state ≡ record old.board.state { own = now.board.state.own; slots = now.board.state.slots } }
 {}
 
-/// A message that stays queued after a post or an EOM, with the SynIC and its message page enabled, is
-/// one that the guest asks for, if it sees the page: in this call the host accesses the header of the
-/// slot, and the last access finds or leaves it occupied and with MessagePending (`post`, `eom`).
-/// Memory has such a header at that access, and only others than the host write it later (`memory`).
-/// So a guest that empties the slot does it later, and finds MessagePending after its barrier: no
-/// steps of the protocol lead from there to a missed wake-up (`protocol`).
+/// A message that stays queued after a call, with the SynIC and its message page enabled, is one that
+/// the guest asks for, if it sees the page: in this call the host accesses the header of the slot, and
+/// the last access finds or leaves it occupied and with MessagePending. So it is after a post for the
+/// port's source, and after an EOM for each source of the processor (`post`, `eom`); after a write of
+/// a timer or a tick for each source where other messages wait than before, or the processor is owed
+/// an EOM (`timer`, `tick`). Memory has such a header after that access, and only others than the host
+/// write it later (`memory`). So a guest that empties the slot does it later, and finds MessagePending
+/// after its barrier: no steps of the protocol lead from there to a missed wake-up (`protocol`).
 pub fn a_waiting_message_is_marked()
     ensures post { (old now : LiveModel) (port kind ticket : ℕ) (payload : ArrayVec ℕ) (target : Port) (notices : List Notice) → IsSound old.board.state → length payload.items ≤ 240 → HasShape now.board.state → HasRanges now.board.state → Shadows now.board.state now.pages
         → IsLive old (Post port kind payload) now (Accepted ticket) notices → HasLookedAt port old now → port_at (ports_of old.board.state) port ≡ Some target → LeavesMarked target.vp target.sint old now }
     ensures eom { (old now : LiveModel) (p i number value : ℕ) (reply : Reply) (notices : List Notice) → IsSound old.board.state → HasShape now.board.state → HasRanges now.board.state → Shadows now.board.state now.pages
         → p < processors old.board.state → i < 16 → register_of number ≡ Some Eom → IsLive old (Write p number value) now reply notices → HasProbedAt p old now → LeavesMarked p i old now }
+    ensures timer { (old now : LiveModel) (p i number value : ℕ) (reply : Reply) (owed : Bool) (notices : List Notice) → IsSound old.board.state → HasShape now.board.state → HasRanges now.board.state → Shadows now.board.state now.pages
+        → p < processors old.board.state → i < 16 → is_timer_write (Write p number value) ≡ true → IsTimed p old (Write p number value) now reply owed notices → LeavesMarkedUnlessOwed p i old now owed }
+    ensures tick { (old now : LiveModel) (p i moment : ℕ) (reply : Reply) (owed : List Bool) (notices late : List Notice) → IsSound old.board.state → HasShape now.board.state → HasRanges now.board.state → Shadows now.board.state now.pages
+        → p < processors old.board.state → i < 16 → IsTicked old moment now reply owed notices late → LeavesMarkedUnlessOwed p i old now (slice_index_or owed p false) }
     ensures memory { (i : ℕ) (log now : List Access) (turns : List Turn) → IsLeftMarked i log now → IsHistory turns → accesses turns ≡ now → WasMarked i log turns }
     ensures protocol { (i : ℕ) (log now : List Access) (s : Slot) (steps : List Step) → IsLeftMarked i log now → MayFollow (known now (header i)) s → are_steps s steps ≡ true → is_stuck (led_to s steps) ≡ false }
 {}

@@ -1,4 +1,4 @@
-use Rattle.std.proofs.Common.{rules, ◌≡◌, ◌≢◌, ◌*◌, ◌^◌, ◌∷◌, sym, ap, ◌∙◌, subst}
+use Rattle.std.proofs.Common.{rules, ◌≡◌, ◌≢◌, ◌*◌, ◌^◌, ◌<◌, ◌∷◌, sym, ap, ◌∙◌, subst, arith}
 use Rattle.std.specs.Prelude.{bit_or}
 use Rattle.board_terms.specs.declared.pages.Kind.TheVariants.{Sim}
 use Rattle.live_pages.specs.Slot.{type_of}
@@ -27,10 +27,11 @@ returns c =
     let s = c.args.board.now.state in
     let slot : 32 * c.from-slot.result ≡ 32 * c.args.sint = search rules in
     let full : type_of c.args.was ≢ 0 = search rules in
+    let under : c.args.sint < 16 = omega arith in
     let other : c.own_word.result ≢ c.args.was = search rules in
     let header = ap (word_of s (2 * c.args.vp)) (sym slot) ∙ sym c.own_word.ensures in
     let set = known-marked _ _ _ c.requires.header c.requires.known full (λ e. other (sym header ∙ e)) in
     let on = subst (λ w. IsPassedOn s c.args.vp Sim w (bit_or c.fetch_or-found.result (2 ^ 40)) c.pass.new.board.state c.args.notices.now c.pass.new.notices) slot c.pass.ensures in
     let page = c.fetch_or-found.ensures ∙ ap (λ w. FetchOr w (2 ^ 40) c.fetch_or-found.result ∷ c.args.page.now) slot in
     subst (λ b. IsMarked s c.args.vp c.args.sint c.args.page.now c.pass.new.board.state c.fetch_or-found.new.self b c.args.notices.now c.pass.new.notices) (sym c.is_empty-2.ensures)
-    (marked-one _ _ _ _ _ _ _ _ _ page set on)
+    (marked-one _ _ _ _ _ _ _ _ _ under page set on)
