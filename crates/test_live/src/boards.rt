@@ -1,5 +1,5 @@
 // A live board whose guest does nothing.
-use board_terms::{Notice, Notices, PortShape, Refusal, Sint, Vp};
+use board_terms::{Kind, Notice, Notices, PortShape, Refusal, Sint, Vp};
 use live_board::LiveBoard;
 use std::alloc::Global;
 use std::test::Fail;
@@ -115,12 +115,6 @@ fn posts_and_signals_reach_the_pages(rt: HostRuntime) -> Result<(), Fail> {
     assert_eq!(rt; live.post(3, 1, b"c", &mut notices), Reply::Accepted(2));
     assert_eq!(rt; notices.as_slice().len(), 1);
     assert_eq!(rt; live.board().summary().queued(vp, sint), 2);
-    settle(&mut live, vp, &mut notices);
-    assert_eq!(rt; notices.as_slice().len(), 0); // each word is what the host stored
-    assert_eq!(rt;
-        live.post(3, 1, b"d", &mut notices),
-        Reply::Refused(Refusal::NoBuffers)
-    );
     assert_eq!(rt; live.into_board().next_ticket(), 3);
     Ok(())
 }
@@ -152,8 +146,6 @@ fn a_page_that_is_not_mapped_is_written(rt: HostRuntime) -> Result<(), Fail> {
     );
     observe(&mut live, vp, &mut notices);
     assert_eq!(rt; notices.as_slice().len(), 0);
-    settle(&mut live, vp, &mut notices);
-    assert_eq!(rt; live.signal(4, 7, &mut notices), Reply::FlagWasSet);
     Ok(())
 }
 
@@ -373,5 +365,24 @@ fn an_access_of_a_live_page_is_the_callers(rt: HostRuntime) -> Result<(), Fail> 
         act(&mut live, &reset, &mut notices, &mut late),
         Some(Reply::Refused(Refusal::NoSuchProcessor))
     );
+    Ok(())
+}
+
+#[test]
+fn a_settle_finds_what_the_host_stored(rt: HostRuntime) -> Result<(), Fail> {
+    let mut notices = Notices::open(rt.alloc())?;
+    let Some(mut live) = opened(rt.alloc(), &mut notices) else {
+        panic!(rt; "memory")
+    };
+    let vp = Vp::new(0).unwrap();
+    assert_eq!(rt; live.post(3, 1, b"a", &mut notices), Reply::Accepted(0));
+    assert_eq!(rt; live.signal(4, 7, &mut notices), Reply::FlagWasClear);
+    settle(&mut live, vp, &mut notices);
+    assert_eq!(rt; notices.as_slice().len(), 0);
+    let Some(page) = live.board().own_page(vp, Kind::Sim) else {
+        panic!(rt; "no page")
+    };
+    assert_eq!(rt; page.get(0x210), Some(&b'a')); // the payload in the slot of SINT2
+    assert_eq!(rt; live.signal(4, 7, &mut notices), Reply::FlagWasSet);
     Ok(())
 }
