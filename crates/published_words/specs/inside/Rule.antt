@@ -1,4 +1,4 @@
--- The rule of the words, and what each step tells.
+-- The rule of the words, and what each step reports.
 use Rattle.std.specs.Prelude.{◌≡◌, ◌≢◌, ℕ, ◌*◌, ◌≤◌, ◌<◌, ◌==◌, Bool, true, false, List, [], Some, length, slice_index, slice_set}
 use mathlib.Core.Option.{some}
 use mathlib.Core.List.{IsPrefix}
