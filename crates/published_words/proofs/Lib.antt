@@ -1,3 +1,4 @@
+pub mod Comparing
 pub mod Steps
 pub mod Stores
 pub mod Storing

@@ -18,7 +18,7 @@ use Rattle.synic_board.specs.State.{State, BoardModel}
 use Rattle.synic_board.specs.History.{leads_to}
 use Rattle.synic_board.specs.declared.history.Entry.{Entry}
 use Rattle.published_words.specs.declared.rule.View.{View}
-use Rattle.published_words.specs.declared.rule.View.TheVariants.{Writes, Marks, Reads, Spent}
+use Rattle.published_words.specs.declared.rule.View.TheVariants.{Writes, Marks, Reads, Compares, Spent}
 use Rattle.published_words.specs.Values.{next_of, word_count, word_at}
 use Rattle.published_words.specs.Words.{Logs, log_at, no_logs}
 use Rattle.published_words.specs.inside.Rule.{place_of, IsRight, AreOpening, AreSpread, HasValues, Knows, IsRuled, is_writer, is_mark, is_reader, loaded_as, begun_as, mark_of, raised}
@@ -57,7 +57,7 @@ opens key values words new placed =
     only (suc id) v at = absurd (some-ne-none v (sym at))
 
 -- setting a word to itself changes no word
-same-word : (words : List ℕ) (p x : ℕ) → p < length words → slice_index (set words p (slice_index words p)) x ≡ slice_index words x
+pub same-word : (words : List ℕ) (p x : ℕ) → p < length words → slice_index (set words p (slice_index words p)) x ≡ slice_index words x
 same-word words p x wide =
     dite (ℕ_discrete x p)
     (λ e. ap (slice_index (set words p (slice_index words p))) e ∙ get_or-set_same words p (slice_index words p) 0 wide ∙ ap (slice_index words) (sym e))
@@ -105,6 +105,7 @@ loads start slots id word i (Reads t j seen floor, c) is bare same there =
     (reads start slots id i j t seen floor (equal j word is ∙ sym same) there)
 loads start slots id word i (Writes t own, c) is bare same there = absurd (cc is)
 loads start slots id word i (Marks t own, c) is bare same there = absurd (cc is)
+loads start slots id word i (Compares t own j seen floor, c) is bare same there = absurd (cc is)
 loads start slots id word i (Spent, c) is bare same there = absurd (cc is)
 
 -- the load that makes a watcher
@@ -149,6 +150,7 @@ pub marks : (start : State) (id : ℕ) (v : View) → is_writer v ≡ true → S
 marks start id (Writes t own) is = checks start id t own
 marks start id (Marks t own) is = absurd (cc is)
 marks start id (Reads t i seen floor) is = absurd (cc is)
+marks start id (Compares t own i seen floor) is = absurd (cc is)
 marks start id Spent is = absurd (cc is)
 
 -- a watcher takes a checkpoint
@@ -178,9 +180,11 @@ pub raises : (start : State) (id other word : ℕ) (v w : View) → is_reader wo
 raises start id other word (Reads t i seen floor) (Marks u own) is mark = lifts start id other i t u seen floor own
 raises start id other word (Reads t i seen floor) (Writes u own) is mark = absurd (cc mark)
 raises start id other word (Reads t i seen floor) (Reads u j s f) is mark = absurd (cc mark)
+raises start id other word (Reads t i seen floor) (Compares u own j s f) is mark = absurd (cc mark)
 raises start id other word (Reads t i seen floor) Spent is mark = absurd (cc mark)
 raises start id other word (Writes t own) w is mark = absurd (cc is)
 raises start id other word (Marks t own) w is mark = absurd (cc is)
+raises start id other word (Compares t own j s f) w is mark = absurd (cc is)
 raises start id other word Spent w is mark = absurd (cc is)
 
 -- the values of a new publisher

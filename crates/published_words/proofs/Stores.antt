@@ -17,7 +17,7 @@ use Rattle.synic_board.specs.State.{State, BoardModel}
 use Rattle.synic_board.specs.History.{leads_to}
 use Rattle.synic_board.specs.declared.history.Entry.{Entry}
 use Rattle.published_words.specs.declared.rule.View.{View}
-use Rattle.published_words.specs.declared.rule.View.TheVariants.{Writes, Marks, Reads, Spent}
+use Rattle.published_words.specs.declared.rule.View.TheVariants.{Writes, Marks, Reads, Compares, Spent}
 use Rattle.published_words.specs.Values.{word_count, word_at}
 use Rattle.published_words.specs.Words.{Logs, log_at}
 use Rattle.published_words.specs.inside.Rule.{place_of, IsRight, Knows, IsRuled, logs_of, is_writer, stored_as}
@@ -29,6 +29,7 @@ grows start logs logs' writer id (Writes t own) more other know = absurd (other 
 grows start logs logs' writer id (Marks t own) more other know = (know.0, (λ i. prefix_trans (log_at own i) (log_at logs i) (log_at logs' i) (know.1 i) (more i)))
 grows start logs logs' writer id (Reads t i seen floor) more other know =
     (know.0, prefix_trans seen (log_at logs i) (log_at logs' i) know.1 (more i), prefix_trans floor (log_at logs i) (log_at logs' i) know.2 (more i))
+grows start logs logs' writer id (Compares t own i seen floor) more other know = absurd (other know.1)
 grows start logs logs' writer id Spent more other know = tt
 
 -- a store changes one history
@@ -88,4 +89,5 @@ stores start slots id i old new (Writes t own, c) history is bare there later ri
     (writes start slots id i old new t own history there later right was)
 stores start slots id i old new (Marks t own, c) history is bare there later right was = absurd (cc is)
 stores start slots id i old new (Reads t j seen floor, c) history is bare there later right was = absurd (cc is)
+stores start slots id i old new (Compares t own j seen floor, c) history is bare there later right was = absurd (cc is)
 stores start slots id i old new (Spent, c) history is bare there later right was = absurd (cc is)

@@ -9,7 +9,7 @@ use Rattle.synic_board.specs.State.{State, BoardModel}
 use Rattle.synic_board.specs.History.{leads_to}
 use Rattle.synic_board.specs.declared.history.Entry.{Entry}
 use Rattle.published_words.specs.declared.rule.View.{View}
-use Rattle.published_words.specs.declared.rule.View.TheVariants.{Writes, Marks, Reads, Spent}
+use Rattle.published_words.specs.declared.rule.View.TheVariants.{Writes, Marks, Reads, Compares, Spent}
 use Rattle.published_words.specs.Values.{word_count, word_at}
 use Rattle.published_words.specs.Words.{Logs, log_at}
 use Rattle.published_words.specs.inside.Rule.{place_of, IsRight, HasValues, IsStoredAt, start_of, logs_of, floor_of, is_writer, is_reader, with_log, Begins}
@@ -37,6 +37,7 @@ wrote-as : (i : ℕ) (h : List Entry) (before : View) → is_writer before ≡ t
 wrote-as i h (Writes t own) is = record { writer = refl; start = refl; logs = refl }
 wrote-as i h (Marks t own) is = absurd (cc is)
 wrote-as i h (Reads t j seen floor) is = absurd (cc is)
+wrote-as i h (Compares t own j seen floor) is = absurd (cc is)
 wrote-as i h Spent is = absurd (cc is)
 
 pub wrote : (i : ℕ) (h : List Entry) (before after : View) → is_writer before ≡ true → after ≡ with_log i h before → IsWritten i h before after

@@ -1,5 +1,5 @@
 -- The abstract state of the words, of their publisher and of the tokens that read them.
-use Rattle.std.specs.Prelude.{◌≡◌, ℕ, List, [], slice_index_or, replicate}
+use Rattle.std.specs.Prelude.{◌≡◌, ◌<◌, ℕ, List, [], slice_index_or, replicate}
 use mathlib.Core.List.{IsPrefix}
 use Rattle.atomic_table.specs.Seated.{TableId}
 use Rattle.synic_board.specs.State.{State}
@@ -43,6 +43,15 @@ pub record Watching : Type 0 where
 
 abbrev pub watching : Words → ℕ → List Entry → List Entry → Watching
 watching of word seen floor = record { of = of; word = word; seen = seen; floor = floor }
+
+-- a watcher of one of these words
+abbrev pub IsWatcher : Words → Watching → Type 0
+IsWatcher words w = (w.of ≡ words) × (w.word < word_count words.start)
+
+-- what a watcher has seen, and its floor, are prefixes of a history
+pub record IsWithin (history : List Entry) (w : Watching) : Type 0 where
+  pub seen : IsPrefix w.seen history
+  pub floor : IsPrefix w.floor history
 
 -- A load. The history of the value is legal; it begins with all that the watcher had seen, and with its floor.
 pub record IsLoaded (old new : Watching) : Type 0 where

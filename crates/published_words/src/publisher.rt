@@ -2,11 +2,12 @@
 ghost use Rattle.std.specs.Prelude.{◌≡◌, ◌<◌};
 ghost use mathlib.Core.List.{IsPrefix};
 ghost use Rattle.published_words.specs.Values.{word_count};
-ghost use Rattle.published_words.specs.Words.{log_at};
+ghost use Rattle.published_words.specs.Words.{log_at, IsWithin};
 ghost use Rattle.published_words.specs.Storing.{IsContinued, IsStored};
 ghost use Rattle.published_words.specs.inside.Rule.{IsRight, IsStoredAt};
 
-use crate::rule::{MarksOff, Stores, View};
+use crate::rule::{Copies, Finds, MarksOff, Meets, Stores, View};
+use crate::watcher::Watcher;
 use crate::words::{LINE, PublishedWords, deadline_value, next_value};
 use atomic_table::Seat;
 use board_terms::Vp;
@@ -110,5 +111,19 @@ impl Publisher {
         Checkpoint {
             seat: words.table.shared.split_seat::<MarksOff>(&mut self.seat),
         }
+    }
+
+    /// Compares a watcher with the publisher: what it has seen, and its floor, are prefixes of the
+    /// history of its word. Changes neither. Requires a publisher and a watcher of these words.
+    pub fn compare(&mut self, words: &PublishedWords, watcher: &mut Watcher)
+        requires own { self.old.of ≡ words.now }
+        requires watcher { watcher.old.of ≡ words.now }
+        ensures same { (self.new ≡ self.old) × (watcher.new ≡ watcher.old) }
+        ensures within { IsWithin (log_at self.old.logs watcher.old.word) watcher.old }
+    {
+        let shared = &words.table.shared;
+        let copy = shared.split_seat::<Copies>(&mut watcher.seat);
+        shared.join_seat::<Meets>(&mut self.seat, copy);
+        shared.load::<Finds>(&mut self.seat, 0);
     }
 }

@@ -25,6 +25,15 @@ pub enum View {
         seen: LinkedList<Entry>,
         floor: LinkedList<Entry>,
     },
+    /// The publisher, with what a watcher knows: they are these, and that of the watcher's word begins
+    /// with these two.
+    Compares {
+        start: Snapshot<Board>,
+        own: LinkedList<LinkedList<Entry>>,
+        word: u64,
+        seen: LinkedList<Entry>,
+        floor: LinkedList<Entry>,
+    },
     /// Nothing.
     Spent,
 }
@@ -90,4 +99,34 @@ impl Join<View> for Raises {
     ghost both = { raised };
 
     ghost spent = { Spent };
+}
+
+/// Splits a copy off a watcher.
+pub struct Copies;
+
+impl Split<View> for Copies {
+    ghost left = { λ v. v };
+
+    ghost right = { λ v. v };
+}
+
+/// The publisher takes the copy of a watcher.
+pub struct Meets;
+
+impl Join<View> for Meets {
+    ghost use Rattle.published_words.specs.inside.Rule.{met};
+    ghost use Rattle.published_words.specs.declared.rule.View.TheVariants.{Spent};
+
+    ghost both = { met };
+
+    ghost spent = { Spent };
+}
+
+/// A load by the publisher that compares what it took with what it knows.
+pub struct Finds;
+
+impl Play<History, View> for Finds {
+    ghost use Rattle.published_words.specs.inside.Rule.{compared_as};
+
+    ghost then = { compared_as };
 }

@@ -3,3 +3,4 @@ pub mod Rows
 pub mod Runs
 pub mod Absorbed
 pub mod Spread
+pub mod Watchers

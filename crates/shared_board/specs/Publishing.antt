@@ -1,4 +1,4 @@
--- The abstract state of a watched board under its lock, and what a call tells.
+-- The abstract state of a watched board under its lock, and what a call reports.
 use Rattle.std.specs.Prelude.{◌≡◌, ℕ, List}
 use Rattle.synic_board.specs.State.{State}
 use Rattle.synic_board.specs.declared.event.Event.{Event}

@@ -14,7 +14,7 @@ mod watched;
 mod watching;
 
 pub use actor::Actor;
-pub use laws::each_fresh_raise_is_absorbed_once;
+pub use laws::{a_watcher_sees_first_calls, each_fresh_raise_is_absorbed_once, two_watchers_agree};
 pub use locked::LockedBoard;
 pub use publishing::PublishingBoard;
 pub use shared::{Ended, SharedBoard};

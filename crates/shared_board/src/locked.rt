@@ -151,6 +151,7 @@ impl<S: Sharing> LockedBoard<S> {
     ) -> Result<Ended<S>, (LockedBoard<S>, Vec<Actor<S>>)>
         ensures ended { IfOk result (λ e. IsEnded S.start e.board.state e.history.entries actors.items) }
         ensures actors { IfOk result (λ e. e.actors.items ≡ actors.items) }
+        ensures history { IfOk result (λ e. e.history.entries ≡ self.history) }
         ensures kept { IfErr result (λ r. (r.0 ≡ self) × (r.1.items ≡ actors.items)) }
     {
         let mut locked = self;

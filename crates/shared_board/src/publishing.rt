@@ -1,7 +1,7 @@
 // What is under the lock of a watched board.
-ghost use Rattle.std.specs.Prelude.{◌≡◌, ◌+◌, ◌-◌, ◌^◌, ◌++◌, [], IfSome, IfNone, IfOk, IfErr, true};
+ghost use Rattle.std.specs.Prelude.{◌≡◌, ◌+◌, ◌-◌, ◌^◌, ◌++◌, [], IfSome, IfNone, IfOk, IfErr, All, true};
 ghost use Rattle.posted_words.specs.Words.{token};
-ghost use Rattle.published_words.specs.Words.{words_of, published, no_logs};
+ghost use Rattle.published_words.specs.Words.{words_of, published, no_logs, IsWatcher, IsWithin};
 ghost use Rattle.published_words.specs.Storing.{IsStored, IsCurrent};
 ghost use Rattle.synic_board.specs.State.{processors};
 ghost use Rattle.synic_board.specs.Performing.{Performs};
@@ -17,7 +17,7 @@ use crate::shared::Ended;
 use crate::watching::Watching;
 use board_terms::Notices;
 use posted_words::{PostedWords, Sweeper};
-use published_words::{Checkpoint, PublishedWords, Publisher};
+use published_words::{Checkpoint, PublishedWords, Publisher, Watcher};
 use std::marker::Model;
 use synic_board::{Board, Event, Reply};
 
@@ -139,6 +139,29 @@ impl<S: Watching> PublishingBoard<S> {
         self.publisher.checkpoint(words)
     }
 
+    /// Compares a watcher with the history: what it has seen, and its floor, are prefixes of it. Changes
+    /// neither. Requires a watcher of these words.
+    pub fn compare(&mut self, words: &PublishedWords, watcher: &mut Watcher)
+        requires words { words.now ≡ words_of S.table S.start }
+        requires watcher { IsWatcher words.now watcher.old }
+        ensures same { (self.new ≡ self.old) × (watcher.new ≡ watcher.old) }
+        ensures within { IsWithin self.old.shared.history watcher.old }
+    {
+        self.publisher.compare(words, watcher);
+    }
+
+    /// Compares each of these watchers.
+    pub(crate) fn compare_all(&mut self, words: &PublishedWords, watchers: &mut [Watcher])
+        requires words { words.now ≡ words_of S.table S.start }
+        requires watchers { All (λ w. IsWatcher words.now w) watchers.old }
+        ensures same { (self.new ≡ self.old) × (watchers.new ≡ watchers.old) }
+        ensures within { All (λ w. IsWithin self.old.shared.history w) watchers.old }
+    {
+        for index in 0..watchers.len() {
+            self.compare(words, &mut watchers[index]);
+        }
+    }
+
     /// The end of the sharing, if these are all actors, in the order of their numbers.
     pub(crate) fn end(
         self,
@@ -146,6 +169,7 @@ impl<S: Watching> PublishingBoard<S> {
     ) -> Result<Ended<S>, (PublishingBoard<S>, Vec<Actor<S>>)>
         ensures ended { IfOk result (λ e. IsEnded S.start e.board.state e.history.entries actors.items) }
         ensures actors { IfOk result (λ e. e.actors.items ≡ actors.items) }
+        ensures history { IfOk result (λ e. e.history.entries ≡ self.shared.history) }
         ensures kept { IfErr result (λ r. (r.0 ≡ self) × (r.1.items ≡ actors.items)) }
     {
         let PublishingBoard { locked, publisher } = self;

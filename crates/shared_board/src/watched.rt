@@ -1,7 +1,7 @@
 // The board with its lock and its words.
-ghost use Rattle.std.specs.Prelude.{◌≡◌, ◌++◌, [], true, IfOk, IfErr, IfSome};
+ghost use Rattle.std.specs.Prelude.{◌≡◌, ◌++◌, [], true, IfOk, IfErr, IfSome, All};
 ghost use Rattle.posted_words.specs.Words.{token};
-ghost use Rattle.published_words.specs.Words.{words_of, published, no_logs};
+ghost use Rattle.published_words.specs.Words.{words_of, published, no_logs, IsWatcher, IsWithin};
 ghost use Rattle.synic_board.specs.State.{processors};
 ghost use Rattle.synic_board.specs.declared.event.Event.TheVariants.{Absorb};
 ghost use Rattle.board_threads.specs.Sweeps.{is_refusal, sweep_in};
@@ -17,7 +17,7 @@ use crate::watching::Watching;
 use board_terms::Notices;
 use ghost_history::Roster;
 use posted_words::{PostedWords, Sweeper};
-use published_words::{Checkpoint, PublishedWords, Publisher};
+use published_words::{Checkpoint, PublishedWords, Publisher, Watcher};
 use std::sync::{Mutex, MutexGuard, Wait};
 use synic_board::{Board, Event, Reply};
 
@@ -128,8 +128,27 @@ impl<S: Watching> WatchedBoard<S> {
         ensures actors { IfOk result (λ e. e.actors.items ≡ actors.items) }
         ensures kept { IfErr result (λ r. r.1.items ≡ actors.items) }
     {
+        self.into_board_with_watchers(actors, &mut [])
+    }
+
+    /// Ends the sharing, with watchers of the words: what each has seen, and its floor, are prefixes of
+    /// the history of all calls. Changes no watcher.
+    pub fn into_board_with_watchers(
+        self,
+        actors: Vec<Actor<S>>,
+        watchers: &mut [Watcher],
+    ) -> Result<Ended<S>, (WatchedBoard<S>, Vec<Actor<S>>)>
+        requires watchers { All (λ w. IsWatcher (words_of S.table S.start) w) watchers.old }
+        ensures ended { IfOk result (λ e. IsEnded S.start e.board.state e.history.entries actors.items) }
+        ensures actors { IfOk result (λ e. e.actors.items ≡ actors.items) }
+        ensures same { watchers.new ≡ watchers.old }
+        ensures within { IfOk result (λ e. All (λ w. IsWithin e.history.entries w) watchers.old) }
+        ensures kept { IfErr result (λ r. r.1.items ≡ actors.items) }
+    {
         let WatchedBoard { words, locked } = self;
-        match locked.into_inner().end(actors) {
+        let mut locked = locked.into_inner();
+        locked.compare_all(&words, watchers);
+        match locked.end(actors) {
             Ok(ended) => Ok(ended),
             Err((locked, actors)) => Err((
                 WatchedBoard {

@@ -204,3 +204,65 @@ fn a_thread_polls_what_another_performs(rt: HostRuntime) -> Result<(), Fail> {
     let (words, publisher) = PublishedWords::open(rt.alloc(), &board)?;
     two_threads::<Brand, _>(&rt, rt.alloc(), Roster::new(), board, words, publisher)
 }
+
+/// A watcher is compared under the lock, and all watchers at the end, after the board was refused
+/// without its actor.
+fn compare_and_end<S: Watching, R: Wait + Abort>(
+    rt: &R,
+    alloc: Global,
+    shared: WatchedBoard<S>,
+) -> Result<(), Fail>
+    requires one { 0 < processors S.start }
+{
+    let mut notices = Notices::open(alloc)?;
+    let mut actor = shared.enroll(rt).ok_or("an actor")?;
+    let vector = Vector::new(0x50).ok_or("a vector")?;
+    let words = shared.words();
+    let mut next = words.watch_next(Vp::new(0).unwrap());
+    let deadline = words.watch_deadline();
+    shared.perform(
+        rt,
+        &mut actor,
+        &Event::Assert { vp: 0, vector },
+        &mut notices,
+    );
+    assert_eq!(rt; number_of(words.next_vector(&mut next)), 0x50);
+    shared.lock(rt).compare(words, &mut next);
+    let Err((shared, mut actors)) = shared.into_board(Vec::new(alloc)) else {
+        return Err(Fail::from("an actor is missing"));
+    };
+    let count = if actors.push(actor).is_ok() { 1 } else { 0 };
+    assert_eq!(rt; actors.len(), count);
+    assert!(rt;
+        shared
+            .into_board_with_watchers(actors, &mut [next, deadline])
+            .is_ok()
+    );
+    Ok(())
+}
+
+fn one_board<S: Watching, R: Wait + Abort>(
+    rt: &R,
+    alloc: Global,
+    roster: Roster,
+    board: Board,
+    words: PublishedWords,
+    publisher: Publisher,
+) -> Result<(), Fail>
+    requires name { roster.name ≡ S.name }
+    requires empty { roster.rows ≡ [] }
+    requires start { board.state ≡ S.start }
+    requires one { 0 < processors S.start }
+    requires words { words ≡ words_of S.table S.start }
+    requires publisher { publisher ≡ published (words_of S.table S.start) (no_logs S.start) }
+{
+    let shared = WatchedBoard::<S>::share(roster, board, words, publisher);
+    compare_and_end(rt, alloc, shared)
+}
+
+#[test]
+fn watchers_are_compared_at_the_end(rt: HostRuntime) -> Result<(), Fail> {
+    let board = Board::open(rt.alloc(), 1, 1, 0)?;
+    let (words, publisher) = PublishedWords::open(rt.alloc(), &board)?;
+    one_board::<Brand, _>(&rt, rt.alloc(), Roster::new(), board, words, publisher)
+}

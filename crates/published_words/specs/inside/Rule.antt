@@ -1,4 +1,4 @@
--- The rule of the words, and what each step tells.
+-- The rule of the words, and what each step reports.
 use Rattle.std.specs.Prelude.{◌≡◌, ◌≢◌, ℕ, ◌*◌, ◌≤◌, ◌<◌, ◌==◌, Bool, true, false, List, [], Some, length, slice_index, slice_set}
 use mathlib.Core.Option.{some}
 use mathlib.Core.List.{IsPrefix}
@@ -9,7 +9,7 @@ use Rattle.synic_board.specs.State.{State, opened, processors}
 use Rattle.synic_board.specs.History.{IsLegal, leads_to}
 use Rattle.synic_board.specs.declared.history.Entry.{Entry}
 use Rattle.published_words.specs.declared.rule.View.{View}
-use Rattle.published_words.specs.declared.rule.View.TheVariants.{Writes, Marks, Reads, Spent}
+use Rattle.published_words.specs.declared.rule.View.TheVariants.{Writes, Marks, Reads, Compares, Spent}
 use Rattle.published_words.specs.Values.{next_of, word_count, word_at}
 use Rattle.published_words.specs.Words.{Logs, log_at}
 use Rattle.published_words.specs.Storing.{after_store}
@@ -54,6 +54,8 @@ abbrev pub Knows : State → Logs → ℕ → ℕ → View → Type 0
 Knows start logs writer id (Writes s own) = (s.value.state ≡ start) × (id ≡ writer) × (own ≡ logs)
 Knows start logs writer id (Marks s own) = (s.value.state ≡ start) × ((i : ℕ) → IsPrefix (log_at own i) (log_at logs i))
 Knows start logs writer id (Reads s i seen floor) = (s.value.state ≡ start) × IsPrefix seen (log_at logs i) × IsPrefix floor (log_at logs i)
+Knows start logs writer id (Compares s own i seen floor) =
+    (s.value.state ≡ start) × (id ≡ writer) × (own ≡ logs) × IsPrefix seen (log_at logs i) × IsPrefix floor (log_at logs i)
 Knows start logs writer id Spent = Unit {0}
 
 -- the rule: each word has the value of its history, and no seat knows more than the histories
@@ -69,24 +71,28 @@ abbrev pub start_of : View → State
 start_of (Writes s own) = s.value.state
 start_of (Marks s own) = s.value.state
 start_of (Reads s i seen floor) = s.value.state
+start_of (Compares s own i seen floor) = s.value.state
 start_of Spent = opened 1 1 0
 
 abbrev pub logs_of : View → Logs
 logs_of (Writes s own) = own
 logs_of (Marks s own) = own
 logs_of (Reads s i seen floor) = []
+logs_of (Compares s own i seen floor) = own
 logs_of Spent = []
 
 abbrev pub seen_of : View → List Entry
 seen_of (Writes s own) = []
 seen_of (Marks s own) = []
 seen_of (Reads s i seen floor) = seen
+seen_of (Compares s own i seen floor) = []
 seen_of Spent = []
 
 abbrev pub floor_of : View → List Entry
 floor_of (Writes s own) = []
 floor_of (Marks s own) = []
 floor_of (Reads s i seen floor) = floor
+floor_of (Compares s own i seen floor) = []
 floor_of Spent = []
 
 -- whether a seat is that of the publisher, of a checkpoint, or of a watcher of a word
@@ -107,6 +113,7 @@ abbrev pub with_log : ℕ → List Entry → View → View
 with_log i log (Writes s own) = Writes s (slice_set own i log)
 with_log i log (Marks s own) = Marks s own
 with_log i log (Reads s word seen floor) = Reads s word seen floor
+with_log i log (Compares s own word seen floor) = Compares s own word seen floor
 with_log i log Spent = Spent
 
 abbrev pub stored_as : table.Step History → table.Me History View → ℕ → table.Me History View → Type 0
@@ -118,6 +125,7 @@ Sees place (Writes s own) found after = Unit {0}
 Sees place (Marks s own) found after = Unit {0}
 Sees place (Reads s i seen floor) found after =
     (log : List Entry) × (after ≡ Reads s i log floor) × IsPrefix seen log × IsPrefix floor log × IsRight s.value.state i log found
+Sees place (Compares s own i seen floor) found after = Unit {0}
 Sees place Spent found after = Unit {0}
 
 abbrev pub loaded_as : table.Step History → table.Me History View → ℕ → table.Me History View → Type 0
@@ -128,6 +136,7 @@ abbrev pub Begins : ℕ → View → View → Type 0
 Begins place (Writes s own) after = (i : ℕ) → place ≡ place_of i → (log : List Entry) × (after ≡ Reads s i log [])
 Begins place (Marks s own) after = Unit {0}
 Begins place (Reads s i seen floor) after = Unit {0}
+Begins place (Compares s own i seen floor) after = Unit {0}
 Begins place Spent after = Unit {0}
 
 abbrev pub begun_as : table.Step History → table.Me History View → ℕ → table.Me History View → Type 0
@@ -138,9 +147,23 @@ abbrev pub mark_of : View → View
 mark_of (Writes s own) = Marks s own
 mark_of (Marks s own) = Marks s own
 mark_of (Reads s i seen floor) = Spent
+mark_of (Compares s own i seen floor) = Spent
 mark_of Spent = Spent
 
 -- a watcher with the floor of a checkpoint
 abbrev pub raised : View → View → View
 raised (Reads s i seen floor) (Marks t own) = Reads s i seen (log_at own i)
 raised v w = v
+
+-- a publisher with what a watcher knows
+abbrev pub met : View → View → View
+met (Writes s own) (Reads t i seen floor) = Compares s own i seen floor
+met v w = v
+
+-- a publisher finds that the watcher knows no more than it does
+abbrev pub Compared : View → View → Type 0
+Compared (Compares s own i seen floor) after = (after ≡ Writes s own) × IsPrefix seen (log_at own i) × IsPrefix floor (log_at own i)
+Compared v after = Unit {0}
+
+abbrev pub compared_as : table.Step History → table.Me History View → ℕ → table.Me History View → Type 0
+compared_as s before found after = Compared before.0 after.0 × (after.1 ≡ before.1)
