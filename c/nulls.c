@@ -116,6 +116,17 @@ CALL(bool, synicboard_flag_page, board == NULL || page == NULL, CONST_BOARD(boar
 CALL(bool, synicboard_guest_page, board == NULL || page == NULL, CONST_BOARD(board) PLACE(page),
      (board, number, page), const synicboard *board, uint64_t number, const uint8_t **page)
 
+/* ---- Live pages ---- */
+
+CALL(synicboard_live_reply, synicboard_act_live, board == NULL || event == NULL,
+     BOARD(board) EVENT(event), (board, event), synicboard *board, const synicboard_event *event)
+EVENT_CALL(synicboard_observe, (board, vp), synicboard *board, uint8_t vp)
+EVENT_CALL(synicboard_observe_all, (board, vp), synicboard *board, uint8_t vp)
+LOOK(bool, synicboard_is_live, (board), const synicboard *board)
+CALL(size_t, synicboard_late_notices, board == NULL || room == NULL,
+     CONST_BOARD(board) ROOM(room, length, synicboard_notice), (board, room, length),
+     const synicboard *board, synicboard_notice *room, size_t length)
+
 /* ---- The reference TSC page ----
  *
  * These calls have no pointers. */

@@ -16,8 +16,8 @@
  * change nothing. Any number of threads may use one `synicboard_shared` at the same time, except while
  * it is opened or closed. Calls on different handles may run at the same time.
  *
- * Memory. Only these calls allocate: the open and split calls, the calls on texts, and the calls that
- * share a board, append to the history of a recorded board or write it. No event on a `synicboard` allocates. No call
+ * Memory. Only these calls allocate: the open and split calls, synicboard_make_live, the calls on texts, and the
+ * calls that share a board, append to the history of a recorded board or write it. No event on a `synicboard` allocates. No call
  * ends the program.
  *
  * Null pointers. Each call checks its pointers for null:
@@ -73,7 +73,9 @@ enum {
     SYNICBOARD_WRONG_LINE = 10,         /* `line` is the first wrong line, counted from 1 */
     SYNICBOARD_TOO_LONG = 11,           /* more than 1,073,741,824 bytes, and no line of these is wrong */
     SYNICBOARD_NO_TEXT = 12,            /* the text is null, and its length is not 0 */
-    SYNICBOARD_NOT_RECORDED = 13        /* the shared board has no history */
+    SYNICBOARD_NOT_RECORDED = 13,       /* the shared board has no history */
+    SYNICBOARD_IS_LIVE = 14,            /* the board has live pages, and the call serves only others */
+    SYNICBOARD_NOT_LIVE = 15            /* the board has no live pages */
 };
 
 /* Opens a board at time 0. The first message that it accepts gets the ticket `first_ticket`. Allocates
@@ -98,8 +100,8 @@ void synicboard_close(synicboard *board);
 
 /* Kinds of replies. The comment names the fields of synicboard_reply that the kind uses. */
 enum {
-    SYNICBOARD_NOT_PERFORMED = 0,       /* `fault` is the outcome: IS_CLOSED, NO_LINE, NO_EVENT, or NO_MEMORY if the
-                                           history of a recorded board cannot grow; nothing has changed */
+    SYNICBOARD_NOT_PERFORMED = 0,       /* `fault` is the outcome: IS_CLOSED, NO_LINE, NO_EVENT, IS_LIVE, NOT_LIVE, or NO_MEMORY
+                                           if the history of a recorded board cannot grow; nothing has changed */
     SYNICBOARD_DONE = 1,
     SYNICBOARD_VALUE = 2,               /* `value` */
     SYNICBOARD_BYTES = 3,               /* the first `length` of `bytes` */
@@ -167,7 +169,8 @@ enum {
  * One call for each kind of event. Each performs the event on the board and returns the reply. It
  * allocates nothing. With SYNICBOARD_NOT_PERFORMED, SYNICBOARD_REFUSED or
  * SYNICBOARD_GENERAL_PROTECTION, the board is unchanged. If the handle is closed, the fault is
- * SYNICBOARD_IS_CLOSED; each call names the arguments that yield SYNICBOARD_NO_EVENT.
+ * SYNICBOARD_IS_CLOSED; if the board has live pages, SYNICBOARD_IS_LIVE; each call names the arguments that
+ * yield SYNICBOARD_NO_EVENT.
  *
  * `vp` is the number of a processor, from 0. If it is not on the board, the refusal is
  * SYNICBOARD_NO_SUCH_PROCESSOR (for opening a port, SYNICBOARD_BAD_TARGET). "Replies:" lists the kinds
@@ -320,7 +323,8 @@ typedef struct synicboard_notice {
 #define SYNICBOARD_MOST_NOTICES 276
 
 /* Copies the notices of the last event, in order, as many as fit into `length` elements, and returns
- * how many there are; 0 if the handle is closed. An event that is refused or raises #GP has none. A call
+ * how many there are; 0 if the handle is closed. An event that is refused or raises #GP
+ * has none, apart from those of the guest's stores that were found in live pages. A call
  * that performs no event keeps the notices of the event before. */
 size_t synicboard_notices(const synicboard *board, synicboard_notice *room, size_t length);
 
@@ -525,6 +529,73 @@ bool synicboard_message_page(const synicboard *board, uint8_t vp, const uint8_t 
 bool synicboard_flag_page(const synicboard *board, uint8_t vp, const uint8_t **page);
 bool synicboard_guest_page(const synicboard *board, uint64_t number, const uint8_t **page);
 
+/* ---- Live pages ----
+ *
+ * A board with live pages has, beside its own message and event flags pages, a page of memory for each, which
+ * the host maps into the guest, readable and writable, where synicboard_owner says that the guest sees that
+ * page. The guest uses it without an exit: it reads a message, stores 0 in the message type, has a barrier,
+ * looks at MessagePending and writes EOM if it is set; it clears event flags by its own atomic instructions. It
+ * may store anything there at any time. The host must not store there. On an event the board accesses the live
+ * pages, by atomic accesses to aligned words of 64 bits, and learns what the guest has stored: the board
+ * performs these stores, and then the event. A message that the guest has consumed has its notice CONSUMED at
+ * the next event, or call of synicboard_observe, that looks at its slot.
+ *
+ * Of the calls that perform events, only synicboard_act_live, synicboard_absorb_line and synicboard_act_absorb serve
+ * such a board; for the others the fault, or the end of a batch, is SYNICBOARD_IS_LIVE. All queries serve it; those that
+ * return pages return the board's own, as it knows them. */
+
+/* Gives the board live pages, which have the bytes of its own pages; a processor that is in the guest must not
+ * see these any more. Stores the addresses of the live pages in `pages`, two for each processor: the message
+ * page of processor p in `pages[2 * p]`, its event flags page in `pages[2 * p + 1]`. Each is a page of 4096
+ * bytes at a multiple of 4096, and stays valid until the board is closed. Allocates all memory that events need.
+ *
+ * Returns SYNICBOARD_OK; SYNICBOARD_NO_HANDLE if `pages` is null; SYNICBOARD_IS_CLOSED if the board is closed;
+ * SYNICBOARD_IS_LIVE if it has live pages; or SYNICBOARD_NO_MEMORY if an allocation fails. Unless it returns
+ * SYNICBOARD_OK, nothing changes. */
+uint8_t synicboard_make_live(synicboard *board, uint8_t **pages);
+
+/* Whether the board has live pages. */
+bool synicboard_is_live(const synicboard *board);
+
+/* The reply to an event on a board that may have live pages. */
+typedef struct synicboard_live_reply {
+    synicboard_reply reply;
+    uint64_t owed;                      /* the processors that are owed an EOM: bit p for processor p */
+    uint16_t late;                      /* how many notices synicboard_late_notices has */
+} synicboard_live_reply;
+
+/* No event, and no synicboard_observe, emits more notices on a board with live pages, apart from the late ones. */
+#define SYNICBOARD_MOST_LIVE_NOTICES 320
+
+/* Performs an event that is given as a struct, on a board with live pages or without. A store or a load at a page
+ * where the guest sees a live page is refused as SYNICBOARD_ELSEWHERE: the caller performs it in the live page.
+ *
+ * An event that is refused changes nothing but what the guest's stores have changed, which were found first.
+ *
+ * If a bit of `owed` is set, a message waits for its processor whose slot the guest has emptied meanwhile, perhaps
+ * without a look at MessagePending: write 0 to SYNICBOARD_MSR_EOM of that processor next. Only SYNICBOARD_TICK
+ * and SYNICBOARD_WRITE of a timer's register set bits.
+ *
+ * The notices, those of the guest's stores first, are those that synicboard_notices returns. Only a
+ * SYNICBOARD_TICK may have late notices, of stores that were found after it. */
+synicboard_live_reply synicboard_act_live(synicboard *board, const synicboard_event *event);
+
+/* Copies the late notices of the last event, as many as fit into `length` elements, and returns how many there
+ * are, at most 128. */
+size_t synicboard_late_notices(const synicboard *board, synicboard_notice *room, size_t length);
+
+/* Looks at the message slots of a processor, if the guest sees its message page, so that the notices are those of
+ * the messages that it has consumed. The fault is SYNICBOARD_NOT_LIVE if the board has no live pages.
+ * Replies: DONE, REFUSED. */
+synicboard_reply synicboard_observe(synicboard *board, uint8_t vp);
+
+/* Looks at all words of both live pages of a processor that the guest sees: the board's own pages have what the guest
+ * has stored. Before synicboard_save, for each processor, while the guest does not run; and before a write of SIMP or
+ * SIEFP, since the board learns what is in a page that the guest sees no longer only when it sees it again. Notices
+ * and fault are those of synicboard_observe.
+ * Replies: DONE, REFUSED. */
+synicboard_reply synicboard_observe_all(synicboard *board, uint8_t vp);
+
 /* ---- The reference TSC page ---- */
 
 /* What a guest computes the reference time with, in units of 100 ns: ((tsc * scale) >> 64) + offset, in 64 bits
@@ -652,8 +723,8 @@ synicboard_reply synicboard_act_absorb(synicboard_shared *shared, uint8_t actor,
  * pointer is valid until the thread calls synicboard_release. Until then, the thread may make any call on the
  * board, such as all events of one exit of the guest, and must make no other call on the shared board. If it
  * closes the board, it opens or restores another one in the same handle before it releases the lock. On a
- * recorded board it must perform no event so, nor close it, since the history would lack that, and would be
- * legal no longer. */
+ * recorded board it must perform no event so, nor close it, nor give it live pages, since the history would lack
+ * that, and would be legal no longer. */
 synicboard *synicboard_hold(synicboard_shared *shared);
 
 /* Releases the lock. Does nothing if the handle is closed. */

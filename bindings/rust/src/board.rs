@@ -1,9 +1,9 @@
 //! A board: its events and queries.
 
-use crate::notice::Room;
+use crate::notice::{Room, ROOM};
 use crate::{
     beyond_the_header, sys, Changes, Event, Line, Moment, Notices, Owner, Owners, PortShape, Reply, Ticket,
-    TimerId, Vector, View, Vp, MOST_NOTICES,
+    TimerId, Vector, View, Vp,
 };
 use core::cell::UnsafeCell;
 use core::error::Error;
@@ -162,7 +162,7 @@ pub struct Timer {
 /// ```
 pub struct Board {
     // The library may be asked through a shared reference, and takes a mutable pointer for events.
-    handle: UnsafeCell<sys::synicboard>,
+    pub(crate) handle: UnsafeCell<sys::synicboard>,
     // Buffer for the notices of the last event. It costs nothing unless `notices` is called.
     room: Room,
     processors: u8,
@@ -185,6 +185,8 @@ macro_rules! ask {
         unsafe { sys::$call(handle $(, $argument)*) }
     }};
 }
+
+pub(crate) use ask;
 
 /// Returns a page for as long as the board is borrowed, if the library has one.
 macro_rules! lent {
@@ -470,7 +472,7 @@ impl Board {
     /// before the first event. [`Reply::NoEvent`] is no event: then these are still the notices of
     /// the event before.
     pub fn notices(&self) -> Notices<'_> {
-        let count = ask!(self, synicboard_notices, self.room.start(), MOST_NOTICES);
+        let count = ask!(self, synicboard_notices, self.room.start(), ROOM);
         // SAFETY: the library wrote `count` notices, or as many as fit into the buffer, which is
         // this board's, and a board is not `Sync`.
         unsafe { self.room.first(count) }

@@ -4,7 +4,8 @@
 //!
 //! These are bindings for the C library `libsynicboard.a`, whose code is proved to meet the
 //! specification that `docs/MACHINE.md` states in words. The host performs events on a [`Board`],
-//! which returns a [`Reply`] and emits [`Notices`]. The board has no clock, no thread and no
+//! which returns a [`Reply`] and emits [`Notices`]. On a [`LiveBoard`] a running guest uses
+//! its message and event flags pages at the same time. The board has no clock, no thread and no
 //! callback. Threads that share a board put it in a `Mutex<Board>`; a [`RecordedBoard`] has a lock
 //! and also records its history, for traces. Devices raise vectors without the lock through a [`Line`].
 //! `docs/EMBEDDING.md` describes the run loop of a host, and `examples/rust/loop.rs` is one.
@@ -24,6 +25,7 @@
 mod board;
 mod event;
 mod line;
+mod live;
 pub mod msr;
 mod notice;
 mod recorded;
@@ -37,6 +39,7 @@ mod view;
 pub use board::{Board, LocalApic, OpenFault, RestoreFault, Timer, PAGE_BYTES};
 pub use event::{Bytes, Bytes8, Event, PayloadBytes, PortShape};
 pub use line::{Line, Raised, SplitFault};
+pub use live::{LiveBoard, LiveReply};
 pub use notice::{Notice, Notices, MOST_NOTICES};
 pub use recorded::{NoEntry, NoticeRoom, RecordedBoard, Settled};
 pub use reply::{Refusal, Reply};

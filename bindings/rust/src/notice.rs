@@ -120,17 +120,20 @@ impl Notice {
     }
 }
 
+/// The capacity of a buffer: an event on a board with live pages may emit more notices than on others.
+pub(crate) const ROOM: usize = sys::SYNICBOARD_MOST_LIVE_NOTICES;
+
 /// A buffer for the notices of an event, which the library fills.
 pub(crate) struct Room {
-    notices: UnsafeCell<[MaybeUninit<sys::synicboard_notice>; MOST_NOTICES]>,
+    notices: UnsafeCell<[MaybeUninit<sys::synicboard_notice>; ROOM]>,
 }
 
 impl Room {
     pub(crate) fn new() -> Room {
-        Room { notices: UnsafeCell::new([MaybeUninit::uninit(); MOST_NOTICES]) }
+        Room { notices: UnsafeCell::new([MaybeUninit::uninit(); ROOM]) }
     }
 
-    /// Its start. It has capacity for [`MOST_NOTICES`].
+    /// Its start. It has capacity for [`ROOM`].
     pub(crate) fn start(&self) -> *mut sys::synicboard_notice {
         self.notices.get().cast()
     }
@@ -142,7 +145,7 @@ impl Room {
     /// That many were written, and no other thread writes to the buffer while the result is
     /// borrowed.
     pub(crate) unsafe fn first(&self, count: usize) -> Notices<'_> {
-        Notices { room: self, left: 0..count.min(MOST_NOTICES) }
+        Notices { room: self, left: 0..count.min(ROOM) }
     }
 }
 

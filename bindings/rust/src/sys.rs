@@ -56,6 +56,10 @@ pub const SYNICBOARD_TOO_LONG: u8 = 11;
 pub const SYNICBOARD_NO_TEXT: u8 = 12;
 /// Outcome: the shared board has no history.
 pub const SYNICBOARD_NOT_RECORDED: u8 = 13;
+/// Outcome: the board has live pages, and the call serves only others.
+pub const SYNICBOARD_IS_LIVE: u8 = 14;
+/// Outcome: the board has no live pages.
+pub const SYNICBOARD_NOT_LIVE: u8 = 15;
 
 /// Reply: no event was performed, for the reason in `fault`; nothing changed.
 pub const SYNICBOARD_NOT_PERFORMED: u8 = 0;
@@ -409,6 +413,21 @@ pub struct synicboard_owners {
     pub page: [synicboard_page_owner; 64],
 }
 
+/// No event, and no `synicboard_observe`, emits more notices on a board with live pages, apart from the late ones.
+pub const SYNICBOARD_MOST_LIVE_NOTICES: usize = 320;
+
+/// The reply to an event on a board that may have live pages.
+#[repr(C)]
+#[derive(Clone, Copy, PartialEq, Eq, Debug)]
+pub struct synicboard_live_reply {
+    /// The reply.
+    pub reply: synicboard_reply,
+    /// The processors that are owed an EOM: bit p for processor p.
+    pub owed: u64,
+    /// How many late notices there are.
+    pub late: u16,
+}
+
 /// A reference TSC page; all 0 if there is none.
 #[repr(C)]
 #[derive(Clone, Copy, PartialEq, Eq, Debug)]
@@ -611,6 +630,23 @@ extern "C" {
     pub fn synicboard_flag_page(board: *const synicboard, vp: u8, page: *mut *const u8) -> bool;
     /// Stores the address of a guest page, if there is one.
     pub fn synicboard_guest_page(board: *const synicboard, number: u64, page: *mut *const u8) -> bool;
+
+    /// Gives the board live pages, and stores their addresses, two for each processor.
+    pub fn synicboard_make_live(board: *mut synicboard, pages: *mut *mut u8) -> u8;
+    /// Whether the board has live pages.
+    pub fn synicboard_is_live(board: *const synicboard) -> bool;
+    /// Performs an event on a board with live pages or without.
+    pub fn synicboard_act_live(board: *mut synicboard, event: *const synicboard_event) -> synicboard_live_reply;
+    /// Copies the late notices of the last event, as many as fit, and returns how many there are.
+    pub fn synicboard_late_notices(
+        board: *const synicboard,
+        room: *mut synicboard_notice,
+        length: usize,
+    ) -> usize;
+    /// Looks at the message slots of a processor.
+    pub fn synicboard_observe(board: *mut synicboard, vp: u8) -> synicboard_reply;
+    /// Looks at all words of both live pages of a processor.
+    pub fn synicboard_observe_all(board: *mut synicboard, vp: u8) -> synicboard_reply;
 
     /// A reference TSC page for a TSC of `hz` ticks a second; all 0 if it is too slow.
     pub fn synicboard_tsc_page_at(hz: u64, tsc: u64, time: u64) -> synicboard_tsc_page;

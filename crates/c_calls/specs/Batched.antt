@@ -1,5 +1,7 @@
 -- What a batch does to the board that a handle owns, and what it returns.
 use Rattle.std.specs.Prelude.{◌≡◌, List, length, map, Option, Some, None}
+use Rattle.c_handles.specs.declared.any_board.AnyBoard.{AnyBoard}
+use Rattle.c_handles.specs.declared.any_board.AnyBoard.TheVariants.{Plain, Live}
 use Rattle.c_handles.specs.declared.board.BoardWithNotices.{BoardWithNotices}
 use Rattle.c_terms.specs.Batches.{Performed, batch, view_of}
 use Rattle.c_terms.specs.declared.event.CEvent.{CEvent}
@@ -25,8 +27,9 @@ pub record IsUntouched (replies_before replies_after : List CReply) (notices_bef
   pub done : result.done ≡ 0
   pub emitted : result.emitted ≡ 0
 
--- a batch on the board of a handle: without a board nothing happens
-abbrev pub IsBatch : Option BoardWithNotices → List CEvent → Option BoardWithNotices → List CReply → List CReply → List CNotice → List CNotice → CBatch → Type 0
-IsBatch (Some board) events (Some after) r0 r1 n0 n1 result = IsBatchPerformed (batch (view_of board) events) after r0 r1 n0 n1 result
-IsBatch (Some board) events None r0 r1 n0 n1 result = ⊥
+-- a batch on the board of a handle: without a board, or with one that has live pages, nothing happens
+abbrev pub IsBatch : Option AnyBoard → List CEvent → Option AnyBoard → List CReply → List CReply → List CNotice → List CNotice → CBatch → Type 0
+IsBatch (Some (Plain board)) events (Some (Plain after)) r0 r1 n0 n1 result = IsBatchPerformed (batch (view_of board) events) after r0 r1 n0 n1 result
+IsBatch (Some (Plain board)) events after r0 r1 n0 n1 result = ⊥
+IsBatch (Some (Live board)) events after r0 r1 n0 n1 result = (after ≡ Some (Live board)) × IsUntouched r0 r1 n0 n1 result
 IsBatch None events after r0 r1 n0 n1 result = (after ≡ None) × IsUntouched r0 r1 n0 n1 result

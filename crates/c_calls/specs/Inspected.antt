@@ -7,7 +7,8 @@ use Rattle.lapic_core.specs.Apic.{Apic, class, in_service_class}
 use Rattle.stimer_bank.specs.declared.timer.Timer.{Timer}
 use Rattle.stimer_bank.specs.Bank.{timer_in}
 use Rattle.synic_board.specs.State.{State, processors, apic_of, bank_of, slot_of}
-use Rattle.c_handles.specs.declared.board.BoardWithNotices.{BoardWithNotices}
+use Rattle.c_handles.specs.declared.any_board.AnyBoard.{AnyBoard}
+use Rattle.c_handles.specs.Kinds.{state_in}
 use Rattle.c_calls.specs.declared.inspect.CLapic.{CLapic}
 use Rattle.c_calls.specs.declared.inspect_parts.CTimer.{CTimer}
 
@@ -41,9 +42,9 @@ no_lapic = record {
 abbrev pub lapic_on : State → ℕ → CLapic
 lapic_on s vp = if nat_lt vp (processors s) then lapic_to_c (apic_of s vp) else no_lapic
 
-abbrev pub lapic_at : Option BoardWithNotices → ℕ → CLapic
+abbrev pub lapic_at : Option AnyBoard → ℕ → CLapic
 lapic_at None vp = no_lapic
-lapic_at (Some board) vp = lapic_on board.board.state vp
+lapic_at (Some board) vp = lapic_on (state_in board) vp
 
 -- a timer, with its deadline as two words
 abbrev pub timer_to_c : Timer → CTimer
@@ -62,17 +63,17 @@ no_timer = record { is_due = false; config = 0; count = 0; low = 0; high = 0 }
 abbrev pub timer_on : State → ℕ → ℕ → CTimer
 timer_on s vp index = if nat_lt vp (processors s) && nat_lt index 4 then timer_to_c (timer_in (bank_of s) (vp, index)) else no_timer
 
-abbrev pub timer_at : Option BoardWithNotices → ℕ → ℕ → CTimer
+abbrev pub timer_at : Option AnyBoard → ℕ → ℕ → CTimer
 timer_at None vp index = no_timer
-timer_at (Some board) vp index = timer_on board.board.state vp index
+timer_at (Some board) vp index = timer_on (state_in board) vp index
 
 -- the ticket in the slot of a source, if there is one
 abbrev pub slot_on : State → ℕ → ℕ → Option Ticket
 slot_on s vp sint = if nat_lt vp (processors s) && nat_lt sint 16 then slot_of s vp sint else None
 
-abbrev pub slot_at : Option BoardWithNotices → ℕ → ℕ → Option Ticket
+abbrev pub slot_at : Option AnyBoard → ℕ → ℕ → Option Ticket
 slot_at None vp sint = None
-slot_at (Some board) vp sint = slot_on board.board.state vp sint
+slot_at (Some board) vp sint = slot_on (state_in board) vp sint
 
 -- the ticket was stored, or there is none
 abbrev pub StoresTicket : Option Ticket → Bool → Ticket → Ticket → Type 0

@@ -6,6 +6,7 @@ pub mod Views
 pub mod Opened
 pub mod Texts
 pub mod Lines
+pub mod Live
 pub mod Recorded
 pub mod Outcomes
 pub mod Tsc

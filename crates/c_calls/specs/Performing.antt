@@ -1,9 +1,10 @@
 -- What a call does to the board that a handle owns, and what it returns.
 use Rattle.std.specs.Prelude.{◌≡◌, ℕ, nat_lt, Option, Some, None, List, length, if◌then◌else◌}
 use Rattle.board_terms.specs.declared.notices.Notice.{Notice}
-use Rattle.c_handles.specs.declared.board.BoardWithNotices.{BoardWithNotices}
+use Rattle.c_handles.specs.declared.any_board.AnyBoard.{AnyBoard}
+use Rattle.c_handles.specs.declared.any_board.AnyBoard.TheVariants.{Plain, Live}
 use Rattle.c_terms.specs.declared.reply.CReply.{CReply}
-use Rattle.c_terms.specs.declared.reply.Fault.TheVariants.{Closed, NoEvent}
+use Rattle.c_terms.specs.declared.reply.Fault.TheVariants.{Closed, IsLive, NoEvent}
 use Rattle.c_terms.specs.Replies.{reply_to_c, fault_to_c}
 use Rattle.synic_board.specs.declared.event.Event.{Event}
 use Rattle.synic_board.specs.declared.event.Event.TheVariants.{Post, Store, Assert}
@@ -15,16 +16,18 @@ use Rattle.synic_board.specs.Step.{step}
 abbrev pub outcome_to_c : Outcome → State × CReply × List Notice
 outcome_to_c (s, reply, notices) = (s, reply_to_c reply (length notices), notices)
 
--- the board and the notices are those of an outcome
-abbrev pub IsOutcome : State × CReply × List Notice → Option BoardWithNotices → CReply → Type 0
-IsOutcome outcome (Some board) reply = (board.board.state, reply, board.notices) ≡ outcome
+-- the board, which has no live pages, and the notices are those of an outcome
+abbrev pub IsOutcome : State × CReply × List Notice → Option AnyBoard → CReply → Type 0
+IsOutcome outcome (Some (Plain board)) reply = (board.board.state, reply, board.notices) ≡ outcome
+IsOutcome outcome (Some (Live board)) reply = ⊥
 IsOutcome outcome None reply = ⊥
 
--- a call performs an event on the board of a handle: without a board, or without an event, nothing changes
-abbrev pub IsPerformed : Option Event → Option BoardWithNotices → Option BoardWithNotices → CReply → Type 0
+-- a call performs an event on the board of a handle: without a board, with one that has live pages, or without an event, nothing changes
+abbrev pub IsPerformed : Option Event → Option AnyBoard → Option AnyBoard → CReply → Type 0
 IsPerformed event None after reply = (after ≡ None) × (reply ≡ fault_to_c Closed)
-IsPerformed None (Some board) after reply = (after ≡ Some board) × (reply ≡ fault_to_c NoEvent)
-IsPerformed (Some event) (Some board) after reply = IsOutcome (outcome_to_c (step board.board.state event)) after reply
+IsPerformed event (Some (Live board)) after reply = (after ≡ Some (Live board)) × (reply ≡ fault_to_c IsLive)
+IsPerformed None (Some (Plain board)) after reply = (after ≡ Some (Plain board)) × (reply ≡ fault_to_c NoEvent)
+IsPerformed (Some event) (Some (Plain board)) after reply = IsOutcome (outcome_to_c (step board.board.state event)) after reply
 
 -- a message has at most 240 bytes, a store at most 8, and a vector is at least 16; else there is no event
 abbrev pub post_from_c : ℕ → ℕ → List ℕ → Option Event

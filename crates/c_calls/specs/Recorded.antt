@@ -1,6 +1,7 @@
 -- What a call does to a board with its history, and what it returns.
 use Rattle.std.specs.Prelude.{◌≡◌, ◌⊎◌, ℕ, List, length, map, Option, Some, None}
 use Rattle.board_terms.specs.declared.notices.Notice.{Notice}
+use Rattle.c_handles.specs.declared.any_board.AnyBoard.TheVariants.{Plain}
 use Rattle.c_handles.specs.Histories.{HistoryModel, with_entry}
 use Rattle.c_handles.specs.Lines.{LineModel, IsSwept}
 use Rattle.c_handles.specs.Recorded.{Recorded}
@@ -31,7 +32,7 @@ buffer before after = record { before = before; after = after }
 
 -- the event was performed for an actor, with this outcome: its entry is the last one of the history, and its notices are at the front of the buffer
 pub record IsEntered (actor : ℕ) (event : Event) (outcome : State × CReply × List Notice) (old new : Recorded) (answer : CReply) (room : Buffer) : Type 0 where
-  pub performed : IsOutcome outcome (Some new.board) answer
+  pub performed : IsOutcome outcome (Some (Plain new.board)) answer
   pub entered : new.history ≡ with_entry old.history actor event (step old.board.board.state event).1
   pub copied : Fronts (map notice_to_c new.board.notices) room.before room.after
 

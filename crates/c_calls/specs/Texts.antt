@@ -4,7 +4,8 @@ use Rattle.text_lines.specs.declared.fault.ScriptFault.{ScriptFault}
 use Rattle.board_script.specs.Output.{fault_of, text}
 use Rattle.synic_board.specs.State.{State}
 use Rattle.text_image.specs.Image.{image}
-use Rattle.c_handles.specs.declared.board.BoardWithNotices.{BoardWithNotices}
+use Rattle.c_handles.specs.declared.any_board.AnyBoard.{AnyBoard}
+use Rattle.c_handles.specs.Kinds.{state_in}
 use Rattle.c_terms.specs.Rooms.{Fronts}
 use Rattle.c_calls.specs.declared.texts.CEnd.{CEnd}
 
@@ -54,6 +55,6 @@ pub record IsUnsaved (reason : ℕ) (room_before room_after : List ℕ) (end : C
   pub room : room_after ≡ room_before
 
 -- the image of an open board was written, or nothing, for lack of memory; nothing of a closed one
-abbrev pub IsSaved : Option BoardWithNotices → List ℕ → List ℕ → CEnd → Type 0
+abbrev pub IsSaved : Option AnyBoard → List ℕ → List ℕ → CEnd → Type 0
 IsSaved None room_before room_after end = IsUnsaved 4 room_before room_after end
-IsSaved (Some board) room_before room_after end = IsWrittenImage board.board.state room_before room_after end ⊎ IsUnsaved 2 room_before room_after end
+IsSaved (Some board) room_before room_after end = IsWrittenImage (state_in board) room_before room_after end ⊎ IsUnsaved 2 room_before room_after end

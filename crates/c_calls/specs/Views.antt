@@ -1,7 +1,7 @@
 -- What a run loop acts on, and which of it has changed.
 use Rattle.std.specs.Prelude.{◌≡◌, ◌≢◌, ◌↔◌, ◌<◌, ℕ, List, Option, slice_index_or}
 use Rattle.std.specs.Int.{bit_at}
-use Rattle.c_handles.specs.declared.board.BoardWithNotices.{BoardWithNotices}
+use Rattle.c_handles.specs.declared.any_board.AnyBoard.{AnyBoard}
 use Rattle.c_calls.specs.Looks.{next_vector_of, earliest_of, owner_at}
 use Rattle.c_calls.specs.declared.looks.COwner.{COwner}
 use Rattle.c_calls.specs.declared.views.CView.{CView}
@@ -14,7 +14,7 @@ abbrev pub owner_in : List COwner → ℕ → COwner
 owner_in owners page = slice_index_or owners page (record { kind = 0; vp = 0 })
 
 -- the next vector of each processor, and the earliest deadline, are those of a board
-pub record IsView (board : Option BoardWithNotices) (view : CView) : Type 0 where
+pub record IsView (board : Option AnyBoard) (view : CView) : Type 0 where
   pub nexts : (p : ℕ) → p < 8 → vector_in view.next p ≡ next_vector_of board p
   pub earliest : view.earliest ≡ earliest_of board
 
@@ -25,7 +25,7 @@ pub record MarksView (word : ℕ) (old new : CView) : Type 0 where
   pub others : (i : ℕ) → 8 < i → i < 64 → bit_at word i ≡ 0
 
 -- the owner of each page is that of a board
-abbrev pub AreOwners : Option BoardWithNotices → List COwner → Type 0
+abbrev pub AreOwners : Option AnyBoard → List COwner → Type 0
 AreOwners board owners = (page : ℕ) → page < 64 → owner_in owners page ≡ owner_at board page
 
 -- bit i of a word is set iff the owner of page i differs

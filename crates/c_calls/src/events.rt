@@ -1,5 +1,5 @@
 // One call for each kind of event.
-ghost use Rattle.std.specs.Prelude.{◌≡◌, Some};
+ghost use Rattle.std.specs.Prelude.{◌≡◌, ◌≤◌, Some, length};
 ghost use Rattle.c_terms.specs.Events.{event_from_c};
 ghost use Rattle.c_calls.specs.Looks.{earliest_of};
 ghost use Rattle.c_calls.specs.Performing.{IsPerformed, post_from_c, store_from_c, assert_from_c};
@@ -9,7 +9,7 @@ ghost use Rattle.board_terms.specs.declared.messages.PortShape.TheVariants as sh
 use crate::looks::{CDeadline, earliest_on};
 use crate::perform_on::{no_event, perform_on};
 use board_terms::{PortShape, Vector};
-use c_handles::BoardHandle;
+use c_handles::{AnyBoard, BoardHandle};
 use c_terms::{CEvent, CReply, Fault, fault_to_c, perform_c, reply_to_c};
 use synic_board::Event;
 
@@ -114,11 +114,23 @@ pub extern "C" fn synicboard_post(
         return no_event(handle);
     }
     match handle.board_mut() {
-        Some(board) => {
+        Some(board) => post_in(board, port, message_type, payload),
+        None => fault_to_c(Fault::Closed),
+    }
+}
+
+/// Posts a message on a board, if it has no live pages.
+#[inline(always)]
+fn post_in(board: &mut AnyBoard, port: u8, message_type: u32, payload: &[u8]) -> CReply
+    requires { length payload.now ≤ 240 }
+    ensures { IsPerformed (post_from_c port message_type payload.now) (Some board.old) (Some board.new) result }
+{
+    match board {
+        AnyBoard::Plain(board) => {
             let reply = board.post(port, message_type, payload);
             reply_to_c(reply, board.notices.as_slice().len() as u16)
         }
-        None => fault_to_c(Fault::Closed),
+        AnyBoard::Live(_) => fault_to_c(Fault::IsLive),
     }
 }
 
@@ -158,11 +170,23 @@ pub extern "C" fn synicboard_store(handle: &mut BoardHandle, address: u64, bytes
         return no_event(handle);
     }
     match handle.board_mut() {
-        Some(board) => {
+        Some(board) => store_in(board, address, bytes),
+        None => fault_to_c(Fault::Closed),
+    }
+}
+
+/// Stores bytes on a board, if it has no live pages.
+#[inline(always)]
+fn store_in(board: &mut AnyBoard, address: u64, bytes: &[u8]) -> CReply
+    requires { length bytes.now ≤ 8 }
+    ensures { IsPerformed (store_from_c address bytes.now) (Some board.old) (Some board.new) result }
+{
+    match board {
+        AnyBoard::Plain(board) => {
             let reply = board.store(address, bytes);
             reply_to_c(reply, board.notices.as_slice().len() as u16)
         }
-        None => fault_to_c(Fault::Closed),
+        AnyBoard::Live(_) => fault_to_c(Fault::IsLive),
     }
 }
 
@@ -234,11 +258,22 @@ pub extern "C" fn synicboard_reset(handle: &mut BoardHandle, vp: u8) -> CReply
 pub extern "C" fn synicboard_perform(handle: &mut BoardHandle, plain: &CEvent) -> CReply
     ensures { IsPerformed (event_from_c plain.now) handle.old.board handle.new.board result }
 {
-    let Some(board) = handle.board_mut() else {
-        return fault_to_c(Fault::Closed);
-    };
-    match perform_c(&mut board.board, &mut board.notices, plain) {
-        Some(reply) => reply_to_c(reply, board.notices.as_slice().len() as u16),
-        None => fault_to_c(Fault::NoEvent),
+    match handle.board_mut() {
+        Some(board) => perform_plain_in(board, plain),
+        None => fault_to_c(Fault::Closed),
+    }
+}
+
+/// Performs an event that is given as a struct on a board, if it has no live pages.
+#[inline(always)]
+fn perform_plain_in(board: &mut AnyBoard, plain: &CEvent) -> CReply
+    ensures { IsPerformed (event_from_c plain.now) (Some board.old) (Some board.new) result }
+{
+    match board {
+        AnyBoard::Plain(board) => match perform_c(&mut board.board, &mut board.notices, plain) {
+            Some(reply) => reply_to_c(reply, board.notices.as_slice().len() as u16),
+            None => fault_to_c(Fault::NoEvent),
+        },
+        AnyBoard::Live(_) => fault_to_c(Fault::IsLive),
     }
 }

@@ -28,7 +28,7 @@ pub extern "C" fn synicboard_lapic(handle: &mut BoardHandle, vp: u8) -> CLapic
     ensures lapic { result ≡ lapic_at handle.old.board vp }
 {
     match handle.board_mut() {
-        Some(board) => of_board(&board.board, vp),
+        Some(board) => of_board(board.board(), vp),
         None => nothing(),
     }
 }

@@ -26,7 +26,7 @@ pub extern "C" fn synicboard_timer(handle: &mut BoardHandle, vp: u8, index: u8) 
     ensures timer { result ≡ timer_at handle.old.board vp index }
 {
     match handle.board_mut() {
-        Some(board) => timer_of_board(&board.board, vp, index),
+        Some(board) => timer_of_board(board.board(), vp, index),
         None => nothing(),
     }
 }
@@ -87,7 +87,7 @@ pub extern "C" fn synicboard_slot(
     ensures slot { StoresTicket (slot_at handle.old.board vp sint) result ticket.old ticket.new }
 {
     let held = match handle.board_mut() {
-        Some(board) => slot_of_board(&board.board, vp, sint),
+        Some(board) => slot_of_board(board.board(), vp, sint),
         None => None,
     };
     match held {

@@ -7,6 +7,7 @@ mod events;
 mod inspect;
 mod inspect_parts;
 mod lines;
+mod live;
 mod looks;
 mod notices;
 mod opening;

@@ -7,7 +7,6 @@ use c_handles::{BoardHandle, LineHandle, OwnedLine, SplitFault};
 use c_terms::{CReply, Fault, fault_to_c, reply_to_c};
 use posted_words::{PostedFault, Raised};
 use std::alloc::Global;
-use synic_board::Event;
 
 /// Opens words for that many processors, with all bits clear, and their first line, in a closed
 /// handle. Returns 0; or 1 unless there are 1 to 8 processors, 2 if an allocation fails, 3 if the
@@ -121,10 +120,10 @@ pub extern "C" fn synicboard_absorb_line(
     let Some(held) = line.line_mut() else {
         return fault_to_c(Fault::NoLine);
     };
-    let bits = held.sweep_for(board.board.processors(), vp, part);
-    let reply = board.perform(&Event::Absorb { vp, part, bits });
+    let bits = held.sweep_for(board.board().processors(), vp, part);
+    let reply = board.absorb(vp, part, bits);
     CReply {
         value: bits,
-        ..reply_to_c(reply, board.notices.as_slice().len() as u16)
+        ..reply_to_c(reply, board.notices().len() as u16)
     }
 }

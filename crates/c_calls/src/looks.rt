@@ -45,7 +45,7 @@ pub extern "C" fn synicboard_next(handle: &mut BoardHandle, vp: u8) -> u8
     let (Some(board), Some(vp)) = (handle.board_mut(), Vp::new(vp)) else {
         return 0;
     };
-    match board.board.summary().next(vp) {
+    match board.board().summary().next(vp) {
         Some(vector) => vector.number(),
         None => 0,
     }
@@ -61,7 +61,7 @@ pub extern "C" fn synicboard_is_auto(handle: &mut BoardHandle, vp: u8, vector: u
         return false;
     };
     match handle.board_mut() {
-        Some(board) => board.board.summary().is_auto(vp, vector),
+        Some(board) => board.board().summary().is_auto(vp, vector),
         None => false,
     }
 }
@@ -73,7 +73,7 @@ pub extern "C" fn synicboard_owner(handle: &mut BoardHandle, page: u64) -> COwne
     ensures owner { result ≡ owner_at handle.old.board page }
 {
     match handle.board_mut() {
-        Some(board) => owner_to_c(board.board.owner(page)),
+        Some(board) => owner_to_c(board.board().owner(page)),
         None => owner_to_c(Owner::Nothing),
     }
 }
@@ -85,7 +85,7 @@ pub extern "C" fn synicboard_next_overlay(handle: &mut BoardHandle, from: u64) -
     ensures overlay { IsNextOverlayOf handle.old.board from result }
 {
     let next = match handle.board_mut() {
-        Some(board) => board.board.next_overlay(from),
+        Some(board) => board.board().next_overlay(from),
         None => None,
     };
     match next {
@@ -128,7 +128,7 @@ pub extern "C" fn synicboard_queued(handle: &mut BoardHandle, vp: u8, sint: u8) 
         return 0;
     };
     match handle.board_mut() {
-        Some(board) => board.board.summary().queued(vp, sint),
+        Some(board) => board.board().summary().queued(vp, sint),
         None => 0,
     }
 }
@@ -148,7 +148,7 @@ pub(crate) fn earliest_on(handle: &mut BoardHandle) -> CDeadline
     ensures due { result ≡ earliest_of handle.old.board }
 {
     let earliest = match handle.board_mut() {
-        Some(board) => board.board.summary().earliest(),
+        Some(board) => board.board().summary().earliest(),
         None => None,
     };
     deadline_to_c(earliest)
@@ -161,7 +161,7 @@ pub extern "C" fn synicboard_earliest_after(handle: &mut BoardHandle, moment: u6
     ensures due { result ≡ earliest_after_of handle.old.board moment }
 {
     let earliest = match handle.board_mut() {
-        Some(board) => board.board.earliest_after(moment),
+        Some(board) => board.board().earliest_after(moment),
         None => None,
     };
     deadline_to_c(earliest)
@@ -196,7 +196,7 @@ pub extern "C" fn synicboard_moment(handle: &mut BoardHandle) -> u64
     ensures moment { result ≡ time_of handle.old.board }
 {
     match handle.board_mut() {
-        Some(board) => board.board.moment(),
+        Some(board) => board.board().moment(),
         None => 0,
     }
 }
@@ -208,7 +208,7 @@ pub extern "C" fn synicboard_next_ticket(handle: &mut BoardHandle) -> u64
     ensures ticket { result ≡ next_ticket_of handle.old.board }
 {
     match handle.board_mut() {
-        Some(board) => board.board.next_ticket(),
+        Some(board) => board.board().next_ticket(),
         None => 0,
     }
 }

@@ -17,7 +17,7 @@ pub extern "C" fn synicboard_notices(handle: &mut BoardHandle, room: &mut [CNoti
     let Some(board) = handle.board_mut() else {
         return 0;
     };
-    let notices = board.notices.as_slice();
+    let notices = board.notices();
     put_plain(notices, room);
     notices.len()
 }

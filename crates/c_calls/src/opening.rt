@@ -2,13 +2,14 @@
 ghost use Rattle.std.specs.Prelude.{◌≡◌, ◌≢◌, ◌<◌, ◌↔◌, true, [], ◌∷◌, IsSome, IfSome, IsErrOf, None};
 ghost use Rattle.synic_board.specs.State.{AreSizes, IsCount};
 ghost use Rattle.text_restore.specs.Images.{FirstWrong};
+ghost use Rattle.c_handles.specs.declared.any_board.AnyBoard.TheVariants.{Plain};
 ghost use Rattle.c_calls.specs.Opened.{IsNewBoard, IsRestoredBoard};
 ghost use Rattle.c_calls.specs.inside.Opening.{IsPut};
 ghost use Rattle.c_calls.specs.Outcomes.{is_among};
 
 use crate::texts::{CEnd, not_written};
 use board_terms::Notices;
-use c_handles::{BoardHandle, BoardWithNotices};
+use c_handles::{AnyBoard, BoardHandle, BoardWithNotices};
 use std::alloc::Global;
 use synic_board::{Board, OpenFault};
 use text_restore::{RestoreEnd, restore};
@@ -82,7 +83,7 @@ fn put_opened(
         Err(OpenFault::BadSize) => return 1,
         Err(OpenFault::Memory) => return 2,
     };
-    match Box::new(alloc, board) {
+    match Box::new(alloc, AnyBoard::Plain(board)) {
         Ok(board) => {
             let _ = handle.put(alloc, board);
             0
@@ -127,13 +128,13 @@ pub extern "C" fn synicboard_restore(alloc: Global, handle: &mut BoardHandle, im
 }
 
 /// A board without notices, as a handle owns it; `None` if an allocation failed.
-fn without_notices(alloc: Global, board: Board) -> Option<Box<BoardWithNotices>>
-    ensures { IfSome result (λ boxed. (boxed.value.board ≡ board) × (boxed.value.notices ≡ [])) }
+fn without_notices(alloc: Global, board: Board) -> Option<Box<AnyBoard>>
+    ensures { IfSome result (λ boxed. boxed.value ≡ Plain (record { board = board; notices = [] })) }
 {
     let Ok(notices) = Notices::open(alloc) else {
         return None;
     };
-    Box::new(alloc, BoardWithNotices { board, notices }).ok()
+    Box::new(alloc, AnyBoard::Plain(BoardWithNotices { board, notices })).ok()
 }
 
 /// Frees the board of a handle, and closes the handle.

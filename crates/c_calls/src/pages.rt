@@ -45,7 +45,7 @@ fn own_page(handle: &mut BoardHandle, vp: u8, kind: Kind, page: &mut *const u8) 
     let (Some(board), Some(vp)) = (handle.board_mut(), Vp::new(vp)) else {
         return false;
     };
-    let Some(bytes) = board.board.own_page(vp, kind) else {
+    let Some(bytes) = board.board().own_page(vp, kind) else {
         return false;
     };
     *page = from_ref(&bytes[0]);
@@ -67,7 +67,7 @@ pub extern "C" fn synicboard_guest_page(
     let Some(board) = handle.board_mut() else {
         return false;
     };
-    let Some(bytes) = board.board.guest_page(number) else {
+    let Some(bytes) = board.board().guest_page(number) else {
         return false;
     };
     *page = from_ref(&bytes[0]);

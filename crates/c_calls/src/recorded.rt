@@ -1,12 +1,14 @@
 // A board with its history, as `c/shared.c` calls it under its lock.
-ghost use Rattle.std.specs.Prelude.{◌≡◌, ◌≢◌, ◌<◌, ◌↔◌, true, IsSome, None};
+ghost use Rattle.std.specs.Prelude.{◌≡◌, ◌≢◌, ◌<◌, ◌↔◌, true, IsSome, None, Some};
 ghost use Rattle.synic_board.specs.State.{AreSizes};
 ghost use Rattle.c_handles.specs.Recorded.{both, recorded_of, IsNewlyRecorded};
 ghost use Rattle.c_handles.specs.inside.Leading.{LeadsTo};
 ghost use Rattle.c_terms.specs.Events.{event_from_c};
 ghost use Rattle.c_calls.specs.Recorded.{buffer, absorb_by, IsActed, IsActedAbsorb, IsSettledTrace};
 
-use c_handles::{BoardHandle, HistoryHandle, LineHandle, RecordedHandle};
+use c_handles::{
+    AnyBoard, BoardHandle, History, HistoryHandle, LineHandle, OwnedLine, RecordedHandle,
+};
 use c_terms::{
     CEvent, CNotice, CReply, Fault, event_of, fault_to_c, put_bytes, put_plain, reply_to_c,
     trace_of,
@@ -106,6 +108,24 @@ fn act_on(
     let (Some(board), Some(history)) = (board.board_mut(), history.history_mut()) else {
         return fault_to_c(Fault::Closed);
     };
+    act_in(board, history, actor, plain, room)
+}
+
+/// `act_on` on a board and its history.
+fn act_in(
+    board: &mut AnyBoard,
+    history: &mut History,
+    actor: u8,
+    plain: &CEvent,
+    room: &mut [CNotice],
+) -> CReply
+    requires { LeadsTo (Some history.old) (Some board.old) }
+    ensures leads { LeadsTo (Some history.new) (Some board.new) }
+    ensures acted { IsActed actor (event_from_c plain.now) (both (Some board.old) (Some history.old)) (both (Some board.new) (Some history.new)) result (buffer room.old room.new) }
+{
+    let AnyBoard::Plain(board) = board else {
+        unreachable!()
+    };
     let Some(event) = event_of(plain) else {
         return fault_to_c(Fault::NoEvent);
     };
@@ -161,8 +181,28 @@ fn absorb_on(
     let (Some(board), Some(history)) = (board.board_mut(), history.history_mut()) else {
         return fault_to_c(Fault::Closed);
     };
-    let Some(line) = line.line_mut() else {
-        return fault_to_c(Fault::NoLine);
+    match line.line_mut() {
+        Some(line) => absorb_in(board, history, actor, line, vp, part, room),
+        None => fault_to_c(Fault::NoLine),
+    }
+}
+
+/// `absorb_on` on a board, its history and a line.
+fn absorb_in(
+    board: &mut AnyBoard,
+    history: &mut History,
+    actor: u8,
+    line: &mut OwnedLine,
+    vp: u8,
+    part: u8,
+    room: &mut [CNotice],
+) -> CReply
+    requires { LeadsTo (Some history.old) (Some board.old) }
+    ensures leads { LeadsTo (Some history.new) (Some board.new) }
+    ensures absorbed { IsActedAbsorb (absorb_by actor vp part) (both (Some board.old) (Some history.old), Some line.old) (both (Some board.new) (Some history.new), Some line.new) result (buffer room.old room.new) }
+{
+    let AnyBoard::Plain(board) = board else {
+        unreachable!()
     };
     match history.absorb(board, actor, line, vp, part) {
         Ok((value, reply)) => {
@@ -204,6 +244,17 @@ fn settle_on(
 {
     let (Some(board), Some(history)) = (board.board_mut(), history.history_mut()) else {
         return not_settled(4);
+    };
+    settle_in(alloc, board, history, room)
+}
+
+/// `settle_on` on a board and its history.
+fn settle_in(alloc: Global, board: &AnyBoard, history: &History, room: &mut [u8]) -> CSettled
+    requires { LeadsTo (Some history.now) (Some board.now) }
+    ensures { IsSettledTrace (both (Some board.now) (Some history.now)) room.old room.new result }
+{
+    let AnyBoard::Plain(board) = board else {
+        unreachable!()
     };
     let Ok(text) = trace_of(alloc, history, board.board.next_ticket()) else {
         return not_settled(2);

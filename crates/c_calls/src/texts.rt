@@ -78,7 +78,7 @@ pub extern "C" fn synicboard_save(alloc: Global, handle: &mut BoardHandle, room:
         return not_written(4, 0);
     };
     let mut image: Vec<u8> = Vec::new(alloc);
-    if put_image(&mut image, &board.board).is_err() {
+    if put_image(&mut image, board.board()).is_err() {
         return not_written(2, 0);
     }
     put_bytes(image.as_slice(), room);

@@ -76,7 +76,7 @@ pub extern "C" fn synicboard_update_owners(handle: &mut BoardHandle, owners: &mu
 }
 
 /// A word with a bit set or cleared; its other bits stay.
-fn with_bit(word: u64, bit: u8, set: bool) -> u64
+pub(crate) fn with_bit(word: u64, bit: u8, set: bool) -> u64
     requires { bit < 64 }
     ensures here { (bit_at result bit == 1) ≡ set }
     ensures others { (i : ℕ) → i < 64 → i ≢ bit → bit_at result i ≡ bit_at word i }

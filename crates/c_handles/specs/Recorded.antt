@@ -1,5 +1,7 @@
 -- A board with its history.
 use Rattle.std.specs.Prelude.{◌≡◌, ℕ, [], Option, Some, None}
+use Rattle.c_handles.specs.declared.any_board.AnyBoard.{AnyBoard}
+use Rattle.c_handles.specs.declared.any_board.AnyBoard.TheVariants.{Plain, Live}
 use Rattle.c_handles.specs.declared.board.BoardWithNotices.{BoardWithNotices}
 use Rattle.c_handles.specs.declared.recorded_handle.RecordedHandle.{RecordedHandle}
 use Rattle.c_handles.specs.Histories.{HistoryModel, history_model}
@@ -10,9 +12,10 @@ pub record Recorded : Type 0 where
   pub board : BoardWithNotices
   pub history : HistoryModel
 
--- those of a handle, if it is open
-abbrev pub both : Option BoardWithNotices → Option HistoryModel → Option Recorded
-both (Some board) (Some history) = Some (record { board = board; history = history })
+-- those of a handle, if it is open. A board with a history has no live pages
+abbrev pub both : Option AnyBoard → Option HistoryModel → Option Recorded
+both (Some (Plain board)) (Some history) = Some (record { board = board; history = history })
+both (Some (Live board)) (Some history) = None
 both (Some board) None = None
 both None history = None
 

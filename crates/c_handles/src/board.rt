@@ -1,9 +1,10 @@
 // A board together with the notices of its last event, for one caller.
-ghost use Rattle.std.specs.Prelude.{◌≡◌, ◌↔◌, ◌≤◌, [], length, IfOk, IsErrOf};
+ghost use Rattle.std.specs.Prelude.{◌≡◌, ◌↔◌, ◌≤◌, [], length, IfOk, IfErr, IsErrOf};
 ghost use Rattle.synic_board.specs.declared.event.Event.TheVariants.{Post, Store};
 ghost use Rattle.synic_board.specs.Performing.{Performs};
 ghost use Rattle.synic_board.specs.State.{AreSizes, IsCount, opened};
 
+use crate::LiveWithNotices;
 use board_terms::{Notices, Ticket};
 use std::alloc::Global;
 use synic_board::{Board, Event, OpenFault, Reply};
@@ -82,5 +83,18 @@ impl BoardWithNotices {
         ensures performs { Performs self.old.board (Store address (record { items = bytes.now })) self.new.board result self.new.notices }
     {
         self.board.store(address, bytes, &mut self.notices)
+    }
+
+    /// The board with live pages, without notices. If an allocation fails, returns it as it is.
+    pub fn into_live(self, alloc: Global) -> Result<LiveWithNotices, BoardWithNotices>
+        ensures live { IfOk result (λ held. held.live.board ≡ self.board) }
+        ensures notices { IfOk result (λ held. (held.notices ≡ []) × (held.late ≡ [])) }
+        ensures kept { IfErr result (λ back. back ≡ self) }
+    {
+        let BoardWithNotices { board, notices } = self;
+        match LiveWithNotices::open(alloc, board) {
+            Ok(live) => Ok(live),
+            Err(board) => Err(BoardWithNotices { board, notices }),
+        }
     }
 }

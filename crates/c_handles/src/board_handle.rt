@@ -1,12 +1,12 @@
 // A C handle of a board.
 ghost use Rattle.std.specs.Prelude.{◌≡◌, Option, None, Some, IfSome, IfNone};
-ghost use Rattle.c_handles.specs.contracts.board.BoardWithNotices.{the_row as board_row};
-ghost use Rattle.c_handles.specs.declared.board.BoardWithNotices.{BoardWithNotices as BoardValue};
+ghost use Rattle.c_handles.specs.contracts.any_board.AnyBoard.{the_row as board_row};
+ghost use Rattle.c_handles.specs.declared.any_board.AnyBoard.{AnyBoard as BoardValue};
 ghost use Rattle.c_handles.specs.inside.Owned.{owned, code_of};
 
 mod lend;
 
-use crate::BoardWithNotices;
+use crate::AnyBoard;
 use std::alloc::Global;
 use std::marker::Model;
 use std::mem::replace;
@@ -24,7 +24,7 @@ impl Model for BoardHandle {
     ghost also_owns = { λ h. owned board_row h.is_open h.at h.board };
 }
 
-// It owns at most a `Box<BoardWithNotices>`, which is `Send`.
+// It owns at most a `Box<AnyBoard>`, which is `Send`.
 unsafe impl Send for BoardHandle {}
 
 impl BoardHandle {
@@ -39,7 +39,7 @@ impl BoardHandle {
     }
 
     /// A handle that owns this board.
-    pub fn holding(board: Box<BoardWithNotices>) -> BoardHandle
+    pub fn holding(board: Box<AnyBoard>) -> BoardHandle
         ensures { result.board ≡ Some board.value }
     {
         let at = Box::into_raw(board);
@@ -50,7 +50,7 @@ impl BoardHandle {
     }
 
     /// The board of the handle, if it is open.
-    pub fn into_board(self, alloc: Global) -> Option<Box<BoardWithNotices>>
+    pub fn into_board(self, alloc: Global) -> Option<Box<AnyBoard>>
         ensures found { IfSome result (λ b. self.board ≡ Some b.value) }
         ensures none { IfNone result (self.board ≡ None) }
     {
@@ -58,12 +58,12 @@ impl BoardHandle {
         if !is_open {
             return None;
         }
-        let board = unsafe { Box::from_raw(alloc, at as *mut BoardWithNotices) };
+        let board = unsafe { Box::from_raw(alloc, at as *mut AnyBoard) };
         Some(board)
     }
 
     /// Removes the board and closes the handle.
-    pub fn take(&mut self, alloc: Global) -> Option<Box<BoardWithNotices>>
+    pub fn take(&mut self, alloc: Global) -> Option<Box<AnyBoard>>
         ensures found { IfSome result (λ b. self.old.board ≡ Some b.value) }
         ensures none { IfNone result (self.old.board ≡ None) }
         ensures after { self.new.board ≡ None }
@@ -72,11 +72,7 @@ impl BoardHandle {
     }
 
     /// Stores a board, and returns the previous one.
-    pub fn put(
-        &mut self,
-        alloc: Global,
-        board: Box<BoardWithNotices>,
-    ) -> Option<Box<BoardWithNotices>>
+    pub fn put(&mut self, alloc: Global, board: Box<AnyBoard>) -> Option<Box<AnyBoard>>
         ensures found { IfSome result (λ b. self.old.board ≡ Some b.value) }
         ensures none { IfNone result (self.old.board ≡ None) }
         ensures after { self.new.board ≡ Some board.value }

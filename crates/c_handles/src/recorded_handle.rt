@@ -1,13 +1,13 @@
 // A C handle of a board with its history.
 ghost use Rattle.c_handles.specs.inside.Leading.{LeadsTo, LeadsTo-prop};
 
-use crate::{BoardHandle, BoardWithNotices, History, HistoryHandle};
+use crate::{AnyBoard, BoardHandle, BoardWithNotices, History, HistoryHandle};
 use board_terms::Ticket;
 use std::alloc::Global;
 use synic_board::OpenFault;
 
 /// A C handle that owns an optional board with its history. Invariant: there are both or neither,
-/// and the history, which is legal, leads to the state of the board.
+/// and the history, which is legal, leads to the state of the board, which has no live pages.
 #[repr(C)]
 pub struct RecordedHandle {
     /// The board.
@@ -46,7 +46,10 @@ impl RecordedHandle {
     {
         let board = BoardWithNotices::open(alloc, processors, pages, first_ticket)?;
         let history = History::new(alloc, processors, pages, first_ticket);
-        let (Ok(board), Ok(history)) = (Box::new(alloc, board), Box::new(alloc, history)) else {
+        let (Ok(board), Ok(history)) = (
+            Box::new(alloc, AnyBoard::Plain(board)),
+            Box::new(alloc, history),
+        ) else {
             return Err(OpenFault::Memory);
         };
         Ok(RecordedHandle {

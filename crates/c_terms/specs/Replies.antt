@@ -8,7 +8,7 @@ use Rattle.synic_board.specs.declared.event.Reply.{Reply}
 use Rattle.synic_board.specs.declared.event.Reply.TheVariants.{Done, Value, Bytes, Taken, Accepted, FlagWasClear, FlagWasSet, GeneralProtection, Refused}
 use Rattle.c_terms.specs.declared.reply.CReply.{CReply}
 use Rattle.c_terms.specs.declared.reply.Fault.{Fault}
-use Rattle.c_terms.specs.declared.reply.Fault.TheVariants.{NoMemory, Closed, NoEvent, NoLine}
+use Rattle.c_terms.specs.declared.reply.Fault.TheVariants.{NoMemory, Closed, NoEvent, NoLine, IsLive, NotLive}
 use Rattle.c_terms.specs.Events.{bytes_from_c, vector_from_c}
 
 -- a kind, and how many notices there are; no other field used
@@ -24,6 +24,8 @@ fault_to_c NoMemory = record (empty_reply 0 0) { fault = 2 }
 fault_to_c Closed = record (empty_reply 0 0) { fault = 4 }
 fault_to_c NoEvent = record (empty_reply 0 0) { fault = 8 }
 fault_to_c NoLine = record (empty_reply 0 0) { fault = 7 }
+fault_to_c IsLive = record (empty_reply 0 0) { fault = 14 }
+fault_to_c NotLive = record (empty_reply 0 0) { fault = 15 }
 
 -- the encoding of a reply, with a number of notices
 abbrev pub reply_to_c : Reply → ℕ → CReply

@@ -43,6 +43,10 @@ pub enum Fault {
     NoEvent = 8,
     /// The handle of the line is closed.
     NoLine = 7,
+    /// The board has live pages, and the call serves only others.
+    IsLive = 14,
+    /// The board has no live pages.
+    NotLive = 15,
 }
 
 /// A reply of this kind with a number of notices, which uses no other field.

@@ -1,6 +1,6 @@
 // Open and closed handles. That a handle is `Send` is checked by the prover, at `crosses`: a
 // closure for a thread would have to be dropped, which a handle does not allow.
-use c_handles::{BoardHandle, BoardWithNotices, LineHandle, OwnedLine};
+use c_handles::{AnyBoard, BoardHandle, BoardWithNotices, LineHandle, OwnedLine};
 use std::alloc::Global;
 
 fn crosses<T: Send>(value: T) -> T {
@@ -11,11 +11,11 @@ fn crosses<T: Send>(value: T) -> T {
 fn processors_behind(mut handle: BoardHandle, alloc: Global) -> (Option<u8>, Option<u8>) {
     // README c_handles: begin
     let borrowed = match handle.board_mut() {
-        Some(board) => Some(board.board.processors()),
+        Some(board) => Some(board.board().processors()),
         None => None,
     };
     let taken = match handle.into_board(alloc) {
-        Some(board) => Some(board.board.processors()),
+        Some(board) => Some(board.board().processors()),
         None => None,
     };
     (borrowed, taken)
@@ -25,7 +25,7 @@ fn processors_behind(mut handle: BoardHandle, alloc: Global) -> (Option<u8>, Opt
 /// The handle of a board, or a closed one if an allocation fails.
 fn board_handle(alloc: Global, processors: u8) -> BoardHandle {
     match BoardWithNotices::open(alloc, processors, 1, 0) {
-        Ok(board) => match Box::new(alloc, board) {
+        Ok(board) => match Box::new(alloc, AnyBoard::Plain(board)) {
             Ok(board) => BoardHandle::holding(board),
             Err(_) => BoardHandle::closed(),
         },

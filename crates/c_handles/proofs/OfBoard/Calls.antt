@@ -5,12 +5,12 @@ use Rattle.std.proofs.alloc.Global.TheLaws as heap_laws
 use Rattle.std.specs.contracts.impls.GlobalAllocator.TheImpl.{ghosts}
 use Rattle.std.specs.contracts.boxed.Box as boxed
 use Rattle.std.proofs.boxed.Box.TheLaws as boxed_laws
-use Rattle.c_handles.specs.contracts.board.BoardWithNotices as board
-use Rattle.c_handles.proofs.board.BoardWithNotices.TheLaws as board_laws
-use Rattle.c_handles.proofs.c_handles++board++BoardWithNotices+Destruct.drop.Symbol as board_drop
-use Rattle.c_handles.proofs.c_handles++board++BoardWithNotices+Destruct.drop.Kinds as board_kinds
-use Rattle.c_handles.proofs.c_handles++board++BoardWithNotices+Destruct.drop.Reads as board_reads
-use Rattle.c_handles.proofs.c_handles++board++BoardWithNotices+Destruct.drop.Met as board_met
+use Rattle.c_handles.specs.contracts.any_board.AnyBoard as board
+use Rattle.c_handles.proofs.any_board.AnyBoard.TheLaws as board_laws
+use Rattle.c_handles.proofs.c_handles++any_board++AnyBoard+Destruct.drop.Symbol as board_drop
+use Rattle.c_handles.proofs.c_handles++any_board++AnyBoard+Destruct.drop.Kinds as board_kinds
+use Rattle.c_handles.proofs.c_handles++any_board++AnyBoard+Destruct.drop.Reads as board_reads
+use Rattle.c_handles.proofs.c_handles++any_board++AnyBoard+Destruct.drop.Met as board_met
 use seplogic.Ra.Ura.{Ura}
 use base.Fml.{Fml}
 use mir.Syntax.{Callee, method, no_args}

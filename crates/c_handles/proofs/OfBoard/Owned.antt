@@ -6,7 +6,7 @@ use Rattle.c_handles.specs.declared.board_handle.BoardHandle.{BoardHandle}
 use Rattle.c_handles.specs.contracts.board_handle.BoardHandle as handle
 use Rattle.c_handles.proofs.board_handle.BoardHandle.TheLaws.{lowers}
 use Rattle.c_handles.proofs.Owned.{word}
-use Rattle.c_handles.specs.contracts.board.BoardWithNotices as board
+use Rattle.c_handles.specs.contracts.any_board.AnyBoard as board
 
 pub handle_Tells : Tells handle.the_row (Is handle.the_row) (λ h. word h.at h.is_open ∷ [])
 handle_Tells h vs is = lowers.val_is h vs is

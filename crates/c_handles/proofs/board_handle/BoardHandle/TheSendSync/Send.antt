@@ -1,7 +1,7 @@
 -- A handle is `Send` because its board is.
 use Rattle.c_handles.proofs.Sent.{IsSend, AllSend, owning_send, struct_send, sendable, quiet, held_keyless, exits_of, shape, fields, to}
-use Rattle.c_handles.specs.contracts.board.BoardWithNotices as board
-use Rattle.c_handles.proofs.board.BoardWithNotices.TheSendSync.{the_send as board_send}
+use Rattle.c_handles.specs.contracts.any_board.AnyBoard as board
+use Rattle.c_handles.proofs.any_board.AnyBoard.TheSendSync.{the_send as board_send}
 use Rattle.c_handles.specs.contracts.board_handle.BoardHandle.{the_row, the_type}
 
 pub send : IsSend the_row

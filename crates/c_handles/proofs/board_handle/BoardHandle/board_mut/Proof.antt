@@ -9,8 +9,8 @@ use Rattle.std.specs.contracts.option.Option as opt
 use Rattle.std.proofs.option.Made.{Some-of, none_of}
 use Rattle.std.specs.Box.Ownership.{box_owns}
 use Rattle.std.specs.contracts.impls.GlobalAllocator.TheImpl.{ghosts}
-use Rattle.c_handles.specs.declared.board.BoardWithNotices.{BoardWithNotices}
-use Rattle.c_handles.specs.contracts.board.BoardWithNotices as board
+use Rattle.c_handles.specs.declared.any_board.AnyBoard.{AnyBoard}
+use Rattle.c_handles.specs.contracts.any_board.AnyBoard as board
 use Rattle.c_handles.specs.inside.Owned.{heap, owned}
 use Rattle.c_handles.specs.declared.board_handle.BoardHandle.{BoardHandle}
 use Rattle.c_handles.specs.contracts.board_handle.BoardHandle as handle
@@ -30,7 +30,7 @@ abbrev stayed : Stays f.ended.signature.params f.ended.kept
 stayed = (stay_dropped (mut_ref_to (0 ∷ []) tt (plain (λ _. H))) no, tt)
 
 -- the handle once its board is d
-abbrev with_board : BoardHandle → BoardWithNotices → BoardHandle
+abbrev with_board : BoardHandle → AnyBoard → BoardHandle
 with_board h d = record { at = h.at; is_open = h.is_open; board = Some d }
 
 abbrev shut : BoardHandle
@@ -38,14 +38,14 @@ shut = record { at = null_ptr; is_open = false; board = None }
 
 -- the final value of the handle: with the last board, or unchanged if there is no borrow
 abbrev Such : Type 0
-Such = (s : (BoardWithNotices → BoardHandle) × BoardHandle) × ((d : BoardWithNotices) → (s.0 d).board ≡ Some d) × ((s.1).board ≡ None)
+Such = (s : (AnyBoard → BoardHandle) × BoardHandle) × ((d : AnyBoard) → (s.0 d).board ≡ Some d) × ((s.1).board ≡ None)
 
 -- the right to free the board's block, and the handle's cell
 abbrev Rest : BoardHandle → ℕ → ℕ → ℕ → ℕ → Fml
 Rest h b o b' o' = fsep (ghosts.dealloc_token heap (bare (layout D)) (block_ptr b' o')) (cell_at full_share H.mir (word (block_ptr b' o') h.is_open ∷ []) b o)
 
 module _ {M : Type 1} {𝓤 : Ura M} (𝓛 : Logic 𝓤) (h : BoardHandle) (b o b' o' : ℕ) where
-  back : h.at ≡ block_ptr b' o' → h.is_open ≡ true → (w : BoardWithNotices) → ent 𝓤 (sep 𝓤 (sem 𝓛 ((mem D).own_at w b' o')) (sem 𝓛 (Rest h b o b' o'))) (sem 𝓛 ((mem H).own_at (with_board h w) b o))
+  back : h.at ≡ block_ptr b' o' → h.is_open ≡ true → (w : AnyBoard) → ent 𝓤 (sep 𝓤 (sem 𝓛 ((mem D).own_at w b' o')) (sem 𝓛 (Rest h b o b' o'))) (sem 𝓛 ((mem H).own_at (with_board h w) b o))
   unfolding part_of
   back at_b is_open w =
       qed 𝓛 (‵ (part_at D full_share w b' o') ∷ ‵ (Rest h b o b' o') ∷ []) ∵ move ! (1 ∷ []) $ fsplit ! $ move ! (2 ∷ 0 ∷ []) $ fjoin ! $
@@ -76,13 +76,13 @@ board_mut_spec {M} 𝓤 𝓛 𝓜 𝓡 wired =
     first ! $ branches ! (get ! refl)
     (λ is_shut. held_cases board.the_row ! h.is_open h.at h.board (λ e none.
     sets ! (agg ! (and_then ! (lit ! tt) (no_more !))) refl (tt, (record { fits = lit< tt }, tt)) $
-    nothing ! $ rewrite ! 0 (λ (x : Option BoardWithNotices). ‵ (owned board.the_row false h.at x)) (sym none) refl $ rewrite ! 0
+    nothing ! $ rewrite ! 0 (λ (x : Option AnyBoard). ‵ (owned board.the_row false h.at x)) (sym none) refl $ rewrite ! 0
     (λ (y : Bool). ‵ (owned board.the_row y h.at h.board)) (sym e) refl $ handle_in ! h $
     move ! (1 ∷ []) $ closes ! tt H h (w ∷ []) b o $
     returns_within ! (W.post z) refl (look_at ! 0 refl) $ free_all ! refl $ keep ! (0 ∷ 2 ∷ []) $
     -- [the observation of the borrow; the token]
     use1 𝓛 (‵ (fres γ (H.coded.code h))) (𝓛.names.obs-res γ (H.coded.code h)) $
-    fpack ! Such (λ s. follows_by BoardHandle BoardWithNotices H.coded.code D.coded.code γ maybe.none s.0.0 s.0.1) ((with_board h, h), (λ _. refl), none) $
+    fpack ! Such (λ s. follows_by BoardHandle AnyBoard H.coded.code D.coded.code γ maybe.none s.0.0 s.0.1) ((with_board h, h), (λ _. refl), none) $
     use0 𝓛 (raw (fact 𝓤 (h.board ≡ None))) (fact_i 𝓤 (h.board ≡ None) (emp 𝓤) none) $ move ! (1 ∷ 0 ∷ []) $ join ! $
     use0 𝓛 (‵ (O.own_val option.None (live 0 vnil ∷ []))) (none_of 𝓛 Lent) $ nothing ! $ nothing ! $ fjoin ! $ move ! (3 ∷ []) $ nothing ! $ move ! (1 ∷ 0 ∷ []) $ join ! $
     by ! (leaves 𝓛 f.ended stayed c z (live 0 vnil) option.None (tt, tt) (tt, tt)))
@@ -102,10 +102,10 @@ board_mut_spec {M} 𝓤 𝓛 𝓜 𝓡 wired =
     move ! (1 ∷ 2 ∷ []) $ fjoin ! $ move ! (2 ∷ 3 ∷ 4 ∷ 1 ∷ 0 ∷ []) $ group ! 5 $
     use1 𝓛 (later (some (λ (γ' : GName). ‵ (Lent.own_val (record { ref_ptr = (b', o'); ghost_name = γ'; now = d }) (v ∷ [])) ⊛ ‵ (flft κ q) ⊛ ‵ (follows H D γ γ' (with_board h)))))
     (lends_Part 𝓛 H D (with_board h) (named 0) κ q b o b' o' γ (sem 𝓛 (Rest h b o b' o')) (back 𝓛 h b o b' o' at_b is_open) (H.coded.code h) (H.coded.code h) d) $ await ! tt $ pick ! (λ γ'.
-    let r : MutBor BoardWithNotices = record { ref_ptr = (b', o'); ghost_name = γ'; now = d } in
+    let r : MutBor AnyBoard = record { ref_ptr = (b', o'); ghost_name = γ'; now = d } in
     split3 ! $ use1 𝓛 (‵ (O.own_val (option.Some r) (out ∷ []))) (Some-of 𝓛 Lent r v) $
     returns ! (look_at ! 0 refl) $ free_all ! refl $ keep ! (2 ∷ 0 ∷ 1 ∷ []) $
-    fpack ! Such (λ s. follows_by BoardHandle BoardWithNotices H.coded.code D.coded.code γ (maybe.some γ') s.0.0 s.0.1) ((with_board h, shut), (λ _. refl), refl) $
+    fpack ! Such (λ s. follows_by BoardHandle AnyBoard H.coded.code D.coded.code γ (maybe.some γ') s.0.0 s.0.1) ((with_board h, shut), (λ _. refl), refl) $
     use0 𝓛 (raw (fact 𝓤 (h.board ≡ Some d))) (fact_i 𝓤 (h.board ≡ Some d) (emp 𝓤) is_some) $ move ! (1 ∷ 0 ∷ []) $ join ! $
     nothing ! $ nothing ! $ fjoin ! $ move ! (3 ∷ 0 ∷ 2 ∷ 1 ∷ []) $ nothing ! $ move ! (1 ∷ 0 ∷ []) $ join ! $
     by ! (leaves 𝓛 f.ended stayed c z out (option.Some r) (tt, tt) (tt, tt))))))))))

@@ -1,6 +1,6 @@
 -- The result of `into_raw` is what an open handle owns.
 use Rattle.c_handles.proofs.Steps.{◌≡◌, true, List, [], ◌∷◌, ◌++◌, refl, sym, ap, subst, Val, SProp, ent, emp, id⊢, WpFn, ftrue, flft, fact, fact_i, ‵, raw, ◌⊛◌, some, later, ◌$◌, ◌∵◌, !, qed, by, move, keep, drop, use0, use1, split, join, fsplit, fjoin, feq_l, pick, await, rewrite, suffices, enter, of_opd, true_lit, no_more, and_then, returns, alloc_all, pass_all, free_all, look_at, get, sets, lands_as, agg, lft_new, ◌⊑◌, tables, yes, Is, shows, layout, owns, types_at, Ptr, RawPtr, plain, nothing, only, peeks, calls_at, Lasts, lasts, triple_of, framed, Stays, walk_of, stay_dropped, Goes-dropped, proved_at, leaves, full_share, rawptr_Lawful}
-use Rattle.c_handles.specs.contracts.board.BoardWithNotices as board
+use Rattle.c_handles.specs.contracts.any_board.AnyBoard as board
 use Rattle.std.specs.Prelude.{Some}
 use Rattle.std.proofs.alloc.Global.TheLaws as heap_laws
 use Rattle.std.specs.contracts.impls.GlobalAllocator.TheImpl.{ghosts, dict}
@@ -8,7 +8,7 @@ use Rattle.std.proofs.impls.GlobalAllocator.TheImpl.Met as heap_met
 use Rattle.std.specs.contracts.boxed.Box.into_raw as g
 use Rattle.std.proofs.boxed.Box.into_raw.Met.{met}
 use Rattle.std.proofs.cell.Inside.{Good, one}
-use Rattle.c_handles.proofs.board.BoardWithNotices.TheLaws as board_laws
+use Rattle.c_handles.proofs.any_board.AnyBoard.TheLaws as board_laws
 use Rattle.c_handles.specs.inside.Owned.{owned}
 use Rattle.c_handles.proofs.OfBoard.Calls.{D, D-laws, B, B-laws, board_drops, board_glue}
 use Rattle.c_handles.proofs.Heap.{Z, Z-laws, heap_drops, heap_glue}
@@ -50,7 +50,7 @@ holding_spec {M} 𝓤 𝓛 𝓜 𝓡 wired =
     calls_at ! (framed 𝓤 𝓛.H 𝓜 𝓣) k (met 𝓤 𝓛 𝓜 𝓡 (code.calls-std_alloc::boxed::Box::into_raw 𝓡.env wired) D Z D-laws Z-laws ghosts dict heap_drops board_drops
     (heap_met.passed 𝓡.env (code.calls-std_heap::GlobalAllocator::allocate 𝓡.env wired) (code.calls-std_heap::GlobalAllocator::deallocate 𝓡.env wired)
     (code.calls-std_heap::GlobalAllocator::grow 𝓡.env wired) (code.calls-std_heap::GlobalAllocator::shrink 𝓡.env wired) M 𝓤 𝓛 𝓜 𝓡)
-    (heap_glue 𝓤 𝓛 𝓜 𝓡 (code.calls-c_handles::Destruct++none::drop 𝓡.env wired)) (board_glue 𝓤 𝓛 𝓜 𝓡 (code.calls-c_handles::c_handles++board++BoardWithNotices+Destruct::drop 𝓡.env wired))) y
+    (heap_glue 𝓤 𝓛 𝓜 𝓡 (code.calls-c_handles::Destruct++none::drop 𝓡.env wired)) (board_glue 𝓤 𝓛 𝓜 𝓡 (code.calls-c_handles::c_handles++any_board++AnyBoard+Destruct::drop 𝓡.env wired))) y
     (and_then ! (get ! refl) (no_more !)) (λ u.
     use1 𝓛 (later (some (λ (r : Ptr). (toks ⊛ ‵ (RawPtr.own_val r (u ∷ []))) ⊛ some
     (λ (ls : Lasts (g.ended D Z ghosts dict heap_drops board_drops) y.0.0 y.0.3). ‵ (lasts (g.ended D Z ghosts dict heap_drops board_drops) y.0.0 y.0.3 ls) ⊛

@@ -1,9 +1,9 @@
 -- What an open handle owns is what `from_raw` requires.
 use Rattle.c_handles.proofs.Steps.{has_ty, WT, and_tt, ap, ◌∙◌, heard, Ura, Logic, Item, Goal, Step, step, ◌≡◌, Bool, List, [], ◌∷◌, refl, sym, subst, not, lit<, T, Val, vcons, vnil, emp, id⊢, ftrue, flft, fact, fact_i, ‵, raw, ◌⊛◌, some, later, at_ret, ◌$◌, ◌∵◌, !, qed, by, move, keep, drop, use0, use1, split, split3, join, fjoin, feq_i, pick, await, enter, of_opd, un, lit, fld, stop, no_more, and_then, first, blocks, branches, skips, exec, returns, returns_within, alloc_all, pass_all, free_all, look_at, get, get_in, sets, lands_last, env, agg, sub, whole, live, lft_new, ◌⊑◌, tables, yes, RattleType, Is, shows, layout, ptr_val, plain, nothing, peeks, calls_at_last, Lasts, lasts, triple_of, framed, Stays, walk_of, stay_dropped, Goes-dropped, proved, leaves, full_share, rawptr_Lawful}
 use Rattle.std.proofs.alloc.Global.TheLaws as heap_laws
-use Rattle.c_handles.specs.contracts.board.BoardWithNotices as board
+use Rattle.c_handles.specs.contracts.any_board.AnyBoard as board
 use Rattle.std.specs.Prelude.{Option, None, Some, IfSome, IfNone}
-use Rattle.c_handles.specs.declared.board.BoardWithNotices.{BoardWithNotices}
+use Rattle.c_handles.specs.declared.any_board.AnyBoard.{AnyBoard}
 use Rattle.std.specs.declared.option.Option.TheVariants as option
 use Rattle.std.proofs.option.Made.{Some-of, none_of}
 use Rattle.std.proofs.Handle.{heap_val, heap_Tells}
@@ -13,7 +13,7 @@ use Rattle.std.specs.contracts.impls.GlobalAllocator.TheImpl.{ghosts, dict}
 use Rattle.std.proofs.impls.GlobalAllocator.TheImpl.Met as heap_met
 use Rattle.std.specs.contracts.boxed.Box.from_raw as g
 use Rattle.std.proofs.boxed.Box.from_raw.Met.{met}
-use Rattle.c_handles.proofs.board.BoardWithNotices.TheLaws as board_laws
+use Rattle.c_handles.proofs.any_board.AnyBoard.TheLaws as board_laws
 use Rattle.c_handles.proofs.OfBoard.Calls.{D, D-laws, B, B-laws}
 use Rattle.c_handles.proofs.Heap.{Z, Z-laws, heap_drops, heap_glue}
 use Rattle.c_handles.proofs.Owned.{word, word_good, held_cases}
@@ -28,7 +28,7 @@ O = opt.the_row B
 
 -- what the contract says of the result
 module _ {M : Type 1} {𝓤 : Ura M} {𝓛 : Logic 𝓤} {K : Type 0} {Γ : List (Item 𝓤)} {G : Goal 𝓤 𝓛.H} where
-  told : K → (r : O.Denot) (x : Option BoardWithNotices) → IfSome r (λ b. x ≡ Some b.value) → IfNone r (x ≡ None)
+  told : K → (r : O.Denot) (x : Option AnyBoard) → IfSome r (λ b. x ≡ Some b.value) → IfNone r (x ≡ None)
       → Step K 𝓛 ((raw (fact 𝓤 (IfSome r (λ b. x ≡ Some b.value))) ⊛ raw (fact 𝓤 (IfNone r (x ≡ None)))) ∷ Γ) G Γ G
   told t r x found none = step (λ s.
       use0 𝓛 (raw (fact 𝓤 (IfNone r (x ≡ None)))) (fact_i 𝓤 (IfNone r (x ≡ None)) (emp 𝓤) none) $

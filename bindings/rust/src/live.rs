@@ -1,0 +1,137 @@
+//! A board whose message and event flags pages a running guest loads and stores.
+
+use crate::board::ask;
+use crate::notice::{Room, ROOM};
+use crate::{beyond_the_header, sys, Board, Event, Line, Notices, Reply, Vp};
+use core::fmt;
+use core::ptr;
+
+/// Two pages for each of eight processors.
+const MOST_PAGES: usize = 16;
+
+/// The reply to an event on a board with live pages.
+#[derive(Clone, Copy, PartialEq, Eq, Debug)]
+#[must_use = "a processor that is owed an EOM waits for it"]
+pub struct LiveReply {
+    /// The reply to the event itself.
+    pub reply: Reply,
+    /// The processors that are owed an EOM, bit p for processor p: a message waits for each, whose slot its guest
+    /// has emptied meanwhile, perhaps without a look at MessagePending. The caller writes 0 to EOM of these
+    /// processors next. Only a tick and a write of a timer's register set bits.
+    pub owed: u64,
+}
+
+/// A board with live pages: for each processor a message page and an event flags page in memory, which the host maps
+/// into the guest, readable and writable, where [`Board::owner`] says that the guest sees that page. The guest uses
+/// them without an exit, and may store anything there at any time; the host must not store there. Each event accesses
+/// the live pages by atomic accesses, and learns what the guest has stored: the board performs these stores, and
+/// then the event.
+///
+/// ```
+/// use synicboard::{Board, Event, Notice, PayloadBytes, PortShape, Reply, Vp};
+///
+/// let mut board = Board::open_sparse(1, 0).unwrap().into_live().unwrap();
+/// for (register, value) in [(0x4000_0080, 1), (0x4000_0083, 0x2001), (0x4000_0092, 0x50)] {
+///     assert_eq!(board.perform(&Event::Write { vp: 0, register, value }).reply, Reply::Done);
+/// }
+/// let shape = PortShape::Messages { buffers: 2 };
+/// assert_eq!(board.perform(&Event::OpenPort { port: 3, vp: 0, sint: 2, shape }).reply, Reply::Done);
+/// let payload = PayloadBytes::new(b"hello").unwrap();
+/// assert_eq!(board.perform(&Event::Post { port: 3, kind: 1, payload }).reply, Reply::Accepted(0));
+///
+/// // The guest, on another processor, reads the message and empties the slot.
+/// let slot = board.message_page(Vp::new(0).unwrap()).wrapping_add(0x200).cast::<u32>();
+/// assert_eq!(unsafe { slot.read_volatile() }, 1);
+/// unsafe { slot.write_volatile(0) };
+///
+/// assert_eq!(board.observe(0), Reply::Done);
+/// assert!(matches!(board.notices().next(), Some(Notice::Consumed { ticket: 0, .. })));
+/// ```
+pub struct LiveBoard {
+    board: Board,
+    pages: [*mut u8; MOST_PAGES],
+    late: Room,
+}
+
+// SAFETY: that of the board, which is `Send`; the live pages are part of what its handle owns, and their addresses
+// are only given out.
+unsafe impl Send for LiveBoard {}
+
+impl Board {
+    /// Gives the board live pages, which have the bytes of its own pages. Allocates all memory that events need.
+    ///
+    /// # Errors
+    ///
+    /// The board itself, if an allocation fails.
+    // The board is the error, so that it is not lost.
+    #[allow(clippy::result_large_err)]
+    pub fn into_live(self) -> Result<LiveBoard, Board> {
+        let mut pages = [ptr::null_mut(); MOST_PAGES];
+        match ask!(self, synicboard_make_live, pages.as_mut_ptr()) {
+            sys::SYNICBOARD_OK => Ok(LiveBoard { board: self, pages, late: Room::new() }),
+            sys::SYNICBOARD_NO_MEMORY => Err(self),
+            answer => beyond_the_header(&answer),
+        }
+    }
+}
+
+impl LiveBoard {
+    /// Performs an event. A load or a store at a page where the guest sees a live page is refused with
+    /// [`Elsewhere`](crate::Refusal::Elsewhere): the caller performs it in the live page.
+    pub fn perform(&mut self, event: &Event) -> LiveReply {
+        let live = ask!(self.board, synicboard_act_live, &event.to_plain());
+        LiveReply { reply: Reply::of(live.reply), owed: live.owed }
+    }
+
+    /// [`Board::absorb_line`].
+    pub fn absorb_line(&mut self, line: &mut Line, vp: u8, part: u8) -> Reply {
+        Reply::of(ask!(self.board, synicboard_absorb_line, &mut line.handle, vp, part))
+    }
+
+    /// Looks at the message slots of a processor, if the guest sees its message page: the notices are those of
+    /// the messages that the guest has consumed.
+    pub fn observe(&mut self, vp: u8) -> Reply {
+        Reply::of(ask!(self.board, synicboard_observe, vp))
+    }
+
+    /// Looks at all words of both live pages of a processor that the guest sees, so that the board's own pages have
+    /// what the guest has stored. Before [`Board::save`], for each processor, while the guest does not run.
+    pub fn observe_all(&mut self, vp: u8) -> Reply {
+        Reply::of(ask!(self.board, synicboard_observe_all, vp))
+    }
+
+    /// The notices of the last event or look, those of the guest's stores first.
+    pub fn notices(&self) -> Notices<'_> {
+        self.board.notices()
+    }
+
+    /// The notices of the guest's stores that a tick found after it.
+    pub fn late_notices(&self) -> Notices<'_> {
+        let count = ask!(self.board, synicboard_late_notices, self.late.start(), ROOM);
+        // SAFETY: the library wrote `count` notices, or as many as fit into the buffer, which is this
+        // board's, and a live board is not `Sync`.
+        unsafe { self.late.first(count) }
+    }
+
+    /// The board, for its queries. The pages that it returns are its own, as it knows them.
+    pub fn board(&self) -> &Board {
+        &self.board
+    }
+
+    /// The live message page of a processor: 4096 bytes at a multiple of 4096, valid until the board is dropped.
+    /// Null if the processor is not on the board.
+    pub fn message_page(&self, vp: Vp) -> *mut u8 {
+        self.pages[2 * usize::from(vp.number())]
+    }
+
+    /// The live event flags page of a processor, in the same way.
+    pub fn flag_page(&self, vp: Vp) -> *mut u8 {
+        self.pages[2 * usize::from(vp.number()) + 1]
+    }
+}
+
+impl fmt::Debug for LiveBoard {
+    fn fmt(&self, formatter: &mut fmt::Formatter<'_>) -> fmt::Result {
+        formatter.debug_struct("LiveBoard").field("board", &self.board).finish_non_exhaustive()
+    }
+}

@@ -1,0 +1,230 @@
+// Boards whose message and event flags pages a running guest loads and stores.
+ghost use Rattle.std.specs.Prelude.{◌≡◌, ◌≢◌, ◌↔◌, ◌<◌, ◌≤◌, ℕ, true, false, [], ◌∷◌, length, None, Some, IfSome, IfNone};
+ghost use Rattle.c_handles.specs.Kinds.{IsMadeLive};
+ghost use Rattle.c_terms.specs.Events.{event_from_c};
+ghost use Rattle.c_terms.specs.Rooms.{Fronts};
+ghost use Rattle.live_board.specs.Live.{IsObserved};
+ghost use Rattle.live_board.specs.Settling.{IsSettled};
+ghost use Rattle.synic_board.specs.State.{processors};
+ghost use Rattle.c_calls.specs.Live.{is_live, GotPages, alone, MarksOwed, IsActedLive, IsActedOn, IsLookedAt, late_notices_of};
+ghost use Rattle.c_calls.specs.Outcomes.{is_among};
+
+use crate::views::with_bit;
+use board_terms::{Refusal, Vp};
+use c_handles::{AnyBoard, BoardHandle, LiveWithNotices};
+use c_terms::{CEvent, CNotice, CReply, Fault, event_of, fault_to_c, put_plain, reply_to_c};
+use std::alloc::Global;
+use synic_board::{Event, Reply};
+
+/// The reply to an event on a board that may have live pages.
+#[repr(C)]
+#[derive(Clone, Copy)]
+pub struct CLiveReply {
+    /// The reply to the event itself.
+    pub reply: CReply,
+    /// The processors that are owed an EOM, which the caller performs next: bit p for processor p.
+    pub owed: u64,
+    /// How many notices came from stores of the guest that a tick found after it.
+    pub late: u16,
+}
+
+/// Gives the board of a handle live pages, which have the bytes of its message and event flags pages.
+/// Returns 0; or 2 if an allocation fails, 4 if the handle is closed, 14 if the board has live pages.
+/// Allocates all memory that events need.
+#[unsafe(no_mangle)]
+pub extern "C" fn synicboard_make_live(alloc: Global, handle: &mut BoardHandle) -> u8
+    ensures answers { is_among (0 ∷ 2 ∷ 4 ∷ 14 ∷ []) result ≡ true }
+    ensures closed { (result ≡ 4) ↔ (handle.old.board ≡ None) }
+    ensures live { (result ≡ 14) ↔ (is_live handle.old.board ≡ true) }
+    ensures made { result ≡ 0 → GotPages handle.old.board handle.new.board }
+    ensures kept { result ≢ 0 → handle.new.board ≡ handle.old.board }
+{
+    match handle.board_mut() {
+        Some(board) => make_live(alloc, board),
+        None => 4,
+    }
+}
+
+/// Gives a board live pages, if it has none.
+fn make_live(alloc: Global, board: &mut AnyBoard) -> u8
+    ensures answers { is_among (0 ∷ 2 ∷ 14 ∷ []) result ≡ true }
+    ensures live { (result ≡ 14) ↔ (is_live (Some board.old) ≡ true) }
+    ensures made { result ≡ 0 → IsMadeLive board.old board.new }
+    ensures kept { result ≢ 0 → board.new ≡ board.old }
+{
+    if is_live(board) {
+        return 14;
+    }
+    match board.make_live(alloc) {
+        Ok(()) => 0,
+        Err(_) => 2,
+    }
+}
+
+fn is_live(board: &AnyBoard) -> bool
+    ensures { result ≡ is_live (Some board.now) }
+{
+    matches!(board, AnyBoard::Live(_))
+}
+
+/// Performs an event that is given as a struct, on a board that may have live pages.
+#[unsafe(no_mangle)]
+pub extern "C" fn synicboard_act_live(handle: &mut BoardHandle, plain: &CEvent) -> CLiveReply
+    ensures { IsActedLive (event_from_c plain.now) handle.old.board handle.new.board result }
+{
+    match (handle.board_mut(), event_of(plain)) {
+        (None, _) => alone(fault_to_c(Fault::Closed)),
+        (Some(_), None) => alone(fault_to_c(Fault::NoEvent)),
+        (Some(board), Some(event)) => act_in(board, &event),
+    }
+}
+
+/// Performs an event on a board of either kind.
+fn act_in(board: &mut AnyBoard, event: &Event) -> CLiveReply
+    ensures { IsActedLive (Some event.now) (Some board.old) (Some board.new) result }
+{
+    match board {
+        AnyBoard::Live(board) => act(board, event),
+        AnyBoard::Plain(board) => {
+            let reply = board.perform(event);
+            alone(reply_to_c(reply, board.notices.as_slice().len() as u16))
+        }
+    }
+}
+
+/// Performs an event on a board with live pages.
+fn act(board: &mut LiveWithNotices, event: &Event) -> CLiveReply
+    ensures { IsActedOn board.old event.now board.new result }
+{
+    let (reply, owed) = board.perform(event);
+    CLiveReply {
+        reply: reply_to_c(reply, board.notices.as_slice().len() as u16),
+        owed: mask_of(&owed),
+        late: board.late.as_slice().len() as u16,
+    }
+}
+
+/// A reply after which no processor is owed an EOM, and which has no late notices.
+fn alone(reply: CReply) -> CLiveReply
+    ensures { result ≡ alone reply }
+{
+    CLiveReply {
+        reply,
+        owed: 0,
+        late: 0,
+    }
+}
+
+/// A word with a bit for each processor that is owed an EOM.
+fn mask_of(owed: &[bool; 8]) -> u64
+    ensures { MarksOwed result owed.now }
+{
+    let mut mask = 0;
+    for vp in 0..8u8 {
+        mask = with_bit(mask, vp, owed[vp as usize]);
+    }
+    mask
+}
+
+/// Looks at the header of each message slot of processor `vp` in its live page, if the guest sees it: the
+/// notices are those of the messages that the guest has consumed since the last look. Done; refused if
+/// there is no such processor.
+#[unsafe(no_mangle)]
+pub extern "C" fn synicboard_observe(handle: &mut BoardHandle, vp: u8) -> CReply
+    ensures { IsLookedAt IsObserved vp handle.old.board handle.new.board result }
+{
+    match handle.board_mut() {
+        Some(board) => observe_in(board, vp),
+        None => fault_to_c(Fault::Closed),
+    }
+}
+
+fn observe_in(board: &mut AnyBoard, vp: u8) -> CReply
+    ensures { IsLookedAt IsObserved vp (Some board.old) (Some board.new) result }
+{
+    let AnyBoard::Live(board) = board else {
+        return fault_to_c(Fault::NotLive);
+    };
+    let Some(vp) = vp_of(board, vp) else {
+        return reply_to_c(Reply::Refused(Refusal::NoSuchProcessor), 0);
+    };
+    board.observe(vp);
+    reply_to_c(Reply::Done, board.notices.as_slice().len() as u16)
+}
+
+/// Looks at all words of both live pages of processor `vp` that the guest sees: the board's own pages have
+/// what the guest has stored. Done; refused if there is no such processor.
+#[unsafe(no_mangle)]
+pub extern "C" fn synicboard_observe_all(handle: &mut BoardHandle, vp: u8) -> CReply
+    ensures { IsLookedAt IsSettled vp handle.old.board handle.new.board result }
+{
+    match handle.board_mut() {
+        Some(board) => observe_all_in(board, vp),
+        None => fault_to_c(Fault::Closed),
+    }
+}
+
+fn observe_all_in(board: &mut AnyBoard, vp: u8) -> CReply
+    ensures { IsLookedAt IsSettled vp (Some board.old) (Some board.new) result }
+{
+    let AnyBoard::Live(board) = board else {
+        return fault_to_c(Fault::NotLive);
+    };
+    let Some(vp) = vp_of(board, vp) else {
+        return reply_to_c(Reply::Refused(Refusal::NoSuchProcessor), 0);
+    };
+    board.settle(vp);
+    reply_to_c(Reply::Done, board.notices.as_slice().len() as u16)
+}
+
+/// A processor, if it is on the board.
+fn vp_of(board: &LiveWithNotices, vp: u8) -> Option<Vp>
+    ensures some { IfSome result (λ p. (p ≡ vp) × (vp < processors board.now.live.board.state)) }
+    ensures none { IfNone result (processors board.now.live.board.state ≤ vp) }
+{
+    let held = board.live.board();
+    held.facts();
+    if vp < held.processors() {
+        Vp::new(vp)
+    } else {
+        None
+    }
+}
+
+/// Copies the notices of the stores that the last tick found after it, as many as fit, and returns how many
+/// there are.
+#[unsafe(no_mangle)]
+pub extern "C" fn synicboard_late_notices(handle: &mut BoardHandle, room: &mut [CNotice]) -> usize
+    ensures board { handle.new.board ≡ handle.old.board }
+    ensures count { result ≡ length (late_notices_of handle.old.board) }
+    ensures copied { Fronts (late_notices_of handle.old.board) room.old room.new }
+{
+    match handle.board_mut() {
+        Some(board) => late_notices_in(board, room),
+        None => 0,
+    }
+}
+
+fn late_notices_in(board: &AnyBoard, room: &mut [CNotice]) -> usize
+    ensures count { result ≡ length (late_notices_of (Some board.now)) }
+    ensures copied { Fronts (late_notices_of (Some board.now)) room.old room.new }
+{
+    let AnyBoard::Live(board) = board else {
+        return 0;
+    };
+    let notices = board.late.as_slice();
+    put_plain(notices, room);
+    notices.len()
+}
+
+/// Whether the board of a handle has live pages.
+#[unsafe(no_mangle)]
+pub extern "C" fn synicboard_is_live(handle: &mut BoardHandle) -> bool
+    ensures board { handle.new.board ≡ handle.old.board }
+    ensures live { result ≡ is_live handle.old.board }
+{
+    match handle.board_mut() {
+        Some(board) => is_live(board),
+        None => false,
+    }
+}

@@ -1,0 +1,360 @@
+/* Boards with live pages: which calls serve them, refused memory, what a guest's stores come to, and images. The
+ * threads of a host and a guest are in running.c. */
+#include <stdbool.h>
+#include <stddef.h>
+#include <stdint.h>
+#include <string.h>
+
+#include "busy.h"
+#include "checks.h"
+#include "synicboard.h"
+
+enum { MESSAGES = 2, FLAGS = 3, TYPE_AT = SOURCE * SLOT, FLAGS_AT = TYPE_AT + 5, PENDING = 1 };
+
+static struct text before, after;
+static uint8_t *pages[2 * PROCESSORS];
+
+/* The board of open_busy, with live pages: a message in the slot of SOURCE of processor 1, and its vector requested. */
+static void open_live(synicboard *board)
+{
+    open_busy(board, 0);
+    CHECK_NUMBER(synicboard_make_live(board, pages), SYNICBOARD_OK);
+}
+
+static synicboard_reply act(synicboard *board, synicboard_event event)
+{
+    synicboard_live_reply live = synicboard_act_live(board, &event);
+    CHECK_NUMBER(live.owed, 0);
+    CHECK_NUMBER(live.late, 0);
+    return live.reply;
+}
+
+static synicboard_reply post(synicboard *board, uint32_t type)
+{
+    return act(board, (synicboard_event){ .kind = SYNICBOARD_POST, .port = MESSAGE_PORT, .message_type = type, .length = 1, .bytes = { 7 } });
+}
+
+static synicboard_reply end_message(synicboard *board)
+{
+    return act(board, (synicboard_event){ .kind = SYNICBOARD_WRITE, .vp = 1, .msr = EOM });
+}
+
+/* The notices of the last event are of these kinds. */
+static void check_notices(const synicboard *board, const uint8_t *kinds, size_t count, int line)
+{
+    synicboard_notice notices[SYNICBOARD_MOST_LIVE_NOTICES];
+    check_number(synicboard_notices(board, notices, SYNICBOARD_MOST_LIVE_NOTICES), count, "notices", line);
+    for (size_t at = 0; at < count; at++)
+        check_number(notices[at].kind, kinds[at], "the kind of a notice", line);
+}
+
+#define CHECK_NOTICES(board, ...) \
+    check_notices((board), (const uint8_t[]){ __VA_ARGS__ }, sizeof (const uint8_t[]){ __VA_ARGS__ }, __LINE__)
+
+static bool is_same_page(synicboard *board, uint8_t vp)
+{
+    const uint8_t *messages = NULL, *flags = NULL;
+    return synicboard_message_page(board, vp, &messages) && synicboard_flag_page(board, vp, &flags)
+        && memcmp(messages, pages[2 * vp], PAGE) == 0 && memcmp(flags, pages[2 * vp + 1], PAGE) == 0;
+}
+
+/* ---- Opening ---- */
+
+static void test_outcomes(void)
+{
+    synicboard board = SYNICBOARD_CLOSED;
+    CHECK_NUMBER(synicboard_make_live(&board, pages), SYNICBOARD_IS_CLOSED);
+    CHECK_NUMBER(synicboard_make_live(NULL, pages), SYNICBOARD_IS_CLOSED);
+    CHECK_NUMBER(synicboard_make_live(&board, NULL), SYNICBOARD_NO_HANDLE);
+    CHECK(!synicboard_is_live(&board) && !synicboard_is_live(NULL));
+    CHECK_FAULT(synicboard_observe(&board, 0), SYNICBOARD_IS_CLOSED);
+    CHECK_FAULT(synicboard_act_live(&board, &(synicboard_event){ .kind = SYNICBOARD_TAKE }).reply, SYNICBOARD_IS_CLOSED);
+    CHECK_FAULT(synicboard_act_live(NULL, NULL).reply, SYNICBOARD_IS_CLOSED);
+    CHECK_FAULT(synicboard_observe(NULL, 0), SYNICBOARD_IS_CLOSED);
+    CHECK_FAULT(synicboard_observe_all(NULL, 0), SYNICBOARD_IS_CLOSED);
+    CHECK_NUMBER(synicboard_late_notices(NULL, NULL, 1), 0);
+    CHECK_NUMBER(synicboard_open(&board, 2, 4, 0), SYNICBOARD_OK);
+    CHECK_NUMBER(synicboard_make_live(&board, NULL), SYNICBOARD_NO_HANDLE);
+    CHECK(!synicboard_is_live(&board));
+    CHECK_FAULT(synicboard_observe(&board, 0), SYNICBOARD_NOT_LIVE);
+    CHECK_FAULT(synicboard_observe_all(&board, 0), SYNICBOARD_NOT_LIVE);
+    CHECK_NUMBER(synicboard_late_notices(&board, NULL, 0), 0);
+    CHECK_NUMBER(synicboard_make_live(&board, pages), SYNICBOARD_OK);
+    CHECK(synicboard_is_live(&board));
+    CHECK_NUMBER(synicboard_make_live(&board, pages), SYNICBOARD_IS_LIVE);
+    CHECK_FAULT(synicboard_act_live(&board, NULL).reply, SYNICBOARD_NO_EVENT);
+    CHECK_REFUSAL(synicboard_observe(&board, 2), SYNICBOARD_NO_SUCH_PROCESSOR);
+    CHECK_REFUSAL(synicboard_observe_all(&board, 255), SYNICBOARD_NO_SUCH_PROCESSOR);
+    synicboard_close(&board);
+}
+
+/* Nothing else about the board changes, but that it has no notices. */
+static void test_queries(void)
+{
+    static const uint8_t none = 0;
+    synicboard board = SYNICBOARD_CLOSED;
+    open_busy(&board, 0);
+    CHECK_REPLY(synicboard_load(&board, 0, 1), SYNICBOARD_BYTES);
+    describe(&board, &before);
+    CHECK_NUMBER(synicboard_make_live(&board, pages), SYNICBOARD_OK);
+    describe(&board, &after);
+    CHECK_SAME(&before, &after);
+    check_notices(&board, &none, 0, __LINE__);
+    CHECK(is_same_page(&board, 0) && is_same_page(&board, 1));
+    for (unsigned at = 0; at < 4; at++)
+        CHECK_NUMBER((uintptr_t)pages[at] % PAGE, 0);
+    synicboard_close(&board);
+}
+
+/* Each allocation is refused in turn: then the board is as before, and still plain. */
+static void test_refused_memory(void)
+{
+    synicboard board = SYNICBOARD_CLOSED;
+    open_busy(&board, 0);
+    CHECK_REPLY(synicboard_load(&board, 0, 1), SYNICBOARD_BYTES);
+    describe(&board, &before);
+    refuse(0);
+    size_t number = 1;
+    for (uint8_t answer = SYNICBOARD_NO_MEMORY; answer != SYNICBOARD_OK; number++) {
+        refuse(number);
+        answer = synicboard_make_live(&board, pages);
+        refuse(0);
+        CHECK(answer == SYNICBOARD_OK || answer == SYNICBOARD_NO_MEMORY);
+        CHECK(synicboard_is_live(&board) == (answer == SYNICBOARD_OK));
+        describe(&board, &after);
+        CHECK_SAME(&before, &after);
+    }
+    CHECK(number > 6);
+    CHECK(is_same_page(&board, 1));
+    synicboard_close(&board);
+}
+
+static void test_greatest_board(void)
+{
+    synicboard board = SYNICBOARD_CLOSED;
+    CHECK_NUMBER(synicboard_open_sparse(&board, PROCESSORS, 0), SYNICBOARD_OK);
+    CHECK_NUMBER(synicboard_make_live(&board, pages), SYNICBOARD_OK);
+    for (uint8_t vp = 0; vp < PROCESSORS; vp++) {
+        act(&board, (synicboard_event){ .kind = SYNICBOARD_WRITE, .vp = vp, .msr = SCONTROL, .value = 1 });
+        act(&board, (synicboard_event){ .kind = SYNICBOARD_WRITE, .vp = vp, .msr = SIMP, .value = (16 + vp) * PAGE + 1 });
+        act(&board, (synicboard_event){ .kind = SYNICBOARD_WRITE, .vp = vp, .msr = SIEFP, .value = (32 + vp) * PAGE + 1 });
+        act(&board, (synicboard_event){ .kind = SYNICBOARD_OPEN_MESSAGE_PORT, .port = vp, .vp = vp, .sint = 15, .buffers = 1 });
+        act(&board, (synicboard_event){ .kind = SYNICBOARD_OPEN_EVENT_PORT, .port = 8 + vp, .vp = vp, .sint = 15, .count = 2048 });
+        act(&board, (synicboard_event){ .kind = SYNICBOARD_POST, .port = vp, .message_type = 100u + vp });
+        act(&board, (synicboard_event){ .kind = SYNICBOARD_SIGNAL, .port = 8 + vp, .flag = 2047 });
+    }
+    for (unsigned vp = 0; vp < PROCESSORS; vp++) {
+        CHECK_NUMBER(pages[2 * vp][15 * SLOT], 100 + vp);
+        CHECK_NUMBER(pages[2 * vp + 1][PAGE - 1], 0x80);
+    }
+    synicboard_close(&board);
+}
+
+/* ---- Which calls serve it ---- */
+
+static void test_other_calls(void)
+{
+    static const synicboard_event take = { .kind = SYNICBOARD_TAKE };
+    synicboard_reply replies[1];
+    synicboard_notice notices[SYNICBOARD_MOST_NOTICES];
+    synicboard_due due;
+    synicboard_line line = SYNICBOARD_LINE_CLOSED;
+    synicboard board = SYNICBOARD_CLOSED;
+    open_live(&board);
+    describe(&board, &before);
+    CHECK_FAULT(synicboard_perform(&board, &take), SYNICBOARD_IS_LIVE);
+    CHECK_FAULT(synicboard_take(&board, 1), SYNICBOARD_IS_LIVE);
+    CHECK_FAULT(synicboard_assert(&board, 1, 15), SYNICBOARD_IS_LIVE);
+    CHECK_FAULT(synicboard_post(&board, MESSAGE_PORT, 1, NULL, 0), SYNICBOARD_IS_LIVE);
+    CHECK_FAULT(synicboard_post(&board, MESSAGE_PORT, 1, NULL, 241), SYNICBOARD_IS_LIVE);
+    CHECK_FAULT(synicboard_store(&board, 0, (const uint8_t[]){ 1 }, 1), SYNICBOARD_IS_LIVE);
+    CHECK_FAULT(synicboard_tick_due(&board, 1000, &due), SYNICBOARD_IS_LIVE);
+    synicboard_batch batch = synicboard_perform_all(&board, &take, 1, replies, 1, notices, SYNICBOARD_MOST_NOTICES);
+    CHECK(batch.end == SYNICBOARD_IS_LIVE && batch.done == 0 && batch.emitted == 0);
+    describe(&board, &after);
+    CHECK_SAME(&before, &after);
+    CHECK_NUMBER(synicboard_open_line(&line, 2), SYNICBOARD_OK);
+    CHECK_NUMBER(synicboard_raise(&line, 1, 200), SYNICBOARD_FRESH);
+    CHECK_NUMBER(synicboard_absorb_line(&board, &line, 1, 3).value, 1u << 8);
+    CHECK_NUMBER(synicboard_next(&board, 1), 200);
+    synicboard_close_line(&line);
+    synicboard_close(&board);
+}
+
+/* On a board without live pages it is synicboard_perform. */
+static void test_plain_board(void)
+{
+    synicboard one = SYNICBOARD_CLOSED, other = SYNICBOARD_CLOSED;
+    uint64_t random = 1;
+    open_busy(&one, 0);
+    open_busy(&other, 0);
+    for (unsigned count = 0; count < RANDOM_EVENTS; count++) {
+        synicboard_event event = random_event(&one, &random);
+        synicboard_live_reply live = synicboard_act_live(&one, &event);
+        synicboard_reply reply = synicboard_perform(&other, &event);
+        CHECK(live.owed == 0 && live.late == 0);
+        CHECK(live.reply.kind == reply.kind && live.reply.refusal == reply.refusal && live.reply.notices == reply.notices);
+    }
+    describe(&one, &before);
+    describe(&other, &after);
+    CHECK_SAME(&before, &after);
+    synicboard_close(&one);
+    synicboard_close(&other);
+}
+
+/* ---- What a guest does ---- */
+
+/* The guest empties the slot, sees MessagePending, and writes EOM. */
+static void test_message(void)
+{
+    synicboard board = SYNICBOARD_CLOSED;
+    open_live(&board);
+    uint8_t *slot = pages[MESSAGES] + TYPE_AT;
+    CHECK(memcmp(slot, (const uint8_t[]){ 4, 3, 2, 1, 3, 0 }, 6) == 0);
+    CHECK_REPLY(post(&board, 5), SYNICBOARD_ACCEPTED);
+    CHECK_NOTICES(&board, SYNICBOARD_NOTICE_ACCEPTED, SYNICBOARD_NOTICE_PENDING);
+    CHECK_NUMBER(pages[MESSAGES][FLAGS_AT], PENDING);
+    memset(slot, 0, 4);
+    CHECK_REPLY(end_message(&board), SYNICBOARD_DONE);
+    CHECK_NOTICES(&board, SYNICBOARD_NOTICE_CONSUMED, SYNICBOARD_NOTICE_PLACED);
+    CHECK(memcmp(slot, (const uint8_t[]){ 5, 0, 0, 0, 1, 0 }, 6) == 0 && slot[16] == 7);
+    CHECK(is_same_page(&board, 1));
+    synicboard_close(&board);
+}
+
+/* A post that finds the slot emptied meanwhile needs no EOM. */
+static void test_emptied_slot(void)
+{
+    synicboard board = SYNICBOARD_CLOSED;
+    open_live(&board);
+    memset(pages[MESSAGES] + TYPE_AT, 0, 4);
+    CHECK_REPLY(post(&board, 6), SYNICBOARD_ACCEPTED);
+    CHECK_NOTICES(&board, SYNICBOARD_NOTICE_CONSUMED, SYNICBOARD_NOTICE_ACCEPTED, SYNICBOARD_NOTICE_PLACED);
+    CHECK_NUMBER(pages[MESSAGES][TYPE_AT], 6);
+    memset(pages[MESSAGES] + TYPE_AT, 0, 4);
+    CHECK_REPLY(synicboard_observe(&board, 1), SYNICBOARD_DONE);
+    CHECK_NOTICES(&board, SYNICBOARD_NOTICE_CONSUMED);
+    CHECK_NUMBER(synicboard_observe(&board, 1).notices, 0);
+    synicboard_close(&board);
+}
+
+static void test_flags(void)
+{
+    static const synicboard_event signal = { .kind = SYNICBOARD_SIGNAL, .port = FLAG_PORT, .flag = 63 };
+    synicboard board = SYNICBOARD_CLOSED;
+    open_live(&board);
+    uint8_t *flags = pages[FLAGS] + SOURCE * SLOT;
+    CHECK_NUMBER(flags[1], 0x20);
+    CHECK_REPLY(act(&board, signal), SYNICBOARD_FLAG_WAS_CLEAR);
+    CHECK_NUMBER(flags[8], 0x80);
+    CHECK_REPLY(act(&board, signal), SYNICBOARD_FLAG_WAS_SET);
+    flags[8] = 0;
+    CHECK_REPLY(act(&board, signal), SYNICBOARD_FLAG_WAS_CLEAR);
+    CHECK(flags[8] == 0x80 && flags[1] == 0x20);
+    synicboard_close(&board);
+}
+
+/* Where the guest sees a live page, its accesses are the caller's. Where the page is hidden, they are events. */
+static void test_accesses(void)
+{
+    synicboard_event load = { .kind = SYNICBOARD_LOAD, .address = 2 * PAGE + TYPE_AT, .length = 4 }, store = load;
+    store.kind = SYNICBOARD_STORE;
+    synicboard board = SYNICBOARD_CLOSED;
+    open_live(&board);
+    CHECK_REFUSAL(act(&board, load), SYNICBOARD_ELSEWHERE);
+    CHECK_REFUSAL(act(&board, store), SYNICBOARD_ELSEWHERE);
+    CHECK_NUMBER(pages[MESSAGES][TYPE_AT], 4);
+    CHECK_REPLY(act(&board, (synicboard_event){ .kind = SYNICBOARD_WRITE, .vp = 1, .msr = SIMP, .value = PAGE + 1 }), SYNICBOARD_DONE);
+    CHECK_REPLY(act(&board, store), SYNICBOARD_DONE);
+    CHECK_REPLY(act(&board, load), SYNICBOARD_BYTES);
+    CHECK_NUMBER(pages[MESSAGES][TYPE_AT], 4);
+    synicboard_close(&board);
+}
+
+/* A timer's message waits for a slot that the guest empties only then. */
+static void test_timer(void)
+{
+    synicboard board = SYNICBOARD_CLOSED;
+    open_live(&board);
+    act(&board, (synicboard_event){ .kind = SYNICBOARD_WRITE, .vp = 1, .msr = STIMER0_CONFIG + 2, .value = SOURCE << 16 | 8 });
+    act(&board, (synicboard_event){ .kind = SYNICBOARD_WRITE, .vp = 1, .msr = STIMER0_COUNT + 2, .value = 50 });
+    act(&board, (synicboard_event){ .kind = SYNICBOARD_TICK, .moment = 100 });
+    CHECK_NUMBER(pages[MESSAGES][FLAGS_AT], PENDING);
+    memset(pages[MESSAGES] + TYPE_AT, 0, 4);
+    CHECK_REPLY(end_message(&board), SYNICBOARD_DONE);
+    CHECK(memcmp(pages[MESSAGES] + TYPE_AT, (const uint8_t[]){ 0x10, 0, 0, 0x80, 24 }, 5) == 0);
+    CHECK_REPLY(act(&board, (synicboard_event){ .kind = SYNICBOARD_RESET, .vp = 1 }), SYNICBOARD_DONE);
+    static const uint8_t zeros[PAGE];
+    CHECK(memcmp(pages[MESSAGES], zeros, PAGE) == 0 && memcmp(pages[FLAGS], zeros, PAGE) == 0);
+    synicboard_close(&board);
+}
+
+/* A guest that stores anything anywhere in its pages changes nothing else of the board. */
+static void test_hostile_guest(void)
+{
+    synicboard board = SYNICBOARD_CLOSED;
+    uint64_t random = 7;
+    open_live(&board);
+    for (unsigned count = 0; count < RANDOM_EVENTS; count++) {
+        uint64_t word = (random = random * 6364136223846793005u + 1442695040888963407u);
+        memcpy(pages[MESSAGES + (word >> 60 & 1)] + (word >> 32) % (PAGE / 8) * 8, &word, sizeof word);
+        CHECK_NUMBER(synicboard_observe(&board, 0).notices, 0);
+        synicboard_event event = random_event(&board, &random);
+        synicboard_live_reply live = synicboard_act_live(&board, &event);
+        CHECK(live.reply.kind != SYNICBOARD_NOT_PERFORMED || live.reply.fault == SYNICBOARD_NO_EVENT);
+        CHECK((live.owed & ~3u) == 0 && live.late <= 128);
+    }
+    CHECK_REPLY(synicboard_observe_all(&board, 0), SYNICBOARD_DONE);
+    CHECK_REPLY(synicboard_observe_all(&board, 1), SYNICBOARD_DONE);
+    synicboard_close(&board);
+}
+
+/* ---- Images ---- */
+
+/* What the guest has stored in a payload and among the flags is in the image after synicboard_observe_all. */
+static void test_image(void)
+{
+    static uint8_t image[1 << 17];
+    synicboard board = SYNICBOARD_CLOSED;
+    open_live(&board);
+    memset(pages[MESSAGES] + TYPE_AT, 0, 4);
+    pages[MESSAGES][PAGE - 1] = 0xa5;
+    pages[FLAGS][PAGE - 1] = 0x5a;
+    pages[FLAGS][SOURCE * SLOT + 1] = 0;
+    CHECK(!is_same_page(&board, 1));
+    CHECK_REPLY(synicboard_observe_all(&board, 1), SYNICBOARD_DONE);
+    CHECK_NOTICES(&board, SYNICBOARD_NOTICE_CONSUMED);
+    CHECK(is_same_page(&board, 1));
+    synicboard_end end = synicboard_save(&board, image, sizeof image);
+    CHECK(end.kind == SYNICBOARD_OK && end.length <= sizeof image);
+    describe(&board, &before);
+    synicboard_close(&board);
+    CHECK_NUMBER(synicboard_restore(&board, image, end.length).kind, SYNICBOARD_OK);
+    CHECK(!synicboard_is_live(&board));
+    CHECK_NUMBER(synicboard_make_live(&board, pages), SYNICBOARD_OK);
+    CHECK(is_same_page(&board, 0) && is_same_page(&board, 1));
+    CHECK(pages[MESSAGES][PAGE - 1] == 0xa5 && pages[FLAGS][PAGE - 1] == 0x5a);
+    CHECK_REPLY(synicboard_observe(&board, 0), SYNICBOARD_DONE);
+    describe(&board, &after);
+    synicboard_close(&board);
+}
+
+int main(void)
+{
+    static const struct test tests[] = {
+        { "outcomes", test_outcomes },
+        { "queries", test_queries },
+        { "refused memory", test_refused_memory },
+        { "the greatest board", test_greatest_board },
+        { "other calls", test_other_calls },
+        { "a board without live pages", test_plain_board },
+        { "a message", test_message },
+        { "an emptied slot", test_emptied_slot },
+        { "flags", test_flags },
+        { "accesses", test_accesses },
+        { "a timer", test_timer },
+        { "a hostile guest", test_hostile_guest },
+        { "an image", test_image },
+    };
+    return run_tests(tests, sizeof tests / sizeof tests[0]);
+}
