@@ -9,6 +9,13 @@ uint64_t board_absorbed;
 static struct condition has_buffer;
 static uint64_t events, notices_seen, ticks, placed, consumed, withdrawn, expired, skipped;
 static uint64_t flags_set, flags_cleared;
+static uint8_t *live_pages[2 * MOST_VPS];       /* two for each processor; not used where pages trap */
+
+void board_make_live(synicboard *opened)
+{
+    if (!vm.pages_trap && synicboard_make_live(opened, live_pages) != SYNICBOARD_OK)
+        fail("synicboard_make_live");
+}
 
 /* The guest's memory is the hypervisor's, of any size. */
 void board_open(void)
@@ -16,6 +23,7 @@ void board_open(void)
     synicboard opened = SYNICBOARD_CLOSED;
     if (synicboard_open_sparse(&opened, vm.vps, 0) != SYNICBOARD_OK)
         fail("synicboard_open_sparse");
+    board_make_live(&opened);
     lock_share(&opened);
     if (synicboard_open_line(&vm.vp[0].line, vm.vps) != SYNICBOARD_OK)
         fail("synicboard_open_line");
@@ -42,24 +50,49 @@ static void handle_notice(const synicboard_notice *notice)
     }
 }
 
-/* Records an event, handles its notices, and returns its reply. */
-static synicboard_reply answer(const synicboard_event *event, synicboard_reply reply)
+static void handle_notices(size_t (*copy)(const synicboard *, synicboard_notice *, size_t))
 {
-    static synicboard_notice notices[SYNICBOARD_MOST_NOTICES];
-    events++;
-    trace_entry(event, &reply);
-    if (reply.notices == 0)
-        return reply;
-    size_t count = synicboard_notices(board, notices, SYNICBOARD_MOST_NOTICES);
+    static synicboard_notice notices[SYNICBOARD_MOST_LIVE_NOTICES];
+    size_t count = copy(board, notices, SYNICBOARD_MOST_LIVE_NOTICES);
     notices_seen += count;
     for (size_t at = 0; at < count; at++)
         handle_notice(&notices[at]);
+}
+
+/* Records an event, handles its notices, and returns its reply. */
+static synicboard_reply answer(const synicboard_event *event, synicboard_reply reply)
+{
+    events++;
+    trace_entry(event, &reply);
+    if (reply.notices != 0)
+        handle_notices(synicboard_notices);
     return reply;
 }
 
+/* A processor that is owed an EOM has emptied a slot, and may not have seen that a message waits for it. */
 static synicboard_reply perform(const synicboard_event *event)
 {
-    return answer(event, synicboard_perform(board, event));
+    synicboard_live_reply live = synicboard_act_live(board, event);
+    answer(event, live.reply);
+    if (live.late != 0)
+        handle_notices(synicboard_late_notices);
+    for (uint8_t vp = 0; live.owed >> vp != 0; vp++)
+        if (live.owed >> vp & 1)
+            perform(&(synicboard_event){ .kind = SYNICBOARD_WRITE, .vp = vp, .msr = SYNICBOARD_MSR_EOM });
+    return live.reply;
+}
+
+static void observe(uint8_t vp)
+{
+    if (!vm.pages_trap && synicboard_observe_all(board, vp).notices != 0)
+        handle_notices(synicboard_notices);
+}
+
+/* Before the board is saved, while no processor is in the guest. */
+void board_observe(void)
+{
+    for (uint8_t vp = 0; vp < vm.vps; vp++)
+        observe(vp);
 }
 
 /* ---- Time ---- */
@@ -94,15 +127,27 @@ static bool depends_on_time(uint32_t msr)
         || (msr >= SYNICBOARD_MSR_STIMER0_CONFIG && msr < SYNICBOARD_MSR_STIMER0_CONFIG + 8);
 }
 
+/* The board learns what is in a page before the guest sees it no longer. */
+static synicboard_reply move_overlay(const synicboard_event *write)
+{
+    vp_pause_others();
+    observe(write->vp);
+    synicboard_reply reply = perform(write);
+    overlay_set();
+    vp_resume_others();
+    return reply;
+}
+
 synicboard_reply board_write(struct vp *vp, uint32_t msr, uint64_t value)
 {
+    synicboard_event write = { .kind = SYNICBOARD_WRITE, .vp = vp->number, .msr = msr, .value = value };
+    if (msr == SYNICBOARD_MSR_SIMP || msr == SYNICBOARD_MSR_SIEFP)
+        return move_overlay(&write);
     if (depends_on_time(msr))
         tick(synicboard_moment(board));
-    synicboard_reply reply = perform(&(synicboard_event){ .kind = SYNICBOARD_WRITE, .vp = vp->number, .msr = msr, .value = value });
+    synicboard_reply reply = perform(&write);
     if (reply.kind == SYNICBOARD_DONE && msr == SYNICBOARD_MSR_TPR)
         vp->tpr = (uint8_t)value;
-    if (msr == SYNICBOARD_MSR_SIMP || msr == SYNICBOARD_MSR_SIEFP)
-        overlay_map();
     return reply;
 }
 
@@ -125,6 +170,19 @@ static uint64_t cleared(uint64_t address, const uint8_t *bytes, size_t length)
     return count;
 }
 
+uint8_t *board_live_page(synicboard_page_owner owner)
+{
+    return live_pages[2 * owner.vp + (owner.kind == SYNICBOARD_OWNER_FLAGS)];
+}
+
+/* The memory that a guest sees where the board has no page that traps. */
+static uint8_t *memory_at(uint64_t address, size_t length)
+{
+    synicboard_page_owner owner = synicboard_owner(board, address / PAGE);
+    bool is_live = owner.kind == SYNICBOARD_OWNER_MESSAGES || owner.kind == SYNICBOARD_OWNER_FLAGS;
+    return is_live ? board_live_page(owner) + address % PAGE : vm_memory(address, length);
+}
+
 /* If the overlay moved after the exit, the store goes to the guest's memory. KVM passes a store that crosses
  * a page as two. */
 void board_store(uint64_t address, const uint8_t *bytes, size_t length)
@@ -133,7 +191,7 @@ void board_store(uint64_t address, const uint8_t *bytes, size_t length)
     memcpy(event.bytes, bytes, length);
     flags_cleared += cleared(address, bytes, length);
     synicboard_reply reply = perform(&event);
-    uint8_t *memory = vm_memory(address, length);
+    uint8_t *memory = memory_at(address, length);
     if (reply.kind == SYNICBOARD_REFUSED && reply.refusal == SYNICBOARD_ELSEWHERE && memory != NULL)
         memcpy(memory, bytes, length);
 }
@@ -250,8 +308,20 @@ void board_transfer(void)
     board_fresh = fresh;
 }
 
+/* The flags that are set in the live pages. */
+static uint64_t flags_left(void)
+{
+    uint64_t count = 0;
+    for (unsigned vp = 0; !vm.pages_trap && vp < vm.vps; vp++)
+        for (unsigned at = 0; at < PAGE; at++)
+            count += (uint64_t)__builtin_popcount(live_pages[2 * vp + 1][at]);
+    return count;
+}
+
 void board_report(void)
 {
+    if (!vm.pages_trap)
+        flags_cleared = flags_set - flags_left();
     fprintf(stderr, "vmm: board: %lu events, %lu notices, %lu ticks\n", events, notices_seen, ticks);
     fprintf(stderr, "vmm: messages: %lu placed, %lu consumed, %lu withdrawn; timers: %lu periods expired, %lu skipped\n",
             placed, consumed, withdrawn, expired, skipped);

@@ -26,6 +26,7 @@ static void reserve(size_t needed)
 
 void image_save(void)
 {
+    board_observe();
     do {
         reserve(length);
         synicboard_end end = synicboard_save(board, image, room);
@@ -41,6 +42,7 @@ bool image_restore(void)
     synicboard_close(board);
     if (synicboard_restore(board, image, length).kind != SYNICBOARD_OK)
         return false;
+    board_make_live(board);
     overlay_set();
     return true;
 }

@@ -69,7 +69,7 @@ static void open_ports(void)
 {
     for (uint8_t vp = 0; vp < LOAD_VPS; vp++) {
         board_open_message_port(FIRST_MESSAGE_PORT + vp, vp, MESSAGE_SINT, BUFFERS);
-        board_open_event_port(FIRST_FLAG_PORT + vp, vp, FLAG_SINT, 0, FLAGS * FLAG_STRIDE);
+        board_open_event_port(FIRST_FLAG_PORT + vp, vp, FLAG_SINT, 0, FLAGS * MOST_FLAG_STRIDE);
     }
 }
 
@@ -93,7 +93,7 @@ static bool post(uint8_t vp, uint64_t number)
 static void signal_flag(uint8_t vp, unsigned flag)
 {
     mailbox->signalled[vp][flag]++;
-    board_signal(FIRST_FLAG_PORT + vp, (uint16_t)(flag * FLAG_STRIDE));
+    board_signal(FIRST_FLAG_PORT + vp, (uint16_t)(flag * mailbox->flag_stride));
 }
 
 /* The steps are, for each number, a message and a signal to each processor. Returns whether this one was made. */
@@ -140,6 +140,7 @@ void load_start(uint64_t address)
         return;
     if ((mailbox = (struct mailbox *)vm_memory(address, sizeof *mailbox)) == NULL)
         return;
+    mailbox->flag_stride = vm.pages_trap ? MOST_FLAG_STRIDE : 1;
     open_ports();
     load_continue();
 }

@@ -26,13 +26,14 @@ static const char usage[] =
     "  --restore-every N  each N milliseconds, replace the board by the one restored from its image (never)\n"
     "  --save-after MS --save-to FILE  after MS milliseconds, save the guest to FILE and end\n"
     "  --report      print at the end what was counted\n"
-    "  --trace FILE  write the board's events and replies as a trace, which `synicboard check` checks\n"
+    "  --trap-pages  the guest's stores to message and event flags pages exit, and are events of the board\n"
+    "  --trace FILE  with --trap-pages: write the events and replies as a trace, which `synicboard check` checks\n"
     "  --vmbus       Linux finds a VMBus with the services heartbeat, time synchronisation and shutdown\n"
     "  --vmbus-version M.N  the newest version of VMBus that is accepted (5.3)\n"
     "  --heartbeat-every MS, --timesync-every MS  how often the services send (1000)\n"
     "  --heartbeats N, --shutdown-after MS  shut the guest down after N answers, or MS milliseconds (never)\n"
     "  --rescind-after MS  take time synchronisation away from the guest, and offer it again (never)\n"
-    "  --signal-from-threads  set event flags while the guest may clear others, which loses some\n"
+    "  --signal-from-threads  with --trap-pages: set event flags while the guest may clear others, which loses some\n"
     "A saved guest that is continued has its own load, processors and memory.\n";
 
 struct options {
@@ -140,7 +141,7 @@ static bool parse(int count, char **words, struct options *options)
         { "flat", 1, NULL, 'f' }, { "load", 1, NULL, 'n' }, { "linux", 1, NULL, 'l' }, { "initrd", 1, NULL, 'i' },
         { "append", 1, NULL, 'a' }, { "cpus", 1, NULL, 'c' }, { "memory", 1, NULL, 'm' }, { "restore-every", 1, NULL, 's' },
         { "continue", 1, NULL, 'g' }, { "save-after", 1, NULL, 't' }, { "save-to", 1, NULL, 'o' },
-        { "report", 0, NULL, 'r' }, { "trace", 1, NULL, 'x' }, { "vmbus", 0, NULL, VMBUS }, { "vmbus-version", 1, NULL, VERSION },
+        { "report", 0, NULL, 'r' }, { "trace", 1, NULL, 'x' }, { "trap-pages", 0, NULL, 'p' }, { "vmbus", 0, NULL, VMBUS }, { "vmbus-version", 1, NULL, VERSION },
         { "heartbeat-every", 1, NULL, HEARTBEAT_EVERY }, { "timesync-every", 1, NULL, TIMESYNC_EVERY },
         { "heartbeats", 1, NULL, HEARTBEATS }, { "shutdown-after", 1, NULL, SHUTDOWN_AFTER },
         { "rescind-after", 1, NULL, RESCIND_AFTER }, { "signal-from-threads", 0, NULL, FROM_THREADS }, { 0 },
@@ -163,12 +164,13 @@ static bool parse(int count, char **words, struct options *options)
         case 'o': vm.save_to = optarg; break;
         case 'r': options->reports = true; break;
         case 'x': vm.trace = optarg; break;
+        case 'p': vm.pages_trap = true; break;
         default:
             if (!parse_vmbus(option, optarg))
                 return false;
         }
     return optind == count && (options->flat != NULL) + (options->kernel != NULL) + (options->saved != NULL) == 1
-        && options->has_save_time == (vm.save_to != NULL) && vm_has_valid_size();
+        && options->has_save_time == (vm.save_to != NULL) && (vm.trace == NULL || vm.pages_trap) && vm_has_valid_size();
 }
 
 int main(int count, char **words)
@@ -204,6 +206,7 @@ int main(int count, char **words)
     fflush(stdout);
     saved_write();
     lock_acquire();
+    board_observe();
     trace_end();
     lock_release();
     if (options.reports)

@@ -1,6 +1,6 @@
-/* Overlay pages as memory slots of KVM. At each page at which the board shows an overlay, the
- * board's own page is mapped over the guest's memory, read-only: loads need no exit, and a store
- * exits and becomes an event of the board. */
+/* Overlay pages as memory slots of KVM. At each page at which the board shows an overlay, its live page is
+ * mapped over the guest's memory, and no access exits. Where pages trap, it is the board's own page, read-only:
+ * loads need no exit, and a store exits and becomes an event of the board. */
 #include <string.h>
 #include <sys/ioctl.h>
 
@@ -22,6 +22,8 @@ static unsigned used;
 static const uint8_t *page_of(synicboard_page_owner owner)
 {
     const uint8_t *page = NULL;
+    if (!vm.pages_trap)
+        return board_live_page(owner);
     if (!(owner.kind == SYNICBOARD_OWNER_MESSAGES ? synicboard_message_page : synicboard_flag_page)(board, owner.vp, &page))
         fail("a page of the board");
     return page;
@@ -31,7 +33,7 @@ static void set_slot(unsigned number, const struct piece *piece, uint64_t size)
 {
     struct kvm_userspace_memory_region region = {
         .slot = number, .guest_phys_addr = piece->address, .memory_size = size, .userspace_addr = (uintptr_t)piece->memory,
-        .flags = piece->is_overlay && size != 0 ? KVM_MEM_READONLY : 0,
+        .flags = vm.pages_trap && piece->is_overlay && size != 0 ? KVM_MEM_READONLY : 0,
     };
     if (ioctl(vm.fd, KVM_SET_USER_MEMORY_REGION, &region) != 0)
         fail("KVM_SET_USER_MEMORY_REGION");

@@ -14,7 +14,7 @@
 #define FIRST_SUM 0xcbf29ce484222325
 #define SUM_FACTOR 0x100000001b3
 
-static const char magic[16] = "saved guest 2";
+static const char magic[16] = "saved guest 3";
 static const char *path;
 static FILE *file;
 static bool is_reading;
@@ -64,6 +64,11 @@ static void transfer_header(void)
     saved_transfer(&vm.ram_size, sizeof vm.ram_size);
     saved_transfer(&vm.load, sizeof vm.load);
     saved_transfer(&vm.vmbus, sizeof vm.vmbus);
+    uint8_t traps = vm.pages_trap;
+    saved_transfer(&traps, sizeof traps);
+    vm.pages_trap = traps != 0;
+    if (vm.trace != NULL && !vm.pages_trap)
+        saved_refuse("its pages do not trap, so there is no trace");
     if (!vm_has_valid_size())
         saved_refuse("no guest has so many processors, or so much memory");
 }

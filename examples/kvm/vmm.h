@@ -46,7 +46,7 @@ struct vp {
 /* What the command line says about VMBus. */
 struct vmbus_options {
     bool is_on;
-    bool signals_from_threads;  /* by whichever thread has a packet, which loses flags (docs/EMBEDDING.md) */
+    bool signals_from_threads;  /* by whichever thread has a packet, which loses flags where pages trap (docs/EMBEDDING.md) */
     uint32_t newest;            /* the newest version that the host accepts: the major number times 65536, and the minor */
     uint32_t shutdown_after, rescind_after;     /* milliseconds; 0 for never */
     uint64_t heartbeats;        /* the guest is shut down after so many answers; 0 for never */
@@ -68,6 +68,7 @@ struct vm {
     uint32_t save_after;        /* milliseconds until the guest is saved, if save_to is not null */
     const char *save_to;
     const char *trace;          /* the file that gets the trace of the board; null for none */
+    bool pages_trap;            /* the guest's stores to message and event flags pages exit */
     struct vmbus_options vmbus;
     uint64_t tsc_hz;
     uint64_t slot_changes, emulated;
@@ -151,6 +152,9 @@ uint64_t clock_tsc_offset(void);            /* the guest's TSC minus that of the
 
 /* board.c */
 void board_open(void);
+void board_make_live(synicboard *opened);   /* unless pages trap */
+void board_observe(void);                   /* makes the board's pages equal to the live ones, while no processor runs */
+uint8_t *board_live_page(synicboard_page_owner owner);
 void board_advance(void);                   /* ticks if a timer is due, and arms the host's timer */
 void board_absorb(struct vp *vp);
 uint8_t board_take(struct vp *vp);

@@ -37,7 +37,9 @@ void lock_wait(struct condition *condition) { (void)condition; }
 void lock_signal(struct condition *condition) { (void)condition; }
 uint64_t clock_now(void) { return guest_time; }
 void clock_want(uint64_t time) { (void)time; }
-void overlay_map(void) {}
+void overlay_set(void) {}
+void vp_pause_others(void) {}
+void vp_resume_others(void) {}
 void vm_log(const char *format, ...) { (void)format; }
 void trace_entry(const synicboard_event *event, const synicboard_reply *reply) { (void)event; (void)reply; }
 
@@ -77,14 +79,13 @@ uint64_t guest_post(uint32_t connection, const void *message, uint32_t length)
 
 uint32_t guest_take(void *message)
 {
-    const uint8_t *page = NULL;
-    uint64_t slot = MESSAGES * PAGE + VMBUS_MESSAGE_SINT * SLOT;
-    if (!synicboard_message_page(board, 0, &page) || page[VMBUS_MESSAGE_SINT * SLOT] == 0)
+    uint8_t *slot = board_live_page((synicboard_page_owner){ SYNICBOARD_OWNER_MESSAGES, 0 }) + VMBUS_MESSAGE_SINT * SLOT;
+    if (slot[0] == 0)
         return 0;
-    uint32_t length = page[VMBUS_MESSAGE_SINT * SLOT + 4];
+    uint32_t length = slot[4];
     REQUIRE(length >= 8 && length <= HV_MESSAGE_PAYLOAD_BYTE_COUNT);
-    memcpy(message, page + VMBUS_MESSAGE_SINT * SLOT + 16, length);
-    board_store(slot, (const uint8_t[4]){ 0 }, 4);
+    memcpy(message, slot + 16, length);
+    memset(slot, 0, 4);
     board_write(&vm.vp[0], SYNICBOARD_MSR_EOM, 0);
     vmbus_deliver(&vm.vp[0]);
     return length;

@@ -11,7 +11,7 @@ enum { END_PORT = 0xf4, MAILBOX_PORT = 0xe0, LOAD_PORT = 0xe4, FRESH_PORT = 0xec
  * signals another. */
 enum { LOAD_VPS = 2, RAISERS = 2, RAISER_VECTORS = 8, LOAD_VECTORS = RAISERS * RAISER_VECTORS };
 enum { FIRST_LOAD_VECTOR = 0x70 };
-enum { MESSAGE_SINT = 3, FLAG_SINT = 4, FLAGS = 16, FLAG_STRIDE = 8 };
+enum { MESSAGE_SINT = 3, FLAG_SINT = 4, FLAGS = 16, MOST_FLAG_STRIDE = 8 };
 
 /* A raiser raises a vector again only when the guest has handled the raise before, so that no
  * two of them merge into one interrupt and each can be counted. */
@@ -22,6 +22,7 @@ struct mailbox {
     volatile uint32_t handled[LOAD_VPS][LOAD_VECTORS];      /* by the guest */
     volatile uint32_t signalled[LOAD_VPS][FLAGS];           /* by the messenger, before it signals */
     volatile uint32_t refused;                              /* posts that found no buffer, and were made again */
+    volatile uint32_t flag_stride;                          /* from one flag to the next: 1, or 8 where pages trap; set by the host */
 };
 
 /* The payload of a message. */

@@ -184,16 +184,25 @@ void handle_letter(struct processor *self)
     consume(slot);
 }
 
-/* Each flag has a byte of its own: a store of a byte of flags exits with the value to store, and
- * a flag of the same byte that is signalled meanwhile would be lost. */
+/* Where pages trap, each flag has a byte of its own: a store of a byte of flags exits with the value to store,
+ * and a flag of the same byte that is signalled meanwhile would be lost. Elsewhere the flags share bytes, and one
+ * is cleared as Linux does it. Returns whether it was set. */
+static bool clear_flag(volatile uint8_t *flags, unsigned flag)
+{
+    bool was_set = (flags[flag / 8] >> flag % 8 & 1) != 0;
+    if (was_set && mailbox.flag_stride == 1)
+        __asm__ volatile("lock btrl %1, %0" : "+m"(*(volatile uint32_t *)flags) : "r"(flag) : "memory");
+    else if (was_set)
+        flags[flag / 8] = 0;
+    __sync_synchronize();
+    return was_set;
+}
+
 void handle_flags(struct processor *self)
 {
     for (unsigned flag = 0; flag < FLAGS; flag++) {
-        volatile uint8_t *byte = &flag_pages[self->number][256 * FLAG_SINT + flag * FLAG_STRIDE / 8];
-        if ((*byte & 1) == 0)
+        if (!clear_flag(&flag_pages[self->number][256 * FLAG_SINT], flag * mailbox.flag_stride))
             continue;
-        *byte = 0;
-        __sync_synchronize();
         self->signalled[flag] = mailbox.signalled[self->number][flag];
     }
 }

@@ -183,10 +183,10 @@ static void set_flag(struct channel *channel)
 }
 
 /* Linux clears a flag by LOCK BTR. On a page that traps that is a load, and later a store that exits: a flag that
- * another thread sets in between is lost. So the target's own thread sets it, between two entries. */
+ * another thread sets in between is lost. So the target's own thread sets it there, between two entries. */
 static void interrupt(struct channel *channel)
 {
-    if (vm.vmbus.signals_from_threads) {
+    if (!vm.pages_trap || vm.vmbus.signals_from_threads) {
         set_flag(channel);
         return;
     }
