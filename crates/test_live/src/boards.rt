@@ -1,8 +1,9 @@
-// A live board whose guest does nothing.
-use board_terms::{Kind, Notice, Notices, PortShape, Refusal, Sint, Vp};
+// A live board whose guest does nothing. The scenes borrow what `played` owns: where nothing is
+// owned, a proof stays small for any number of assertions.
+use board_terms::{Kind, Notice, Notices, PortShape, Refusal, Sint, Ticket, Vp};
 use live_board::LiveBoard;
 use std::alloc::Global;
-use std::test::Fail;
+use std::process::Abort;
 use synic_board::{Board, Event, Reply, msr};
 
 /// Performs an event after which no processor is owed an EOM.
@@ -56,10 +57,21 @@ fn ported(alloc: Global, notices: &mut Notices) -> Option<Board> {
     Some(board)
 }
 
-/// The same as a live board.
-fn opened(alloc: Global, notices: &mut Notices) -> Option<LiveBoard> {
-    let board = ported(alloc, notices)?;
-    LiveBoard::open(alloc, board).ok()
+/// Plays a scene on a live board and two lists of notices of its own, and returns the next ticket;
+/// `None` if an allocation fails.
+fn played<
+    B: FnOnce(Global, &mut Notices) -> Option<Board>,
+    S: FnOnce(&mut LiveBoard, &mut Notices, &mut Notices),
+>(alloc: Global, board: B, scene: S) -> Option<Ticket>
+    requires board { B.IsAlwaysCallable board }
+    requires scene { S.IsAlwaysCallable scene }
+{
+    let mut notices = Notices::open(alloc).ok()?;
+    let mut late = Notices::open(alloc).ok()?;
+    let opened = board(alloc, &mut notices)?;
+    let mut live = LiveBoard::open(alloc, opened).ok()?;
+    scene(&mut live, &mut notices, &mut late);
+    Some(live.into_board().next_ticket())
 }
 
 /// Resets a processor that is on the board.
@@ -85,15 +97,11 @@ fn settle(live: &mut LiveBoard, vp: Vp, notices: &mut Notices) {
     }
 }
 
-#[test]
-fn posts_and_signals_reach_the_pages(rt: HostRuntime) -> Result<(), Fail> {
-    let mut notices = Notices::open(rt.alloc())?;
-    let Some(mut live) = opened(rt.alloc(), &mut notices) else {
-        panic!(rt; "memory")
-    };
+/// Posts and signals, while the first message stays in its slot.
+fn post_and_signal(rt: &impl Abort, live: &mut LiveBoard, notices: &mut Notices) {
     let (vp, sint) = (Vp::new(0).unwrap(), Sint::new(2).unwrap());
     // README live_board: begin
-    assert_eq!(rt; live.post(3, 1, b"a", &mut notices), Reply::Accepted(0));
+    assert_eq!(rt; live.post(3, 1, b"a", notices), Reply::Accepted(0));
     assert_eq!(rt;
         notices.as_slice().get(1),
         Some(&Notice::Placed {
@@ -102,79 +110,73 @@ fn posts_and_signals_reach_the_pages(rt: HostRuntime) -> Result<(), Fail> {
             ticket: 0
         })
     );
-    observe(&mut live, vp, &mut notices);
+    observe(live, vp, notices);
     assert_eq!(rt; notices.as_slice().len(), 0); // the guest has not emptied the slot
-    assert_eq!(rt; live.post(3, 1, b"b", &mut notices), Reply::Accepted(1));
+    assert_eq!(rt; live.post(3, 1, b"b", notices), Reply::Accepted(1));
     assert_eq!(rt;
         notices.as_slice().get(1),
         Some(&Notice::Pending { vp, sint })
     );
-    assert_eq!(rt; live.signal(4, 100, &mut notices), Reply::FlagWasClear);
-    assert_eq!(rt; live.signal(4, 100, &mut notices), Reply::FlagWasSet);
+    assert_eq!(rt; live.signal(4, 100, notices), Reply::FlagWasClear);
+    assert_eq!(rt; live.signal(4, 100, notices), Reply::FlagWasSet);
     // README live_board: end
-    assert_eq!(rt; live.post(3, 1, b"c", &mut notices), Reply::Accepted(2));
+    assert_eq!(rt; live.post(3, 1, b"c", notices), Reply::Accepted(2));
     assert_eq!(rt; notices.as_slice().len(), 1);
     assert_eq!(rt; live.board().summary().queued(vp, sint), 2);
-    assert_eq!(rt; live.into_board().next_ticket(), 3);
-    Ok(())
 }
 
 #[test]
-fn a_page_that_is_not_mapped_is_written(rt: HostRuntime) -> Result<(), Fail> {
-    let mut notices = Notices::open(rt.alloc())?;
-    let mut late = Notices::open(rt.alloc())?;
-    let Some(mut live) = opened(rt.alloc(), &mut notices) else {
-        panic!(rt; "memory")
-    };
+fn posts_and_signals_reach_the_pages(rt: HostRuntime) {
+    let next = played(rt.alloc(), ported, |live, notices, _| {
+        post_and_signal(&rt, live, notices)
+    });
+    assert_eq!(rt; next, Some(3));
+}
+
+/// Signals of a flag while its page is hidden, and once it is seen.
+fn signal_a_hidden_page(
+    rt: &impl Abort,
+    live: &mut LiveBoard,
+    notices: &mut Notices,
+    late: &mut Notices,
+) {
     let vp = Vp::new(0).unwrap();
     // page 2^52 - 1 is SIM's, so that SIEF is not visible there
     let page = 0xffff_ffff_ffff_f001;
-    act(&mut live, &write(msr::SIMP, page), &mut notices, &mut late);
-    act(&mut live, &write(msr::SIEFP, page), &mut notices, &mut late);
-    assert_eq!(rt; live.signal(4, 7, &mut notices), Reply::FlagWasClear);
-    assert_eq!(rt; live.signal(4, 7, &mut notices), Reply::FlagWasSet);
-    act(
-        &mut live,
-        &write(msr::SIEFP, 0x3001),
-        &mut notices,
-        &mut late,
-    );
-    assert_eq!(rt; live.signal(4, 7, &mut notices), Reply::FlagWasSet);
+    act(live, &write(msr::SIMP, page), notices, late);
+    act(live, &write(msr::SIEFP, page), notices, late);
+    assert_eq!(rt; live.signal(4, 7, notices), Reply::FlagWasClear);
+    assert_eq!(rt; live.signal(4, 7, notices), Reply::FlagWasSet);
+    act(live, &write(msr::SIEFP, 0x3001), notices, late);
+    assert_eq!(rt; live.signal(4, 7, notices), Reply::FlagWasSet);
     assert_eq!(rt;
-        live.post(9, 1, b"", &mut notices),
+        live.post(9, 1, b"", notices),
         Reply::Refused(Refusal::UnknownPort)
     );
-    observe(&mut live, vp, &mut notices);
+    observe(live, vp, notices);
     assert_eq!(rt; notices.as_slice().len(), 0);
-    Ok(())
 }
 
 #[test]
-fn an_eom_places_what_is_queued(rt: HostRuntime) -> Result<(), Fail> {
-    let mut notices = Notices::open(rt.alloc())?;
-    let mut late = Notices::open(rt.alloc())?;
-    let Some(mut board) = ported(rt.alloc(), &mut notices) else {
-        panic!(rt; "memory")
-    };
+fn a_page_that_is_not_mapped_is_written(rt: HostRuntime) {
+    let next = played(rt.alloc(), ported, |live, notices, late| {
+        signal_a_hidden_page(&rt, live, notices, late)
+    });
+    assert_eq!(rt; next, Some(0));
+}
+
+/// Two posts, of which the second stays queued when the guest empties the slot.
+fn queue(rt: &impl Abort, board: &mut Board, notices: &mut Notices) {
+    assert_eq!(rt; board.post(3, 1, b"a", notices), Reply::Accepted(0));
+    assert_eq!(rt; board.post(3, 1, b"b", notices), Reply::Accepted(1));
+    assert_eq!(rt; board.store(0x2200, &[0, 0, 0, 0], notices), Reply::Done);
+}
+
+/// Two EOMs, of which the first places the queued message.
+fn end_twice(rt: &impl Abort, live: &mut LiveBoard, notices: &mut Notices, late: &mut Notices) {
     let (vp, sint) = (Vp::new(0).unwrap(), Sint::new(2).unwrap());
-    assert_eq!(rt; board.post(3, 1, b"a", &mut notices), Reply::Accepted(0));
-    assert_eq!(rt; board.post(3, 1, b"b", &mut notices), Reply::Accepted(1));
-    assert_eq!(rt;
-        board.store(0x2200, &[0, 0, 0, 0], &mut notices),
-        Reply::Done
-    );
-    let Ok(mut live) = LiveBoard::open(rt.alloc(), board) else {
-        panic!(rt; "memory")
-    };
-    let eom = Event::Write {
-        vp: 0,
-        register: msr::EOM,
-        value: 0,
-    };
-    assert_eq!(rt;
-        act(&mut live, &eom, &mut notices, &mut late),
-        Some(Reply::Done)
-    );
+    let eom = write(msr::EOM, 0);
+    assert_eq!(rt; act(live, &eom, notices, late), Some(Reply::Done));
     assert_eq!(rt;
         notices.as_slice().first(),
         Some(&Notice::Placed {
@@ -183,30 +185,32 @@ fn an_eom_places_what_is_queued(rt: HostRuntime) -> Result<(), Fail> {
             ticket: 1
         })
     );
-    assert_eq!(rt;
-        act(&mut live, &eom, &mut notices, &mut late),
-        Some(Reply::Done)
-    );
+    assert_eq!(rt; act(live, &eom, notices, late), Some(Reply::Done));
     assert_eq!(rt; notices.as_slice().len(), 0);
-    observe(&mut live, vp, &mut notices);
+    observe(live, vp, notices);
     assert_eq!(rt; notices.as_slice().len(), 0);
-    Ok(())
+}
+
+/// The board after `queue`.
+fn queued(rt: &impl Abort, alloc: Global, notices: &mut Notices) -> Option<Board> {
+    let mut board = ported(alloc, notices)?;
+    queue(rt, &mut board, notices);
+    Some(board)
 }
 
 #[test]
-fn a_timer_that_is_due_sends_at_once(rt: HostRuntime) -> Result<(), Fail> {
-    let mut notices = Notices::open(rt.alloc())?;
-    let Some(mut board) = ported(rt.alloc(), &mut notices) else {
-        panic!(rt; "memory")
-    };
-    let (vp, sint) = (Vp::new(0).unwrap(), Sint::new(2).unwrap());
-    assert_eq!(rt;
-        board.perform(&Event::Tick { moment: 100 }, &mut notices),
-        Reply::Done
+fn an_eom_places_what_is_queued(rt: HostRuntime) {
+    let next = played(
+        rt.alloc(),
+        |alloc, notices| queued(&rt, alloc, notices),
+        |live, notices, late| { end_twice(&rt, live, notices, late) },
     );
-    let Ok(mut live) = LiveBoard::open(rt.alloc(), board) else {
-        panic!(rt; "memory")
-    };
+    assert_eq!(rt; next, Some(2));
+}
+
+/// A timer whose count has passed when it is started, twice.
+fn start_a_due_timer(rt: &impl Abort, live: &mut LiveBoard, notices: &mut Notices) {
+    let (vp, sint) = (Vp::new(0).unwrap(), Sint::new(2).unwrap());
     let count = Event::Write {
         vp: 0,
         register: msr::STIMER0_COUNT,
@@ -217,54 +221,45 @@ fn a_timer_that_is_due_sends_at_once(rt: HostRuntime) -> Result<(), Fail> {
         register: msr::STIMER0_CONFIG,
         value: 0x20001,
     };
-    assert_eq!(rt;
-        live.write_timer(&count, &mut notices),
-        (Reply::Done, false)
-    );
+    assert_eq!(rt; live.write_timer(&count, notices), (Reply::Done, false));
     assert_eq!(rt; notices.as_slice().len(), 0);
-    assert_eq!(rt;
-        live.write_timer(&config, &mut notices),
-        (Reply::Done, false)
-    );
+    assert_eq!(rt; live.write_timer(&config, notices), (Reply::Done, false));
     assert_eq!(rt; live.board().next_ticket(), 1);
     assert_eq!(rt; live.board().summary().queued(vp, sint), 0);
-    assert_eq!(rt;
-        live.write_timer(&config, &mut notices),
-        (Reply::Done, false)
-    );
+    assert_eq!(rt; live.write_timer(&config, notices), (Reply::Done, false));
     assert_eq!(rt; live.board().summary().queued(vp, sint), 1);
     assert_eq!(rt;
         notices.as_slice().last(),
         Some(&Notice::Pending { vp, sint })
     );
-    observe(&mut live, vp, &mut notices);
+    observe(live, vp, notices);
     assert_eq!(rt; notices.as_slice().len(), 0);
-    Ok(())
+}
+
+/// The board at moment 100.
+fn ticked(rt: &impl Abort, alloc: Global, notices: &mut Notices) -> Option<Board> {
+    let mut board = ported(alloc, notices)?;
+    let reply = board.perform(&Event::Tick { moment: 100 }, notices);
+    assert_eq!(rt; reply, Reply::Done);
+    Some(board)
 }
 
 #[test]
-fn a_tick_places_and_marks(rt: HostRuntime) -> Result<(), Fail> {
-    let mut notices = Notices::open(rt.alloc())?;
-    let mut late = Notices::open(rt.alloc())?;
-    let Some(mut board) = ported(rt.alloc(), &mut notices) else {
-        panic!(rt; "memory")
-    };
+fn a_timer_that_is_due_sends_at_once(rt: HostRuntime) {
+    let next = played(
+        rt.alloc(),
+        |alloc, notices| ticked(&rt, alloc, notices),
+        |live, notices, _| { start_a_due_timer(&rt, live, notices) },
+    );
+    assert_eq!(rt; next, Some(2));
+}
+
+/// Ticks before and at two deadlines of a timer, and one back.
+fn tick(rt: &impl Abort, live: &mut LiveBoard, notices: &mut Notices, late: &mut Notices) {
     let (vp, sint) = (Vp::new(0).unwrap(), Sint::new(2).unwrap());
-    // timer 0 is periodic, and sends to SINT2
-    board.perform(&write(msr::STIMER0_CONFIG, 0x20003), &mut notices);
-    board.perform(&write(msr::STIMER0_COUNT, 100), &mut notices);
-    let Ok(mut live) = LiveBoard::open(rt.alloc(), board) else {
-        panic!(rt; "memory")
-    };
-    assert_eq!(rt;
-        live.tick(99, &mut notices, &mut late),
-        (Reply::Done, [false; 8])
-    );
+    assert_eq!(rt; live.tick(99, notices, late), (Reply::Done, [false; 8]));
     assert_eq!(rt; notices.as_slice().len(), 0);
-    assert_eq!(rt;
-        live.tick(100, &mut notices, &mut late),
-        (Reply::Done, [false; 8])
-    );
+    assert_eq!(rt; live.tick(100, notices, late), (Reply::Done, [false; 8]));
     assert_eq!(rt;
         notices.as_slice().get(2),
         Some(&Notice::Placed {
@@ -273,116 +268,116 @@ fn a_tick_places_and_marks(rt: HostRuntime) -> Result<(), Fail> {
             ticket: 0
         })
     );
-    assert_eq!(rt;
-        live.tick(200, &mut notices, &mut late),
-        (Reply::Done, [false; 8])
-    );
+    assert_eq!(rt; live.tick(200, notices, late), (Reply::Done, [false; 8]));
     assert_eq!(rt;
         notices.as_slice().last(),
         Some(&Notice::Pending { vp, sint })
     );
     assert_eq!(rt; late.as_slice().len(), 0);
     assert_eq!(rt;
-        live.tick(100, &mut notices, &mut late).0,
+        live.tick(100, notices, late).0,
         Reply::Refused(Refusal::ClockBack)
     );
-    observe(&mut live, vp, &mut notices);
+    observe(live, vp, notices);
     assert_eq!(rt; notices.as_slice().len(), 0);
-    Ok(())
+}
+
+/// The board with timer 0 periodic, which sends to SINT2.
+fn periodic(alloc: Global, notices: &mut Notices) -> Option<Board> {
+    let mut board = ported(alloc, notices)?;
+    board.perform(&write(msr::STIMER0_CONFIG, 0x20003), notices);
+    board.perform(&write(msr::STIMER0_COUNT, 100), notices);
+    Some(board)
 }
 
 #[test]
-fn a_reset_withdraws_what_is_left(rt: HostRuntime) -> Result<(), Fail> {
-    let mut notices = Notices::open(rt.alloc())?;
-    let mut late = Notices::open(rt.alloc())?;
-    let Some(mut live) = opened(rt.alloc(), &mut notices) else {
-        panic!(rt; "memory")
-    };
+fn a_tick_places_and_marks(rt: HostRuntime) {
+    let next = played(rt.alloc(), periodic, |live, notices, late| {
+        tick(&rt, live, notices, late)
+    });
+    assert_eq!(rt; next, Some(2));
+}
+
+/// A post and a signal before a reset, and the signal again after it.
+fn reset_between_signals(
+    rt: &impl Abort,
+    live: &mut LiveBoard,
+    notices: &mut Notices,
+    late: &mut Notices,
+) {
     let (vp, sint) = (Vp::new(0).unwrap(), Sint::new(2).unwrap());
-    assert_eq!(rt; live.post(3, 1, b"a", &mut notices), Reply::Accepted(0));
-    assert_eq!(rt; live.signal(4, 7, &mut notices), Reply::FlagWasClear);
-    assert_eq!(rt; reset(&mut live, vp, &mut notices), Some(Reply::Done));
+    assert_eq!(rt; live.post(3, 1, b"a", notices), Reply::Accepted(0));
+    assert_eq!(rt; live.signal(4, 7, notices), Reply::FlagWasClear);
+    assert_eq!(rt; reset(live, vp, notices), Some(Reply::Done));
     let withdrawn = Notice::Withdrawn {
         vp,
         sint,
         ticket: 0,
     };
     assert_eq!(rt; notices.as_slice().first(), Some(&withdrawn));
-    act(&mut live, &write(msr::SCONTROL, 1), &mut notices, &mut late);
-    act(
-        &mut live,
-        &write(msr::SIMP, 0x2001),
-        &mut notices,
-        &mut late,
-    );
-    act(
-        &mut live,
-        &write(msr::SIEFP, 0x3001),
-        &mut notices,
-        &mut late,
-    );
-    assert_eq!(rt; live.signal(4, 7, &mut notices), Reply::FlagWasClear);
-    observe(&mut live, vp, &mut notices);
+    act(live, &write(msr::SCONTROL, 1), notices, late);
+    act(live, &write(msr::SIMP, 0x2001), notices, late);
+    act(live, &write(msr::SIEFP, 0x3001), notices, late);
+    assert_eq!(rt; live.signal(4, 7, notices), Reply::FlagWasClear);
+    observe(live, vp, notices);
     assert_eq!(rt; notices.as_slice().len(), 0);
-    Ok(())
 }
 
 #[test]
-fn an_access_of_a_live_page_is_the_callers(rt: HostRuntime) -> Result<(), Fail> {
-    let mut notices = Notices::open(rt.alloc())?;
-    let mut late = Notices::open(rt.alloc())?;
-    let Ok(board) = Board::open(rt.alloc(), 1, 4, 0) else {
-        panic!(rt; "memory")
-    };
-    let Ok(mut live) = LiveBoard::open(rt.alloc(), board) else {
-        panic!(rt; "memory")
-    };
+fn a_reset_withdraws_what_is_left(rt: HostRuntime) {
+    let next = played(rt.alloc(), ported, |live, notices, late| {
+        reset_between_signals(&rt, live, notices, late)
+    });
+    assert_eq!(rt; next, Some(1));
+}
+
+/// Loads before and after the page becomes a live one, and two other events.
+fn load(rt: &impl Abort, live: &mut LiveBoard, notices: &mut Notices, late: &mut Notices) {
     let elsewhere = Some(Reply::Refused(Refusal::Elsewhere));
     let load = Event::Load {
         address: 0x2200,
         length: 4,
     };
-    assert!(rt;
-        matches!(
-            act(&mut live, &load, &mut notices, &mut late),
-            Some(Reply::Bytes(_))
-        )
-    );
-    act(
-        &mut live,
-        &write(msr::SIMP, 0x2001),
-        &mut notices,
-        &mut late,
-    );
-    assert_eq!(rt; act(&mut live, &load, &mut notices, &mut late), elsewhere);
+    assert!(rt; matches!(act(live, &load, notices, late), Some(Reply::Bytes(_))));
+    act(live, &write(msr::SIMP, 0x2001), notices, late);
+    assert_eq!(rt; act(live, &load, notices, late), elsewhere);
     let suspend = Event::Suspend { vp: 0 };
-    assert_eq!(rt;
-        act(&mut live, &suspend, &mut notices, &mut late),
-        Some(Reply::Done)
-    );
+    assert_eq!(rt; act(live, &suspend, notices, late), Some(Reply::Done));
     let reset = Event::Reset { vp: 1 };
     assert_eq!(rt;
-        act(&mut live, &reset, &mut notices, &mut late),
+        act(live, &reset, notices, late),
         Some(Reply::Refused(Refusal::NoSuchProcessor))
     );
-    Ok(())
 }
 
 #[test]
-fn a_settle_finds_what_the_host_stored(rt: HostRuntime) -> Result<(), Fail> {
-    let mut notices = Notices::open(rt.alloc())?;
-    let Some(mut live) = opened(rt.alloc(), &mut notices) else {
-        panic!(rt; "memory")
-    };
+fn an_access_of_a_live_page_is_the_callers(rt: HostRuntime) {
+    let next = played(
+        rt.alloc(),
+        |alloc, _| Board::open(alloc, 1, 4, 0).ok(),
+        |live, notices, late| { load(&rt, live, notices, late) },
+    );
+    assert_eq!(rt; next, Some(0));
+}
+
+/// A post and a signal, and what the board's pages have of them after `settle`.
+fn settle_a_post(rt: &impl Abort, live: &mut LiveBoard, notices: &mut Notices) {
     let vp = Vp::new(0).unwrap();
-    assert_eq!(rt; live.post(3, 1, b"a", &mut notices), Reply::Accepted(0));
-    assert_eq!(rt; live.signal(4, 7, &mut notices), Reply::FlagWasClear);
-    settle(&mut live, vp, &mut notices);
+    assert_eq!(rt; live.post(3, 1, b"a", notices), Reply::Accepted(0));
+    assert_eq!(rt; live.signal(4, 7, notices), Reply::FlagWasClear);
+    settle(live, vp, notices);
     assert_eq!(rt; notices.as_slice().len(), 0);
     let Some(page) = live.board().own_page(vp, Kind::Sim) else {
         panic!(rt; "no page")
     };
     assert_eq!(rt; page.get(0x210), Some(&b'a')); // the payload in the slot of SINT2
-    assert_eq!(rt; live.signal(4, 7, &mut notices), Reply::FlagWasSet);
-    Ok(())
+    assert_eq!(rt; live.signal(4, 7, notices), Reply::FlagWasSet);
+}
+
+#[test]
+fn a_settle_finds_what_the_host_stored(rt: HostRuntime) {
+    let next = played(rt.alloc(), ported, |live, notices, _| {
+        settle_a_post(&rt, live, notices)
+    });
+    assert_eq!(rt; next, Some(1));
 }
