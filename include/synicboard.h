@@ -531,7 +531,7 @@ bool synicboard_guest_page(const synicboard *board, uint64_t number, const uint8
 
 /* ---- Live pages ----
  *
- * A board with live pages has, beside its own message and event flags pages, a page of memory for each, which
+ * A board with live pages has, next to its own message and event flags pages, a page of memory for each, which
  * the host maps into the guest, readable and writable, where synicboard_owner says that the guest sees that
  * page. The guest uses it without an exit: it reads a message, stores 0 in the message type, has a barrier,
  * looks at MessagePending and writes EOM if it is set; it clears event flags by its own atomic instructions. It

@@ -1,4 +1,4 @@
-/* Boards with live pages: which calls serve them, refused memory, what a guest's stores come to, and images. The
+/* Boards with live pages: which calls serve them, refused memory, what a guest's stores change, and images. The
  * threads of a host and a guest are in running.c. */
 #include <stdbool.h>
 #include <stddef.h>
