@@ -1,6 +1,7 @@
 /* A fuzz target for the VMBus of examples/kvm: a guest that posts, signals and writes its rings as an input says.
- * Nothing may crash or run without end, and the state stays sound: guest_check. Before the first input, a guest that
- * keeps the rules plays the whole protocol.
+ * Nothing may crash or run without end, and the state stays sound: guest_check. Its message and event flags pages are
+ * live, and an input stores any words there. Before the first input, a guest that keeps the rules plays the whole
+ * protocol.
  *
  * An input is a list of actions: a byte, modulo 16, and numbers. A number is its length in bytes, modulo 9, and
  * these bytes, lowest first. A byte that is missing is 0. */
@@ -84,6 +85,15 @@ static void store(struct input *input)
     memcpy(vm.ram + page * PAGE + word * 4, &value, sizeof value);
 }
 
+/* Eight bytes of a message or an event flags page, which the guest sees and may destroy. */
+static void store_live(struct input *input)
+{
+    uint8_t which = read_byte(input);
+    synicboard_page_owner owner = { which % 2 != 0 ? SYNICBOARD_OWNER_FLAGS : SYNICBOARD_OWNER_MESSAGES, which / 2 % VPS };
+    uint64_t word = read_number(input) % (PAGE / 8), value = read_number(input);
+    memcpy(board_live_page(owner) + word * 8, &value, sizeof value);
+}
+
 static void act(struct input *input)
 {
     uint8_t message[HV_MESSAGE_PAYLOAD_BYTE_COUNT];
@@ -92,7 +102,8 @@ static void act(struct input *input)
     case 0: call(input); break;
     case 1: case 2: post(input); break;
     case 3: case 4: post_good(input); break;
-    case 5: case 6: store(input); break;
+    case 5: store(input); break;
+    case 6: store_live(input); break;
     case 7: vmbus_signal_event(FIRST_EVENT_CONNECTION + read_byte(input) % 5, read_byte(input) % 16 == 15); break;
     case 8: vmbus_deliver(&vm.vp[read_byte(input) % VPS]); break;
     case 9: service_tick(read_byte(input) % CHANNELS); break;

@@ -83,7 +83,8 @@ uint32_t guest_take(void *message)
     if (slot[0] == 0)
         return 0;
     uint32_t length = slot[4];
-    REQUIRE(length >= 8 && length <= HV_MESSAGE_PAYLOAD_BYTE_COUNT);
+    if (length < 8 || length > HV_MESSAGE_PAYLOAD_BYTE_COUNT)
+        length = 0;     /* an input has destroyed the slot */
     memcpy(message, slot + 16, length);
     memset(slot, 0, 4);
     board_write(&vm.vp[0], SYNICBOARD_MSR_EOM, 0);
