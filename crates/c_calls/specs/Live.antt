@@ -6,7 +6,7 @@ use Rattle.board_terms.specs.declared.refusal.Refusal.TheVariants.{NoSuchProcess
 use Rattle.c_handles.specs.declared.any_board.AnyBoard.{AnyBoard}
 use Rattle.c_handles.specs.declared.any_board.AnyBoard.TheVariants.{Plain, Live}
 use Rattle.c_handles.specs.declared.live.LiveWithNotices.{LiveWithNotices}
-use Rattle.c_handles.specs.Kinds.{IsMadeLive}
+use Rattle.c_handles.specs.Kinds.{late_in, IsMadeLive}
 use Rattle.c_terms.specs.declared.notice.CNotice.{CNotice}
 use Rattle.c_terms.specs.declared.reply.CReply.{CReply}
 use Rattle.c_terms.specs.declared.reply.Fault.TheVariants.{Closed, IsLive, NotLive, NoEvent}
@@ -36,17 +36,17 @@ GotPages None after = ⊥
 
 -- the notices of the guest's stores that the last tick found after it
 abbrev pub late_notices_of : Option AnyBoard → List CNotice
-late_notices_of (Some (Live board)) = map notice_to_c board.late
-late_notices_of (Some (Plain board)) = []
+late_notices_of (Some board) = map notice_to_c (late_in board)
 late_notices_of None = []
 
 -- a reply after which no processor is owed an EOM, and which has no late notices
 abbrev pub alone : CReply → CLiveReply
 alone reply = record { reply = reply; owed = 0; late = 0 }
 
--- bit p of a word is set iff processor p is owed an EOM
-abbrev pub MarksOwed : ℕ → List Bool → Type 0
-MarksOwed word owed = (p : ℕ) → p < 8 → bit_at word p ≡ 1 ↔ (slice_index_or owed p false ≡ true)
+-- bit p of a word is set iff processor p is owed an EOM, and no other bit is
+pub record MarksOwed (word : ℕ) (owed : List Bool) : Type 0 where
+  pub marked : (p : ℕ) → p < 8 → bit_at word p ≡ 1 ↔ (slice_index_or owed p false ≡ true)
+  pub others : (p : ℕ) → 8 ≤ p → p < 64 → bit_at word p ≡ 0
 
 -- a board with live pages performs an event
 abbrev pub IsActedOn : LiveWithNotices → Event → LiveWithNotices → CLiveReply → Type 0

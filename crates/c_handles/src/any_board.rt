@@ -1,8 +1,8 @@
 // A board of either kind.
-ghost use Rattle.std.specs.Prelude.{◌≡◌, IfOk, OnErr};
+ghost use Rattle.std.specs.Prelude.{◌≡◌, [], IfOk, OnErr};
 ghost use Rattle.synic_board.specs.declared.event.Event.TheVariants.{Absorb};
 ghost use Rattle.synic_board.specs.Performing.{Performs};
-ghost use Rattle.c_handles.specs.Kinds.{board_in, notices_in, pages_in, IsMadeLive};
+ghost use Rattle.c_handles.specs.Kinds.{board_in, notices_in, late_in, pages_in, IsMadeLive};
 
 use crate::{BoardWithNotices, LiveWithNotices};
 use board_terms::Notice;
@@ -44,6 +44,7 @@ impl AnyBoard {
     pub fn absorb(&mut self, vp: u8, part: u8, bits: u64) -> Reply
         ensures performs { Performs (board_in self.old) (Absorb vp part bits) (board_in self.new) result (notices_in self.new) }
         ensures pages { pages_in self.new ≡ pages_in self.old }
+        ensures late { late_in self.new ≡ [] }
     {
         let event = Event::Absorb { vp, part, bits };
         match self {
@@ -66,7 +67,7 @@ impl AnyBoard {
         result
     }
 
-    /// A plain board with live pages, or a board as it is.
+    /// A plain board with live pages, or a board unchanged.
     fn with_pages(self, alloc: Global) -> (AnyBoard, Result<(), AllocError>)
         ensures made { IfOk result.1 (λ _. IsMadeLive self result.0) }
         ensures kept { OnErr result.1 (result.0 ≡ self) }

@@ -85,7 +85,7 @@ impl BoardWithNotices {
         self.board.store(address, bytes, &mut self.notices)
     }
 
-    /// The board with live pages, without notices. If an allocation fails, returns it as it is.
+    /// The board with live pages, without notices. If an allocation fails, returns it unchanged.
     pub fn into_live(self, alloc: Global) -> Result<LiveWithNotices, BoardWithNotices>
         ensures live { IfOk result (λ held. held.live.board ≡ self.board) }
         ensures notices { IfOk result (λ held. (held.notices ≡ []) × (held.late ≡ [])) }

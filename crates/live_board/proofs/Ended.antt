@@ -9,6 +9,7 @@ use Rattle.board_terms.specs.Sources.{source_number}
 use Rattle.board_terms.specs.declared.messages.Message.{Message}
 use Rattle.board_terms.specs.declared.notices.Notice.{Notice}
 use Rattle.gpa_space.specs.Page.{with_bit, with_slot, pending_place}
+use Rattle.message_queues.specs.Image.{slot_type}
 use Rattle.message_queues.specs.Queues.{queue_of}
 use Rattle.synic_regs.specs.declared.register.Register.TheVariants.{Eom}
 use Rattle.synic_regs.specs.Registers.{register_of}
@@ -30,10 +31,13 @@ use Rattle.synic_board.proofs.keeping.Requests.{either}
 use Rattle.synic_board.proofs.keeping.Wholes.{kept_from_sound}
 use Rattle.live_board.specs.Live.{is_waiting}
 use Rattle.live_board.specs.Words.{word_at, word_of}
-use Rattle.live_board.specs.inside.Parts.{Attempts, SlotEnds, Ends}
+use Rattle.live_board.specs.inside.Parts.{Attempts, SlotEnds, SlotFills, Ends}
 use Rattle.live_board.proofs.Bytes.{same-word}
 use Rattle.live_board.proofs.Part.{header-bytes}
 use Rattle.live_board.proofs.Tried.{Pages, pages-tried, tries-is}
+
+other-false : (x h : ℕ) → x ≢ h → (x == h) ≡ false
+other-false x h e = grind (arith, nat_tests)
 
 -- an attempt leaves the registers, and the guest's pages
 pub regs-requested : (s : State) (p v : ℕ) → (requested s p v).0.regs ≡ s.regs
@@ -83,7 +87,7 @@ bytes-tried s now p i j b inside long under low ne small (inr (made, inl (full, 
     ap (λ l. get_or (get_or l (2 * p) []) (256 * j + b) 0) own
     ∙ ap (λ l. get_or l (256 * j + b) 0) (get_or-set_same s.own (2 * p) (with_bit (page_of s p) (pending_place i) 0) [] inside)
     ∙ get_or-set_other (page_of s p) (pending_place i) (256 * j + b) (bit_or (get_or (page_of s p) (pending_place i) 0) (2 ^ 0)) 0 (λ e. ne (omega (arith, e, small)))
-bytes-tried s now p i j b inside long under low ne small (inr (made, inr (empty, (image, size, own)))) =
+bytes-tried s now p i j b inside long under low ne small (inr (made, inr (empty, (image, size, some, own)))) =
     ap (λ l. get_or (get_or l (2 * p) []) (256 * j + b) 0) own
     ∙ ap (λ l. get_or l (256 * j + b) 0) (get_or-set_same s.own (2 * p) (with_slot (page_of s p) i image) [] inside)
     ∙ slot-other (page_of s p) image i j b long size under low ne small
@@ -94,9 +98,28 @@ pages-aside s now p i j ne (inl (none, own)) = (ap (λ l. get_or l j []) own, ap
 pages-aside s now p i j ne (inr (made, inl (full, own))) =
     let page : List ℕ = with_bit (page_of s p) (pending_place i) 0 in
     (ap (λ l. get_or l j []) own ∙ get_or-set_other s.own (2 * p) j page [] ne, ap length own ∙ length-set s.own (2 * p) page)
-pages-aside s now p i j ne (inr (made, inr (empty, (image, size, own)))) =
+pages-aside s now p i j ne (inr (made, inr (empty, (image, size, some, own)))) =
     let page : List ℕ = with_slot (page_of s p) i image in
     (ap (λ l. get_or l j []) own ∙ get_or-set_other s.own (2 * p) j page [] ne, ap length own ∙ length-set s.own (2 * p) page)
+
+-- an attempt fills an empty slot, or leaves it
+pub fills-tried : (s now : State) (p i j : ℕ) → 2 * p < length s.own → length (page_of s p) ≡ 4096 → i < 16 → j < 16 → is_slot_empty s p j ≡ true → Pages s p i now.own → (j ≡ i) ⊎ (j ≢ i) → SlotFills s p j now
+fills-tried s now p i j inside long under low empty pages (inr ne) = inl (λ b small. bytes-tried s now p i j b inside long under low ne small pages)
+fills-tried s now p i j inside long under low empty (inl (none, own)) (inl is) = inl (λ b _. ap (λ l. get_or (get_or l (2 * p) []) (256 * j + b) 0) own)
+fills-tried s now p i j inside long under low empty (inr (made, inl (full, own))) (inl is) = absurd (let e : true ≡ false = sym empty ∙ ap (is_slot_empty s p) is ∙ full in cc)
+fills-tried s now p i j inside long under low empty (inr (made, inr (was, (image, size, some, own)))) (inl is) = inr (other-false (slot_type (page_of now p) j) 0 (λ z. some (sym (there ∙ ap (slot_type (with_slot (page_of s p) i image)) is) ∙ z)))
+  where
+    there : slot_type (page_of now p) j ≡ slot_type (with_slot (page_of s p) i image) j
+    there = ap (λ l. slot_type (get_or l (2 * p) []) j) own ∙ ap (λ l. slot_type l j) (get_or-set_same s.own (2 * p) (with_slot (page_of s p) i image) [] inside)
+
+-- an attempt that is made at an empty slot fills it
+filled-tried : (s now : State) (p i : ℕ) → 2 * p < length s.own → is_waiting s p i ≡ true → is_slot_empty s p i ≡ true → Pages s p i now.own → is_slot_empty now p i ≡ false
+filled-tried s now p i inside waits empty (inl (none, own)) = absurd (let e : true ≡ false = sym waits ∙ none in cc)
+filled-tried s now p i inside waits empty (inr (made, inl (full, own))) = absurd (let e : true ≡ false = sym empty ∙ full in cc)
+filled-tried s now p i inside waits empty (inr (made, inr (was, (image, size, some, own)))) = other-false (slot_type (page_of now p) i) 0 (λ z. some (sym there ∙ z))
+  where
+    there : slot_type (page_of now p) i ≡ slot_type (with_slot (page_of s p) i image) i
+    there = ap (λ l. slot_type (get_or l (2 * p) []) i) own ∙ ap (λ l. slot_type l i) (get_or-set_same s.own (2 * p) (with_slot (page_of s p) i image) [] inside)
 
 -- the words of a slot with the same bytes
 pub slot-word : (s now : State) (p i : ℕ) → ((b : ℕ) → b < 256 → slot_byte now p i b ≡ slot_byte s p i b) → (w : ℕ) → w < 32 → word_of now (2 * p) (32 * i + w) ≡ word_of s (2 * p) (32 * i + w)
@@ -118,16 +141,14 @@ record Below (s : State) (p n : ℕ) (now : State) : Type 0 where
 same-true : (x h : ℕ) → x ≡ h → (x == h) ≡ true
 same-true x h e = grind (arith, nat_tests)
 
-other-false : (x h : ℕ) → x ≢ h → (x == h) ≡ false
-other-false x h e = grind (arith, nat_tests)
-
 -- what the slot of the next source has
-slot-here : (s mid now : State) (p n : ℕ) → n < 16 → Below s p n mid → Attempts mid p n (is_waiting mid p n) now → SlotEnds s p n now
-slot-here s mid now p n under h m = record {
+slot-here : (s mid now : State) (p n : ℕ) → n < 16 → 2 * p < length mid.own → Below s p n mid → Pages mid p n now.own → Attempts mid p n (is_waiting mid p n) now → SlotEnds s p n now
+slot-here s mid now p n under inside h pages m = record {
   idle = λ none w low. m.idle (same-waiting ∙ none) (2 * p) (32 * n + w) ∙ before w low;
   marks = λ waits full. m.marks (same-waiting ∙ waits) (same-type ∙ full) (32 * n) (omega (arith, under)) ∙ rw (same-true (32 * n) (32 * n) refl) (ap (λ x. bit_or x (2 ^ 40)) head);
   payload = λ waits full w some low. m.marks (same-waiting ∙ waits) (same-type ∙ full) (32 * n + w) (omega (arith, under, low))
       ∙ rw (other-false (32 * n + w) (32 * n) (λ e. omega (arith, e, some))) (before w low);
+  fills = λ waits empty. filled-tried mid now p n inside (same-waiting ∙ waits) (same-type ∙ empty) pages;
 }
   where
     bytes : (b : ℕ) → b < 256 → slot_byte mid p n b ≡ slot_byte s p n b
@@ -146,11 +167,12 @@ slot-here s mid now p n under h m = record {
     head = let e : 32 * n + 0 ≡ 32 * n = omega arith in ap (word_of mid (2 * p)) (sym e) ∙ before 0 (omega arith) ∙ ap (word_of s (2 * p)) e
 
 -- and the slots before
-slot-before : (s mid now : State) (p i n : ℕ) → i < n → n < 16 → SlotEnds s p i mid → Attempts mid p n (is_waiting mid p n) now → SlotEnds s p i now
-slot-before s mid now p i n less under h m = record {
+slot-before : (s mid now : State) (p i n : ℕ) → i < n → n < 16 → SlotEnds s p i mid → is_slot_empty now p i ≡ is_slot_empty mid p i → Attempts mid p n (is_waiting mid p n) now → SlotEnds s p i now
+slot-before s mid now p i n less under h type m = record {
   idle = λ none w low. same w low ∙ h.idle none w low;
   marks = λ waits full. (let e : 32 * i + 0 ≡ 32 * i = omega arith in ap (word_of now (2 * p)) (sym e) ∙ same 0 (omega arith) ∙ ap (word_of mid (2 * p)) e) ∙ h.marks waits full;
   payload = λ waits full w some low. same w low ∙ h.payload waits full w some low;
+  fills = λ waits empty. type ∙ h.fills waits empty;
 }
   where
     same : (w : ℕ) → w < 32 → word_of now (2 * p) (32 * i + w) ≡ word_of mid (2 * p) (32 * i + w)
@@ -167,8 +189,10 @@ below-next s mid now p n under inside long h pages aside m = record {
 }
   where
     slot : (i : ℕ) → i ≤ n → (i ≡ n) ⊎ (i ≢ n) → SlotEnds s p i now
-    slot i le (inl e) = subst (λ k. SlotEnds s p k now) (sym e) (slot-here s mid now p n under h m)
-    slot i le (inr ne) = let less : i < n = omega (arith, le, ne) in slot-before s mid now p i n less under (h.slots i less) m
+    slot i le (inl e) = subst (λ k. SlotEnds s p k now) (sym e) (slot-here s mid now p n under inside h pages m)
+    slot i le (inr ne) =
+        let less : i < n = omega (arith, le, ne) in
+        slot-before s mid now p i n less under (h.slots i less) (same-empty mid now p i (λ b small. bytes-tried mid now p n i b inside long under (omega (arith, less, under)) ne small pages)) m
 
 below : (s : State) (p n : ℕ) → IsSound s → HasShape s → HasRanges s → p < processors s → n ≤ 16 → Below s p n (tried_below s p n).0
 unfolding tried_below

@@ -1,5 +1,5 @@
 -- An EOM on one page.
-use Rattle.std.proofs.Common.{◌≡◌, ◌≢◌, ◌⊎◌, inl, inr, ℕ, ◌+◌, ◌*◌, ◌/◌, ◌%◌, ◌<◌, Bool, true, false, List, [], ◌∷◌, ◌++◌, length, get_or, refl, sym, ap, ◌∙◌, subst, arith, append_assoc, append-nil}
+use Rattle.std.proofs.Common.{◌≡◌, ◌≢◌, ◌⊎◌, inl, inr, ℕ, zero, suc, ◌+◌, ◌*◌, ◌/◌, ◌%◌, ◌<◌, Bool, true, false, List, [], ◌∷◌, ◌++◌, length, get_or, refl, sym, ap, ◌∙◌, subst, arith, append_assoc, append-nil}
 use Rattle.std.specs.Prelude.{◌==◌}
 use Rattle.std.proofs.lemmas.Bool.{cases_eq}
 use Rattle.std.proofs.lemmas.Bool.Decides.{nat_tests}
@@ -10,6 +10,8 @@ use Rattle.synic_board.specs.declared.event.Event.{Event}
 use Rattle.synic_board.specs.declared.event.Event.TheVariants.{Write}
 use Rattle.synic_board.specs.declared.event.Reply.{Reply}
 use Rattle.synic_board.specs.State.{State, processors}
+use Rattle.synic_board.specs.Effects.{Outcome}
+use Rattle.synic_board.specs.Run.{run_of}
 use Rattle.synic_board.specs.Delivery.{is_slot_empty}
 use Rattle.synic_board.specs.Ranges.{HasRanges}
 use Rattle.synic_board.specs.Sound.{IsSound, HasShape, PayloadFits}
@@ -18,7 +20,7 @@ use Rattle.synic_board.proofs.keeping.Placements.{page_of}
 use Rattle.live_pages.specs.Slot.{known, type_of}
 use Rattle.live_pages.specs.declared.access.Access.{Access}
 use Rattle.live_board.specs.Words.{word_of}
-use Rattle.live_board.specs.Live.{explained, all_done, AreCareful, IsShown, HasProbed, is_waiting}
+use Rattle.live_board.specs.Live.{explained, all_done, AreCareful, IsShown, HasProbed, ProbesIf, AreProbes, is_waiting}
 use Rattle.live_board.specs.inside.Parts.{IsShadow, IsStep, IsPart, IsLeft, IsProbing, IsPublished, IsWatched, Ends, IsEomOf}
 use Rattle.live_board.proofs.Ended.{ended}
 use Rattle.live_board.proofs.Filled.{stores-show}
@@ -53,6 +55,28 @@ joined s mid now p log log-mid log-now more event reply first after w one silent
   where
     shows : explained s p Sim (more ++ w.news) log ≡ explained s p Sim w.news log
     shows = explained-append s p Sim more w.news log ∙ ap (λ (es : List Event). explained s p Sim w.news log ++ es) silent ∙ append-nil (explained s p Sim w.news log)
+
+-- an EOM of a processor for which no message waits changes nothing that the guest sees
+pub part-idle : (s now : State) (p : ℕ) (log : List Access) (event : Event) (reply : Reply) (after : List Notice) → ((i : ℕ) → i < 16 → is_waiting s p i ≡ false) → (now, reply, after) ≡ step s event → Ends s p now → IsShadow s (2 * p) log
+    → IsPart s p Sim log event now log reply after
+unfolding run_of
+part-idle s now p log event reply after idle is e shadow = record {
+  news = [];
+  page = refl;
+  run = ap (λ (o : Outcome). (o.0, o.1 ∷ [], o.2 ++ [])) (sym is) ∙ ap (λ (ns : List Notice). (now, reply ∷ [], ns)) (append-nil after);
+  careful = λ _. tt;
+  shadow = λ x low. shadow x low ∙ sym (same x low);
+  others = λ j x low ne. e.others j x ne;
+  count = e.count;
+}
+  where
+    same : (x : ℕ) → x < 512 → word_of now (2 * p) x ≡ word_of s (2 * p) x
+    same x low = let place : 32 * (x / 32) + x % 32 ≡ x = omega arith in
+        ap (word_of now (2 * p)) (sym place) ∙ (e.slots (x / 32) (omega (arith, low))).idle (idle (x / 32) (omega (arith, low))) (x % 32) (omega arith) ∙ ap (word_of s (2 * p)) place
+
+pub probes-none : (s : State) (p n : ℕ) → ((i : ℕ) → i < n → is_waiting s p i ≡ false) → AreProbes s p n []
+probes-none s p zero idle = refl
+probes-none s p (suc n) idle = ([], [], refl, subst (λ b. ProbesIf b n []) (sym (idle n (omega arith))) refl, probes-none s p n (λ i low. idle i (omega (arith, low))))
 
 other-false : (x h : ℕ) → x ≢ h → (x == h) ≡ false
 other-false x h e = grind (arith, nat_tests)

@@ -25,9 +25,9 @@ use Rattle.synic_board.proofs.keeping.Clocks.{Names, mode-names, keeps-attempted
 use Rattle.synic_board.proofs.keeping.Placements.{page_of, page-long}
 use Rattle.synic_board.proofs.keeping.Requests.{either}
 use Rattle.synic_board.proofs.keeping.Wholes.{IsIntact}
-use Rattle.live_board.specs.inside.Parts.{SlotGrows}
+use Rattle.live_board.specs.inside.Parts.{SlotGrows, SlotFills}
 use Rattle.live_board.proofs.Bytes.{or-one}
-use Rattle.live_board.proofs.Ended.{Aside, aside-tried, bytes-tried, pages-aside, regs-requested, pages-requested}
+use Rattle.live_board.proofs.Ended.{Aside, aside-tried, bytes-tried, fills-tried, pages-aside, same-empty, regs-requested, pages-requested}
 use Rattle.live_board.proofs.Posted.{accepted-whole}
 use Rattle.live_board.proofs.Tried.{Pages, pages-tried, own-requested}
 
@@ -38,6 +38,7 @@ pub record Grows (n : ℕ) (may : ℕ → Type 0) (s now : State) : Type 0 where
   pub regs : now.regs ≡ s.regs
   pub others : (j : ℕ) → (may j → ⊥) → get_or now.own j [] ≡ get_or s.own j []
   pub slots : (p i : ℕ) → p < n → i < 16 → is_slot_empty s p i ≡ false → SlotGrows s p i now
+  pub fills : (p i : ℕ) → p < n → i < 16 → is_slot_empty s p i ≡ true → SlotFills s p i now
 
 pub slot-same : (s now : State) (p i : ℕ) → get_or now.own (2 * p) [] ≡ get_or s.own (2 * p) [] → SlotGrows s p i now
 slot-same s now p i same = record { bytes = λ b _ _. ap (λ l. get_or l (256 * i + b) 0) same; flags = inl (ap (λ l. get_or l (256 * i + 5) 0) same) }
@@ -65,6 +66,17 @@ slot-trans s mid now p i h k = record { bytes = λ b low ne. k.bytes b low ne �
     by (inr e) (inl f) = inr (f ∙ e)
     by (inr e) (inr f) = inr (f ∙ ap (λ b. bit_or b (2 ^ 0)) e ∙ or-twice x)
 
+pub fills-same : (s now : State) (p i : ℕ) → get_or now.own (2 * p) [] ≡ get_or s.own (2 * p) [] → SlotFills s p i now
+fills-same s now p i same = inl (λ b _. ap (λ l. get_or l (256 * i + b) 0) same)
+
+pub fills-trans : (s mid now : State) (p i : ℕ) → is_slot_empty s p i ≡ true → SlotFills s p i mid → (is_slot_empty mid p i ≡ true → SlotFills mid p i now) → (is_slot_empty mid p i ≡ false → SlotGrows mid p i now) → SlotFills s p i now
+fills-trans s mid now p i empty (inr full) later grows = inr (still-occupied mid now p i (grows full) ∙ full)
+fills-trans s mid now p i empty (inl same) later grows = by (later (same-empty s mid p i same ∙ empty))
+  where
+    by : SlotFills mid p i now → SlotFills s p i now
+    by (inl more) = inl (λ b low. more b low ∙ same b low)
+    by (inr full) = inr full
+
 pub grows-same : (n : ℕ) (may : ℕ → Type 0) (s now : State) → now.own ≡ s.own → now.pages ≡ s.pages → now.regs ≡ s.regs → Grows n may s now
 grows-same n may s now own pages regs = record {
   count = ap length own;
@@ -72,6 +84,7 @@ grows-same n may s now own pages regs = record {
   regs = regs;
   others = λ j _. ap (λ l. get_or l j []) own;
   slots = λ p i _ _ _. slot-same s now p i (ap (λ l. get_or l (2 * p) []) own);
+  fills = λ p i _ _ _. fills-same s now p i (ap (λ l. get_or l (2 * p) []) own);
 }
 
 grows-trans : (n : ℕ) (may : ℕ → Type 0) (s mid now : State) → Grows n may s mid → Grows n may mid now → Grows n may s now
@@ -81,10 +94,11 @@ grows-trans n may s mid now h k = record {
   regs = k.regs ∙ h.regs;
   others = λ j no. k.others j no ∙ h.others j no;
   slots = λ p i on under full. (let first = h.slots p i on under full in slot-trans s mid now p i first (k.slots p i on under (still-occupied s mid p i first ∙ full)));
+  fills = λ p i on under empty. fills-trans s mid now p i empty (h.fills p i on under empty) (k.fills p i on under) (k.slots p i on under);
 }
 
 pub grows-more : (n : ℕ) (may more : ℕ → Type 0) (s now : State) → ((j : ℕ) → may j → more j) → Grows n may s now → Grows n more s now
-grows-more n may more s now wider h = record { count = h.count; pages = h.pages; regs = h.regs; others = λ j no. h.others j (λ m. no (wider j m)); slots = h.slots }
+grows-more n may more s now wider h = record { count = h.count; pages = h.pages; regs = h.regs; others = λ j no. h.others j (λ m. no (wider j m)); slots = h.slots; fills = h.fills }
 
 -- the message page of a processor
 abbrev pub Only : ℕ → ℕ → Type 0
@@ -107,7 +121,7 @@ slot-tried s now p i j inside long under low full (inr (made, inl (occupied, own
 
     page : (b : ℕ) → slot_byte now p j b ≡ get_or (with_bit (page_of s p) (pending_place i) 0) (256 * j + b) 0
     page b = ap (λ l. get_or (get_or l (2 * p) []) (256 * j + b) 0) own ∙ ap (λ l. get_or l (256 * j + b) 0) (get_or-set_same s.own (2 * p) (with_bit (page_of s p) (pending_place i) 0) [] inside)
-slot-tried s now p i j inside long under low full (inr (made, inr (empty, (image, size, own)))) (inl is) = absurd (let e : true ≡ false = sym empty ∙ ap (is_slot_empty s p) (sym is) ∙ full in cc)
+slot-tried s now p i j inside long under low full (inr (made, inr (empty, (image, size, some, own)))) (inl is) = absurd (let e : true ≡ false = sym empty ∙ ap (is_slot_empty s p) (sym is) ∙ full in cc)
 
 grows-tried : (n : ℕ) (s : State) (p i : ℕ) → IsWhole n s → p < n → i < 16 → Grows n (Only p) s (tried s p i).0
 grows-tried n s p i h on under = record {
@@ -116,6 +130,7 @@ grows-tried n s p i h on under = record {
   regs = aside.regs;
   others = λ j ne. (pages-aside s now p i j ne pages).0;
   slots = λ q j below low full. slot q j low full (cases_eq q p);
+  fills = λ q j below low empty. fill q j low empty (cases_eq q p);
 }
   where
     now : State
@@ -126,6 +141,10 @@ grows-tried n s p i h on under = record {
 
     aside : Aside s p i now
     aside = aside-tried s p i
+
+    fill : (q j : ℕ) → j < 16 → is_slot_empty s q j ≡ true → (q ≡ p) ⊎ (q ≢ p) → SlotFills s q j now
+    fill q j low empty (inr ne) = fills-same s now q j ((pages-aside s now p i (2 * q) (λ e. ne (omega (arith, e))) pages).0)
+    fill q j low empty (inl e) = subst (λ k. SlotFills s k j now) (sym e) (fills-tried s now p i j (omega (arith, h.own, on)) (page-long n s p h on) under low (ap (λ k. is_slot_empty s k j) (sym e) ∙ empty) pages (cases_eq j i))
 
     slot : (q j : ℕ) → j < 16 → is_slot_empty s q j ≡ false → (q ≡ p) ⊎ (q ≢ p) → SlotGrows s q j now
     slot q j low full (inr ne) = slot-same s now q j ((pages-aside s now p i (2 * q) (λ e. ne (omega (arith, e))) pages).0)

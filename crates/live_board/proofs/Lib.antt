@@ -16,6 +16,7 @@ pub mod Marked
 pub mod Probed
 pub mod Published
 pub mod TimedPart
+pub mod Kept
 pub mod Finished
 pub mod Ticked
 pub mod EndedPart
@@ -32,3 +33,4 @@ pub mod Fired
 pub mod Remembered
 pub mod WokenTimers
 pub mod WokenTicks
+pub mod Runs

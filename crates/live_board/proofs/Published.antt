@@ -1,6 +1,8 @@
 -- A message page is brought up to date, slot by slot.
-use Rattle.std.proofs.Common.{◌≡◌, ◌≢◌, ◌⊎◌, inl, inr, ℕ, ◌+◌, ◌*◌, ◌/◌, ◌%◌, ◌<◌, ◌≤◌, Bool, true, false, List, [], ◌∷◌, ◌++◌, get_or, refl, sym, ap, ◌∙◌, subst, arith, append_assoc}
+use Rattle.std.proofs.Common.{◌≡◌, ◌≢◌, ◌⊎◌, inl, inr, ℕ, ◌+◌, ◌*◌, ◌/◌, ◌%◌, ◌<◌, ◌≤◌, Bool, true, false, List, [], ◌∷◌, ◌++◌, get_or, map, refl, sym, ap, ◌∙◌, subst, arith, append_assoc}
 use Rattle.std.proofs.lemmas.Bool.{cases_eq}
+use Rattle.std.proofs.lemmas.List.FromFn.{get_or-map-range_with_len}
+use Rattle.std.specs.List.{range_with_len}
 use Rattle.board_terms.specs.declared.pages.Kind.TheVariants.{Sim}
 use Rattle.synic_board.specs.State.{State}
 use Rattle.live_pages.specs.Slot.{known, type_of}
@@ -48,6 +50,20 @@ publish-skip s p shown words n log now h seen full = record {
     by : (x : ℕ) → x < 512 → (shown ≡ false) ⊎ (type_of (get_or words (32 * (x / 32)) 0) ≡ 0) → (x / 32 ≡ n) ⊎ (x / 32 ≢ n) → x / 32 < n + 1 → known now x ≡ word_of s (2 * p) x
     by x low which (inl e) under = absurd (none x e which)
     by x low which (inr ne) under = h.done x low (omega (arith, under, ne)) which
+
+-- a slot that the host knows
+pub filled-kept : (s : State) (p i header : ℕ) (log : List Access) → ((k : ℕ) → k < 32 → known log (32 * i + k) ≡ word_of s (2 * p) (32 * i + k)) → IsFilledFrom s p i header log log
+filled-kept s p i header log knows = record {
+  words = words;
+  are = are;
+  filled = record { news = []; page = refl; stores = tt; careful = λ _. tt; words = λ k low. knows k low ∙ sym (are k low); others = λ x _. refl };
+}
+  where
+    words : List ℕ
+    words = map (λ k. word_of s (2 * p) (32 * i + k)) (range_with_len 0 32)
+
+    are : (k : ℕ) → k < 32 → get_or words k 0 ≡ word_of s (2 * p) (32 * i + k)
+    are k low = get_or-map-range_with_len (λ k. word_of s (2 * p) (32 * i + k)) 0 32 k k 0 low (omega arith)
 
 -- one slot more
 pub publish-more : (s : State) (p : ℕ) (shown : Bool) (words : List ℕ) (n : ℕ) (log now next : List Access) → n < 16 → IsPublished s p shown words n log now → IsFilledFrom s p n (get_or words (32 * n) 0) now next

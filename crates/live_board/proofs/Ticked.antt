@@ -21,8 +21,8 @@ use Rattle.synic_board.proofs.keeping.Wholes.{kept_from_sound}
 use Rattle.live_pages.specs.declared.access.Access.{Access}
 use Rattle.live_board.specs.Words.{word_at}
 use Rattle.live_board.specs.Live.{number_at, explained, explained_after, all_done, AreCareful, AreTimed, looked_from, marked_from, finds_empty}
-use Rattle.live_board.specs.inside.Parts.{IsShadow, IsStep, IsFirst, IsFinished, IsTick, IsTickFrom, SlotGrows}
-use Rattle.live_board.proofs.Grown.{Grows, Any, grows-ticked, slot-same, slot-trans, still-occupied}
+use Rattle.live_board.specs.inside.Parts.{IsShadow, IsStep, IsFirst, IsFinished, IsTick, IsTickFrom, SlotGrows, SlotFills}
+use Rattle.live_board.proofs.Grown.{Grows, Any, grows-ticked, slot-same, slot-trans, fills-same, fills-trans, still-occupied}
 use Rattle.live_board.proofs.Joined as runs
 use Rattle.live_board.proofs.Marked.{same-after}
 use Rattle.live_board.proofs.Staying.{stays}
@@ -83,6 +83,7 @@ tick-base s now k pages event reply owed before after all tick sound one eight =
   processors = tick-stays s now event reply one.emitted tick sound one.step;
   odd = λ p x low. ap (λ l. word_at l (8 * x)) (g.others (2 * p + 1) (λ may. omega (arith, may.1)));
   slots = λ p i less under full. g.slots p i (omega (arith, less, all)) under full;
+  fills = λ p i less under empty. g.fills p i (omega (arith, less, all)) under empty;
   eight = eight;
   owes = λ p le less. absurd (omega (arith, le, less));
 }
@@ -260,6 +261,15 @@ module _ (s s1 s2 s3 : State) (k m : ℕ) (pages pages2 : List (List Access)) (l
       let b = inner.slots p i (omega (arith, less)) under (still-occupied s s1 p i a ∙ full) in
       slot-trans s s2 s3 p i (slot-trans s s1 s2 p i a b) (slot-same s2 s3 p i (last.same (2 * p) other))
 
+  fills : (p i : ℕ) → p < k → i < 16 → is_slot_empty s p i ≡ true → SlotFills s p i s3
+  fills p i less under empty =
+      let other : 2 * p ≢ 2 * k = λ e. omega (arith, e, less) in
+      let a = slot-same s s1 p i (first.viewed.watched.same (2 * p) other) in
+      let c = last.same (2 * p) other in
+      fills-trans s s2 s3 p i empty
+      (fills-trans s s1 s2 p i empty (fills-same s s1 p i (first.viewed.watched.same (2 * p) other)) (inner.fills p i (omega (arith, less)) under) (inner.slots p i (omega (arith, less)) under))
+      (λ _. fills-same s2 s3 p i c) (λ _. slot-same s2 s3 p i c)
+
   owes : (p : ℕ) → k ≤ p → p < k + suc m → get_or (set owed k owe) p false ≡ finds_empty (marks p)
   unfolding marks
   owes p le less = by (cases_eq p k)
@@ -289,6 +299,7 @@ module _ (s s1 s2 s3 : State) (k m : ℕ) (pages pages2 : List (List Access)) (l
     processors = ap (λ (t : State). length t.apics) last.rest ∙ inner.processors ∙ ap (λ (t : State). length t.apics) first.viewed.watched.rest;
     odd = λ p x low. (let other : 2 * p + 1 ≢ 2 * k = λ e. omega (arith, e) in last.others (2 * p + 1) x low other ∙ inner.odd p x low ∙ first.viewed.watched.others (2 * p + 1) x low other);
     slots = slots;
+    fills = fills;
     eight = length-set owed k owe ∙ inner.eight;
     owes = owes;
   }

@@ -8,7 +8,8 @@ use Rattle.std.proofs.lemmas.List.{get_or-set_same, get_or-set_other}
 use Rattle.board_terms.specs.declared.messages.Message.{Message}
 use Rattle.synic_regs.specs.Regs.{raised_by}
 use Rattle.message_queues.specs.Queues.{queue_of}
-use Rattle.message_queues.proofs.WrittenSlots.{length-image}
+use Rattle.message_queues.specs.Image.{slot_type}
+use Rattle.message_queues.proofs.WrittenSlots.{length-image, slot_type-written}
 use Rattle.gpa_space.specs.Page.{with_slot, with_bit, pending_place}
 use Rattle.synic_board.specs.State.{State, regs_of}
 use Rattle.synic_board.specs.Effects.{Effect, nothing, after}
@@ -16,7 +17,7 @@ use Rattle.synic_board.specs.Interrupts.{requested, raised}
 use Rattle.synic_board.specs.Delivery.{delivers, is_slot_empty, placed_head, tried}
 use Rattle.synic_board.specs.Sound.{IsWhole, IsMessage}
 use Rattle.synic_board.proofs.keeping.Requests.{either}
-use Rattle.synic_board.proofs.keeping.Placements.{page_of, image_of, queue-good, tail-good}
+use Rattle.synic_board.proofs.keeping.Placements.{page_of, image_of, page-long, queue-good, tail-good}
 use Rattle.live_board.specs.Live.{is_waiting}
 use Rattle.live_board.specs.Words.{word_at, word_of}
 use Rattle.live_board.specs.inside.Parts.{Attempts}
@@ -35,7 +36,7 @@ Pages s p i own =
     (is_waiting s p i ≡ false × own ≡ s.own)
     ⊎ ((is_waiting s p i ≡ true)
     × ((is_slot_empty s p i ≡ false × own ≡ set s.own (2 * p) (with_bit (page_of s p) (pending_place i) 0))
-    ⊎ (is_slot_empty s p i ≡ true × ((bytes : List ℕ) × (length bytes ≡ 256) × (own ≡ set s.own (2 * p) (with_slot (page_of s p) i bytes))))))
+    ⊎ (is_slot_empty s p i ≡ true × ((bytes : List ℕ) × (length bytes ≡ 256) × (slot_type (with_slot (page_of s p) i bytes) i ≢ 0) × (own ≡ set s.own (2 * p) (with_slot (page_of s p) i bytes))))))
 
 pub pages-tried : (n : ℕ) (s : State) (p i : ℕ) → IsWhole n s → p < n → i < 16 → Pages s p i (tried s p i).0.own
 unfolding tried
@@ -54,12 +55,13 @@ pages-tried n s p i h on under =
         second false b e = absurd (cc)
 
     head : (q : List Message) → queue_of s.queues p i ≡ q → nat_lt 0 (length q) ≡ true
-        → (bytes : List ℕ) × (length bytes ≡ 256) × ((after (placed_head s p i q) (raised (placed_head s p i q).0 p i)).0.own ≡ set s.own (2 * p) (with_slot (page_of s p) i bytes))
+        → (bytes : List ℕ) × (length bytes ≡ 256) × (slot_type (with_slot (page_of s p) i bytes) i ≢ 0) × ((after (placed_head s p i q) (raised (placed_head s p i q).0 p i)).0.own ≡ set s.own (2 * p) (with_slot (page_of s p) i bytes))
     head [] is none = absurd (cc)
     head (m ∷ rest) is more =
         let good = (tail-good m rest (subst (λ q. All IsMessage q) is (queue-good n s p i h on under))).0 in (
           image_of s m rest,
           length-image m (nat_lt 0 (length rest)) s.moment good.2,
+          (λ z. good.0 (sym (slot_type-written (page_of s p) i m (nat_lt 0 (length rest)) s.moment (page-long n s p h on) under good.2 good.1) ∙ z)),
           own-raised (placed_head s p i (m ∷ rest)).0 p i,
         )
 
@@ -105,7 +107,7 @@ tries-is s now p i inside long under bytes (inr (made, inl (full, own))) = recor
     here x low (inr ne) =
         let e : (x == 32 * i) ≡ false = grind (arith, nat_tests) in
         rw e (bit-elsewhere (page_of s p) (pending_place i) 0 x (λ z. ne (omega (arith, z))))
-tries-is s now p i inside long under bytes (inr (made, inr (empty, (image, size, own)))) = record {
+tries-is s now p i inside long under bytes (inr (made, inr (empty, (image, size, some, own)))) = record {
   count = ap length own ∙ length-set s.own (2 * p) page;
   others = λ j x low ne. ap (λ l. words l j x) own ∙ elsewhere j x low (cases_eq j (2 * p)) ne;
   idle = λ none j x. absurd (no-both made none);

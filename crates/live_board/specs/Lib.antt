@@ -4,4 +4,5 @@ pub mod Settling
 pub mod Waking
 pub mod Timers
 pub mod Acting
+pub mod Runs
 pub mod inside

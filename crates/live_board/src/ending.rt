@@ -1,14 +1,14 @@
 // An EOM of a processor, whose message page a guest may see.
-ghost use Rattle.std.specs.Prelude.{◌≡◌, ◌<◌, ◌*◌, [], IfSome};
+ghost use Rattle.std.specs.Prelude.{◌≡◌, ℕ, ◌<◌, ◌*◌, [], false, IfSome};
 ghost use Rattle.board_terms.specs.declared.pages.Kind.TheVariants.{Sim};
 ghost use Rattle.synic_board.specs.State.{processors};
-ghost use Rattle.live_board.specs.Live.{IsShown, HasProbed};
+ghost use Rattle.live_board.specs.Live.{IsShown, HasProbed, is_waiting};
 ghost use Rattle.live_board.specs.inside.Kinds.{is_eom, eom_of};
 ghost use Rattle.live_board.specs.inside.Parts.{IsShadow, IsPart, IsEomOf};
 
 use crate::passing::is_shown;
 use crate::performing::perform_after;
-use crate::probing::probe_waiting;
+use crate::probing::{is_any_waiting, probe_waiting};
 use crate::publishing::{page_words, publish};
 use board_terms::{Kind, Notices, Vp};
 use live_pages::LivePage;
@@ -29,7 +29,9 @@ pub(crate) fn ended_by(board: &Board, event: &Event) -> Option<Vp>
     Vp::new(*vp)
 }
 
-/// Performs an EOM of a processor whose message page the guest sees.
+/// Performs an EOM of a processor whose message page the guest sees. Out of line: an event that has no
+/// use for the words of a page must not make room for them.
+#[inline(never)]
 fn end_shown(
     board: &mut Board,
     page: &mut LivePage,
@@ -48,11 +50,13 @@ fn end_shown(
     let words = probe_waiting(board, page, vp, scratch, notices);
     board.facts();
     let reply = perform_after(board, event, scratch, notices);
+    board.facts();
     publish(board, page, vp, &words, true);
     reply
 }
 
 /// The same where the guest does not see the page.
+#[inline(never)]
 fn end_hidden(
     board: &mut Board,
     page: &mut LivePage,
@@ -70,8 +74,28 @@ fn end_hidden(
     board.facts();
     let words = page_words(board, vp);
     let reply = perform_after(board, event, scratch, notices);
+    board.facts();
     publish(board, page, vp, &words, false);
     reply
+}
+
+/// Performs an EOM of a processor for which no message waits: it changes no own page.
+fn end_idle(
+    board: &mut Board,
+    page: &LivePage,
+    vp: Vp,
+    event: &Event,
+    notices: &mut Notices,
+) -> Reply
+    requires eom { IsEomOf board.old.state vp event.now }
+    requires idle { (i : ℕ) → i < 16 → is_waiting board.old.state vp i ≡ false }
+    requires shadow { IsShadow board.old.state (2 * vp) page.now }
+    ensures part { IsPart board.old.state vp Sim page.now event.now board.new.state page.now result notices.new }
+    ensures probed { HasProbed board.old.state vp page.now page.now }
+{
+    let _ = page;
+    board.facts();
+    board.perform(event, notices)
 }
 
 /// Performs an EOM of a processor, and brings its message page up to date.
@@ -89,6 +113,9 @@ pub(crate) fn end_on(
     ensures part { IsPart board.old.state vp Sim page.old event.now board.new.state page.new result notices.new }
     ensures probed { IsShown board.old.state vp Sim → HasProbed board.old.state vp page.old page.new }
 {
+    if !is_any_waiting(board, vp) {
+        return end_idle(board, page, vp, event, notices);
+    }
     if is_shown(board, vp, Kind::Sim) {
         end_shown(board, page, vp, event, scratch, notices)
     } else {

@@ -22,6 +22,7 @@ ghost use Rattle.live_pages.specs.Headers.{Slot, Step, are_steps, led_to, is_stu
 ghost use Rattle.live_pages.specs.Slot.{known, header};
 ghost use Rattle.live_pages.specs.Traces.{Turn, IsHistory, accesses};
 ghost use Rattle.live_board.specs.Acting.{HasLookedAt, HasProbedAt};
+ghost use Rattle.live_board.specs.Runs.{Call, AreCalls, IsRunOf, notices_of};
 ghost use Rattle.live_board.specs.Settling.{IsSettled};
 ghost use Rattle.live_board.specs.Timers.{is_timer_write};
 ghost use Rattle.live_board.specs.Waking.{LeavesMarked, LeavesMarkedUnlessOwed, IsLeftMarked, WasMarked, MayFollow};
@@ -85,6 +86,20 @@ pub fn a_settle_conserves_messages()
 pub fn a_settle_changes_only_pages()
     ensures { (p : ℕ) (old now : LiveModel) (notices : List Notice) → IsSettled p old now notices
         → now.board.state ≡ record old.board.state { own = now.board.state.own; slots = now.board.state.slots } }
+{}
+
+/// A whole run: whatever calls of `perform` a host makes, and whatever a guest stores meanwhile, they are a
+/// run of the reference model on the events of these calls, in their order and each once, with stores of
+/// words by the guest in between: the same state, replies and notices.
+pub fn a_run_of_calls_is_one_of_the_model()
+    ensures { (calls : List Call) (old now : LiveModel) → AreCalls old calls now → IsRunOf calls old.board.state now.board.state }
+{}
+
+/// A whole run conserves the messages: each one that was accepted in it is queued, in a slot, consumed or
+/// withdrawn, exactly once.
+pub fn a_run_of_calls_conserves_messages()
+    ensures { (calls : List Call) (old now : LiveModel) → IsSound old.board.state → All (λ (c : Call). PayloadFits c.event) calls → AreCalls old calls now
+        → IsSound now.board.state × Conserves old.board.state now.board.state (notices_of calls) }
 {}
 
 /// A message that stays queued after a call, with the SynIC and its message page enabled, is one that

@@ -1,5 +1,5 @@
 // Probes of the message slots of a live page before an EOM.
-ghost use Rattle.std.specs.Prelude.{◌≡◌, ◌<◌, ◌≤◌, ◌*◌, [], length};
+ghost use Rattle.std.specs.Prelude.{◌≡◌, ℕ, ◌<◌, ◌≤◌, ◌*◌, [], false, length};
 ghost use Rattle.board_terms.specs.declared.pages.Kind.TheVariants.{Sim};
 ghost use Rattle.live_pages.specs.Slot.{known};
 ghost use Rattle.synic_board.specs.State.{processors};
@@ -25,6 +25,14 @@ fn is_waiting(board: &Board, vp: Vp, sint: Sint) -> bool
     board.register(vp, Register::Control) & ENABLE == ENABLE
         && board.register(vp, Register::Sim) & ENABLE == ENABLE
         && board.summary().queued(vp, sint) > 0
+}
+
+/// Whether a delivery attempt at some source of a processor may have a message to deliver.
+pub(crate) fn is_any_waiting(board: &Board, vp: Vp) -> bool
+    requires { vp < processors board.now.state }
+    ensures { result ≡ false → (i : ℕ) → i < 16 → is_waiting board.now.state vp i ≡ false }
+{
+    board.summary().has_queued(vp)
 }
 
 /// Looks at the header of a source's slot, and marks it if it is occupied and not marked. Returns

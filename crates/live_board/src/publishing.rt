@@ -3,9 +3,10 @@ ghost use Rattle.std.specs.Prelude.{◌≡◌, ℕ, ◌<◌, ◌+◌, ◌*◌, s
 ghost use Rattle.synic_board.specs.State.{processors};
 ghost use Rattle.live_pages.specs.Slot.{known};
 ghost use Rattle.live_board.specs.Words.{word_of};
-ghost use Rattle.live_board.specs.inside.Parts.{IsFilledFrom, IsPublished};
+ghost use Rattle.live_board.specs.inside.Parts.{IsFilledFrom, IsPublished, AreKept};
 
 use crate::filling::{fill, slot_words};
+use crate::passing::own_word;
 use crate::posting::is_empty;
 use crate::words::word_at;
 use board_terms::{Kind, Sint, Vp};
@@ -43,12 +44,18 @@ fn words_of_slot(words: &[u64; WORDS], sint: Sint) -> [u64; SLOT_WORDS]
     slot
 }
 
-/// Stores what differs in the slot of a source from the words that the host knows.
+/// Stores what differs in the slot of a source from the words that the host knows: nothing, if the
+/// header does not.
 fn publish_slot(board: &Board, page: &mut LivePage, vp: Vp, sint: Sint, words: &[u64; WORDS])
     requires on { vp < processors board.now.state }
     requires known { (k : ℕ) → k < 32 → known page.old (32 * sint + k) ≡ slice_index words.now (32 * sint + k) }
+    requires kept { AreKept board.now.state vp words.now }
     ensures { IsFilledFrom board.now.state vp sint (slice_index words.now (32 * sint)) page.old page.new }
 {
+    let slot = 32 * usize::from(sint.number());
+    if own_word(board, vp, Kind::Sim, slot) == words[slot] {
+        return;
+    }
     let before = words_of_slot(words, sint);
     let after = slot_words(board, vp, sint);
     fill(page, sint, before[0], &before, &after);
@@ -65,6 +72,7 @@ pub(crate) fn publish(
 )
     requires on { vp < processors board.now.state }
     requires known { (x : ℕ) → x < 512 → known page.old x ≡ slice_index words.now x }
+    requires kept { AreKept board.now.state vp words.now }
     ensures { IsPublished board.now.state vp is_shown words.now 16 page.old page.new }
 {
     for number in 0..SOURCES {

@@ -3,7 +3,7 @@ ghost use Rattle.std.specs.Prelude.{◌≡◌, ℕ, ◌<◌, ◌≤◌, ◌+◌,
 ghost use Rattle.synic_board.specs.State.{processors};
 ghost use Rattle.live_pages.specs.Slot.{known};
 ghost use Rattle.live_board.specs.Live.{is_any_due};
-ghost use Rattle.live_board.specs.inside.Parts.{IsShadow, IsFirst, IsFinished, IsTick, IsTickFrom, WordsGrow};
+ghost use Rattle.live_board.specs.inside.Parts.{IsShadow, IsFirst, IsFinished, IsTick, IsTickFrom, WordsGrow, AreKept};
 
 use crate::marking::mark_slots;
 use crate::observing::view_slots;
@@ -60,6 +60,7 @@ fn finish(
     requires on { vp < processors board.old.state }
     requires known { (x : ℕ) → x < 512 → known page.old x ≡ slice_index words.now x }
     requires grow { WordsGrow board.old.state vp words.now }
+    requires kept { AreKept board.old.state vp words.now }
     requires capacity { length notices.old + 16 ≤ 320 }
     ensures { IsFinished board.old.state vp page.old board.new.state page.new result notices.old notices.new }
 {
@@ -102,6 +103,7 @@ pub(crate) fn tick_from(
     let words = look_first(board, first, vp, scratch, notices, late);
     board.facts();
     let (reply, mut owed) = tick_from(board, pages, number + 1, event, scratch, notices, late);
+    board.facts();
     let last = &mut pages[index];
     owed[usize::from(number)] = finish(board, last, vp, &words, scratch, late);
     (reply, owed)

@@ -33,7 +33,9 @@ pub(crate) fn timed_by(board: &Board, event: &Event) -> Option<Vp>
     Vp::new(*vp)
 }
 
-/// Performs a write of a timer of a processor whose message page the guest sees.
+/// Performs a write of a timer of a processor whose message page the guest sees. Out of line: an event
+/// that has no use for the words of a page must not make room for them.
+#[inline(never)]
 fn time_shown(
     board: &mut Board,
     page: &mut LivePage,
@@ -52,12 +54,14 @@ fn time_shown(
     board.facts();
     let words = page_words(board, vp);
     let reply = perform_after(board, event, scratch, notices);
+    board.facts();
     publish(board, page, vp, &words, true);
     let owed = mark_slots(board, page, vp, &words, scratch, notices);
     (reply, owed)
 }
 
 /// The same where the guest does not see the page.
+#[inline(never)]
 fn time_hidden(
     board: &mut Board,
     page: &mut LivePage,
@@ -75,6 +79,7 @@ fn time_hidden(
     board.facts();
     let words = page_words(board, vp);
     let reply = perform_after(board, event, scratch, notices);
+    board.facts();
     publish(board, page, vp, &words, false);
     (reply, false)
 }

@@ -1,5 +1,5 @@
 -- The summary of a state, computed from scratch.
-use Rattle.std.specs.Prelude.{◌≡◌, ◌*◌, ℕ, List, Option, map, length}
+use Rattle.std.specs.Prelude.{◌≡◌, ◌*◌, ◌<◌, ℕ, Bool, true, false, List, Option, map, length, slice_index_or}
 use Rattle.std.specs.List.{range_with_len}
 use Rattle.lapic_core.specs.Vectors.{Vectors}
 use Rattle.lapic_core.specs.Apic.{next}
@@ -7,6 +7,7 @@ use Rattle.synic_regs.specs.Regs.{auto_vectors}
 use Rattle.board_terms.specs.declared.pages.Owner.{Owner}
 use Rattle.gpa_space.specs.Space.{Space, owner_of}
 use Rattle.board_terms.specs.Dues.{least}
+use Rattle.board_terms.specs.Sources.{source_number}
 use Rattle.stimer_bank.specs.Bank.{dues}
 use Rattle.synic_board.specs.State.{State, space_of, bank_of}
 
@@ -22,6 +23,11 @@ pub record Values : Type 0 where
   pub queued : List ℕ
   -- the earliest timer, with its deadline
   pub earliest : Option (ℕ × (ℕ × ℕ))
+
+-- a message is queued for some source of processor p, or for none
+abbrev pub HasQueued : List ℕ → ℕ → Bool → Type 0
+HasQueued queued p true = (i : ℕ) × (i < 16) × (0 < slice_index_or queued (source_number p i) 0)
+HasQueued queued p false = (i : ℕ) → i < 16 → slice_index_or queued (source_number p i) 0 ≡ 0
 
 -- the owner of each page
 abbrev pub owners_of : Space → List Owner

@@ -4,7 +4,7 @@ ghost use Rattle.std.specs.FinSet as set;
 ghost use Rattle.std.specs.Int.{bit_at};
 ghost use Rattle.board_terms.specs.declared.pages.Owner.TheVariants.{Guest, Nothing};
 ghost use Rattle.board_terms.specs.Sources.{source_number};
-ghost use Rattle.synic_board.specs.Summaries.{stored_summary};
+ghost use Rattle.synic_board.specs.Summaries.{stored_summary, HasQueued};
 ghost use Rattle.synic_board.specs.inside.Waiting.{IsFirstWaiting};
 
 use crate::processors::vec_per_processor;
@@ -148,6 +148,15 @@ impl Summary {
             return None;
         }
         Sint::new(from + left.trailing_zeros() as u8)
+    }
+
+    /// Whether a message is queued for some source of a processor; `false` if the processor is not on
+    /// the board.
+    #[inline]
+    pub fn has_queued(&self, vp: Vp) -> bool
+        ensures { HasQueued self.now.values.queued vp result }
+    {
+        self.waiting_from(vp, 0).is_some()
     }
 
     /// The next vector of a processor; `None` if it has none, or is not on the board.

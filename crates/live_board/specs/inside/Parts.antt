@@ -245,6 +245,10 @@ pub record IsFilledFrom (s : State) (p i header : ℕ) (log now : List Access) :
   pub are : AreSlotWords s p i words
   pub filled : IsFilled i header words log now
 
+-- each slot is as the host knows it if its header is
+abbrev pub AreKept : State → ℕ → List ℕ → Type 0
+AreKept s p words = (i : ℕ) → i < 16 → slice_index words (32 * i) ≡ word_of s (2 * p) (32 * i) → (w : ℕ) → w < 32 → slice_index words (32 * i + w) ≡ word_of s (2 * p) (32 * i + w)
+
 -- the slots below n of a message page have the words of a state, except for the occupied ones of a page that the guest sees
 pub record IsPublished (s : State) (p : ℕ) (shown : Bool) (words : List ℕ) (n : ℕ) (log now : List Access) : Type 0 where
   pub news : List Access
@@ -259,6 +263,7 @@ pub record SlotEnds (s : State) (p i : ℕ) (now : State) : Type 0 where
   pub idle : is_waiting s p i ≡ false → (w : ℕ) → w < 32 → word_of now (2 * p) (32 * i + w) ≡ word_of s (2 * p) (32 * i + w)
   pub marks : is_waiting s p i ≡ true → is_slot_empty s p i ≡ false → word_of now (2 * p) (32 * i) ≡ bit_or (word_of s (2 * p) (32 * i)) (2 ^ 40)
   pub payload : is_waiting s p i ≡ true → is_slot_empty s p i ≡ false → (w : ℕ) → 1 ≤ w → w < 32 → word_of now (2 * p) (32 * i + w) ≡ word_of s (2 * p) (32 * i + w)
+  pub fills : is_waiting s p i ≡ true → is_slot_empty s p i ≡ true → is_slot_empty now p i ≡ false
 
 -- the words of own pages after an EOM
 pub record Ends (s : State) (p : ℕ) (now : State) : Type 0 where
@@ -329,7 +334,11 @@ pub record SlotGrows (s : State) (p i : ℕ) (now : State) : Type 0 where
   pub bytes : (b : ℕ) → b < 256 → b ≢ 5 → slot_byte now p i b ≡ slot_byte s p i b
   pub flags : (slot_byte now p i 5 ≡ slot_byte s p i 5) ⊎ (slot_byte now p i 5 ≡ bit_or (slot_byte s p i 5) (2 ^ 0))
 
--- the same in words, from those that the host knew
+-- an empty slot that stays as it is, or gets a message
+abbrev pub SlotFills : State → ℕ → ℕ → State → Type 0
+SlotFills s p i now = ((b : ℕ) → b < 256 → slot_byte now p i b ≡ slot_byte s p i b) ⊎ (is_slot_empty now p i ≡ false)
+
+-- an occupied slot in which at most MessagePending is set, in words, from those that the host knew
 abbrev pub WordsGrow : State → ℕ → List ℕ → Type 0
 WordsGrow s p words = (i : ℕ) → i < 16 → type_of (slice_index words (32 * i)) ≢ 0
     → ((w : ℕ) → 1 ≤ w → w < 32 → word_of s (2 * p) (32 * i + w) ≡ slice_index words (32 * i + w)) × ((word_of s (2 * p) (32 * i) ≡ slice_index words (32 * i)) ⊎ (word_of s (2 * p) (32 * i) ≡ bit_or (slice_index words (32 * i)) (2 ^ 40)))
@@ -385,6 +394,7 @@ pub record IsTickFrom (s : State) (k m : ℕ) (pages : List (List Access)) (even
   pub processors : length now.apics ≡ length s.apics
   pub odd : (p x : ℕ) → x < 512 → word_of now (2 * p + 1) x ≡ word_of s (2 * p + 1) x
   pub slots : (p i : ℕ) → p < k → i < 16 → is_slot_empty s p i ≡ false → SlotGrows s p i now
+  pub fills : (p i : ℕ) → p < k → i < 16 → is_slot_empty s p i ≡ true → SlotFills s p i now
   pub eight : length owed ≡ 8
   pub owes : (p : ℕ) → k ≤ p → p < k + m → slice_index_or owed p false ≡ finds_empty (marks p)
 

@@ -1,6 +1,7 @@
 use Rattle.std.proofs.Common.{length, arith, sym, ap, ◌∙◌, length-append}
 use Rattle.synic_board.specs.State.{State}
 use Rattle.live_board.proofs.Joined.{rest-shown}
+use Rattle.live_board.proofs.Kept.{kept-grown}
 use Rattle.live_board.proofs.TimedPart.{timer-on, timer-grows, timer-stays, timer-few, rest-timer, shown-same, timed-payload, timed-known, timed-heads, words-grow, part-timed}
 use Rattle.board_terms.specs.declared.pages.Kind.TheVariants.{Sim}
 use Rattle.live_board.proofs.timing.time_shown.Goals as goal
@@ -12,6 +13,16 @@ publish-requires-clause-on c =
 
 pub publish-requires-clause-known : goal.publish-requires-clause-known
 publish-requires-clause-known c x low = c.look_at_slots.ensures.shadow x low ∙ sym (c.page_words-words.ensures.words x low)
+
+pub publish-requires-clause-kept : goal.publish-requires-clause-kept
+publish-requires-clause-kept c =
+    let mid : State = c.look_at_slots.new.board.state in
+    let one = c.perform_after-reply.ensures in
+    let timer = rest-timer c.args.board.now.state mid _ _ c.look_at_slots.ensures.watched.rest c.requires.timer in
+    let grows = timer-grows mid _ _ _ _ _ timer one.step c.facts.ensures.sound in
+    let on = timer-on mid _ _ timer in
+    kept-grown mid _ _ _ c.facts.ensures.shape c.facts.ensures.ranges c.facts-2.ensures.shape c.facts-2.ensures.ranges on (timer-stays mid _ _ _ _ _ timer c.facts.ensures.sound one.step) c.page_words-words.ensures.words
+    (λ i under full. grows.slots _ i on under full) (λ i under empty. grows.fills _ i on under empty)
 
 pub mark_slots-owed-requires-clause-on : goal.mark_slots-owed-requires-clause-on
 mark_slots-owed-requires-clause-on c =
