@@ -89,15 +89,38 @@ static bool is_destination(const struct vp *vp, const struct vp *sender, uint64_
     return destination == 0xff || destination == vp->number;
 }
 
-static void send(struct vp *vp, uint64_t icr)
+static uint64_t destinations(const struct vp *sender, uint64_t icr)
 {
+    uint64_t vps = 0;
+    for (unsigned number = 0; number < vm.vps; number++)
+        if (is_destination(&vm.vp[number], sender, icr))
+            vps |= 1ULL << number;
+    return vps;
+}
+
+static void for_each(uint64_t vps, void (*send)(struct vp *vp, uint8_t vector), uint8_t vector)
+{
+    for (unsigned number = 0; number < vm.vps; number++)
+        if ((vps >> number & 1) != 0)
+            send(&vm.vp[number], vector);
+}
+
+static void send_init(struct vp *vp, uint8_t vector)
+{
+    (void)vector;
+    vp_send_init(vp);
+}
+
+static void send(uint64_t vps, uint64_t icr)
+{
+    uint8_t vector = (uint8_t)icr;
     switch (icr >> 8 & 7) {
-    case FIXED: case LOWEST_PRIORITY: board_assert(vp, (uint8_t)icr); break;
+    case FIXED: case LOWEST_PRIORITY: board_send(vector, vps); break;
     case INIT:
         if ((icr & LEVEL_ASSERT) != 0)
-            vp_send_init(vp);
+            for_each(vps, send_init, vector);
         break;
-    case STARTUP: vp_send_sipi(vp, (uint8_t)icr); break;
+    case STARTUP: for_each(vps, vp_send_sipi, vector); break;
     default: fprintf(stderr, "vmm: the interrupt %lx between processors is of a kind that is left out\n", icr);
     }
 }
@@ -106,7 +129,5 @@ void apic_write_icr(struct vp *vp, uint64_t value)
 {
     *stored(vp, ICR_HIGH) = (uint32_t)(value >> 32);
     *stored(vp, ICR_LOW) = (uint32_t)value & ~IS_SENDING;
-    for (unsigned number = 0; number < vm.vps; number++)
-        if (is_destination(&vm.vp[number], vp, value))
-            send(&vm.vp[number], value);
+    send(destinations(vp, value), value);
 }

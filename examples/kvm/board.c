@@ -225,9 +225,10 @@ void board_reset(struct vp *vp)
 
 /* ---- What devices do ---- */
 
-void board_assert(struct vp *vp, uint8_t vector)
+/* Bit n of `vps` is processor n. */
+synicboard_reply board_send(uint8_t vector, uint64_t vps)
 {
-    perform(&(synicboard_event){ .kind = SYNICBOARD_ASSERT, .vp = vp->number, .vector = vector });
+    return perform(&(synicboard_event){ .kind = SYNICBOARD_SEND, .vector = vector, .value = vps });
 }
 
 synicboard_reply board_open_message_port(uint8_t port, uint8_t vp, uint8_t sint, uint8_t buffers)

@@ -1,10 +1,10 @@
-/* The hypercalls that a guest has here: HvCallSetVpRegisters, which suspends a processor, HvCallPostMessage and
- * HvCallSignalEvent. Names, checks and statuses are those of the TLFS. */
+/* The hypercalls that a guest has here: HvCallSetVpRegisters, which suspends a processor, HvCallSendSyntheticClusterIpi,
+ * HvCallPostMessage and HvCallSignalEvent. Names, checks and statuses are those of the TLFS. */
 #include <string.h>
 
 #include "vmm.h"
 
-enum { SET_VP_REGISTERS = 0x51, POST_MESSAGE = 0x5c, SIGNAL_EVENT = 0x5d };
+enum { SEND_CLUSTER_IPI = 0x0b, SET_VP_REGISTERS = 0x51, POST_MESSAGE = 0x5c, SIGNAL_EVENT = 0x5d };
 enum { EXPLICIT_SUSPEND = 0, MOST_PAYLOAD = 240 };
 
 /* TLFS, "Hypercall Inputs". */
@@ -20,6 +20,11 @@ struct set_vp_registers {
     uint32_t vp_index, target_vtl;
     uint32_t name, reserved[3];
     uint64_t value[2];
+};
+
+struct send_cluster_ipi {
+    uint32_t vector, target_vtl;
+    uint64_t vps;
 };
 
 struct post_message {
@@ -49,6 +54,17 @@ static uint64_t set_vp_registers(const struct set_vp_registers *input)
         return HV_STATUS_INVALID_PARAMETER;
     set_suspended(&vm.vp[input->vp_index], (input->value[0] & 1) != 0);
     return HV_STATUS_SUCCESS | ONE_DONE;
+}
+
+/* ---- HvCallSendSyntheticClusterIpi ---- */
+
+/* There is one trust level. A processor that is not there is no destination; the board would refuse all of them. */
+static uint64_t send_cluster_ipi(const struct send_cluster_ipi *input)
+{
+    if (input->target_vtl != 0 || input->vector < 16 || input->vector > 255)
+        return HV_STATUS_INVALID_PARAMETER;
+    board_send((uint8_t)input->vector, input->vps & ((1ULL << vm.vps) - 1));
+    return HV_STATUS_SUCCESS;
 }
 
 /* ---- HvCallPostMessage and HvCallSignalEvent ---- */
@@ -94,21 +110,48 @@ static bool is_well_formed(uint64_t control, bool is_rep)
     return has_rep && (control & (RESERVED | REP_START | VARIABLE_HEADER_SIZE)) == 0;
 }
 
-uint64_t hypercall_handle(uint64_t control, uint64_t input)
+union input {
+    struct set_vp_registers registers;
+    struct send_cluster_ipi ipi;
+    struct post_message message;
+    uint64_t event, words[2];
+};
+
+/* 0 if there is no such hypercall. */
+static size_t length_of_input(uint16_t code)
 {
-    union { struct set_vp_registers registers; struct post_message message; uint64_t event; } in;
+    switch (code) {
+    case SET_VP_REGISTERS: return sizeof(struct set_vp_registers);
+    case SEND_CLUSTER_IPI: return sizeof(struct send_cluster_ipi);
+    case POST_MESSAGE: return sizeof(struct post_message);
+    case SIGNAL_EVENT: return sizeof(uint64_t);
+    default: return 0;
+    }
+}
+
+static uint64_t handle(uint16_t code, const union input *in)
+{
+    switch (code) {
+    case SET_VP_REGISTERS: return set_vp_registers(&in->registers);
+    case SEND_CLUSTER_IPI: return send_cluster_ipi(&in->ipi);
+    case POST_MESSAGE: return post_message(&in->message);
+    default: return signal_event(in->event);
+    }
+}
+
+uint64_t hypercall_handle(uint64_t control, uint64_t input, uint64_t second)
+{
     uint16_t code = (uint16_t)control;
-    bool is_fast = (control & IS_FAST) != 0, is_rep = code == SET_VP_REGISTERS;
-    size_t length = code == SET_VP_REGISTERS ? sizeof in.registers : code == POST_MESSAGE ? sizeof in.message : sizeof in.event;
-    if (code != SET_VP_REGISTERS && code != POST_MESSAGE && code != SIGNAL_EVENT)
+    bool is_fast = (control & IS_FAST) != 0;
+    size_t length = length_of_input(code);
+    union input in;
+    if (length == 0)
         return HV_STATUS_INVALID_HYPERCALL_CODE;
-    if (!is_well_formed(control, is_rep) || (is_fast && code != SIGNAL_EVENT))
+    if (!is_well_formed(control, code == SET_VP_REGISTERS) || (is_fast && length > sizeof in.words))
         return HV_STATUS_INVALID_HYPERCALL_INPUT;
-    if (is_fast)
-        return signal_event(input);
-    if (!read_input(input, &in, length))
+    in.words[0] = input;
+    in.words[1] = second;
+    if (!is_fast && !read_input(input, &in, length))
         return HV_STATUS_INVALID_ALIGNMENT;
-    if (code == SET_VP_REGISTERS)
-        return set_vp_registers(&in.registers);
-    return code == POST_MESSAGE ? post_message(&in.message) : signal_event(in.event);
+    return handle(code, &in);
 }

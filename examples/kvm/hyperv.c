@@ -16,7 +16,7 @@ enum {
     HAS_REFERENCE_COUNTER = 1 << 1, HAS_SYNIC = 1 << 2, HAS_TIMERS = 1 << 3, HAS_APIC = 1 << 4, HAS_HYPERCALL = 1 << 5,
     HAS_VP_INDEX = 1 << 6, HAS_RESET = 1 << 7, HAS_REFERENCE_TSC = 1 << 9, HAS_FREQUENCIES = 1 << 11,
     CAN_POST_MESSAGES = 1 << 4, CAN_SIGNAL_EVENTS = 1 << 5, CAN_READ_FREQUENCIES = 1 << 8, HAS_DIRECT_TIMERS = 1 << 19,
-    PREFERS_APIC_REGISTERS = 1 << 3, PREFERS_RELAXED_TIMING = 1 << 5,
+    PREFERS_APIC_REGISTERS = 1 << 3, PREFERS_RELAXED_TIMING = 1 << 5, PREFERS_CLUSTER_IPI = 1 << 10,
 };
 
 static uint64_t guest_os_id, hypercall, reference_tsc, vp_assist[MOST_VPS];
@@ -33,7 +33,7 @@ unsigned hyperv_add_cpuid(struct kvm_cpuid_entry2 *entries, unsigned count)
               | HAS_REFERENCE_TSC | HAS_FREQUENCIES,
           .ebx = vm.vmbus.is_on ? CAN_POST_MESSAGES | CAN_SIGNAL_EVENTS : 0,
           .edx = CAN_READ_FREQUENCIES | HAS_DIRECT_TIMERS },
-        { .function = 0x40000004, .eax = PREFERS_APIC_REGISTERS | PREFERS_RELAXED_TIMING, .ebx = 0xffffffff },
+        { .function = 0x40000004, .eax = PREFERS_APIC_REGISTERS | PREFERS_RELAXED_TIMING | PREFERS_CLUSTER_IPI, .ebx = 0xffffffff },
         { .function = 0x40000005, .eax = vm.vps, .ebx = vm.vps },
     };
     memcpy(entries + count, leaves, sizeof leaves);
@@ -128,7 +128,7 @@ void hyperv_call(struct vp *vp)
     struct kvm_regs regs;
     if (ioctl(vp->fd, KVM_GET_REGS, &regs) != 0)
         fail("KVM_GET_REGS");
-    regs.rax = hypercall_handle(regs.rcx, regs.rdx);
+    regs.rax = hypercall_handle(regs.rcx, regs.rdx, regs.r8);
     if (ioctl(vp->fd, KVM_SET_REGS, &regs) != 0)
         fail("KVM_SET_REGS");
 }

@@ -160,7 +160,7 @@ void board_absorb(struct vp *vp);
 uint8_t board_take(struct vp *vp);
 synicboard_reply board_write(struct vp *vp, uint32_t msr, uint64_t value);
 synicboard_reply board_read(struct vp *vp, uint32_t msr);
-void board_assert(struct vp *vp, uint8_t vector);
+synicboard_reply board_send(uint8_t vector, uint64_t vps);
 void board_store(uint64_t address, const uint8_t *bytes, size_t length);
 void board_suspend(struct vp *vp);
 void board_resume(struct vp *vp);
@@ -200,7 +200,7 @@ enum {                                      /* TLFS, "Hypercall Status Codes" */
     HV_STATUS_INVALID_ALIGNMENT = 4, HV_STATUS_INVALID_PARAMETER = 5, HV_STATUS_ACCESS_DENIED = 6,
     HV_STATUS_INVALID_VP_INDEX = 14, HV_STATUS_INVALID_CONNECTION_ID = 18, HV_STATUS_INSUFFICIENT_BUFFERS = 19,
 };
-uint64_t hypercall_handle(uint64_t control, uint64_t input);     /* RCX and RDX; returns RAX */
+uint64_t hypercall_handle(uint64_t control, uint64_t input, uint64_t second);   /* RCX, RDX and R8; returns RAX */
 
 /* vmbus/ */
 uint64_t vmbus_post_message(uint32_t connection, uint32_t message_type, const void *payload, uint32_t length);

@@ -97,7 +97,7 @@ uint64_t guest_call(uint64_t control, uint64_t address, const void *input, size_
     uint8_t *memory = vm_memory(address, length);
     if (memory != NULL)
         memcpy(memory, input, length);
-    return hypercall_handle(control, address);
+    return hypercall_handle(control, address, 0);
 }
 
 uint8_t *guest_ring_byte(const struct ring *ring, uint32_t at)

@@ -156,9 +156,9 @@ static void check_statuses(void)
         if (status != cases[at].status)
             guest_fail((int)status, cases[at].what);
     }
-    REQUIRE(hypercall_handle(SIGNAL | FAST, 0x10001) == HV_STATUS_INVALID_CONNECTION_ID);
+    REQUIRE(hypercall_handle(SIGNAL | FAST, 0x10001, 0) == HV_STATUS_INVALID_CONNECTION_ID);
     vm.vmbus.is_on = false;
-    REQUIRE(guest_call(POST, INPUT, &good, sizeof good) == HV_STATUS_ACCESS_DENIED && hypercall_handle(SIGNAL | FAST, 0x10001) == HV_STATUS_ACCESS_DENIED);
+    REQUIRE(guest_call(POST, INPUT, &good, sizeof good) == HV_STATUS_ACCESS_DENIED && hypercall_handle(SIGNAL | FAST, 0x10001, 0) == HV_STATUS_ACCESS_DENIED);
     vm.vmbus.is_on = true;
     vmbus.ignored = 0;
 }
@@ -182,9 +182,9 @@ static void check_signals(void)
 {
     enum { SIGNAL = 0x5d, FAST = 1 << 16, INPUT = 2 * PAGE };
     uint64_t good = FIRST_EVENT_CONNECTION + HEARTBEAT + 1, flag = good | 1ULL << 32;
-    REQUIRE(hypercall_handle(SIGNAL | FAST, good) == HV_STATUS_SUCCESS);
+    REQUIRE(hypercall_handle(SIGNAL | FAST, good, 0) == HV_STATUS_SUCCESS);
     REQUIRE(guest_call(SIGNAL, INPUT + 8, &good, sizeof good) == HV_STATUS_SUCCESS);
-    REQUIRE(hypercall_handle(SIGNAL | FAST, flag) == HV_STATUS_INVALID_PARAMETER);
+    REQUIRE(hypercall_handle(SIGNAL | FAST, flag, 0) == HV_STATUS_INVALID_PARAMETER);
 }
 
 /* ---- What a guest must not do ---- */

@@ -125,6 +125,26 @@ static void check_suspending(void)
     check(set_suspended(7, 1) == 0xe, "suspending a processor that does not exist fails");
 }
 
+/* ---- One interrupt to several ---- */
+
+/* TLFS, "HvCallSendSyntheticClusterIpi", with its input in registers. */
+static uint64_t send_to(uint64_t vps, uint64_t vector)
+{
+    register uint64_t mask __asm__("r8") = vps;
+    uint64_t result;
+    __asm__ volatile("call *%2"
+        : "=a"(result), "+r"(mask) : "r"(hypercall_page), "c"(0x0b | 1ULL << 16), "d"(vector) : "memory", "r9", "r10", "r11");
+    return result;
+}
+
+static void check_sending(void)
+{
+    uint32_t seen = first->seen[LOW_VECTOR], too = second->seen[LOW_VECTOR];
+    check(send_to(3, LOW_VECTOR) == 0, "the hypercall that interrupts both processors succeeds");
+    check(WAIT_UNTIL(first->seen[LOW_VECTOR] == seen + 1 && second->seen[LOW_VECTOR] == too + 1, 2), "it interrupts each once");
+    check(send_to(3, 15) == 5, "with a vector below 16 it fails");
+}
+
 /* ---- INIT ---- */
 
 static void occupy_slot(struct processor *self)
@@ -161,6 +181,7 @@ void check_processors(void)
     check(second_scontrol == 0 && second_sint == MASKED, "its SynIC is off and its sources are masked");
     check_calls();
     check_suspending();
+    check_sending();
     check_init();
 }
 
