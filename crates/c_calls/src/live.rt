@@ -119,9 +119,6 @@ fn alone(reply: CReply) -> CLiveReply
 fn mask_of(owed: &[bool; 8]) -> u64
     ensures { MarksOwed result owed.now }
 {
-    if *owed == [false; 8] {
-        return 0;
-    }
     let mut mask = 0;
     for vp in 0..8u8 {
         mask = with_bit(mask, vp, owed[vp as usize]);
