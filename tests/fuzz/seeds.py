@@ -3,6 +3,7 @@ forms of the bytes)."""
 
 import glob
 import os
+import random
 
 ROOT = os.path.dirname(os.path.dirname(os.path.dirname(os.path.abspath(__file__))))
 
@@ -150,3 +151,9 @@ def write(folder):
 
 def write_vmbus(folder):
     write_all(folder, vmbus_inputs())
+
+
+def write_live(folder):
+    """Actions at random, the same in each run."""
+    source = random.Random(1)
+    write_all(folder, ((str(count), bytes(source.randrange(256) for _ in range(source.randrange(2048)))) for count in range(64)))
