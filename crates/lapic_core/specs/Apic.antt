@@ -1,5 +1,5 @@
 -- The interrupt priorities of a local APIC (SDM volume 3, "Interrupt, Task, and Processor Priority").
-use Rattle.std.specs.Prelude.{ℕ, ◌/◌, nat_lt, max, Option, None, Bool, false, if◌then◌else◌}
+use Rattle.std.specs.Prelude.{ℕ, ◌/◌, ◌&&◌, nat_lt, max, Option, None, is_some, is_none, Bool, false, if◌then◌else◌}
 use Rattle.std.specs.Option.{option_map_or}
 use Rattle.std.specs.FinSet as set
 use Rattle.lapic_core.specs.Vectors.{Vectors, greatest}
@@ -64,3 +64,7 @@ end_vector v a = record a { in_service = set.remove a.in_service v }
 -- EOI: the greatest vector in service ends
 abbrev pub after_end : Apic → Apic
 after_end a = option_map_or (λ v. end_vector v a) (greatest a.in_service) a
+
+-- no EOI is required (TLFS, "EOI Assist"): a vector is in service, and no vector is requested
+abbrev pub is_no_end_required : Apic → Bool
+is_no_end_required a = is_some (greatest a.in_service) && is_none (greatest a.requested)

@@ -2,7 +2,7 @@
 ghost use Rattle.std.specs.Prelude.{◌≡◌, ◌≤◌, None, not, true, false};
 ghost use Rattle.std.specs.FinSet as set;
 ghost use Rattle.lapic_core.specs.Vectors.{Vectors, greatest};
-ghost use Rattle.lapic_core.specs.Apic.{class, empty_apic, next, request, with_task_priority, with_suspension, after_take, after_end};
+ghost use Rattle.lapic_core.specs.Apic.{class, empty_apic, next, request, with_task_priority, with_suspension, after_take, after_end, is_no_end_required};
 ghost use Rattle.lapic_core.specs.Ranges.{IsApic};
 ghost use Rattle.lapic_core.specs.inside.Threshold.{last_of, threshold, to_exceed, above, floor, serving};
 
@@ -170,6 +170,13 @@ impl Lapic {
         self.threshold = threshold_of(self.highest, self.floor);
         self.next = next_above(&self.requested, self.threshold);
         Some(vector)
+    }
+
+    /// Whether no EOI is required (TLFS, "EOI Assist"): a vector is in service, and no vector is requested.
+    pub fn is_no_end_required(&self) -> bool
+        ensures { result ≡ is_no_end_required self.now }
+    {
+        self.highest.is_some() && self.requested.is_empty()
     }
 
     /// Writes the task priority register.

@@ -3,7 +3,9 @@
 #![tactic(auto)]
 
 mod lapic;
+mod laws;
 mod vector_set;
 
 pub use lapic::Lapic;
+pub use laws::an_end_may_wait;
 pub use vector_set::VectorSet;
