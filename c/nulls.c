@@ -89,6 +89,7 @@ CALL(size_t, synicboard_notices, board == NULL || room == NULL,
      const synicboard *board, synicboard_notice *room, size_t length)
 LOOK(uint8_t, synicboard_next, (board, vp), const synicboard *board, uint8_t vp)
 LOOK(bool, synicboard_is_auto, (board, vp, vector), const synicboard *board, uint8_t vp, uint8_t vector)
+LOOK(bool, synicboard_no_eoi_required, (board, vp), const synicboard *board, uint8_t vp)
 LOOK(uint16_t, synicboard_queued, (board, vp, sint), const synicboard *board, uint8_t vp, uint8_t sint)
 LOOK(uint64_t, synicboard_moment, (board), const synicboard *board)
 LOOK(uint64_t, synicboard_next_ticket, (board), const synicboard *board)

@@ -425,6 +425,12 @@ typedef struct synicboard_local_apic {
 /* The local APIC of a processor, for reads of its registers; all 0 if there is no such processor or board. */
 synicboard_local_apic synicboard_lapic(const synicboard *board, uint8_t vp);
 
+/* Whether no EOI is required of a processor (TLFS, "EOI Assist"): a vector is in service, and none is requested. The host
+ * may then set "No EOI required" in the processor's assist page when it injects the vector. If the guest clears the bit, it does not
+ * write EOI: the host writes it to the board when it looks at the bit, which it does before it next asks what is
+ * next. If another vector is next then and the guest has not cleared the bit, the host clears it. */
+bool synicboard_no_eoi_required(const synicboard *board, uint8_t vp);
+
 /* A timer, for inspection: its registers, and its deadline, even while its processor is suspended. If `is_due`,
  * it is due at high * 2^64 + low, in units of 100 ns. */
 typedef struct synicboard_timer_state {

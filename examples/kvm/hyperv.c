@@ -74,6 +74,11 @@ static void write_reference_tsc(uint64_t value)
         clock_fill_page(page);
 }
 
+uint32_t *hyperv_assist(const struct vp *vp)
+{
+    return (uint32_t *)(void *)page_of(vp_assist[vp->number]);
+}
+
 bool hyperv_read_msr(struct vp *vp, uint32_t msr, uint64_t *value)
 {
     if (is_of_board(msr)) {
@@ -105,7 +110,7 @@ bool hyperv_write_msr(struct vp *vp, uint32_t msr, uint64_t value)
     case MSR_RESET: if ((value & 1) != 0) vm_stop(0); return true;
     case MSR_REFERENCE_TSC: write_reference_tsc(value); return true;
     case MSR_ICR: apic_write_icr(vp, value); return true;
-    case MSR_VP_ASSIST: vp_assist[vp->number] = value; return true;     /* no lazy EOI: nothing is written there */
+    case MSR_VP_ASSIST: assist_leave(vp); vp_assist[vp->number] = value; return true;
     default: return false;
     }
 }

@@ -85,7 +85,7 @@ static void print_exits(const struct vp *vp)
         [KVM_EXIT_IRQ_WINDOW_OPEN] = "window", [KVM_EXIT_X86_RDMSR] = "rdmsr", [KVM_EXIT_X86_WRMSR] = "wrmsr",
         [KVM_EXIT_SET_TPR] = "cr8", [KVM_EXIT_INTERNAL_ERROR] = "emulate",
     };
-    fprintf(stderr, "vmm: processor %u: %lu interrupts; exits:", vp->number, vp->injected);
+    fprintf(stderr, "vmm: processor %u: %lu interrupts, %lu ended without a write of EOI; exits:", vp->number, vp->injected, vp->ended_without);
     for (unsigned reason = 0; reason < 64; reason++)
         if (vp->exits[reason] != 0)
             fprintf(stderr, " %s %lu", names[reason] != NULL ? names[reason] : "other", vp->exits[reason]);

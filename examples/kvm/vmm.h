@@ -38,9 +38,10 @@ struct vp {
     bool has_init, has_sipi;    /* sent, and not accepted yet by its thread */
     uint8_t sipi_page;
     uint8_t tpr;                /* equals the TPR of the board, for CR8 */
+    bool is_assisted;           /* "No EOI required" was set for the vector in service */
     synicboard_line line;       /* its thread absorbs through it */
     atomic_uint posted_parts;   /* a bit for each part of the posted words that may have vectors to absorb */
-    uint64_t injected, exits[64];
+    uint64_t injected, ended_without, exits[64];
 };
 
 /* What the command line says about VMBus. */
@@ -194,6 +195,11 @@ void image_trace(void);                     /* begins a trace with the image */
 void image_start(void);                     /* starts the thread that replaces the board, if that was asked for */
 void image_report(void);
 
+/* assist.c */
+void assist_end(struct vp *vp);
+void assist_enter(struct vp *vp);
+void assist_leave(struct vp *vp);           /* before its assist page moves, or it is reset */
+
 /* hypercalls.c */
 enum {                                      /* TLFS, "Hypercall Status Codes" */
     HV_STATUS_SUCCESS = 0, HV_STATUS_INVALID_HYPERCALL_CODE = 2, HV_STATUS_INVALID_HYPERCALL_INPUT = 3,
@@ -214,6 +220,7 @@ void vmbus_report(void);
 enum { HYPERCALL_PORT = 0xe8 };
 unsigned hyperv_add_cpuid(struct kvm_cpuid_entry2 *entries, unsigned count);
 bool hyperv_read_msr(struct vp *vp, uint32_t msr, uint64_t *value);     /* false for #GP */
+uint32_t *hyperv_assist(const struct vp *vp);   /* the first word of its assist page; null if it has none */
 bool hyperv_write_msr(struct vp *vp, uint32_t msr, uint64_t value);
 void hyperv_call(struct vp *vp);
 void hyperv_continue(void);                 /* fills the reference TSC page again */

@@ -177,6 +177,7 @@ static void accept_init(struct vp *vp)
     vp->run->ready_for_interrupt_injection = 0;
     vp->is_halted = vp->is_suspended = false;
     vp->waits_for_sipi = true;
+    assist_leave(vp);
     board_reset(vp);
     board_suspend(vp);
     apic_reset(vp);
@@ -234,6 +235,7 @@ static bool can_run(const struct vp *vp)
 static void enter(struct vp *vp)
 {
     uint8_t vector = take(vp);
+    assist_enter(vp);
     vp->run->cr8 = vp->tpr >> 4;
     vp->is_in_guest = true;
     lock_release();
@@ -244,6 +246,7 @@ static void enter(struct vp *vp)
     vp->run->immediate_exit = 0;
     if (is_paused)
         lock_signal(&left);
+    assist_end(vp);
     /* SDM, "Interaction of Task Priorities between CR8 and APIC": both are one register. A guest
      * that raises CR8 does not exit, which is soon enough: only a later event of its own can
      * make the board use the new value. */
@@ -333,4 +336,5 @@ void vp_transfer(struct vp *vp)
     saved_transfer(&vp->has_sipi, sizeof vp->has_sipi);
     saved_transfer(&vp->sipi_page, sizeof vp->sipi_page);
     saved_transfer(&vp->tpr, sizeof vp->tpr);
+    saved_transfer(&vp->is_assisted, sizeof vp->is_assisted);
 }

@@ -76,13 +76,16 @@ static void test_local_apic(void)
     synicboard board = SYNICBOARD_CLOSED;
     synicboard_open(&board, 2, 1, 0);
     check_lapic(&board, 1, (synicboard_local_apic){ 0 });
+    CHECK(!synicboard_no_eoi_required(&board, 1));
     synicboard_assert(&board, 1, 0x41);
     synicboard_assert(&board, 1, 0xff);
     check_lapic(&board, 1, (synicboard_local_apic){ .requested = { 0, 2, 0, 1ull << 63 } });
     synicboard_take(&board, 1);
     check_lapic(&board, 1, (synicboard_local_apic){ .requested = { 0, 2 }, .in_service = { 0, 0, 0, 1ull << 63 }, .processor_priority = 0xf0 });
+    CHECK(!synicboard_no_eoi_required(&board, 1));
     synicboard_write(&board, 1, SYNICBOARD_MSR_EOI, 0);
     synicboard_take(&board, 1);
+    CHECK(synicboard_no_eoi_required(&board, 1) && !synicboard_no_eoi_required(&board, 0) && !synicboard_no_eoi_required(&board, 9));
     for (int at = 0; at < 4; at++) {
         synicboard_write(&board, 1, SYNICBOARD_MSR_TPR, priorities[at][0]);
         check_lapic(&board, 1, (synicboard_local_apic){ .in_service = { 0, 2 }, .task_priority = priorities[at][0], .processor_priority = priorities[at][1] });

@@ -532,6 +532,23 @@ impl Board {
         })
     }
 
+    /// Whether no EOI is required of a processor (TLFS, "EOI Assist"): a vector is in service, and none is
+    /// requested. Its end may wait until the host next asks which vector is next.
+    ///
+    /// ```
+    /// use synicboard::{Board, Vector};
+    ///
+    /// let mut board = Board::open(1, 1, 0).unwrap();
+    /// board.assert(0, Vector::new(0x41).unwrap());
+    /// board.take(0);
+    /// assert!(board.no_eoi_required(0));
+    /// board.assert(0, Vector::new(0x31).unwrap());
+    /// assert!(!board.no_eoi_required(0));
+    /// ```
+    pub fn no_eoi_required(&self, vp: u8) -> bool {
+        ask!(self, synicboard_no_eoi_required, vp)
+    }
+
     /// The registers and the deadline of a timer, even while its processor is suspended; `None` if the
     /// processor is not on the board or the index is above 3.
     ///

@@ -3,7 +3,7 @@ use Rattle.std.specs.Prelude.{◌≡◌, ℕ, ◌*◌, ◌/◌, ◌%◌, ◌^◌
 use Rattle.std.specs.Option.{option_map_or}
 use Rattle.board_terms.specs.Quantities.{Ticket}
 use Rattle.lapic_core.specs.Vectors.{Vectors, word_of}
-use Rattle.lapic_core.specs.Apic.{Apic, class, in_service_class}
+use Rattle.lapic_core.specs.Apic.{Apic, class, in_service_class, is_no_end_required}
 use Rattle.stimer_bank.specs.declared.timer.Timer.{Timer}
 use Rattle.stimer_bank.specs.Bank.{timer_in}
 use Rattle.synic_board.specs.State.{State, processors, apic_of, bank_of, slot_of}
@@ -45,6 +45,14 @@ lapic_on s vp = if nat_lt vp (processors s) then lapic_to_c (apic_of s vp) else 
 abbrev pub lapic_at : Option AnyBoard → ℕ → CLapic
 lapic_at None vp = no_lapic
 lapic_at (Some board) vp = lapic_on (state_in board) vp
+
+-- whether no EOI is required of a processor, if it is on the board
+abbrev pub no_eoi_required_on : State → ℕ → Bool
+no_eoi_required_on s vp = nat_lt vp (processors s) && is_no_end_required (apic_of s vp)
+
+abbrev pub no_eoi_required_at : Option AnyBoard → ℕ → Bool
+no_eoi_required_at None vp = false
+no_eoi_required_at (Some board) vp = no_eoi_required_on (state_in board) vp
 
 -- a timer, with its deadline as two words
 abbrev pub timer_to_c : Timer → CTimer

@@ -1,7 +1,7 @@
 // Inspecting a local APIC.
 ghost use Rattle.std.specs.Prelude.{◌≡◌};
 ghost use Rattle.synic_board.specs.State.{processors};
-ghost use Rattle.c_calls.specs.Inspected.{words_of, processor_priority, lapic_to_c, no_lapic, lapic_on, lapic_at};
+ghost use Rattle.c_calls.specs.Inspected.{words_of, processor_priority, lapic_to_c, no_lapic, lapic_on, lapic_at, no_eoi_required_on, no_eoi_required_at};
 
 use board_terms::Vp;
 use c_handles::BoardHandle;
@@ -30,6 +30,31 @@ pub extern "C" fn synicboard_lapic(handle: &mut BoardHandle, vp: u8) -> CLapic
     match handle.board_mut() {
         Some(board) => of_board(board.board(), vp),
         None => nothing(),
+    }
+}
+
+/// Whether no EOI is required of a processor (TLFS, "EOI Assist"): a vector is in service, and none is
+/// requested. `false` if there is no such processor or no board.
+#[unsafe(no_mangle)]
+pub extern "C" fn synicboard_no_eoi_required(handle: &mut BoardHandle, vp: u8) -> bool
+    ensures board { handle.new.board ≡ handle.old.board }
+    ensures required { result ≡ no_eoi_required_at handle.old.board vp }
+{
+    match handle.board_mut() {
+        Some(board) => is_none_required(board.board(), vp),
+        None => false,
+    }
+}
+
+fn is_none_required(board: &Board, vp: u8) -> bool
+    ensures { result ≡ no_eoi_required_on board.now.state vp }
+{
+    if vp >= board.processors() {
+        return false;
+    }
+    match Vp::new(vp) {
+        Some(vp) => board.lapic(vp).is_no_end_required(),
+        None => unreachable!(),
     }
 }
 

@@ -9,6 +9,7 @@ uint8_t stacks[LOAD_VPS][STACK] __attribute__((aligned(STACK)));
 struct processor processors[LOAD_VPS] = { { .number = 0 }, { .number = 1 } };
 volatile struct message message_pages[LOAD_VPS][16] __attribute__((aligned(4096)));
 volatile uint8_t flag_pages[LOAD_VPS][4096] __attribute__((aligned(4096)));
+static uint32_t assist_pages[LOAD_VPS][1024] __attribute__((aligned(4096)));
 volatile uint32_t faults;
 static unsigned checks, failures;
 
@@ -92,11 +93,21 @@ static void handle_timer_message(struct processor *self)
 /* Sends one of a lower class to itself, which has to wait until this one ends. */
 static void handle_high(struct processor *self)
 {
+    uint32_t before = self->seen[LOW_VECTOR];
     write_msr(ICR, LOW_VECTOR | TO_SELF);
     enable_interrupts();
     __asm__ volatile("nop; nop");
     disable_interrupts();
-    self->nested += self->seen[LOW_VECTOR] != 0;
+    self->nested += self->seen[LOW_VECTOR] != before;
+}
+
+/* TLFS, "EOI Assist": if the first bit is set, clearing it ends the interrupt. It is 0 while the page is disabled. */
+static void end_interrupt(struct processor *self)
+{
+    if ((__atomic_exchange_n(&assist_pages[self->number][0], 0, __ATOMIC_SEQ_CST) & 1) != 0)
+        self->ended_without++;
+    else
+        write_msr(EOI, 0);
 }
 
 /* Called by start.S. A vector of an AutoEOI source gets no EOI. */
@@ -115,7 +126,7 @@ void on_interrupt(unsigned vector)
         if (vector >= FIRST_LOAD_VECTOR && vector < FIRST_LOAD_VECTOR + LOAD_VECTORS)
             handle_load(self, vector);
     }
-    write_msr(EOI, 0);
+    end_interrupt(self);
 }
 
 struct gate { uint16_t low, selector, kind, middle; uint32_t high, zero; };
@@ -355,6 +366,21 @@ static void measure(void)
     check(self->seen[LOW_VECTOR] - before == ROUNDS, "2000 interrupts to itself were taken, one after another");
 }
 
+/* From here on, so in the load, too. */
+static void check_assist(void)
+{
+    struct processor *self = this_processor();
+    uint32_t before = self->seen[LOW_VECTOR];
+    check(self->ended_without == 0, "until now each interrupt ended by a write of EOI");
+    write_msr(VP_ASSIST, (uintptr_t)assist_pages[0] | 1);
+    MEASURE("an interrupt to itself that ends by the assist page takes", interrupt_self(self));
+    check(self->seen[LOW_VECTOR] - before == ROUNDS, "2000 interrupts to itself were taken with an assist page");
+    check(self->ended_without >= ROUNDS / 2, "most of which ended without a write of EOI");
+    before = self->seen[LOW_VECTOR];
+    write_msr(ICR, HIGH_VECTOR | TO_SELF);
+    check(WAIT_UNTIL(self->seen[LOW_VECTOR] == before + 1, 2) && self->nested == 0, "one of a lower class still waits for the end of another, and comes then");
+}
+
 /* ---- The run ---- */
 
 /* Called by start.S. */
@@ -375,6 +401,7 @@ void first_main(void)
     write_msr(SINT0 + TIMER_SINT, TIMER_MESSAGE_VECTOR);
     check_occupied_slot();
     measure();
+    check_assist();
     check_processors();
     check_load();
     print("1..");

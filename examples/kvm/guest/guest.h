@@ -11,6 +11,7 @@
 enum {
     GUEST_OS_ID = 0x40000000, HYPERCALL = 0x40000001, VP_INDEX = 0x40000002, COUNTER = 0x40000020,
     REFERENCE_TSC = 0x40000021, TSC_FREQUENCY = 0x40000022, EOI = 0x40000070, ICR = 0x40000071, TPR = 0x40000072,
+    VP_ASSIST = 0x40000073,
     SCONTROL = 0x40000080, SVERSION = 0x40000081, SIEFP = 0x40000082, SIMP = 0x40000083, EOM = 0x40000084,
     SINT0 = 0x40000090, CONFIG0 = 0x400000b0, COUNT0 = 0x400000b1,
 };
@@ -46,6 +47,7 @@ struct processor {
     uint32_t number;
     volatile uint32_t seen[256];            /* interrupts, by vector */
     volatile uint32_t timer_messages, wrong_messages, pendings, nested;
+    volatile uint32_t ended_without;        /* interrupts that ended without a write of EOI */
     volatile bool keeps_slots;              /* its handlers leave messages where they are */
     volatile uint64_t period, last_expiry, latest, last_time;
     volatile uint64_t letters, wrong_letters;
