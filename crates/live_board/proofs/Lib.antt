@@ -17,6 +17,7 @@ pub mod Probed
 pub mod Published
 pub mod TimedPart
 pub mod Kept
+pub mod Direct
 pub mod Finished
 pub mod Ticked
 pub mod EndedPart

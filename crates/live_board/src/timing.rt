@@ -1,20 +1,25 @@
 // A write of a timer, which may deliver a message to one source of its processor.
-ghost use Rattle.std.specs.Prelude.{◌≡◌, ◌<◌, ◌*◌, [], IfSome};
+ghost use Rattle.std.specs.Prelude.{◌≡◌, ◌<◌, ◌*◌, [], true, false, IfSome};
 ghost use Rattle.board_terms.specs.declared.pages.Kind.TheVariants.{Sim};
-ghost use Rattle.synic_board.specs.State.{processors};
+ghost use Rattle.stimer_bank.specs.Bank.{timer_in};
+ghost use Rattle.synic_board.specs.State.{processors, bank_of};
 ghost use Rattle.live_board.specs.Live.{IsShown};
 ghost use Rattle.live_board.specs.Timers.{timer_of};
+ghost use Rattle.live_board.specs.inside.Kinds.{is_direct_write};
 ghost use Rattle.live_board.specs.inside.Parts.{IsShadow, IsTimedPart, IsTimerOf};
 
 use crate::marking::mark_slots;
-use crate::observing::look_at_slots;
+use crate::observing::{look_at_slots, view_slots};
 use crate::passing::is_shown;
 use crate::performing::perform_after;
 use crate::publishing::{page_words, publish};
-use board_terms::{Kind, Notices, Vp};
+use board_terms::{Kind, Notices, TimerId, Vp};
 use live_pages::LivePage;
 use synic_board::{Board, Event, Reply};
 use synic_regs::{Register, decode};
+
+/// The bits of a timer's configuration that a write stores (TLFS, "Synthetic Timer Configuration Register").
+const STORED: u64 = 0xf_1fff;
 
 /// The processor whose timer an event writes, if it is on the board.
 pub(crate) fn timed_by(board: &Board, event: &Event) -> Option<Vp>
@@ -84,6 +89,55 @@ fn time_hidden(
     (reply, false)
 }
 
+/// Whether an event writes a timer of a processor that is in direct mode then.
+fn is_direct(board: &Board, vp: Vp, event: &Event) -> bool
+    requires { IsTimerOf board.now.state vp event.now }
+    ensures { result ≡ true → is_direct_write board.now.state event.now ≡ true }
+{
+    let Event::Write {
+        register, value, ..
+    } = event
+    else {
+        return false;
+    };
+    let config = match decode(*register) {
+        Some(Register::TimerConfig(_)) => *value & STORED,
+        Some(Register::TimerCount(index)) => count_config(board, vp, index),
+        _ => 0,
+    };
+    (config >> 12) & 1 == 1
+}
+
+/// The configuration of a timer, 0 if there is none.
+fn count_config(board: &Board, vp: Vp, index: u8) -> u64
+    ensures { index < 4 → result ≡ (timer_in (bank_of board.now.state) (vp, index)).config }
+{
+    match TimerId::new(vp, index) {
+        Some(timer) => board.timer(timer).0,
+        None => 0,
+    }
+}
+
+/// Performs a write of a timer in direct mode, which changes no own page.
+fn time_direct(
+    board: &mut Board,
+    page: &mut LivePage,
+    vp: Vp,
+    event: &Event,
+    scratch: &mut Notices,
+    notices: &mut Notices,
+) -> Reply
+    requires timer { IsTimerOf board.old.state vp event.now }
+    requires direct { is_direct_write board.old.state event.now ≡ true }
+    requires shadow { IsShadow board.old.state (2 * vp) page.old }
+    requires empty { notices.old ≡ [] }
+    ensures { IsTimedPart board.old.state vp page.old event.now board.new.state page.new result false notices.new }
+{
+    view_slots(board, page, vp, scratch, notices);
+    board.facts();
+    perform_after(board, event, scratch, notices)
+}
+
 /// Performs a write of a timer of a processor, and brings its message page up to date. Returns
 /// whether the processor is owed an EOM.
 pub(crate) fn time_on(
@@ -99,6 +153,12 @@ pub(crate) fn time_on(
     requires empty { notices.old ≡ [] }
     ensures { IsTimedPart board.old.state vp page.old event.now board.new.state page.new result.0 result.1 notices.new }
 {
+    if is_direct(board, vp, event) {
+        return (
+            time_direct(board, page, vp, event, scratch, notices),
+            false,
+        );
+    }
     if is_shown(board, vp, Kind::Sim) {
         time_shown(board, page, vp, event, scratch, notices)
     } else {
