@@ -2,7 +2,6 @@
 //! keeps what it knows of them in the frames of the plain board, as the proved board does.
 
 #[allow(dead_code)]
-#[path = "../plain/board/mod.rs"]
 mod board;
 
 use board::Board;
