@@ -268,7 +268,7 @@ bool is_rule_of_kvm(enum fault rule)
     }
 }
 
-/* Leaves out ports and suspension, which are user space's. Whether there are such options. */
+/* Leaves out ports, suspension and sends, which are user space's. Whether there are such options. */
 static bool choose_kvm(struct peer *peer, int count, char **words)
 {
     is_kvm = true;
