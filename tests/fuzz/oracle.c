@@ -95,6 +95,9 @@ static void record(struct fuzz *fuzz, const synicboard_event *event, const synic
     free(exact);
     add(fuzz, (const char *)lines, end.length);
     fuzz->entries++;
+    /* format 5 alone has a line for a send */
+    if (event->kind == SYNICBOARD_SEND)
+        fuzz->trace[strlen("trace ")] = '5';
 }
 
 /* Checks the entries with an end that has this next ticket. */
