@@ -69,6 +69,7 @@ EVENT_CALL(synicboard_take, (board, vp), synicboard *board, uint8_t vp)
 EVENT_CALL(synicboard_suspend, (board, vp), synicboard *board, uint8_t vp)
 EVENT_CALL(synicboard_resume, (board, vp), synicboard *board, uint8_t vp)
 EVENT_CALL(synicboard_reset, (board, vp), synicboard *board, uint8_t vp)
+EVENT_CALL(synicboard_send, (board, vector, mask), synicboard *board, uint8_t vector, uint64_t mask)
 CALL(synicboard_reply, synicboard_perform, board == NULL || event == NULL,
      BOARD(board) EVENT(event), (board, event),
      synicboard *board, const synicboard_event *event)

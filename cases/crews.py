@@ -15,12 +15,13 @@ class Script:
 
     def __init__(self, text, image=None):
         lines = [line for line in text.decode().splitlines() if line and not line.startswith("#")]
+        sends = any(line.startswith("send ") for line in lines)
         if image is None:
             board = lines.pop(0)
-            self.beginning = "trace %d\n%s\n" % (4 if " sparse " in board else 2, board)
+            self.beginning = "trace %d\n%s\n" % (5 if sends else 4 if " sparse " in board else 2, board)
         else:
             board = image.decode().splitlines()[1]
-            self.beginning = "trace 3\n" + image.decode()
+            self.beginning = "trace %d\n%s" % (5 if sends else 3, image.decode())
         self.processors, self.first_ticket = int(board.split()[1]), int(board.split()[3])
         self.setup, self.actors, self.lines = [], [], []
         section = self.setup

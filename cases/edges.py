@@ -433,6 +433,35 @@ def the_processor_is_judged_before_its_suspension():
     return scene
 
 
+# ---- Several processors ----
+
+def each_mask_reaches_its_processors():
+    """Each mask of each board, with another vector than the mask before, and each bit beyond the board."""
+    scene = Scene(8, 1)
+    for mask in range(256):
+        vector = 16 + mask % 240
+        reached = [vp for vp in range(8) if mask >> vp & 1]
+        # mask 240 + i has the vector of mask i
+        fresh = [vp for vp in reached if mask < 240 or not (mask - 240) >> vp & 1]
+        scene.ask("send %02x %x" % (vector, mask), "done", *("requested %d %02x" % (vp, vector) for vp in fresh))
+    for bit in range(8, 64):
+        scene.ask("send ff %x" % (1 << bit), "refused 14")
+        scene.ask("send ff %x" % (1 << bit | 255), "refused 14")
+    # the greatest mask below 240 with each processor's bit has its greatest vector
+    scene.summary({vp: "%02x" % (16 + max(mask for mask in range(240) if mask >> vp & 1)) for vp in range(8)})
+    return scene
+
+
+def the_last_processor_is_the_last_bit(processors):
+    scene = Scene(processors, 1)
+    last = 1 << processors - 1
+    scene.ask("send 61 %x" % last, "done", "requested %d 61" % (processors - 1))
+    scene.ask("send 62 %x" % (2 * last), "refused 14")
+    scene.ask("send 62 %x" % (2 * last - 1), "done", *("requested %d 62" % vp for vp in range(processors)))
+    scene.summary({vp: "62" for vp in range(processors)})
+    return scene
+
+
 # ---- The last moments ----
 
 def the_largest_count_is_the_last_moment():
@@ -523,11 +552,13 @@ def scenes():
         a_reset_leaves_the_other_processor, posted_vectors_are_requested_rising, all_vectors_are_posted,
         a_suspended_processor_takes_nothing, a_suspended_timer_is_tried_by_a_later_tick,
         the_processor_is_judged_before_its_suspension, the_largest_count_is_the_last_moment,
-        nothing_is_behind_the_last_moment, due_moments_may_need_more_than_64_bits,
+        each_mask_reaches_its_processors, nothing_is_behind_the_last_moment, due_moments_may_need_more_than_64_bits,
         the_shortest_period_is_looked_at_last, a_message_has_the_last_moment,
     )
     for scene in plain:
         yield scene.__name__.replace("_", " "), scene()
+    for processors in range(1, 9):
+        yield "the last of %d processors is the last bit" % processors, the_last_processor_is_the_last_bit(processors)
     rising = range(16)
     yield "overlays come and go, the first first", overlays_that_come_and_go(rising, rising)
     yield "overlays come and go, the last first", overlays_that_come_and_go(rising[::-1], rising[::-1])

@@ -127,6 +127,10 @@ class Maker:
     def take(self):
         return "take %d" % self.processor()
 
+    def send(self):
+        mask = self.random.randrange(2 ** self.processors)
+        return "send %02x %x" % (self.random.choice((16, 80, 255)), self.mostly(mask, (2 ** self.processors, 2 ** 63 | mask, MOST)))
+
     def suspend(self):
         return "suspend %d" % self.processor()
 
@@ -155,7 +159,7 @@ class Maker:
             yield from self.setup()
         often = (self.post, self.consume, self.end, self.timer, self.tick, self.take)
         seldom = (self.write, self.read, self.open, self.close, self.signal, self.interrupt, self.absorb,
-                  self.store, self.load, self.suspend, self.resume, self.resume, self.reset)
+                  self.store, self.load, self.suspend, self.resume, self.resume, self.reset, self.send)
         for _ in range(EVENTS):
             yield self.random.choice(often * 3 + seldom)()
 

@@ -247,6 +247,12 @@ synicboard_reply synicboard_resume(synicboard *board, uint8_t vp);
  * Replies: DONE, REFUSED. */
 synicboard_reply synicboard_reset(synicboard *board, uint8_t vp);
 
+/* Sends an interrupt to several processors: requests the vector at each processor of `mask`, lowest first, as
+ * synicboard_assert does at one. Bit p of `mask` is processor p. SYNICBOARD_NO_EVENT if `vector` is below 16.
+ * Replies: DONE (also if `mask` is 0), REFUSED (NO_SUCH_PROCESSOR if `mask` has a processor that is not on the
+ * board). */
+synicboard_reply synicboard_send(synicboard *board, uint8_t vector, uint64_t mask);
+
 /* Kinds of events. The comment names the fields of synicboard_event that the kind uses. */
 enum {
     SYNICBOARD_OPEN_MESSAGE_PORT = 1,   /* port, vp, sint, buffers */
@@ -264,7 +270,8 @@ enum {
     SYNICBOARD_TAKE = 13,               /* vp */
     SYNICBOARD_SUSPEND = 14,            /* vp */
     SYNICBOARD_RESUME = 15,             /* vp */
-    SYNICBOARD_RESET = 16               /* vp */
+    SYNICBOARD_RESET = 16,              /* vp */
+    SYNICBOARD_SEND = 17                /* vector, value (the mask) */
 };
 
 /* An event. Fields that its kind does not use are ignored. */
@@ -288,7 +295,7 @@ typedef struct synicboard_event {
 } synicboard_event;
 
 /* Performs an event that is given as a struct. SYNICBOARD_NO_EVENT if its kind is unknown, its vector is
- * below 16 (assert), or its `length` is above 240 (post) or 8 (store). */
+ * below 16 (assert, send), or its `length` is above 240 (post) or 8 (store). */
 synicboard_reply synicboard_perform(synicboard *board, const synicboard_event *event);
 
 /* ---- Notices ---- */
@@ -658,8 +665,8 @@ typedef struct synicboard_verdict {
     uint64_t line;                      /* the first wrong line, counted from 1, or 0 */
 } synicboard_verdict;
 
-/* Checks whether a text is the trace of a legal history, in one of the formats 1 to 4. A trace of format 3
- * begins with an image, as synicboard_save writes it. Allocates a board of its own. */
+/* Checks whether a text is the trace of a legal history, in one of the formats 1 to 5. A trace of format 3
+ * begins with an image, as synicboard_save writes it, and one of format 5 may. Allocates a board of its own. */
 synicboard_verdict synicboard_check(const uint8_t *trace, size_t length);
 
 /* Writes the two lines of a trace entry for an event and its reply, each with its line feed, as much as

@@ -74,6 +74,7 @@ LINES = {
     "suspend": small("vp"),
     "resume": small("vp"),
     "reset": small("vp"),
+    "send": [Vector(), Number("mask", LONG, 16)],
     "summary": [],
 }
 

@@ -5,12 +5,13 @@ import subprocess
 
 import boardfaults
 
-# the first line of a trace that begins with a board line
-TITLES = (["trace 1"], ["trace 2"], ["trace 4"])
+# the first line of a trace that may begin with a board line
+TITLES = (["trace 1"], ["trace 2"], ["trace 4"], ["trace 5"])
 
-# the first line of a trace that begins with an image
+# the first line of a trace that begins with an image, and of an image
 TITLE_OF_AN_IMAGE = ["trace 3"]
-NO_IMAGES = "a trace of format 3 begins with an image, which this tool does not read; `synicboard check` does"
+IMAGE = ["image 1"]
+NO_IMAGES = "the trace begins with an image, which this tool does not read; `synicboard check` does"
 
 # the registers that make an overlay visible, by the number that a script has, and the kind of its page
 OVERLAYS = {"40000083": "sim", "40000082": "sief"}
@@ -58,7 +59,7 @@ class Step:
 def events_of(text):
     """The board line, and each event with its actor, of a script or of a trace."""
     lines = [line for line in text.splitlines() if line and not line.startswith("#")]
-    if lines[:1] == TITLE_OF_AN_IMAGE:
+    if lines[:1] == TITLE_OF_AN_IMAGE or lines[:1] in TITLES and lines[1:2] == IMAGE:
         raise Fault(NO_IMAGES)
     board = lines[1:2] if lines[:1] in TITLES else lines[:1]
     if lines[:1] in TITLES:

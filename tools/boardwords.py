@@ -65,6 +65,14 @@ def access(kind):
     return lambda n: "processor %s %s %s" % (n[0], kind, register(int(n[1], 16)))
 
 
+def processors(mask):
+    """The processors of a mask."""
+    numbers = [str(p) for p in range(64) if mask >> p & 1]
+    if not numbers:
+        return "no processor"
+    return "processor%s %s" % ("s" if len(numbers) > 1 else "", ", ".join(numbers))
+
+
 EVENTS = {
     "open": lambda n: "port %s is opened for SINT%s of processor %s" % (n[0], n[3], n[2]),
     "close": lambda n: "port %s is closed" % n[0],
@@ -81,6 +89,7 @@ EVENTS = {
     "suspend": lambda n: "processor %s is suspended" % n[0],
     "resume": lambda n: "processor %s goes on" % n[0],
     "reset": lambda n: "processor %s is reset" % n[0],
+    "send": lambda n: "vector %s is sent to %s" % (n[0], processors(int(n[1], 16))),
 }
 
 NOTICES = {

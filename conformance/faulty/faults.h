@@ -220,6 +220,11 @@
     F(crossing_before_length, false, "an access is checked for the end of its page before its length") \
     F(crossing_before_page, false, "an access is checked for the end of its page before the page") \
     F(part_before_processor, false, "the part of an absorb is checked before the processor") \
+    F(send_one, false, "a send requests its vector at one processor") \
+    F(send_backwards, false, "a send begins with the highest processor") \
+    F(send_ignores, false, "a send ignores processors that are not on the board") \
+    F(send_half, false, "a refused send reaches the processors that are on the board") \
+    F(send_word, false, "a send looks at 32 bits of its mask") \
     F(absorb_backwards, false, "an absorb requests the greatest vector first") \
     F(absorb_stops, false, "an absorb ends at a vector that is requested already") \
     F(absorb_one, false, "an absorb requests one vector") \

@@ -85,6 +85,22 @@ static struct peer_reply assert_irq(unsigned vp, unsigned vector)
     return done();
 }
 
+static struct peer_reply send_interrupt(unsigned vector, uint64_t mask)
+{
+    if (IS(send_word))
+        mask &= UINT32_MAX;
+    bool is_refused = mask >> board.processors != 0 && !IS(send_ignores);
+    for (unsigned i = 0; i < board.processors && (!is_refused || IS(send_half)); i++) {
+        unsigned vp = IS(send_backwards) ? board.processors - 1 - i : i;
+        if (!(mask >> vp & 1))
+            continue;
+        request(vp, vector);
+        if (IS(send_one))
+            break;
+    }
+    return is_refused ? absent() : done();
+}
+
 /* Whether an absorb requests nothing after this vector, by a fault. */
 static bool ends_absorb(bool was_requested)
 {
@@ -252,7 +268,7 @@ bool is_rule_of_kvm(enum fault rule)
     }
 }
 
-/* Leaves out ports and suspension, which are user space's. Whether there are such options. */
+/* Leaves out ports, suspension and sends, which are user space's. Whether there are such options. */
 static bool choose_kvm(struct peer *peer, int count, char **words)
 {
     is_kvm = true;
@@ -266,6 +282,7 @@ static bool choose_kvm(struct peer *peer, int count, char **words)
     peer->post_message = NULL;
     peer->signal_event = NULL;
     peer->suspend = peer->resume = NULL;
+    peer->send_interrupt = NULL;
     return count == is_bare + is_guarded;
 }
 
@@ -284,6 +301,7 @@ int main(int count, char **words)
         .signal_event = signal_flag, .assert_irq = assert_irq, .absorb_posted = absorb_posted,
         .guest_store = store_bytes, .guest_load = load_bytes, .advance_time = advance_time,
         .take_interrupt = take_interrupt, .suspend = suspend, .resume = resume, .reset = reset,
+        .send_interrupt = send_interrupt,
     };
     if (count == 2 && strcmp(words[1], "--faults") == 0)
         return list_faults();
@@ -292,6 +310,7 @@ int main(int count, char **words)
             return 2;
     } else if (count == 2 && strcmp(words[1], "--bare") == 0) {
         peer.absorb_posted = NULL;
+        peer.send_interrupt = NULL;
         peer.suspend = peer.resume = peer.reset = NULL;
     } else if (count > 2 || (count == 2 && !choose(words[1]))) {
         fprintf(stderr, "faulty: there is no such fault\n");

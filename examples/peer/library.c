@@ -141,6 +141,11 @@ static struct peer_reply reset(unsigned vp)
     return told(synicboard_reset(&board, (uint8_t)vp));
 }
 
+static struct peer_reply send_interrupt(unsigned vector, uint64_t mask)
+{
+    return told(synicboard_send(&board, (uint8_t)vector, mask));
+}
+
 int main(void)
 {
     static const struct peer peer = {
@@ -149,6 +154,7 @@ int main(void)
         .signal_event = signal_event, .assert_irq = assert_irq, .absorb_posted = absorb_posted,
         .guest_store = guest_store, .guest_load = guest_load, .advance_time = advance_time,
         .take_interrupt = take_interrupt, .suspend = suspend, .resume = resume, .reset = reset,
+        .send_interrupt = send_interrupt,
     };
     int status = peer_main(&peer);
     synicboard_close(&board);

@@ -141,6 +141,8 @@ static struct peer_reply answer(const struct peer *peer, char **words, int count
         return CALL(resume, decimal(words[1]));
     if (strcmp(name, "reset") == 0)
         return CALL(reset, decimal(words[1]));
+    if (strcmp(name, "send") == 0)
+        return CALL(send_interrupt, (unsigned)hexadecimal(words[1]), hexadecimal(words[2]));
     return peer_reply(PEER_UNSUPPORTED, 0);
 }
 

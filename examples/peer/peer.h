@@ -49,6 +49,8 @@ struct peer {
     struct peer_reply (*suspend)(unsigned vp);
     struct peer_reply (*resume)(unsigned vp);
     struct peer_reply (*reset)(unsigned vp);
+    /* bit p of `mask` is processor p */
+    struct peer_reply (*send_interrupt)(unsigned vector, uint64_t mask);
 };
 
 /* A reply without bytes. */

@@ -84,6 +84,11 @@ trait Peer: Sized {
     fn reset(&mut self, _vp: u8) -> Answer {
         unsupported()
     }
+
+    /// Bit p of the mask is processor p.
+    fn send_interrupt(&mut self, _vector: u8, _mask: u64) -> Answer {
+        unsupported()
+    }
 }
 
 // ---- The lines ----
@@ -126,6 +131,7 @@ fn host_event<P: Peer>(peer: &mut P, words: &[&str]) -> Option<Answer> {
         ["suspend", vp] => peer.suspend(vp.parse().ok()?),
         ["resume", vp] => peer.resume(vp.parse().ok()?),
         ["reset", vp] => peer.reset(vp.parse().ok()?),
+        ["send", vector, mask] => peer.send_interrupt(hexadecimal(vector)?, hexadecimal(mask)?),
         _ => return None,
     })
 }
@@ -304,6 +310,12 @@ impl Peer for Board {
 
     fn reset(&mut self, vp: u8) -> Answer {
         let reply = Board::reset(self, vp);
+        told(self, reply)
+    }
+
+    fn send_interrupt(&mut self, vector: u8, mask: u64) -> Answer {
+        let Some(vector) = Vector::new(vector) else { return unsupported() };
+        let reply = self.send(vector, mask);
         told(self, reply)
     }
 }

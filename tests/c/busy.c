@@ -41,7 +41,7 @@ static uint64_t random_below(uint64_t *state, uint64_t limit)
     return *state % limit;
 }
 
-/* Any kind of event; ports, suspensions and resets are rare. */
+/* Any kind of event; ports, suspensions, resets and sends are rare. */
 static uint8_t random_kind(uint64_t *state)
 {
     static const uint8_t often[] = {
@@ -49,7 +49,7 @@ static uint8_t random_kind(uint64_t *state)
         SYNICBOARD_ABSORB, SYNICBOARD_STORE, SYNICBOARD_LOAD, SYNICBOARD_TICK, SYNICBOARD_TAKE
     };
     if (random_below(state, 8) == 0)
-        return (uint8_t)(1 + random_below(state, SYNICBOARD_RESET));
+        return (uint8_t)(1 + random_below(state, SYNICBOARD_SEND));
     return often[random_below(state, sizeof often)];
 }
 

@@ -24,6 +24,7 @@ synicboard_reply perform_by_call(synicboard *board, const synicboard_event *even
     case SYNICBOARD_TAKE: return synicboard_take(board, vp);
     case SYNICBOARD_SUSPEND: return synicboard_suspend(board, vp);
     case SYNICBOARD_RESUME: return synicboard_resume(board, vp);
-    default: return synicboard_reset(board, vp);
+    case SYNICBOARD_RESET: return synicboard_reset(board, vp);
+    default: return synicboard_send(board, event->vector, value);
     }
 }

@@ -42,6 +42,7 @@ static void check_closed_events(synicboard *board)
     CHECK_FAULT(synicboard_suspend(board, 0), SYNICBOARD_IS_CLOSED);
     CHECK_FAULT(synicboard_resume(board, 0), SYNICBOARD_IS_CLOSED);
     CHECK_FAULT(synicboard_reset(board, 0), SYNICBOARD_IS_CLOSED);
+    CHECK_FAULT(synicboard_send(board, 0x60, 1), SYNICBOARD_IS_CLOSED);
     for (unsigned kind = 0; kind < 256; kind++) {
         synicboard_event event = { .kind = (uint8_t)kind, .vector = 0x60, .length = 1 };
         CHECK_FAULT(synicboard_perform(board, &event), SYNICBOARD_IS_CLOSED);
@@ -53,6 +54,7 @@ static void check_closed_faults(synicboard *board)
 {
     const uint8_t bytes[241] = { 0 };
     CHECK_FAULT(synicboard_assert(board, 0, 15), SYNICBOARD_IS_CLOSED);
+    CHECK_FAULT(synicboard_send(board, 15, 1), SYNICBOARD_IS_CLOSED);
     CHECK_FAULT(synicboard_post(board, 0, 1, bytes, 241), SYNICBOARD_IS_CLOSED);
     CHECK_FAULT(synicboard_store(board, 0, bytes, 9), SYNICBOARD_IS_CLOSED);
 }
@@ -331,7 +333,10 @@ static void test_no_event(void)
     describe(&board, &before);
     for (uint8_t vector = 0; vector < 16; vector++) {
         CHECK_NO_EVENT(&board, synicboard_assert(&board, 0, vector));
+        CHECK_NO_EVENT(&board, synicboard_send(&board, vector, 1));
         synicboard_event event = { .kind = SYNICBOARD_ASSERT, .vector = vector };
+        CHECK_NO_EVENT(&board, synicboard_perform(&board, &event));
+        event = (synicboard_event){ .kind = SYNICBOARD_SEND, .vector = vector, .value = 1 };
         CHECK_NO_EVENT(&board, synicboard_perform(&board, &event));
     }
     check_too_many_bytes(&board);
@@ -344,7 +349,7 @@ static void test_no_event(void)
         synicboard_event event = { .kind = SYNICBOARD_STORE, .address = PAGE, .length = (uint8_t)length };
         CHECK_NO_EVENT(&board, synicboard_perform(&board, &event));
     }
-    for (unsigned kind = 17; kind <= 256; kind++) {
+    for (unsigned kind = SYNICBOARD_SEND + 1; kind <= 256; kind++) {
         synicboard_event event = { .kind = (uint8_t)kind, .vector = 0x60, .length = 1 };
         CHECK_NO_EVENT(&board, synicboard_perform(&board, &event));
     }
@@ -631,7 +636,7 @@ static void test_events_take_no_memory(void)
 {
     synicboard board = SYNICBOARD_CLOSED;
     unsigned replies[SYNICBOARD_REFUSED + 1] = { 0 };
-    uint64_t seed = 5;
+    uint64_t seed = 6;
     open_busy(&board, 0);
     refuse(0);
     for (int number = 0; number < RANDOM_EVENTS; number++) {

@@ -165,6 +165,7 @@ static void test_other_calls(void)
     CHECK_FAULT(synicboard_perform(&board, &take), SYNICBOARD_IS_LIVE);
     CHECK_FAULT(synicboard_take(&board, 1), SYNICBOARD_IS_LIVE);
     CHECK_FAULT(synicboard_assert(&board, 1, 15), SYNICBOARD_IS_LIVE);
+    CHECK_FAULT(synicboard_send(&board, 15, 3), SYNICBOARD_IS_LIVE);
     CHECK_FAULT(synicboard_post(&board, MESSAGE_PORT, 1, NULL, 0), SYNICBOARD_IS_LIVE);
     CHECK_FAULT(synicboard_post(&board, MESSAGE_PORT, 1, NULL, 241), SYNICBOARD_IS_LIVE);
     CHECK_FAULT(synicboard_store(&board, 0, (const uint8_t[]){ 1 }, 1), SYNICBOARD_IS_LIVE);

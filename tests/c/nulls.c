@@ -80,6 +80,8 @@ static void test_null_board(void)
     CHECK_FAULT(synicboard_suspend(NULL, 0), SYNICBOARD_IS_CLOSED);
     CHECK_FAULT(synicboard_resume(NULL, 0), SYNICBOARD_IS_CLOSED);
     CHECK_FAULT(synicboard_reset(NULL, 0), SYNICBOARD_IS_CLOSED);
+    CHECK_FAULT(synicboard_send(NULL, 0x60, 1), SYNICBOARD_IS_CLOSED);
+    CHECK_FAULT(synicboard_send(NULL, 15, 1), SYNICBOARD_IS_CLOSED);
     CHECK_FAULT(synicboard_perform(NULL, &event), SYNICBOARD_IS_CLOSED);
     CHECK_NUMBER(requests + returns, 0);
 }

@@ -61,6 +61,7 @@ static const synicboard_event events[] = {
     { .kind = SYNICBOARD_SUSPEND, .vp = 1 },
     { .kind = SYNICBOARD_RESUME, .vp = 1 },
     { .kind = SYNICBOARD_RESET, .vp = 0 },
+    { .kind = SYNICBOARD_SEND, .vector = 0x62, .value = 3 },
     { .kind = SYNICBOARD_CLOSE_PORT, .port = PORT },
 };
 enum { EVENTS = sizeof events / sizeof events[0] };
@@ -164,7 +165,7 @@ static void test_no_event(void)
 {
     static const synicboard_event wrong[] = {
         { .kind = 0 },
-        { .kind = 17 },
+        { .kind = SYNICBOARD_SEND + 1 },
         { .kind = SYNICBOARD_ASSERT, .vector = 15 },
         { .kind = SYNICBOARD_STORE, .length = 9 },
         { .kind = SYNICBOARD_POST, .length = 241 },
@@ -223,6 +224,27 @@ static void test_trace(void)
     CHECK(memcmp(trace, "trace 2\nbxxx", 12) == 0);
     CHECK_NUMBER(synicboard_settle(&shared, NULL, 100).entries, 5);
     synicboard_close_line(&line);
+    close_shared(&shared);
+}
+
+/* A history with a send is a trace of format 5. */
+static void test_trace_of_a_send(void)
+{
+    static const char wanted[] = "trace 5\nboard 2 4 7\n"
+                                 "1 send 60 3\n= done\n"
+                                 "0 send 60 8000000000000000\n= refused 14\n"
+                                 "end 2 7\n";
+    synicboard_shared shared = SYNICBOARD_SHARED_CLOSED;
+    synicboard_notice notices[2];
+    CHECK_NUMBER(synicboard_open_recorded(&shared, 2, 4, FIRST_TICKET), SYNICBOARD_OK);
+    synicboard_event event = { .kind = SYNICBOARD_SEND, .vector = 0x60, .value = 3 };
+    CHECK_NUMBER(synicboard_act(&shared, 1, &event, notices, 2).notices, 2);
+    CHECK_NUMBER(notices[0].vp, 0);
+    CHECK_NUMBER(notices[1].vp, 1);
+    event.value = 1ull << 63;
+    CHECK_REFUSAL(synicboard_act(&shared, 0, &event, NULL, 0), SYNICBOARD_NO_SUCH_PROCESSOR);
+    CHECK_NUMBER(settle(&shared).kind, SYNICBOARD_OK);
+    CHECK(strcmp(trace, wanted) == 0);
     close_shared(&shared);
 }
 
@@ -511,6 +533,7 @@ int main(void)
         { "replies", test_replies },
         { "no event", test_no_event },
         { "trace", test_trace },
+        { "trace of a send", test_trace_of_a_send },
         { "lengths", test_lengths },
         { "opening without memory", test_opening_without_memory },
         { "a long history", test_a_long_history },

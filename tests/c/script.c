@@ -86,6 +86,7 @@ static const struct field fields[] = {
     FIELD("<type>", HEXADECIMAL, message_type),
     FIELD("<value>", HEXADECIMAL, value),
     FIELD("<bits>", HEXADECIMAL, value),
+    FIELD("<mask>", HEXADECIMAL, value),
     FIELD("<address>", HEXADECIMAL, address),
     FIELD("<vector>", TWO_DIGITS, vector),
     FIELD("<payload>", BYTES, bytes),
@@ -113,6 +114,7 @@ static const struct {
     { SYNICBOARD_SUSPEND, "suspend <vp>" },
     { SYNICBOARD_RESUME, "resume <vp>" },
     { SYNICBOARD_RESET, "reset <vp>" },
+    { SYNICBOARD_SEND, "send <vector> <mask>" },
 };
 
 /* 16 where a character is no digit. */
@@ -526,7 +528,8 @@ static void open_trace(struct script *script, uint64_t ticket)
     script->trace = open_memstream(&script->trace_bytes, &script->trace_length);
     if (script->trace == NULL)
         give_up(NO_FILE, "out of memory");
-    fprintf(script->trace, "trace 2\nboard %u %u %" PRIu64 "\n", script->processors, script->pages, ticket);
+    /* the format that has a line for each event */
+    fprintf(script->trace, "trace 5\nboard %u %u %" PRIu64 "\n", script->processors, script->pages, ticket);
 }
 
 static uint8_t open_sized(struct script *script, uint64_t ticket)

@@ -148,6 +148,8 @@ static void test_entries(void)
     /* a reply's fields are ignored unless its kind uses them, such as the bits of an absorb */
     CHECK_TOLD(EVENT(.kind = SYNICBOARD_ABSORB, .part = 1, .value = UINT64_MAX), REPLY(.kind = SYNICBOARD_DONE, .value = UINT64_MAX),
         0, "9 absorb 0 1 ffffffffffffffff\n= done\n");
+    CHECK_TOLD(EVENT(.kind = SYNICBOARD_SEND, .vector = 255, .value = UINT64_MAX), REPLY(.kind = SYNICBOARD_REFUSED, .refusal = 14),
+        0, "9 send ff ffffffffffffffff\n= refused 14\n");
     for (unsigned kind = 0; kind <= UINT8_MAX; kind++) {
         bool is_told = kind >= SYNICBOARD_DONE && kind <= SYNICBOARD_REFUSED;
         const synicboard_reply reply = { .kind = (uint8_t)kind, .refusal = 1, .vector = 16 };
@@ -163,8 +165,9 @@ static void test_entries(void)
     }
     /* an invalid event is reported before an invalid reply */
     CHECK_TOLD(EVENT(.kind = 0), REPLY(.kind = 0), 1, "");
-    CHECK_TOLD(EVENT(.kind = SYNICBOARD_RESET + 1), done, 1, "");
+    CHECK_TOLD(EVENT(.kind = SYNICBOARD_SEND + 1), done, 1, "");
     CHECK_TOLD(EVENT(.kind = SYNICBOARD_ASSERT, .vector = 15), done, 1, "");
+    CHECK_TOLD(EVENT(.kind = SYNICBOARD_SEND, .vector = 15), done, 1, "");
     CHECK_TOLD(EVENT(.kind = SYNICBOARD_STORE, .length = 9), done, 1, "");
     CHECK_TOLD(EVENT(.kind = SYNICBOARD_POST, .length = 241), done, 1, "");
 }

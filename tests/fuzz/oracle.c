@@ -27,7 +27,7 @@ static void *allocate(size_t size)
 /* ---- Features: the proved code has no instrumentation, so libFuzzer learns from its replies
  * what is new ---- */
 
-enum { KINDS = 17, OUTCOMES = 32, NOTICES = 10, SIZES = 10 };
+enum { KINDS = 18, OUTCOMES = 32, NOTICES = 10, SIZES = 10 };
 enum { FIRST_NOTICE = KINDS * OUTCOMES, FIRST_SIZE = FIRST_NOTICE + KINDS * NOTICES * NOTICES };
 /* The first wrong line of an image, up to a bound. */
 enum { WRONG_LINES = 100, FIRST_LINE = FIRST_SIZE + KINDS * SIZES, FEATURES = FIRST_LINE + WRONG_LINES };
@@ -95,6 +95,9 @@ static void record(struct fuzz *fuzz, const synicboard_event *event, const synic
     free(exact);
     add(fuzz, (const char *)lines, end.length);
     fuzz->entries++;
+    /* format 5 alone has a line for a send */
+    if (event->kind == SYNICBOARD_SEND)
+        fuzz->trace[strlen("trace ")] = '5';
 }
 
 /* Checks the entries with an end that has this next ticket. */
@@ -318,7 +321,7 @@ void fuzz_batch(struct fuzz *fuzz, const synicboard_event *events, size_t count,
 /* No event has this kind. Nothing changes, and the notices of the event before are kept. */
 void fuzz_no_kind(struct fuzz *fuzz, uint8_t kind)
 {
-    synicboard_event event = { .kind = kind > SYNICBOARD_RESET ? kind : 0 };
+    synicboard_event event = { .kind = kind > SYNICBOARD_SEND ? kind : 0 };
     size_t before = synicboard_notices(&fuzz->by_struct, NULL, 0);
     synicboard_reply reply = synicboard_perform(&fuzz->by_struct, &event);
     uint8_t lines[MOST_ENTRY];

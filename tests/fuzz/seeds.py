@@ -8,7 +8,7 @@ import random
 ROOT = os.path.dirname(os.path.dirname(os.path.dirname(os.path.abspath(__file__))))
 
 TEXT = b"\xff"
-RAISE_AND_ABSORB = (18, 19)
+RAISE_AND_ABSORB = (19, 20)
 
 # The action of each event, with the words of its line by the letter of their field. `forms` of target.c has the same
 # letters in the same order, except that a payload and bytes are both B.
@@ -16,7 +16,7 @@ LINES = {
     ("open", "message"): (1, "p_vsb"), ("open", "event"): (2, "p_vsfc"), ("close",): (3, "p"), ("write",): (4, "vrx"),
     ("read",): (5, "vr"), ("post",): (6, "ptB"), ("signal",): (7, "pf"), ("assert",): (8, "vV"), ("absorb",): (9, "vPx"),
     ("store",): (10, "aB"), ("load",): (11, "al"), ("tick",): (12, "m"), ("take",): (13, "v"), ("suspend",): (14, "v"),
-    ("resume",): (15, "v"), ("reset",): (16, "v"),
+    ("resume",): (15, "v"), ("reset",): (16, "v"), ("send",): (17, "Vx"),
 }
 HEXADECIMAL = "rxtaV"
 
@@ -84,7 +84,7 @@ def lines_input():
     """Raises and absorbs through lines, which no script has."""
     both = b"".join(bytes([RAISE_AND_ABSORB[0], 0, vp, vector, RAISE_AND_ABSORB[0], 0, vp, vector, RAISE_AND_ABSORB[1], 0, vp, vector // 64])
                     for vp in (0, 1) for vector in (15, 16, 64, 255))
-    return bytes([1, 1, 0, 20, 1]) + both + bytes([21, 3, 22, 0, 23, 0])
+    return bytes([1, 1, 0, 21, 1]) + both + bytes([22, 3, 23, 0, 24, 0])
 
 
 def inputs():

@@ -19,7 +19,7 @@
  *                              one if P / 8 is odd
  *
  * A number is its length in bytes, modulo 9, and these bytes, lowest first. An action is a byte,
- * modulo 24, and the fields of `forms`, below. A byte that is missing is 0. */
+ * modulo 25, and the fields of `forms`, below. A byte that is missing is 0. */
 #include "target.h"
 
 /* The rest of an input. */
@@ -47,7 +47,7 @@ static const char *const forms[] = {
     [SYNICBOARD_WRITE] = "vrx", [SYNICBOARD_READ] = "vr", [SYNICBOARD_POST] = "ptB", [SYNICBOARD_SIGNAL] = "pf",
     [SYNICBOARD_ASSERT] = "vV", [SYNICBOARD_ABSORB] = "vPx", [SYNICBOARD_STORE] = "aB", [SYNICBOARD_LOAD] = "al",
     [SYNICBOARD_TICK] = "m", [SYNICBOARD_TAKE] = "v", [SYNICBOARD_SUSPEND] = "v", [SYNICBOARD_RESUME] = "v",
-    [SYNICBOARD_RESET] = "v",
+    [SYNICBOARD_RESET] = "v", [SYNICBOARD_SEND] = "Vx",
 };
 
 static void read_bytes(struct input *input, synicboard_event *event)
@@ -98,7 +98,7 @@ static synicboard_event read_event(struct input *input, uint8_t kind, uint64_t m
 
 /* ---- Actions ---- */
 
-enum { QUERY, BATCH = 17, RAISE, ABSORB_LINE, SPLIT, SHORT_NOTICES, NO_KIND, PAGES, ACTIONS };
+enum { QUERY, BATCH = 18, RAISE, ABSORB_LINE, SPLIT, SHORT_NOTICES, NO_KIND, PAGES, ACTIONS };
 enum { MOST_ACTIONS = 500, MOST_BATCH = 7 };
 
 static void do_batch(struct fuzz *fuzz, struct input *input)
@@ -107,7 +107,7 @@ static void do_batch(struct fuzz *fuzz, struct input *input)
     size_t count = read_byte(input) % (MOST_BATCH + 1), spare = read_byte(input);
     uint64_t moment = synicboard_moment(&fuzz->by_struct);
     for (size_t at = 0; at < count; at++)
-        events[at] = read_event(input, 1 + read_byte(input) % SYNICBOARD_RESET, moment);
+        events[at] = read_event(input, 1 + read_byte(input) % SYNICBOARD_SEND, moment);
     fuzz_batch(fuzz, events, count, spare);
 }
 

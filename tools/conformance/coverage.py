@@ -5,18 +5,20 @@ import collections
 REFUSALS = {
     "open": (1, 2, 4), "close": (1,), "write": (14,), "read": (14,), "post": (1, 3, 5, 7, 8, 9), "signal": (1, 3, 6, 7),
     "assert": (14,), "absorb": (14, 4), "store": (13, 11, 12), "load": (13, 11, 12), "tick": (10,), "take": (14,),
-    "suspend": (14, 15), "resume": (14, 16), "reset": (14,),
+    "suspend": (14, 15), "resume": (14, 16), "reset": (14,), "send": (14,),
 }
 
 REPLIES = {
     "open": ("done",), "close": ("done",), "write": ("done", "general protection"), "read": ("value", "general protection"),
     "post": ("accepted",), "signal": ("clear", "set"), "assert": ("done",), "absorb": ("done",), "store": ("done",), "load": ("bytes",),
     "tick": ("done",), "take": ("taken vector", "taken none"), "suspend": ("done",), "resume": ("done",), "reset": ("done",),
+    "send": ("done",),
 }
 
 NOTICES = {
     "post": ("accepted", "placed", "pending", "requested"), "signal": ("flag", "requested"), "assert": ("requested",), "absorb": ("requested",),
     "store": ("consumed",), "close": ("withdrawn",), "reset": ("withdrawn",),
+    "send": ("requested",),
     "tick": ("expired", "skipped", "requested", "accepted", "placed", "pending"),
     "write": ("expired", "requested", "accepted", "placed", "pending"),
 }

@@ -17,7 +17,7 @@ STRANGE = (0, 0x1B, 0x40000002, 0x40000020, 0x40000071, 0x40000073, 0x40000081, 
 EVENTS, SCENES = 60, 10
 
 OFTEN = ("consume", "look", "post", "tick", "take", "end", "timer", "source", "look")
-SELDOM = ("signal", "interrupt", "absorb", "enable", "read", "strange", "store", "load", "port", "processor", "look_below", "priority", "hostile", "drain", "drain", "pause", "alarm", "crowd")
+SELDOM = ("signal", "interrupt", "send", "absorb", "enable", "read", "strange", "store", "load", "port", "processor", "look_below", "priority", "hostile", "drain", "drain", "pause", "alarm", "crowd")
 
 
 class Maker:
@@ -180,6 +180,10 @@ class Maker:
 
     def interrupt(self):
         return "assert %d %02x" % (self.vp(), self.pick(self.vectors))
+
+    def send(self):
+        mask = self.below(2 ** self.processors) if self.dice() < 0.9 else self.pick((2 ** self.processors, 2 ** 32 | 1, 2 ** 63 | 1, MOST))
+        return "send %02x %x" % (self.pick(self.vectors), mask)
 
     def absorb(self):
         vector = self.pick(self.vectors)

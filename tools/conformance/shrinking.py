@@ -16,7 +16,7 @@ MOST = 2 ** 64 - 1
 SMALL_NUMBERS = (0, 1, 2, 16)
 
 # The fields that are hexadecimal: the word of a line, and the places in it.
-HEXADECIMAL = {"write": (2, 3), "read": (2,), "post": (2,), "assert": (2,), "absorb": (3,), "store": (1,), "load": (1,)}
+HEXADECIMAL = {"write": (2, 3), "read": (2,), "post": (2,), "assert": (2,), "absorb": (3,), "store": (1,), "load": (1,), "send": (2,)}
 PAYLOAD = {"post": 3, "store": 2}
 
 
@@ -164,8 +164,8 @@ def simpler(line):
             continue
         elif fields[0] == "board" and place == 3:
             choices = tickets(fields[3])
-        elif fields[0] == "assert" and place == 2:
-            choices = [] if fields[2] == "50" else ["50"]
+        elif (fields[0], place) in (("assert", 2), ("send", 1)):
+            choices = [] if fields[place] == "50" else ["50"]
         else:
             choices = number(fields[place], 16 if place in HEXADECIMAL.get(fields[0], ()) else 10)
         for choice in choices:

@@ -72,12 +72,17 @@ class Run {
     };
     const [word, ...numbers] = event.words;
     if (["write", "read", "assert", "absorb", "take", "suspend", "resume", "reset"].includes(word)) add("vps", Number(numbers[0]));
+    if (word === "send") this.placeMask(BigInt("0x" + numbers[1]), add);
     if (word === "open") { add("ports", Number(numbers[0])); add("vps", Number(numbers[2])); add("sints", Number(numbers[3])); }
     if (["close", "post", "signal"].includes(word)) target(numbers[0]);
     if (word === "write" && /^4000009.$/.test(numbers[1])) add("sints", parseInt(numbers[1][7], 16));
     if (word === "store" || word === "load") this.placeBytes(BigInt("0x" + numbers[0]), before, add);
     for (const notice of event.notices) this.placeNotice(notice.split(" "), event, add);
     Object.assign(event, at);
+  }
+
+  placeMask(mask, add) {
+    for (let vp = 0; vp < 32; vp++) if (mask >> BigInt(vp) & 1n) add("vps", vp);
   }
 
   placeBytes(address, before, add) {

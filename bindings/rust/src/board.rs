@@ -298,6 +298,7 @@ impl Board {
             Event::Suspend { vp } => self.suspend(vp),
             Event::Resume { vp } => self.resume(vp),
             Event::Reset { vp } => self.reset(vp),
+            Event::Send { vector, mask } => self.send(vector, mask),
         }
     }
 
@@ -463,6 +464,14 @@ impl Board {
     /// `Done`.
     pub fn reset(&mut self, vp: u8) -> Reply {
         Reply::of(ask!(self, synicboard_reset, vp))
+    }
+
+    /// Sends an interrupt to several processors: requests a vector at each processor of `mask`, lowest
+    /// first, as [`Board::assert`] does at one. Bit p of `mask` is processor p.
+    ///
+    /// `Done`, also if `mask` is 0.
+    pub fn send(&mut self, vector: Vector, mask: u64) -> Reply {
+        Reply::of(ask!(self, synicboard_send, vector.number(), mask))
     }
 }
 

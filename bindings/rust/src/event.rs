@@ -115,6 +115,13 @@ pub enum Event {
         /// The processor.
         vp: u8,
     },
+    /// Sends an interrupt to several processors.
+    Send {
+        /// The vector.
+        vector: Vector,
+        /// The processors: bit p is processor p.
+        mask: u64,
+    },
 }
 
 const NO_NUMBERS: sys::synicboard_event = sys::synicboard_event {
@@ -172,6 +179,7 @@ impl Event {
             Event::Suspend { vp } => plain!(SYNICBOARD_SUSPEND, vp: vp),
             Event::Resume { vp } => plain!(SYNICBOARD_RESUME, vp: vp),
             Event::Reset { vp } => plain!(SYNICBOARD_RESET, vp: vp),
+            Event::Send { vector, mask } => plain!(SYNICBOARD_SEND, vector: vector.number(), value: mask),
         }
     }
 }

@@ -175,6 +175,8 @@ pub const SYNICBOARD_SUSPEND: u8 = 14;
 pub const SYNICBOARD_RESUME: u8 = 15;
 /// Event: vp.
 pub const SYNICBOARD_RESET: u8 = 16;
+/// Event: vector, value (the mask).
+pub const SYNICBOARD_SEND: u8 = 17;
 
 /// The partition reference counter, in units of 100 ns.
 pub const SYNICBOARD_MSR_TIME_REF_COUNT: u32 = 0x40000020;
@@ -213,7 +215,7 @@ pub struct synicboard_event {
     pub port: u8,
     /// The buffers of a message port.
     pub buffers: u8,
-    /// The vector to assert, from 16 on.
+    /// The vector to assert or to send, from 16 on.
     pub vector: u8,
     /// Which group of 64 vectors to absorb.
     pub part: u8,
@@ -227,7 +229,7 @@ pub struct synicboard_event {
     pub msr: u32,
     /// The type of a message.
     pub message_type: u32,
-    /// The value to write, or the bits to absorb.
+    /// The value to write, the bits to absorb, or the mask of the processors to send to.
     pub value: u64,
     /// The guest physical address of a store or a load.
     pub address: u64,
@@ -555,6 +557,8 @@ extern "C" {
     pub fn synicboard_resume(board: *mut synicboard, vp: u8) -> synicboard_reply;
     /// Resets a processor.
     pub fn synicboard_reset(board: *mut synicboard, vp: u8) -> synicboard_reply;
+    /// Requests a vector, from 16 on, at each processor of a mask.
+    pub fn synicboard_send(board: *mut synicboard, vector: u8, mask: u64) -> synicboard_reply;
     /// Performs an event that is given as a struct.
     pub fn synicboard_perform(board: *mut synicboard, event: *const synicboard_event) -> synicboard_reply;
 

@@ -300,6 +300,7 @@ fn numbers_that_no_board_has_are_refused_as_events_too() {
         (Event::Load { address: 0, length: 255 }, Refusal::BadLength),
         (Event::Load { address: u64::MAX, length: 8 }, Refusal::OutsideSpace),
         (Event::Reset { vp: 8 }, Refusal::NoSuchProcessor),
+        (Event::Send { vector: Vector::new(255).unwrap(), mask: 1 << 63 }, Refusal::NoSuchProcessor),
     ];
     for (event, refusal) in refused {
         assert_eq!(board.perform(&event), Reply::Refused(refusal), "{event:?}");

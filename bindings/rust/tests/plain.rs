@@ -109,11 +109,13 @@ fn a_closed_handle_has_no_board() {
             synicboard_suspend(board, 0),
             synicboard_resume(board, 0),
             synicboard_reset(board, 0),
+            synicboard_send(board, 0x50, 1),
+            synicboard_send(board, 3, 1),
             synicboard_perform(board, &event(SYNICBOARD_TICK, |_| ())),
             synicboard_perform(board, &event(0, |_| ())),
         ]
     };
-    assert_eq!(answers, [fault(SYNICBOARD_IS_CLOSED); 19]);
+    assert_eq!(answers, [fault(SYNICBOARD_IS_CLOSED); 21]);
 }
 
 #[test]
@@ -270,9 +272,10 @@ fn numbers_that_mean_no_event_change_nothing() {
     let mut handle = Handle::open();
     let meaningless = [
         event(0, |_| ()),
-        event(17, |_| ()),
+        event(SYNICBOARD_SEND + 1, |_| ()),
         event(255, |_| ()),
         event(SYNICBOARD_ASSERT, |event| event.vector = 15),
+        event(SYNICBOARD_SEND, |event| (event.vector, event.value) = (15, 1)),
         event(SYNICBOARD_POST, |event| event.length = 241),
         event(SYNICBOARD_STORE, |event| event.length = 9),
     ];
@@ -280,8 +283,9 @@ fn numbers_that_mean_no_event_change_nothing() {
         assert_eq!(handle.perform(&event), fault(SYNICBOARD_NO_EVENT));
     }
     // SAFETY: the handle has no copy.
-    let answer = unsafe { synicboard_assert(&mut handle.0, 0, 15) };
-    assert_eq!(answer, fault(SYNICBOARD_NO_EVENT));
+    let answers =
+        unsafe { [synicboard_assert(&mut handle.0, 0, 15), synicboard_send(&mut handle.0, 15, 1)] };
+    assert_eq!(answers, [fault(SYNICBOARD_NO_EVENT); 2]);
 }
 
 /// A write of a register of processor 0.
@@ -326,6 +330,12 @@ fn of_the_host() -> Vec<(synicboard_event, synicboard_reply)> {
         (event(SYNICBOARD_CLOSE_PORT, |event| event.port = 4), done),
         (event(SYNICBOARD_ASSERT, |event| event.vector = 0xe0), told(1)),
         (event(SYNICBOARD_ABSORB, |event| (event.part, event.value) = (3, 1 << 63)), told(1)),
+        // processor 0 has the request already
+        (event(SYNICBOARD_SEND, |event| (event.vector, event.value) = (0xe0, 1)), done),
+        (
+            event(SYNICBOARD_SEND, |event| (event.vector, event.value) = (0xe0, 1 << 63 | 1)),
+            reply(SYNICBOARD_REFUSED, |reply| reply.refusal = SYNICBOARD_NO_SUCH_PROCESSOR),
+        ),
     ]
 }
 

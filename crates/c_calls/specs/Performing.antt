@@ -7,7 +7,7 @@ use Rattle.c_terms.specs.declared.reply.CReply.{CReply}
 use Rattle.c_terms.specs.declared.reply.Fault.TheVariants.{Closed, IsLive, NoEvent}
 use Rattle.c_terms.specs.Replies.{reply_to_c, fault_to_c}
 use Rattle.synic_board.specs.declared.event.Event.{Event}
-use Rattle.synic_board.specs.declared.event.Event.TheVariants.{Post, Store, Assert}
+use Rattle.synic_board.specs.declared.event.Event.TheVariants.{Post, Store, Assert, Send}
 use Rattle.synic_board.specs.State.{State}
 use Rattle.synic_board.specs.Effects.{Outcome}
 use Rattle.synic_board.specs.Step.{step}
@@ -38,3 +38,6 @@ store_from_c address bytes = if nat_lt 8 (length bytes) then None else Some (Sto
 
 abbrev pub assert_from_c : ℕ → ℕ → Option Event
 assert_from_c vp vector = if nat_lt vector 16 then None else Some (Assert vp vector)
+
+abbrev pub send_from_c : ℕ → ℕ → Option Event
+send_from_c vector mask = if nat_lt vector 16 then None else Some (Send vector mask)

@@ -2,7 +2,7 @@
 ghost use Rattle.std.specs.Prelude.{◌≡◌, ◌≤◌, Some, length};
 ghost use Rattle.c_terms.specs.Events.{event_from_c};
 ghost use Rattle.c_calls.specs.Looks.{earliest_of};
-ghost use Rattle.c_calls.specs.Performing.{IsPerformed, post_from_c, store_from_c, assert_from_c};
+ghost use Rattle.c_calls.specs.Performing.{IsPerformed, post_from_c, store_from_c, assert_from_c, send_from_c};
 ghost use Rattle.synic_board.specs.declared.event.Event.TheVariants as event;
 ghost use Rattle.board_terms.specs.declared.messages.PortShape.TheVariants as shape;
 
@@ -251,6 +251,18 @@ pub extern "C" fn synicboard_reset(handle: &mut BoardHandle, vp: u8) -> CReply
     ensures { IsPerformed (Some (event.Reset vp)) handle.old.board handle.new.board result }
 {
     perform_on(handle, &Event::Reset { vp })
+}
+
+/// Requests a vector, 16 to 255, at the local APIC of each processor of `mask`, lowest first. Bit p of
+/// `mask` is processor p.
+#[unsafe(no_mangle)]
+pub extern "C" fn synicboard_send(handle: &mut BoardHandle, vector: u8, mask: u64) -> CReply
+    ensures { IsPerformed (send_from_c vector mask) handle.old.board handle.new.board result }
+{
+    let Some(vector) = Vector::new(vector) else {
+        return no_event(handle);
+    };
+    perform_on(handle, &Event::Send { vector, mask })
 }
 
 /// Performs an event that is given as a struct.

@@ -2,7 +2,7 @@
 use Rattle.std.specs.Prelude.{ℕ, [], ◌∷◌, List, Option, Some, None}
 use Rattle.text_lines.specs.Printing.{text_of}
 use Rattle.text_trace.specs.declared.format.Format.TheVariants.{Two}
-use Rattle.text_trace.specs.Trace.{history_lines, board_text, trace}
+use Rattle.text_trace.specs.Trace.{history_lines, board_text, format_for, trace}
 use Rattle.c_handles.specs.Histories.{HistoryModel, start_of}
 use Rattle.synic_board.specs.declared.event.Event.{Event}
 use Rattle.synic_board.specs.declared.event.Reply.{Reply}
@@ -13,6 +13,6 @@ entry_text actor (Some event) (Some reply) = Some (text_of (history_lines (recor
 entry_text actor (Some event) None = None
 entry_text actor None reply = None
 
--- the trace of a history, in format 2
+-- the trace of a history, in format 2, or in format 5 if it has a send
 abbrev pub trace_of : HistoryModel → List ℕ
-trace_of h = trace Two (board_text h.processors (Some h.pages) h.first_ticket) (start_of h) h.entries
+trace_of h = trace (format_for Two h.entries) (board_text h.processors (Some h.pages) h.first_ticket) (start_of h) h.entries

@@ -13,8 +13,9 @@ const MOST_STORED: u8 = 8;
 #[repr(C)]
 #[derive(Clone, Copy)]
 pub struct CEvent {
-    /// 1 to 16: open a message port, open a flag port, close a port, write a register, read a
-    /// register, post, signal, assert, absorb, store, load, tick, take, suspend, resume, reset.
+    /// 1 to 17: open a message port, open a flag port, close a port, write a register, read a
+    /// register, post, signal, assert, absorb, store, load, tick, take, suspend, resume, reset,
+    /// send.
     pub kind: u8,
     /// The processor.
     pub vp: u8,
@@ -24,7 +25,7 @@ pub struct CEvent {
     pub port: u8,
     /// The buffers of a message port.
     pub buffers: u8,
-    /// The vector to assert, 16 to 255.
+    /// The vector to assert or to send, 16 to 255.
     pub vector: u8,
     /// Which group of 64 vectors to absorb, 0 to 3.
     pub part: u8,
@@ -38,7 +39,7 @@ pub struct CEvent {
     pub register: u32,
     /// The type of a message.
     pub message_type: u32,
-    /// The value to write, or the bits to absorb.
+    /// The value to write, the bits to absorb, or the mask of the processors to send to.
     pub value: u64,
     /// The guest physical address of a store or a load.
     pub address: u64,
@@ -124,6 +125,10 @@ macro_rules! with_event {
                 let $event = Event::Reset { vp: $plain.vp };
                 $done
             }
+            17 => {
+                let $event = Event::Send { vector: Vector::new($plain.vector)?, mask: $plain.value };
+                $done
+            }
             _ => None,
         }
     };
@@ -170,6 +175,7 @@ pub fn perform_c(board: &mut Board, notices: &mut Notices, plain: &CEvent) -> Op
         14 => perform_kind::<14>(board, notices, plain),
         15 => perform_kind::<15>(board, notices, plain),
         16 => perform_kind::<16>(board, notices, plain),
+        17 => perform_kind::<17>(board, notices, plain),
         _ => None,
     }
 }

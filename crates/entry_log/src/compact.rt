@@ -69,6 +69,10 @@ pub(crate) enum CompactEvent {
     Reset {
         vp: u8,
     },
+    Send {
+        vector: Vector,
+        mask: u64,
+    },
 }
 
 /// The numbers of a reply, with the number of its bytes instead of the bytes.
@@ -184,6 +188,10 @@ impl CompactEvent {
             Event::Suspend { vp } => CompactEvent::Suspend { vp: *vp },
             Event::Resume { vp } => CompactEvent::Resume { vp: *vp },
             Event::Reset { vp } => CompactEvent::Reset { vp: *vp },
+            Event::Send { vector, mask } => CompactEvent::Send {
+                vector: *vector,
+                mask: *mask,
+            },
         }
     }
 
@@ -246,6 +254,7 @@ impl CompactEvent {
             CompactEvent::Suspend { vp } => Event::Suspend { vp },
             CompactEvent::Resume { vp } => Event::Resume { vp },
             CompactEvent::Reset { vp } => Event::Reset { vp },
+            CompactEvent::Send { vector, mask } => Event::Send { vector, mask },
         }
     }
 }

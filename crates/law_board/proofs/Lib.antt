@@ -1,5 +1,6 @@
 mod Runs
 mod Leaving
+mod Sends
 mod Refusing
 mod Timing
 mod Requesting

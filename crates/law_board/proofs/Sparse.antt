@@ -1,6 +1,7 @@
 -- The guest pages of a board matter to loads and stores alone.
 use Rattle.std.proofs.Common.{◌≡◌, ℕ, zero, suc, ◌+◌, ◌*◌, ◌/◌, ◌%◌, ◌^◌, Bool, true, false, ◌==◌, ◌&&◌, ◌||◌, List, [], ◌∷◌, length, take, drop, get_or, set, nat_lt, Option, None, Some, Result, Ok, Err, refl, ap, sym, ◌∙◌, length-set}
 use Rattle.std.specs.Prelude.{if◌then◌else◌, not, is_none, nat_le}
+use Rattle.std.specs.Int.{bit_at}
 use Rattle.std.specs.Option.{option_map_or}
 use Rattle.arrayvec.specs.ArrayVec.{ArrayVec}
 use Rattle.board_terms.specs.declared.messages.Message.{Message}
@@ -26,7 +27,7 @@ use Rattle.stimer_bank.specs.Bank.{dues, due_list, with_config, with_count}
 use Rattle.gpa_space.specs.Page.{overwritten}
 use Rattle.gpa_space.specs.Space.{Space, is_flag_set, visible, overlay_owner}
 use Rattle.synic_board.specs.declared.event.Event.{Event}
-use Rattle.synic_board.specs.declared.event.Event.TheVariants.{OpenPort, ClosePort, Write, Read, Post, Signal, Assert, Absorb, Store, Load, Tick, Take, Suspend, Resume, Reset}
+use Rattle.synic_board.specs.declared.event.Event.TheVariants.{OpenPort, ClosePort, Write, Read, Post, Signal, Assert, Absorb, Store, Load, Tick, Take, Suspend, Resume, Reset, Send}
 use Rattle.synic_board.specs.declared.event.Reply.{Reply}
 use Rattle.synic_board.specs.declared.event.Reply.TheVariants.{Done, Taken, Accepted, FlagWasClear, FlagWasSet, GeneralProtection}
 use Rattle.synic_board.specs.State.{State, processors, apic_of, regs_of, space_of, ports_of, bank_of, slot_of, with_apic, with_regs, with_bank, with_space}
@@ -41,6 +42,7 @@ use Rattle.synic_board.specs.Step.{step}
 use Rattle.synic_board.specs.Run.{followed_by, run_of}
 use Rattle.synic_board.proofs.keeping.Requests.{either}
 use Rattle.synic_board.specs.Absorbing.{is_posted, absorbed_bit, absorbed_below, absorbed}
+use Rattle.synic_board.specs.Sending.{sent_to, sent_below, sent}
 use Rattle.synic_board.specs.Delivery.{delivers, is_slot_empty, placed_head, placed, marked, tried, tried_below, accepted, delivered}
 use Rattle.synic_board.specs.Timers.{is_ready, mode_at, delivery_by, signalled_by, expired_state, expiry_at, expiry_notices, fired, attempted, attempted_all, at_moment, ticked}
 use Rattle.board_terms.specs.Quantities.{TimerId}
@@ -81,6 +83,14 @@ blind-absorbed : (p part bits n : ℕ) → Blind (λ s. absorbed_below s p part 
 unfolding absorbed_below
 blind-absorbed p part bits zero s m = refl
 blind-absorbed p part bits (suc n) s m = blind-after (λ x. absorbed_below x p part bits n) (λ x. absorbed_bit x p part bits n) (blind-absorbed p part bits n) (blind-absorbed_bit p part bits n) s m
+
+blind-sent_to : (v mask p : ℕ) → Blind (λ s. sent_to s v mask p)
+blind-sent_to v mask p s m = blind-either s m (bit_at mask p == 1) (λ s. requested s p v) nothing (blind-requested p v s m) refl
+
+blind-sent_below : (v mask n : ℕ) → Blind (λ s. sent_below s v mask n)
+unfolding sent_below
+blind-sent_below v mask zero s m = refl
+blind-sent_below v mask (suc p) s m = blind-after (λ x. sent_below x v mask p) (λ x. sent_to x v mask p) (blind-sent_below v mask p) (blind-sent_to v mask p) s m
 
 -- delivery
 blind-placed : (p i : ℕ) → Blind (λ s. placed s p i)
@@ -258,6 +268,10 @@ blind-absorb : (p part bits : ℕ) → IsBlind (λ s. absorbed s p part bits)
 blind-absorb p part bits s m = blind-cases s m (nat_le part 3) (λ x. answered Done (absorbed_below x p part bits 64)) (λ x. refused x BadTarget)
     (ap (answered Done) (blind-absorbed p part bits 64 s m)) refl
 
+blind-sent : (v mask : ℕ) → IsBlind (λ s. sent s v mask)
+blind-sent v mask s m = blind-cases s m (nat_lt mask (2 ^ processors s)) (λ x. answered Done (sent_below x v mask 64)) (λ x. refused x NoSuchProcessor)
+    (ap (answered Done) (blind-sent_below v mask 64 s m)) refl
+
 blind-suspended : (p : ℕ) → IsBlind (λ s. suspended s p)
 blind-suspended p s m = blind-cases s m (is_suspended s p) (λ x. refused x AlreadySuspended) (λ x. unchanged (with_suspension x p true) Done) refl refl
 
@@ -357,6 +371,7 @@ blind-step (Take p) never s m = blind-at p (λ x. taken x p) (blind-taken p) s m
 blind-step (Suspend p) never s m = blind-at p (λ x. suspended x p) (blind-suspended p) s m
 blind-step (Resume p) never s m = blind-at p (λ x. resumed x p) (blind-resumed p) s m
 blind-step (Reset p) never s m = blind-at p (λ x. reset x p) (blind-reset p) s m
+blind-step (Send v mask) never s m = blind-sent v mask s m
 
 -- a board that holds no pages
 empty-completed : (s : State) (m : Memory) (e : Event) → AreAllPages m → step (holding s m) e ≡ completed m e (step (holding s []) e)

@@ -9,4 +9,5 @@ pub mod Order
 pub mod Seen
 pub mod Sparse
 pub mod Leaving
+pub mod Sends
 pub mod Saved

@@ -2,7 +2,7 @@
 //! and any event of any guest. Each is a function with an empty body, whose clause is the theorem.
 #![tactic(auto)]
 
-ghost use Rattle.std.specs.Prelude.{◌≡◌, ℕ, ◌<◌, ◌≤◌, ◌+◌, ◌/◌, ◌&&◌, ◌++◌, ◌∷◌, [], not, true, false, Some, List, length, slice_set, slice_index_or};
+ghost use Rattle.std.specs.Prelude.{◌≡◌, ℕ, ◌<◌, ◌≤◌, ◌+◌, ◌/◌, ◌&&◌, ◌^◌, ◌++◌, ◌∷◌, [], not, true, false, Some, List, length, slice_set, slice_index_or};
 ghost use Rattle.std.specs.List.{All};
 ghost use Rattle.arrayvec.specs.ArrayVec.{ArrayVec};
 ghost use Rattle.gpa_space.specs.Space.{is_flag_set};
@@ -38,6 +38,7 @@ ghost use Rattle.law_board.specs.Order.{KeepsOrder};
 ghost use Rattle.synic_board.specs.Delivery.{delivers, is_slot_empty};
 ghost use Rattle.law_board.specs.Seen.{IsSeen};
 ghost use Rattle.law_board.specs.Refusals.{LeavesNoTrace, AnswersAlike};
+ghost use Rattle.law_board.specs.Sends.{asserts_below, SendsAlike};
 
 /// For any events from an opened board: each accepted message got the next ticket, and is in one
 /// queue or slot, or was consumed or withdrawn once; no other message appears. Together with `run`,
@@ -120,6 +121,12 @@ pub fn no_timer_expires_early()
 pub fn a_request_notice_means_a_new_request()
     ensures { (s : State) (event : Event) (p v : ℕ) → p < processors s
         → has_request_notice p v (step s event).2 ≡ (not (is_requested s p v) && is_requested (step s event).0 p v) }
+{}
+
+/// A send to processors on the board leads to the same state as an assert at each of them, lowest
+/// first, and emits the same notices.
+pub fn a_send_asserts_at_each_processor()
+    ensures { (s : State) (v mask : ℕ) → mask < 2 ^ processors s → SendsAlike s v mask (asserts_below v mask 64) }
 {}
 
 /// Between two takes of a vector by a processor, whatever the events between them, a Requested

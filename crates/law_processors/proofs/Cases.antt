@@ -5,7 +5,7 @@ use Rattle.synic_regs.specs.declared.register.Register.{Register}
 use Rattle.synic_regs.specs.declared.register.Register.TheVariants.{ReferenceCounter, Eoi, Tpr, Control, Version, Sief, Sim, Eom, Source, TimerConfig, TimerCount}
 use Rattle.synic_regs.specs.Registers.{register_of}
 use Rattle.synic_board.specs.declared.event.Event.{Event}
-use Rattle.synic_board.specs.declared.event.Event.TheVariants.{OpenPort, ClosePort, Write, Read, Post, Signal, Assert, Absorb, Store, Load, Tick, Take, Suspend, Resume, Reset}
+use Rattle.synic_board.specs.declared.event.Event.TheVariants.{OpenPort, ClosePort, Write, Read, Post, Signal, Assert, Absorb, Store, Load, Tick, Take, Suspend, Resume, Reset, Send}
 use Rattle.law_processors.specs.Apart.{is_own_register, IsOwn}
 
 -- what holds of each kind of own event
@@ -34,6 +34,7 @@ of-own p P h (Store address bytes) own = absurd own
 of-own p P h (Load address count) own = absurd own
 of-own p P h (Tick moment) own = absurd own
 of-own p P h (Reset q) own = absurd own
+of-own p P h (Send v mask) own = absurd own
 
 -- what holds of each register
 pub record OfRegister (P : Register → Type 0) : Type 0 where

@@ -1,6 +1,7 @@
 -- A quiet event changes no own page.
-use Rattle.std.proofs.Common.{◌≡◌, ℕ, zero, suc, ◌+◌, ◌*◌, ◌/◌, ◌%◌, ◌<◌, ◌==◌, Bool, true, false, ◌&&◌, not, List, [], length, set, refl, sym, ap, ◌∙◌, arith, nat_lt, nat_le}
+use Rattle.std.proofs.Common.{◌≡◌, ℕ, zero, suc, ◌+◌, ◌*◌, ◌/◌, ◌%◌, ◌^◌, ◌<◌, ◌==◌, Bool, true, false, ◌&&◌, not, List, [], length, set, refl, sym, ap, ◌∙◌, arith, nat_lt, nat_le}
 use Rattle.std.specs.Prelude.{Option, None, Some, is_none, Ok, Err, Result, ◌||◌, if◌then◌else◌}
+use Rattle.std.specs.Int.{bit_at}
 use Rattle.std.specs.Option.{option_map_or}
 use Rattle.board_terms.specs.declared.refusal.Refusal.{Refusal}
 use Rattle.board_terms.specs.declared.refusal.Refusal.TheVariants.{NoSuchProcessor, BadLength, OutsideSpace, CrossesPage, Elsewhere}
@@ -16,13 +17,14 @@ use Rattle.synic_regs.specs.declared.register.Register.TheVariants.{ReferenceCou
 use Rattle.synic_regs.specs.Registers.{register_of}
 use Rattle.synic_regs.specs.Regs.{is_refused}
 use Rattle.synic_board.specs.declared.event.Event.{Event}
-use Rattle.synic_board.specs.declared.event.Event.TheVariants.{OpenPort, ClosePort, Write, Read, Post, Signal, Assert, Absorb, Store, Load, Tick, Take, Suspend, Resume, Reset}
+use Rattle.synic_board.specs.declared.event.Event.TheVariants.{OpenPort, ClosePort, Write, Read, Post, Signal, Assert, Absorb, Store, Load, Tick, Take, Suspend, Resume, Reset, Send}
 use Rattle.synic_board.specs.declared.event.Reply.{Reply}
 use Rattle.synic_board.specs.declared.event.Reply.TheVariants.{Done, GeneralProtection}
 use Rattle.synic_board.specs.State.{State, processors, apic_of, ports_of, with_apic, space_of, with_space}
 use Rattle.synic_board.specs.Effects.{Effect, Outcome, at_processor, answered, unchanged, refused}
 use Rattle.synic_board.specs.Interrupts.{taken_at}
 use Rattle.synic_board.specs.Absorbing.{is_posted, absorbed_below}
+use Rattle.synic_board.specs.Sending.{sent_below}
 use Rattle.synic_board.specs.Posts.{with_port, closed_at}
 use Rattle.synic_board.specs.Registers.{stored, written_register, written}
 use Rattle.synic_board.specs.Suspending.{is_suspended}
@@ -74,6 +76,13 @@ same-absorbed s p part bits (suc i) =
     let t : State = (absorbed_below s p part bits i).0 in
     either (λ (e : Effect). e.0.own ≡ t.own) (is_posted part bits i) _ _ (λ _. own-requested t p (64 * part + i)) (λ _. refl) ∙ same-absorbed s p part bits i
 
+same-sent : (s : State) (v mask n : ℕ) → (sent_below s v mask n).0.own ≡ s.own
+unfolding sent_below
+same-sent s v mask zero = refl
+same-sent s v mask (suc p) =
+    let t : State = (sent_below s v mask p).0 in
+    either (λ (e : Effect). e.0.own ≡ t.own) (bit_at mask p == 1) _ _ (λ _. own-requested t p v) (λ _. refl) ∙ same-sent s v mask p
+
 pub same-own : (s : State) (e : Event) → is_quiet e ≡ true → Same s (step s e)
 unfolding step
 same-own s (OpenPort port p i shape) quiet =
@@ -96,6 +105,7 @@ same-own s (Take p) quiet = on-board s p _ (elim (next (apic_of s p)) as (λ o. 
 same-own s (Suspend p) quiet = on-board s p _ (either (Same s) (is_suspended s p) _ _ (λ _. refl) (λ _. refl))
 same-own s (Resume p) quiet = on-board s p _ (either (Same s) (is_suspended s p) _ _ (λ _. refl) (λ _. refl))
 same-own s (Reset p) quiet = absurd (cc)
+same-own s (Send v mask) quiet = either (Same s) (nat_lt mask (2 ^ processors s)) _ _ (λ _. same-sent s v mask 64) (λ _. refl)
 
 pub quiet-own : (s now : State) (e : Event) (reply : Reply) (notices : List Notice) → is_quiet e ≡ true → (now, reply, notices) ≡ step s e → now.own ≡ s.own
 quiet-own s now e reply notices quiet is = ap (λ (o : Outcome). o.0.own) is ∙ same-own s e quiet

@@ -1,8 +1,9 @@
 -- Induction over the machine: a property of each part of the effects holds for every effect, and a property of each kind of outcome holds for every event.
-use Rattle.std.proofs.Common.{◌≡◌, ℕ, zero, suc, ◌+◌, ◌*◌, ◌/◌, ◌%◌, ◌<◌, ◌&&◌, List, [], ◌∷◌, length, refl, sym, ap, ◌∙◌, nat_lt, nat_le, not, Bool, true, false, cond, Result, Ok, Err}
+use Rattle.std.proofs.Common.{◌≡◌, ℕ, zero, suc, ◌+◌, ◌*◌, ◌/◌, ◌%◌, ◌^◌, ◌<◌, ◌&&◌, List, [], ◌∷◌, length, refl, sym, ap, ◌∙◌, nat_lt, nat_le, not, Bool, true, false, cond, Result, Ok, Err}
 use Rattle.std.specs.Prelude.{Option, None, Some, ◌==◌}
 use Rattle.std.specs.Option.{option_map_or}
 use Rattle.std.specs.FinSet as set
+use Rattle.std.specs.Int.{bit_at}
 use Rattle.std.specs.FinSet.{contains-remove}
 use Rattle.std.proofs.lemmas.Bool.Decides.{Decides-ltb}
 use Rattle.std.proofs.lemmas.Cmp.{nat_cmp_total}
@@ -31,7 +32,7 @@ use Rattle.stimer_bank.specs.Timer.{is_due}
 use Rattle.stimer_bank.specs.Bank.{timer_in, is_due_in, with_config, with_count, dues, due_list}
 use Rattle.stimer_bank.proofs.Shown.{due-reached}
 use Rattle.synic_board.specs.declared.event.Event.{Event}
-use Rattle.synic_board.specs.declared.event.Event.TheVariants.{OpenPort, ClosePort, Write, Read, Post, Signal, Assert, Absorb, Store, Load, Tick, Take, Suspend, Resume, Reset}
+use Rattle.synic_board.specs.declared.event.Event.TheVariants.{OpenPort, ClosePort, Write, Read, Post, Signal, Assert, Absorb, Store, Load, Tick, Take, Suspend, Resume, Reset, Send}
 use Rattle.synic_board.specs.declared.event.Reply.{Reply}
 use Rattle.synic_board.specs.declared.event.Reply.TheVariants as replies
 use Rattle.synic_board.specs.State.{State, processors, apic_of, regs_of, space_of, ports_of, bank_of, with_apic, with_regs, with_bank, slot_of, with_slot_ticket}
@@ -45,6 +46,7 @@ use Rattle.synic_board.specs.Stores.{consumed_ticket, consumed, consumed_below, 
 use Rattle.synic_board.specs.Timers.{mode_at, is_ready_for, is_ready, expiry_notices, signalled_by, expired_state, expiry_at, fired, attempted, attempted_all, at_moment, ticked}
 use Rattle.synic_board.specs.Suspending.{is_suspended, with_suspension, suspended, resumed}
 use Rattle.synic_board.specs.Resetting.{withdrawn_ticket, slot_emptied, queue_emptied, source_emptied, emptied_below, emptied, reset}
+use Rattle.synic_board.specs.Sending.{sent_to, sent_below}
 use Rattle.synic_board.specs.Replies.{IsReply, IsRefusal}
 use Rattle.synic_board.specs.Step.{step}
 use Rattle.synic_board.proofs.keeping.Requests.{either}
@@ -130,6 +132,14 @@ of-absorbed_below P h s p part bits (suc i) =
     let e : Effect = absorbed_below s p part bits i in
     h.joins s e (absorbed_bit e.0 p part bits i) (of-absorbed_below P h s p part bits i)
     (either (P e.0) (is_posted part bits i) (requested e.0 p (64 * part + i)) (nothing e.0) (λ _. of-requested P h e.0 p (64 * part + i)) (λ _. h.stays e.0))
+
+of-sent_below : (P : State → Effect → Type 0) → OfEffects P → (s : State) (v mask n : ℕ) → P s (sent_below s v mask n)
+unfolding sent_below
+of-sent_below P h s v mask zero = h.stays s
+of-sent_below P h s v mask (suc p) =
+    let e : Effect = sent_below s v mask p in
+    h.joins s e (sent_to e.0 v mask p) (of-sent_below P h s v mask p)
+    (either (P e.0) (bit_at mask p == 1) (requested e.0 p v) (nothing e.0) (λ _. of-requested P h e.0 p v) (λ _. h.stays e.0))
 
 of-consumed : (P : State → Effect → Type 0) → OfEffects P → (s : State) (p i : ℕ) → P s (consumed s p i)
 unfolding consumed
@@ -365,3 +375,5 @@ throughout P Q h k s (Resume p) = at_place (Q s (Resume p)) s p (resumed s p) (k
     (λ on. either (Q s (Resume p)) (is_suspended s p) (unchanged (with_suspension s p false) replies.Done) (refused s NotSuspended)
     (λ _. k.pauses s (Resume p) p false (λ never. never, tt, tt) on) (λ _. k.refuses s _ NotSuspended))
 throughout P Q h k s (Reset p) = at_place (Q s (Reset p)) s p (reset s p) (k.refuses s _) (λ on. k.resets s p on (of-emptied_below P h s p 16))
+throughout P Q h k s (Send v mask) = either (Q s (Send v mask)) (nat_lt mask (2 ^ processors s)) (answered replies.Done (sent_below s v mask 64)) (refused s NoSuchProcessor)
+    (λ _. of-effect P Q k s (Send v mask) replies.Done (sent_below s v mask 64) (λ never. never, tt, tt) (of-sent_below P h s v mask 64)) (λ _. k.refuses s _ NoSuchProcessor)

@@ -11,6 +11,7 @@ pub mod Timers
 pub mod Registers
 pub mod Suspending
 pub mod Resetting
+pub mod Sending
 pub mod Step
 pub mod Bounds
 pub mod Performing

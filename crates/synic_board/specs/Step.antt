@@ -1,6 +1,6 @@
 -- The step function: for each event the next state, the reply and the notices.
 use Rattle.synic_board.specs.declared.event.Event.{Event}
-use Rattle.synic_board.specs.declared.event.Event.TheVariants.{OpenPort, ClosePort, Write, Read, Post, Signal, Assert, Absorb, Store, Load, Tick, Take, Suspend, Resume, Reset}
+use Rattle.synic_board.specs.declared.event.Event.TheVariants.{OpenPort, ClosePort, Write, Read, Post, Signal, Assert, Absorb, Store, Load, Tick, Take, Suspend, Resume, Reset, Send}
 use Rattle.synic_board.specs.declared.event.Reply.TheVariants.{Done}
 use Rattle.synic_board.specs.State.{State}
 use Rattle.synic_board.specs.Effects.{Outcome, at_processor, answered, unchanged}
@@ -12,6 +12,7 @@ use Rattle.synic_board.specs.Timers.{ticked}
 use Rattle.synic_board.specs.Stores.{stored_bytes, read_bytes}
 use Rattle.synic_board.specs.Suspending.{suspended, resumed}
 use Rattle.synic_board.specs.Resetting.{reset}
+use Rattle.synic_board.specs.Sending.{sent}
 
 unfoldable pub step : State → Event → Outcome
 step s (OpenPort port p i shape) = opened_port s port p i shape
@@ -29,3 +30,4 @@ step s (Take p) = at_processor s p (taken s p)
 step s (Suspend p) = at_processor s p (suspended s p)
 step s (Resume p) = at_processor s p (resumed s p)
 step s (Reset p) = at_processor s p (reset s p)
+step s (Send v mask) = sent s v mask

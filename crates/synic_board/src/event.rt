@@ -85,6 +85,12 @@ pub enum Event {
     Reset {
         vp: u8,
     },
+    /// An interrupt is sent to several processors: requests a vector at the local APIC of each
+    /// processor of `mask`, lowest first. Bit p of `mask` is processor p.
+    Send {
+        vector: Vector,
+        mask: u64,
+    },
 }
 
 /// The reply to an event.
@@ -176,6 +182,10 @@ impl Event {
             Event::Suspend { vp } => Event::Suspend { vp: *vp },
             Event::Resume { vp } => Event::Resume { vp: *vp },
             Event::Reset { vp } => Event::Reset { vp: *vp },
+            Event::Send { vector, mask } => Event::Send {
+                vector: *vector,
+                mask: *mask,
+            },
         }
     }
 }

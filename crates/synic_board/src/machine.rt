@@ -16,6 +16,7 @@ mod ranges;
 mod registers;
 mod resetting;
 mod restoring;
+mod sending;
 mod suspending;
 mod timers;
 
@@ -209,6 +210,7 @@ impl Machine {
                 Some(vp) => self.reset(vp, notices),
                 None => Reply::Refused(Refusal::NoSuchProcessor),
             },
+            Event::Send { vector, mask } => self.send(*vector, *mask, notices),
         }
     }
 

@@ -63,7 +63,14 @@ fn absorb(part: u8) -> Event {
     }
 }
 
-fn calls_of_the_host() -> [(Event, Reply); 9] {
+fn send(mask: u64) -> Event {
+    Event::Send {
+        vector: Vector::new(255).unwrap(),
+        mask,
+    }
+}
+
+fn calls_of_the_host() -> [(Event, Reply); 10] {
     let flags = PortShape::Flags {
         base: 2000,
         count: 48,
@@ -81,10 +88,11 @@ fn calls_of_the_host() -> [(Event, Reply); 9] {
         (Event::Signal { port, flag }, Reply::FlagWasClear),
         (Event::Signal { port, flag }, Reply::FlagWasSet),
         (Event::Tick { moment: u64::MAX }, Reply::Done),
+        (send(u64::MAX), Reply::Refused(Refusal::NoSuchProcessor)),
     ]
 }
 
-fn calls_of_a_guest() -> [(Event, Reply); 9] {
+fn calls_of_a_guest() -> [(Event, Reply); 10] {
     let register = 0x4000_0080;
     [
         (write(0), Reply::GeneralProtection),
@@ -95,12 +103,13 @@ fn calls_of_a_guest() -> [(Event, Reply); 9] {
         (store(0), Reply::Refused(Refusal::BadLength)),
         (load(8), Reply::Bytes(falling(8))),
         (load(1), Reply::Bytes(falling(1))),
+        (load(2), Reply::Bytes(falling(2))),
         (load(255), Reply::Refused(Refusal::BadLength)),
     ]
 }
 
 /// Some of these replies do not fit their events: a log stores whatever is pushed.
-fn calls_of_a_processor() -> [(Event, Reply); 9] {
+fn calls_of_a_processor() -> [(Event, Reply); 10] {
     let (least, greatest) = (Vector::new(16).unwrap(), Vector::new(255).unwrap());
     [
         (
@@ -116,6 +125,7 @@ fn calls_of_a_processor() -> [(Event, Reply); 9] {
         (Event::Suspend { vp: 4 }, Reply::Done),
         (Event::Resume { vp: 5 }, Reply::Done),
         (Event::Reset { vp: 6 }, Reply::Done),
+        (send(1 << 63), Reply::Done),
         (post(240), Reply::Bytes(falling(8))),
         (store(1), Reply::Bytes(falling(0))),
     ]
@@ -169,8 +179,8 @@ fn each_kind_reads_back(rt: HostRuntime) -> Result<(), Fail> {
     enter(&mut log, calls.as_slice())?;
     let entries = log.to_entries(rt.alloc())?;
     // README entry_log: end
-    assert_eq!(rt; (log.len(), entries.len()), (27, 27));
-    assert_eq!(rt; count_alike(entries.as_slice(), calls.as_slice()), 27);
+    assert_eq!(rt; (log.len(), entries.len()), (30, 30));
+    assert_eq!(rt; count_alike(entries.as_slice(), calls.as_slice()), 30);
     assert_eq!(rt; EntryLog::NUMBERS_SIZE, 40);
     Ok(())
 }

@@ -65,7 +65,7 @@ const POST: u8 = 6;
 
 const TICK: u8 = 12;
 
-const NONE: u8 = 17;
+const NONE: u8 = 18;
 
 /// The result of a batch, and the time of its board.
 #[derive(Clone, Copy, PartialEq, Eq, Debug)]

@@ -22,7 +22,7 @@ fn prepared() -> [Event; 6] {
 }
 
 /// At least one event of each kind.
-fn events() -> [Event; 19] {
+fn events() -> [Event; 20] {
     let vector = Vector::new(0x61).unwrap();
     [
         post(3, &[0x0a]),
@@ -50,11 +50,12 @@ fn events() -> [Event; 19] {
         Event::Resume { vp: 0 },
         post(3, &[0x0c]),
         Event::Reset { vp: 0 },
+        Event::Send { vector, mask: 1 },
         Event::ClosePort { port: 3 },
     ]
 }
 
-fn replies_to_them() -> [Reply; 19] {
+fn replies_to_them() -> [Reply; 20] {
     [
         Reply::Accepted(0),
         Reply::Accepted(1),
@@ -73,6 +74,7 @@ fn replies_to_them() -> [Reply; 19] {
         Reply::Done,
         Reply::Done,
         Reply::Accepted(2),
+        Reply::Done,
         Reply::Done,
         Reply::Done,
     ]

@@ -8,7 +8,8 @@ use Rattle.synic_board.specs.History.{leads_to}
 use Rattle.board_threads.specs.declared.settling.Ended.{Ended}
 use Rattle.text_trace.specs.declared.format.Format.{Format}
 use Rattle.text_trace.specs.declared.format.Format.TheVariants.{Two, Four}
-use Rattle.text_trace.specs.Trace.{IsBeginning, IsEntry, board_text, trace, trace_text}
+use Rattle.text_trace.specs.Trace.{IsBeginning, IsEntry, format_for, board_text, trace, trace_text}
+use Rattle.text_trace.proofs.LawLemmas.{begins-for}
 use Rattle.text_crew.specs.Crew.{Crew}
 use Rattle.text_crew.specs.Running.{IsScriptHistory, IsCrewTrace, IsOpenedTrace, IsTraceOn, line_pages, opened_format}
 use Rattle.text_crew.specs.inside.Tracing.{IsTraced}
@@ -18,17 +19,17 @@ use Rattle.text_crew.specs.declared.outcome.Outcome.TheVariants as outcomes
 
 -- the printed history is a legal trace
 traced : (format : Format) (beginning : List ℕ) (start : State) (crew : Crew) (history : List Entry) (text : List ℕ) → IsScriptHistory crew start history →
-    IsBeginning format beginning start → All (IsEntry format) history → text ≡ trace format beginning start history → IsCrewTrace format beginning start crew text
+    IsBeginning format beginning start → All (IsEntry (format_for format history)) history → text ≡ trace (format_for format history) beginning start history → IsCrewTrace format beginning start crew text
 traced format beginning start crew history text is begins fits written = record {
   history = history;
   is = is;
   written = written;
   legal = record {
-    format = format;
+    format = format_for format history;
     beginning = beginning;
     state = start;
     history = history;
-    begins = begins;
+    begins = begins-for format history beginning start begins;
     fits = fits;
     legal = is.legal;
     counted = is.crewed.all;
@@ -41,7 +42,7 @@ pub prepared : (board : Option State) (format : Format) (beginning : List ℕ) (
     IsScriptHistory crew start ended.history.items → IsBeginning format beginning start → ended.board.state ≡ leads_to start ended.history.items → IsTraced format beginning outcome ended [] text →
     (IsCrewTrace format beginning start crew text → IsTraceOn board crew text) → Prepares board outcome crew text
 prepared board format beginning start crew outcomes.Done ended text is begins leads written on =
-    let next = ap (λ (s : State). trace_text format beginning ended.history.items s.next_ticket) leads in
+    let next = ap (λ (s : State). trace_text (format_for format ended.history.items) beginning ended.history.items s.next_ticket) leads in
     on (traced format beginning start crew ended.history.items text is begins written.0 (written.1 ∙ next))
 prepared board format beginning start crew outcomes.Memory ended text is begins leads written on = tt
 prepared board format beginning start crew outcomes.Unsettled ended text is begins leads written on = tt

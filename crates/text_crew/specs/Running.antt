@@ -13,7 +13,7 @@ use Rattle.text_lines.specs.Faults.{fault_text}
 use Rattle.text_lines.specs.declared.fault.ScriptFault.{ScriptFault}
 use Rattle.text_driver.specs.Driving.{ReadsNear}
 use Rattle.text_image.specs.Image.{image}
-use Rattle.text_trace.specs.Trace.{board_text, trace, IsTrace}
+use Rattle.text_trace.specs.Trace.{board_text, format_for, trace, IsTrace}
 use Rattle.text_trace.specs.declared.format.Format.{Format}
 use Rattle.text_trace.specs.declared.format.Format.TheVariants.{Two, Three, Four}
 use Rattle.text_crew.specs.Crew.{Crew, new_crew, finished, entries_of}
@@ -32,11 +32,11 @@ pub record IsScriptHistory (crew : Crew) (start : State) (history : List Entry) 
   pub raises : AreAbsorbed (4 * crew.processors) (logs_of crew.lines answers) history standing
   pub clear : All (λ (word : ℕ). word ≡ 0) standing
 
--- The trace of a history of a crew. It is the trace of a legal history with as many entries as the script has.
+-- The trace of a history of a crew, in this format or with a send in format 5. It is the trace of a legal history with as many entries as the script has.
 pub record IsCrewTrace (format : Format) (beginning : List ℕ) (start : State) (crew : Crew) (text : List ℕ) : Type 0 where
   pub history : List Entry
   pub is : IsScriptHistory crew start history
-  pub written : text ≡ trace format beginning start history
+  pub written : text ≡ trace (format_for format history) beginning start history
   pub legal : IsTrace text (entries_of crew)
 
 -- the pages in the board line of a board that holds so many; a sparse board holds none
@@ -44,7 +44,7 @@ abbrev pub line_pages : ℕ → Option ℕ
 line_pages zero = None
 line_pages (suc n) = Some (suc n)
 
--- the format of its trace
+-- the format of its trace without a send
 abbrev pub opened_format : ℕ → Format
 opened_format zero = Four
 opened_format (suc n) = Two

@@ -8,12 +8,12 @@ use Rattle.text_base.specs.Numbers.{hex, two_digits, byte_at}
 use Rattle.text_base.specs.Fields.{fields_of, spaced}
 use Rattle.text_base.proofs.NumberLemmas.{decimal_at-spelled, decimal_at-only, hex_at-spelled, hex_at-only, byte_at-spelled, byte_at-only}
 use Rattle.synic_board.specs.declared.event.Event.{Event}
-use Rattle.synic_board.specs.declared.event.Event.TheVariants.{OpenPort, ClosePort, Write, Read, Post, Signal, Assert, Absorb, Store, Load, Tick, Take, Suspend, Resume, Reset}
+use Rattle.synic_board.specs.declared.event.Event.TheVariants.{OpenPort, ClosePort, Write, Read, Post, Signal, Assert, Absorb, Store, Load, Tick, Take, Suspend, Resume, Reset, Send}
 use Rattle.board_terms.specs.Ranges.{IsVector}
 use Rattle.board_terms.specs.declared.messages.PortShape.TheVariants.{Messages, Flags}
 use Rattle.text_lines.specs.Events.{event_fields, bytes_text, IsEvent}
 use Rattle.text_lines.specs.Items.{Item, Opening, Performs, Summary, pages_field, ArePages, item_fields, IsItem, Denotes}
-use Rattle.text_lines.specs.Reading.{Fields, take_then, none_left, u8_at, u16_at, bytes_at, u64_at, hex_u32_at, hex_u64_at, from_16, vector_at, parse_messages, parse_flags, parse_shape, parse_open, parse_close, parse_write, parse_read, parse_post, parse_signal, parse_assert, parse_absorb, parse_store, parse_load, parse_tick, parse_processor, parse_take, parse_suspend, parse_resume, parse_reset, pages_at, parse_opening, parse_event, parse_item, item_at}
+use Rattle.text_lines.specs.Reading.{Fields, take_then, none_left, u8_at, u16_at, bytes_at, u64_at, hex_u32_at, hex_u64_at, from_16, vector_at, parse_messages, parse_flags, parse_shape, parse_open, parse_close, parse_write, parse_read, parse_post, parse_signal, parse_assert, parse_absorb, parse_store, parse_load, parse_tick, parse_processor, parse_take, parse_suspend, parse_resume, parse_reset, parse_send, pages_at, parse_opening, parse_event, parse_item, item_at}
 use Rattle.text_lines.proofs.ByteFields.{bytes_at-only, bytes_at-spelled}
 
 -- A parsed field determines the text before the rest.
@@ -143,6 +143,14 @@ reset-says : (fs : Fields) (event : Event) → parse_reset fs ≡ Some event →
 reset-says fs event = mapped Reset (parse_processor fs) event (Says (codes "reset" ∷ fs) event)
     (λ vp said same. let h = processor-says fs vp said in rw (h.0, ← same) (record { same = refl; fits = h.1 }))
 
+send-says : (fs : Fields) (event : Event) → parse_send fs ≡ Some event → Says (codes "send" ∷ fs) event
+send-says fs event =
+    then-some vector_at _ fs event (Says (codes "send" ∷ fs) event) (λ a vector more at read.
+    then-some hex_u64_at _ more event (Says (codes "send" ∷ fs) event) (λ b mask more' at' read'.
+    ended-some (Send vector mask) more' event (Says (codes "send" ∷ fs) event) (λ none is.
+    let h = vector-only a vector read in let h' = hex_u64-only b mask read' in
+    rw (at, at', none, h.1, h'.1, ← is) (record { same = refl; fits = (h.0, h'.0) }))))
+
 messages-says : (port : ℕ) → port < 256 → (fs : Fields) (event : Event) → parse_messages port fs ≡ Some event → Says (codes "open" ∷ decimal port ∷ codes "message" ∷ fs) event
 messages-says port in_range fs event =
     then-some u8_at _ fs event (Says (codes "open" ∷ decimal port ∷ codes "message" ∷ fs) event) (λ a vp more at read.
@@ -244,8 +252,9 @@ event-says (word ∷ fs) event e =
     (yes (bytes_eq word (codes "take")) (parse_take fs) _ event (Says (word ∷ fs) event) (λ is e. worded (λ w. Says (w ∷ fs) event) word (codes "take") is (take-says fs event e))
     (yes (bytes_eq word (codes "suspend")) (parse_suspend fs) _ event (Says (word ∷ fs) event) (λ is e. worded (λ w. Says (w ∷ fs) event) word (codes "suspend") is (suspend-says fs event e))
     (yes (bytes_eq word (codes "resume")) (parse_resume fs) _ event (Says (word ∷ fs) event) (λ is e. worded (λ w. Says (w ∷ fs) event) word (codes "resume") is (resume-says fs event e))
-    (yes (bytes_eq word (codes "reset")) (parse_reset fs) None event (Says (word ∷ fs) event)
-    (λ is e. worded (λ w. Says (w ∷ fs) event) word (codes "reset") is (reset-says fs event e)) (λ e. cc))))))))))))))) e
+    (yes (bytes_eq word (codes "reset")) (parse_reset fs) _ event (Says (word ∷ fs) event) (λ is e. worded (λ w. Says (w ∷ fs) event) word (codes "reset") is (reset-says fs event e))
+    (yes (bytes_eq word (codes "send")) (parse_send fs) None event (Says (word ∷ fs) event)
+    (λ is e. worded (λ w. Says (w ∷ fs) event) word (codes "send") is (send-says fs event e)) (λ e. cc)))))))))))))))) e
 
 -- Parsing what is printed gives it back.
 pub u8-spelled : (n : ℕ) → n < 256 → u8_at (decimal n) ≡ Some n
@@ -311,6 +320,7 @@ says-event (Take vp) h = ap (option_map Take) (processor-spelled vp h)
 says-event (Suspend vp) h = ap (option_map Suspend) (processor-spelled vp h)
 says-event (Resume vp) h = ap (option_map Resume) (processor-spelled vp h)
 says-event (Reset vp) h = ap (option_map Reset) (processor-spelled vp h)
+says-event (Send vector mask) h = then-read vector_at _ (two_digits vector) vector _ (vector-spelled vector h.0) ∙ then-read hex_u64_at _ (hex mask) mask [] (hex_u64-spelled mask h.1)
 
 pub record SaysItem (fields : Fields) (item : Item) : Type 0 where
   pub same : fields ≡ item_fields item
@@ -356,6 +366,7 @@ says-item (Performs (Take vp)) h = ap (option_map Performs) (says-event (Take vp
 says-item (Performs (Suspend vp)) h = ap (option_map Performs) (says-event (Suspend vp) h)
 says-item (Performs (Resume vp)) h = ap (option_map Performs) (says-event (Resume vp) h)
 says-item (Performs (Reset vp)) h = ap (option_map Performs) (says-event (Reset vp) h)
+says-item (Performs (Send vector mask)) h = ap (option_map Performs) (says-event (Send vector mask) h)
 says-item Summary h = refl
 
 pub event-item : (fs : Fields) (event : Event) → parse_event fs ≡ Some event → parse_item fs ≡ Some (Performs event)
@@ -389,6 +400,7 @@ pub record NoEvent (fields : Fields) : Type 0 where
   pub not_suspend : IsOther (codes "suspend") fields
   pub not_resume : IsOther (codes "resume") fields
   pub not_reset : IsOther (codes "reset") fields
+  pub not_send : IsOther (codes "send") fields
 
 pub no-event : (fields : Fields) → NoEvent fields → parse_event fields ≡ None
 no-event [] other = refl
@@ -409,6 +421,7 @@ no-event (word ∷ rest) other =
       other-word word (codes "suspend") rest other.not_suspend,
       other-word word (codes "resume") rest other.not_resume,
       other-word word (codes "reset") rest other.not_reset,
+      other-word word (codes "send") rest other.not_send,
     ) refl
 
 pub reading-means : (line : List ℕ) (item : Item) → (item_at line ≡ Some item) ↔ Denotes line item

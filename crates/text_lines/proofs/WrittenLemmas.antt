@@ -4,7 +4,7 @@ use Rattle.text_base.specs.Fields.{spaced}
 use Rattle.text_base.proofs.PlainWords.{IsPlain, ArePlain, total, plain_by, digits-plain, digits-short, two_digits-plain, spelled-plain, spelled-length, IsWritten, written}
 use Rattle.board_terms.specs.declared.messages.PortShape.TheVariants.{Messages, Flags}
 use Rattle.synic_board.specs.declared.event.Event.{Event}
-use Rattle.synic_board.specs.declared.event.Event.TheVariants.{OpenPort, ClosePort, Write, Read, Post, Signal, Assert, Absorb, Store, Load, Tick, Take, Suspend, Resume, Reset}
+use Rattle.synic_board.specs.declared.event.Event.TheVariants.{OpenPort, ClosePort, Write, Read, Post, Signal, Assert, Absorb, Store, Load, Tick, Take, Suspend, Resume, Reset, Send}
 use Rattle.text_lines.specs.Events.{event_fields, bytes_text, IsEvent}
 use Rattle.text_lines.specs.Items.{Item, Opening, Performs, Summary, pages_field, item_fields, IsItem, Denotes}
 use Rattle.text_lines.specs.Reading.{item_at}
@@ -53,6 +53,7 @@ event-plain (Take vp) h = bound-plain _ _ (plain_by (codes "take") refl, (digits
 event-plain (Suspend vp) h = bound-plain _ _ (plain_by (codes "suspend") refl, (digits-plain 10 vp, tt)) (omega (arith, digits-short 10 vp))
 event-plain (Resume vp) h = bound-plain _ _ (plain_by (codes "resume") refl, (digits-plain 10 vp, tt)) (omega (arith, digits-short 10 vp))
 event-plain (Reset vp) h = bound-plain _ _ (plain_by (codes "reset") refl, (digits-plain 10 vp, tt)) (omega (arith, digits-short 10 vp))
+event-plain (Send vector mask) h = bound-plain _ _ (plain_by (codes "send") refl, (two_digits-plain vector, (digits-plain 16 mask, tt))) (omega (arith, digits-short 16 mask))
 
 plain-written : (fields : List (List ℕ)) → FewPlain fields → IsWritten fields
 plain-written [] h = absurd (omega (arith, h.some))

@@ -5,7 +5,7 @@ use Rattle.board_terms.specs.Ranges.{IsVector}
 use Rattle.board_terms.specs.declared.messages.PortShape.{PortShape}
 use Rattle.board_terms.specs.declared.messages.PortShape.TheVariants.{Messages, Flags}
 use Rattle.synic_board.specs.declared.event.Event.{Event}
-use Rattle.synic_board.specs.declared.event.Event.TheVariants.{OpenPort, ClosePort, Write, Read, Post, Signal, Assert, Absorb, Store, Load, Tick, Take, Suspend, Resume, Reset}
+use Rattle.synic_board.specs.declared.event.Event.TheVariants.{OpenPort, ClosePort, Write, Read, Post, Signal, Assert, Absorb, Store, Load, Tick, Take, Suspend, Resume, Reset, Send}
 
 -- bytes as two digits each, or `-` for none
 abbrev pub bytes_text : List ℕ → List ℕ
@@ -29,6 +29,7 @@ event_fields (Take vp) = codes "take" ∷ decimal vp ∷ []
 event_fields (Suspend vp) = codes "suspend" ∷ decimal vp ∷ []
 event_fields (Resume vp) = codes "resume" ∷ decimal vp ∷ []
 event_fields (Reset vp) = codes "reset" ∷ decimal vp ∷ []
+event_fields (Send vector mask) = codes "send" ∷ two_digits vector ∷ hex mask ∷ []
 
 -- at most that many bytes
 abbrev pub AtMostBytes : ℕ → List ℕ → Type 0
@@ -55,3 +56,4 @@ IsEvent (Take vp) = vp < 256
 IsEvent (Suspend vp) = vp < 256
 IsEvent (Resume vp) = vp < 256
 IsEvent (Reset vp) = vp < 256
+IsEvent (Send vector mask) = IsVector vector × (mask < 2 ^ 64)

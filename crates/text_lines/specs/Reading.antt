@@ -6,7 +6,7 @@ use Rattle.text_base.specs.Numbers.{decimal_at, hex_at, byte_at}
 use Rattle.text_base.specs.Fields.{fields_of}
 use Rattle.arrayvec.specs.ArrayVec.{ArrayVec}
 use Rattle.synic_board.specs.declared.event.Event.{Event}
-use Rattle.synic_board.specs.declared.event.Event.TheVariants.{OpenPort, ClosePort, Write, Read, Post, Signal, Assert, Absorb, Store, Load, Tick, Take, Suspend, Resume, Reset}
+use Rattle.synic_board.specs.declared.event.Event.TheVariants.{OpenPort, ClosePort, Write, Read, Post, Signal, Assert, Absorb, Store, Load, Tick, Take, Suspend, Resume, Reset, Send}
 use Rattle.board_terms.specs.declared.messages.PortShape.TheVariants.{Messages, Flags}
 use Rattle.text_lines.specs.Items.{Item, Opening, Performs, Summary}
 
@@ -142,6 +142,9 @@ parse_resume fields = option_map Resume (parse_processor fields)
 abbrev pub parse_reset : Fields → Option Event
 parse_reset fields = option_map Reset (parse_processor fields)
 
+abbrev pub parse_send : Fields → Option Event
+parse_send = take_then vector_at (λ vector. take_then hex_u64_at (λ mask. none_left (Send vector mask)))
+
 -- the processors, the pages and the first ticket of a board line
 abbrev pub parse_opening : Fields → Option (ℕ × Option ℕ × ℕ)
 parse_opening = take_then u8_at (λ processors. take_then pages_at (λ pages. take_then u64_at (λ ticket. none_left (processors, pages, ticket))))
@@ -165,6 +168,7 @@ parse_event (word ∷ fields) =
     else if bytes_eq word (codes "suspend") then parse_suspend fields
     else if bytes_eq word (codes "resume") then parse_resume fields
     else if bytes_eq word (codes "reset") then parse_reset fields
+    else if bytes_eq word (codes "send") then parse_send fields
     else None
 
 -- the item that the fields of a board line denote

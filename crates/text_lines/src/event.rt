@@ -3,7 +3,7 @@ ghost use Rattle.std.specs.Prelude.{◌≡◌, [], ◌∷◌};
 ghost use Rattle.std.specs.Option.{option_map};
 ghost use Rattle.synic_board.specs.declared.event.Event.TheVariants.{Post, Store};
 ghost use Rattle.text_lines.specs.Performing.{MakesOfLine};
-ghost use Rattle.text_lines.specs.Reading.{parse_event, parse_open, parse_messages, parse_flags, parse_close, parse_write, parse_read, parse_post, parse_signal, parse_assert, parse_absorb, parse_store, parse_load, parse_tick, parse_processor, parse_take, parse_suspend, parse_resume, parse_reset};
+ghost use Rattle.text_lines.specs.Reading.{parse_event, parse_open, parse_messages, parse_flags, parse_close, parse_write, parse_read, parse_post, parse_signal, parse_assert, parse_absorb, parse_store, parse_load, parse_tick, parse_processor, parse_take, parse_suspend, parse_resume, parse_reset, parse_send};
 
 use crate::numbers::{hex_u32_of, hex_u64_of, read_bytes, u8_of, u16_of, u64_of, vector_of};
 use arrayvec::ArrayVec;
@@ -60,6 +60,9 @@ pub fn event_of(word: &[u8], fields: &mut Fields<'_>) -> Option<Event>
     }
     if is_word(word, b"reset") {
         return reset_of(fields);
+    }
+    if is_word(word, b"send") {
+        return send_of(fields);
     }
     None
 }
@@ -121,6 +124,9 @@ pub fn perform_event<T, F: FnOnce(Reply) -> T>(
     }
     if let Some(mut rest) = fields.after(b"reset") {
         return perform(board, reset_of(&mut rest), notices, make);
+    }
+    if let Some(mut rest) = fields.after(b"send") {
+        return perform(board, send_of(&mut rest), notices, make);
     }
     None
 }
@@ -437,4 +443,16 @@ fn reset_of(fields: &mut Fields<'_>) -> Option<Event>
 {
     let vp = processor_of(fields)?;
     Some(Event::Reset { vp })
+}
+
+#[inline(always)]
+fn send_of(fields: &mut Fields<'_>) -> Option<Event>
+    ensures { result ≡ parse_send fields.old }
+{
+    let vector = vector_of(fields)?;
+    let mask = hex_u64_of(fields)?;
+    if !fields.is_empty() {
+        return None;
+    }
+    Some(Event::Send { vector, mask })
 }

@@ -1,9 +1,9 @@
 -- A text is the trace of at most one history.
-use Rattle.std.proofs.Common.{◌≡◌, ℕ, get_or, arith, List, [], ◌∷◌, ◌++◌, append_assoc, append-nil, length, Some, refl, sym, ap, subst, ◌∙◌, decimal}
+use Rattle.std.proofs.Common.{◌≡◌, inl, inr, ℕ, List, [], ◌∷◌, ◌++◌, append_assoc, append-nil, length, Some, refl, sym, ap, subst, ◌∙◌, decimal}
 use Rattle.std.specs.List.{All}
 use Rattle.std.proofs.lemmas.List.{append_cancel_left}
 use Rattle.std.proofs.lemmas.List.Elements.{All-head, All-tail}
-use Rattle.text_base.specs.Lines.{lines_of, joined}
+use Rattle.text_base.specs.Lines.{IsOneLine, lines_of, joined}
 use Rattle.text_base.specs.Fields.{fields_of, spaced, line_of}
 use Rattle.synic_board.specs.State.{State}
 use Rattle.synic_board.specs.Step.{step}
@@ -19,9 +19,8 @@ use Rattle.text_lines.specs.Sizes.{opened_by}
 use Rattle.text_lines.proofs.ReadLemmas.{u8-spelled}
 use Rattle.text_lines.proofs.WrittenLemmas.{board-written}
 use Rattle.text_trace.specs.declared.format.Format.{Format}
-use Rattle.text_trace.specs.declared.format.Format.TheVariants.{One, Two, Three, Four}
 use Rattle.text_trace.specs.Trace.{IsEntry, IsOpening, IsBeginning, IsTrace, title_fields, entry_fields, end_fields, history_lines}
-use Rattle.text_trace.specs.inside.Stages.{entry_at, Board, board_at}
+use Rattle.text_trace.specs.inside.Stages.{Title, Opening as Beginning, image_title, follow, entry_at, Board, board_at}
 use Rattle.text_base.proofs.PlainWords.{IsWritten}
 use Rattle.text_base.proofs.LineLemmas.{AreLines, cut}
 use Rattle.text_restore.specs.Restoring as images
@@ -30,7 +29,7 @@ use Rattle.text_restore.specs.Images.{Leads, IsImage}
 use Rattle.text_restore.proofs.Unique.{one-next}
 use Rattle.text_restore.proofs.Completing.{no-more}
 use Rattle.text_trace.proofs.Written.{entry-written, title-written, end-written, entry-reads, end-no_entry, board-reads}
-use Rattle.text_trace.proofs.StageLemmas.{first_line, text-line}
+use Rattle.text_trace.proofs.StageLemmas.{first_line, text-line, title-follows, no-image}
 
 abbrev Lines : Type 0
 Lines = List (List (List ℕ))
@@ -92,22 +91,7 @@ same-history f s (x ∷ a) (y ∷ b) m n t u fa fb la lb text =
 
 -- titles determine formats
 same-format : (f g : Format) → spaced (title_fields f) ≡ spaced (title_fields g) → f ≡ g
-same-format One One e = refl
-same-format Two Two e = refl
-same-format Three Three e = refl
-same-format Four Four e = refl
-same-format One Two e = let digit : 49 ≡ 50 = ap (λ (l : List ℕ). get_or l 6 0) e in absurd (omega (arith, digit))
-same-format One Three e = let digit : 49 ≡ 51 = ap (λ (l : List ℕ). get_or l 6 0) e in absurd (omega (arith, digit))
-same-format Two One e = let digit : 50 ≡ 49 = ap (λ (l : List ℕ). get_or l 6 0) e in absurd (omega (arith, digit))
-same-format Two Three e = let digit : 50 ≡ 51 = ap (λ (l : List ℕ). get_or l 6 0) e in absurd (omega (arith, digit))
-same-format Three One e = let digit : 51 ≡ 49 = ap (λ (l : List ℕ). get_or l 6 0) e in absurd (omega (arith, digit))
-same-format Three Two e = let digit : 51 ≡ 50 = ap (λ (l : List ℕ). get_or l 6 0) e in absurd (omega (arith, digit))
-same-format One Four e = let digit : 49 ≡ 52 = ap (λ (l : List ℕ). get_or l 6 0) e in absurd (omega (arith, digit))
-same-format Two Four e = let digit : 50 ≡ 52 = ap (λ (l : List ℕ). get_or l 6 0) e in absurd (omega (arith, digit))
-same-format Three Four e = let digit : 51 ≡ 52 = ap (λ (l : List ℕ). get_or l 6 0) e in absurd (omega (arith, digit))
-same-format Four One e = let digit : 52 ≡ 49 = ap (λ (l : List ℕ). get_or l 6 0) e in absurd (omega (arith, digit))
-same-format Four Two e = let digit : 52 ≡ 50 = ap (λ (l : List ℕ). get_or l 6 0) e in absurd (omega (arith, digit))
-same-format Four Three e = let digit : 52 ≡ 51 = ap (λ (l : List ℕ). get_or l 6 0) e in absurd (omega (arith, digit))
+same-format f g e = let same : Some (Beginning f) ≡ Some (Beginning g) = sym (title-follows f) ∙ ap (follow Title) e ∙ title-follows g in cc
 
 -- texts that begin alike
 abbrev Alike : List ℕ → List ℕ → State → State → List ℕ → List ℕ → Type 0
@@ -153,11 +137,37 @@ same-image x y xs ys s t h k text =
     (ap (λ (z : List ℕ). z ++ xs) (sym wx) ∙ text ∙ ap (λ (z : List ℕ). z ++ ys) wy) in
     (wx ∙ same.0 ∙ sym wy, same.1, same.2)
 
+-- an image begins with its title
+record Titled (x : List ℕ) : Type 0 where
+  pub rest : List ℕ
+  pub one : IsOneLine image_title
+  pub text : x ≡ image_title ++ 10 ∷ rest
+
+image-titled : (x : List ℕ) (s : State) → IsImage x s → Titled x
+image-titled x s h = by (lines_of x) (cut x).each h.leads (whole-lines x s h)
+  where
+    by : (ls : List (List ℕ)) → AreLines ls → Leads images.Untitled ls h.stage → x ≡ joined ls → Titled x
+    by [] each leads whole = let e = sym leads ∙ h.complete.1 in cc
+    by (l ∷ ls) each leads whole = record {
+      rest = joined ls;
+      one = subst IsOneLine leads.2.0 each.0;
+      text = whole ∙ ap (λ (z : List ℕ). z ++ 10 ∷ joined ls) leads.2.0;
+    }
+
+-- no text begins both with a board line and with an image
+not-alike : (f : Format) (x y xs ys : List ℕ) (s t : State) → IsOpening f x s → IsImage y t → x ++ xs ≡ y ++ ys → ⊥
+not-alike f x y xs ys s t h k text =
+    let board = spaced (item_fields (Opening h.processors h.pages h.ticket)) in
+    let image = image-titled y t k in
+    no-image h.processors h.pages h.ticket (first_line board xs image_title (image.rest ++ ys) (board-written h.processors h.pages h.ticket).one image.one
+    (sym (append_assoc board (10 ∷ []) xs) ∙ ap (λ (z : List ℕ). z ++ xs) (sym h.line) ∙ text ∙ ap (λ (z : List ℕ). z ++ ys) image.text
+    ∙ append_assoc image_title (10 ∷ image.rest) ys)).0
+
 same-beginning : (f : Format) (x y xs ys : List ℕ) (s t : State) → IsBeginning f x s → IsBeginning f y t → x ++ xs ≡ y ++ ys → Alike x y s t xs ys
-same-beginning One x y xs ys s t h k text = same-opening One x y xs ys s t h k text
-same-beginning Two x y xs ys s t h k text = same-opening Two x y xs ys s t h k text
-same-beginning Three x y xs ys s t h k text = same-image x y xs ys s t h k text
-same-beginning Four x y xs ys s t h k text = same-opening Four x y xs ys s t h k text
+same-beginning f x y xs ys s t (inl h) (inl k) text = same-opening f x y xs ys s t h k text
+same-beginning f x y xs ys s t (inl h) (inr k) text = absurd (not-alike f x y xs ys s t h k.1 text)
+same-beginning f x y xs ys s t (inr h) (inl k) text = absurd (not-alike f y x ys xs t s k h.1 (sym text))
+same-beginning f x y xs ys s t (inr h) (inr k) text = same-image x y xs ys s t h.1 k.1 text
 
 abbrev next_of : {text : List ℕ} {n : ℕ} → IsTrace text n → ℕ
 next_of a = (leads_to a.state a.history).next_ticket

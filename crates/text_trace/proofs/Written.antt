@@ -1,5 +1,5 @@
 -- The lines of a trace, printed and parsed.
-use Rattle.std.proofs.Common.{◌≡◌, ℕ, ◌<◌, ◌≤◌, ◌^◌, List, [], ◌∷◌, length, get_or, Option, Some, None, refl, sym, ap, ◌∙◌, arith, cond, Bool, true, false, not, decimal, codes}
+use Rattle.std.proofs.Common.{◌≡◌, ℕ, ◌<◌, ◌≤◌, ◌^◌, List, [], ◌∷◌, length, get_or, Option, Some, None, refl, sym, ap, ◌∙◌, arith, cond, Bool, true, false, not, ◌&&◌, decimal, codes}
 use Rattle.std.specs.Option.{option_and_then}
 use Rattle.std.specs.Str.{bytes_eq}
 use Rattle.std.proofs.lemmas.Slice.Eq.{bytes_eq-Decides}
@@ -23,8 +23,8 @@ use Rattle.text_lines.proofs.ReadLemmas.{then-some, then-read, yes, u8-only, u8-
 use Rattle.text_lines.proofs.SizeLemmas.{sizes-are}
 use Rattle.text_lines.proofs.WrittenLemmas.{bytes-plain, bytes-short, event-plain, board-written}
 use Rattle.text_trace.specs.declared.format.Format.{Format}
-use Rattle.text_trace.specs.declared.format.Format.TheVariants.{One, Two, Three, Four}
-use Rattle.text_trace.specs.Trace.{IsEntry, is_reset, has_line, may_open, title_fields, entry_fields, end_fields}
+use Rattle.text_trace.specs.declared.format.Format.TheVariants.{One, Two, Three, Four, Five}
+use Rattle.text_trace.specs.Trace.{IsEntry, is_reset, is_send, has_line, may_open, title_fields, entry_fields, end_fields}
 use Rattle.text_trace.specs.inside.Stages.{has_fields, with_line, parse_entry, entry_at, Board, within_limits, parse_board, board_at}
 use Rattle.synic_board.specs.Replies.{IsReply}
 
@@ -47,12 +47,14 @@ title-written One = written _ _ (plain_by (codes "trace") refl, (plain_by (codes
 title-written Two = written _ _ (plain_by (codes "trace") refl, (plain_by (codes "2") refl, tt)) (omega arith)
 title-written Three = written _ _ (plain_by (codes "trace") refl, (plain_by (codes "3") refl, tt)) (omega arith)
 title-written Four = written _ _ (plain_by (codes "trace") refl, (plain_by (codes "4") refl, tt)) (omega arith)
+title-written Five = written _ _ (plain_by (codes "trace") refl, (plain_by (codes "5") refl, tt)) (omega arith)
 
 pub end-written : (f : Format) (n next : ℕ) → IsWritten (end_fields f n next)
 end-written One n next = written _ _ (plain_by (codes "end") refl, (digits-plain 10 n, tt)) (omega (arith, digits-short 10 n))
 end-written Two n next = written _ _ (plain_by (codes "end") refl, (digits-plain 10 n, (digits-plain 10 next, tt))) (omega (arith, digits-short 10 n, digits-short 10 next))
 end-written Three n next = written _ _ (plain_by (codes "end") refl, (digits-plain 10 n, (digits-plain 10 next, tt))) (omega (arith, digits-short 10 n, digits-short 10 next))
 end-written Four n next = written _ _ (plain_by (codes "end") refl, (digits-plain 10 n, (digits-plain 10 next, tt))) (omega (arith, digits-short 10 n, digits-short 10 next))
+end-written Five n next = written _ _ (plain_by (codes "end") refl, (digits-plain 10 n, (digits-plain 10 next, tt))) (omega (arith, digits-short 10 n, digits-short 10 next))
 
 pub reply-written : (reply : Reply) → IsReply reply → IsWritten (reply_fields reply)
 reply-written replies.Done h = written _ _ (plain_by (codes "=") refl, (plain_by (codes "done") refl, tt)) (omega arith)
@@ -107,11 +109,16 @@ pub entry-only : (f : Format) (line : List ℕ) (event : Event) → entry_at f l
 unfolding entry_at
 entry-only f line event e = entry-says f line (fields_of line) event refl e
 
--- the word of a reset is no other's
+-- the word of a reset is no other's, nor is that of a send
 reset-word : (e : Event) → bytes_eq (get_or (event_fields e) 0 []) (codes "reset") ≡ is_reset e
 reset-word (OpenPort port vp sint (Messages buffers)) = refl
 reset-word (OpenPort port vp sint (Flags base count)) = refl
 reset-word event = refl
+
+send-word : (e : Event) → bytes_eq (get_or (event_fields e) 0 []) (codes "send") ≡ is_send e
+send-word (OpenPort port vp sint (Messages buffers)) = refl
+send-word (OpenPort port vp sint (Flags base count)) = refl
+send-word event = refl
 
 no-event-line : (t : Bool) (o : Option Event) → o ≡ None → o ≡ cond t o None
 no-event-line true o is = refl
@@ -122,13 +129,19 @@ fields-line : (f : Format) (fields : Fields) → option_and_then (with_line f) (
 fields-line f [] = no-event-line (has_fields f []) None refl
 fields-line f (word ∷ fields) = by f (parse_event (word ∷ fields)) refl
   where
+    resets : (e : Event) → parse_event (word ∷ fields) ≡ Some e → is_reset e ≡ bytes_eq word (codes "reset")
+    resets e is = sym (reset-word e) ∙ ap (λ (fs : Fields). bytes_eq (get_or fs 0 []) (codes "reset")) (sym (event-says (word ∷ fields) e is).same)
+
+    sends : (e : Event) → parse_event (word ∷ fields) ≡ Some e → is_send e ≡ bytes_eq word (codes "send")
+    sends e is = sym (send-word e) ∙ ap (λ (fs : Fields). bytes_eq (get_or fs 0 []) (codes "send")) (sym (event-says (word ∷ fields) e is).same)
+
     by : (f : Format) (o : Option Event) → parse_event (word ∷ fields) ≡ o → option_and_then (with_line f) o ≡ cond (has_fields f (word ∷ fields)) o None
     by f None is = no-event-line (has_fields f (word ∷ fields)) None refl
-    by One (Some e) is =
-        let same : is_reset e ≡ bytes_eq word (codes "reset") =
-        sym (reset-word e) ∙ ap (λ (fs : Fields). bytes_eq (get_or fs 0 []) (codes "reset")) (sym (event-says (word ∷ fields) e is).same) in
-        ap (λ (t : Bool). cond (not t) (Some e) None) same
-    by f (Some e) is = refl
+    by One (Some e) is = λ i. cond (not (resets e is i) && not (sends e is i)) (Some e) None
+    by Two (Some e) is = ap (λ (t : Bool). cond (not t) (Some e) None) (sends e is)
+    by Three (Some e) is = ap (λ (t : Bool). cond (not t) (Some e) None) (sends e is)
+    by Four (Some e) is = ap (λ (t : Bool). cond (not t) (Some e) None) (sends e is)
+    by Five (Some e) is = refl
 
 -- the event of a line, from the fields after the actor's number
 pub entry-after : (f : Format) (line : List ℕ) (actor : ℕ) (more : Fields) → first_read u8_at (fields_of line) ≡ Some (actor, more) →
@@ -143,6 +156,7 @@ end-first One n next fields word e = cc
 end-first Two n next fields word e = cc
 end-first Three n next fields word e = cc
 end-first Four n next fields word e = cc
+end-first Five n next fields word e = cc
 
 pub end-no_entry : (f : Format) (n next actor : ℕ) (event : Event) → actor < 256 → IsEvent event → spaced (end_fields f n next) ≡ spaced (entry_fields actor event) → ⊥
 end-no_entry f n next actor event small fits e =

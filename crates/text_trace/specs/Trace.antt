@@ -1,10 +1,10 @@
 -- The text form of a history.
-use Rattle.std.specs.Prelude.{◌≡◌, ℕ, ◌<◌, ◌^◌, List, [], ◌∷◌, ◌++◌, length, Bool, true, false, not, Option, is_some, is_none, codes, decimal}
-use Rattle.std.specs.List.{All}
+use Rattle.std.specs.Prelude.{◌≡◌, ◌⊎◌, ℕ, ◌<◌, ◌^◌, List, [], ◌∷◌, ◌++◌, length, Bool, true, false, not, ◌&&◌, if◌then◌else◌, Option, is_some, is_none, codes, decimal}
+use Rattle.std.specs.List.{All, list_any}
 use Rattle.synic_board.specs.State.{State}
 use Rattle.synic_board.specs.History.{IsLegal, leads_to}
 use Rattle.synic_board.specs.declared.event.Event.{Event}
-use Rattle.synic_board.specs.declared.event.Event.TheVariants.{Reset}
+use Rattle.synic_board.specs.declared.event.Event.TheVariants.{Reset, Send}
 use Rattle.synic_board.specs.declared.history.Entry.{Entry}
 use Rattle.text_base.specs.Fields.{line_of}
 use Rattle.text_lines.specs.Events.{event_fields, IsEvent}
@@ -13,18 +13,23 @@ use Rattle.text_lines.specs.Printing.{text_of, reply_fields}
 use Rattle.text_lines.specs.Sizes.{AreBoardSizes, opened_by}
 use Rattle.text_restore.specs.Images.{IsImage}
 use Rattle.text_trace.specs.declared.format.Format.{Format}
-use Rattle.text_trace.specs.declared.format.Format.TheVariants.{One, Two, Three, Four}
+use Rattle.text_trace.specs.declared.format.Format.TheVariants.{One, Two, Three, Four, Five}
 
 abbrev pub is_reset : Event → Bool
 is_reset (Reset vp) = true
 is_reset event = false
 
--- a reset has no line in format 1
+abbrev pub is_send : Event → Bool
+is_send (Send vector mask) = true
+is_send event = false
+
+-- a reset has no line in format 1, and a send has one in format 5 alone
 abbrev pub has_line : Format → Event → Bool
-has_line One event = not (is_reset event)
-has_line Two event = true
-has_line Three event = true
-has_line Four event = true
+has_line One event = not (is_reset event) && not (is_send event)
+has_line Two event = not (is_send event)
+has_line Three event = not (is_send event)
+has_line Four event = not (is_send event)
+has_line Five event = true
 
 -- an entry that has a line, and the ranges of its fields
 pub record IsEntry (f : Format) (e : Entry) : Type 0 where
@@ -37,6 +42,7 @@ title_fields One = codes "trace" ∷ codes "1" ∷ []
 title_fields Two = codes "trace" ∷ codes "2" ∷ []
 title_fields Three = codes "trace" ∷ codes "3" ∷ []
 title_fields Four = codes "trace" ∷ codes "4" ∷ []
+title_fields Five = codes "trace" ∷ codes "5" ∷ []
 
 abbrev pub entry_fields : ℕ → Event → List (List ℕ)
 entry_fields actor event = decimal actor ∷ event_fields event
@@ -47,6 +53,7 @@ end_fields One entries next = codes "end" ∷ decimal entries ∷ []
 end_fields Two entries next = codes "end" ∷ decimal entries ∷ decimal next ∷ []
 end_fields Three entries next = codes "end" ∷ decimal entries ∷ decimal next ∷ []
 end_fields Four entries next = codes "end" ∷ decimal entries ∷ decimal next ∷ []
+end_fields Five entries next = codes "end" ∷ decimal entries ∷ decimal next ∷ []
 
 -- two lines for each entry
 abbrev pub history_lines : List Entry → List (List (List ℕ))
@@ -68,12 +75,19 @@ trace f beginning s history = trace_text f beginning history (leads_to s history
 abbrev pub board_text : ℕ → Option ℕ → ℕ → List ℕ
 board_text processors pages ticket = line_of (item_fields (Opening processors pages ticket))
 
--- the board line of format 4 opens a sparse board, that of the other formats a board that holds its guest pages
+-- the board line of formats 1 and 2 opens a board that holds its guest pages, that of format 4 a sparse board, and that of format 5 either
 abbrev pub may_open : Format → Option ℕ → Bool
 may_open One pages = is_some pages
 may_open Two pages = is_some pages
-may_open Three pages = is_some pages
+may_open Three pages = false
 may_open Four pages = is_none pages
+may_open Five pages = true
+
+-- in formats 3 and 5 an image may be in place of the board line
+abbrev pub may_restore : Format → Bool
+may_restore Three = true
+may_restore Five = true
+may_restore f = false
 
 -- the text is a board line of this format within the limits, and opens a board of this state
 pub record IsOpening (f : Format) (text : List ℕ) (s : State) : Type 0 where
@@ -86,12 +100,16 @@ pub record IsOpening (f : Format) (text : List ℕ) (s : State) : Type 0 where
   pub line : text ≡ board_text processors pages ticket
   pub state : s ≡ opened_by processors pages ticket
 
--- How a trace begins after its title, and the state in which its history starts: with a board line, or in format 3 with an image.
+-- How a trace begins after its title, and the state in which its history starts: with a board line, or with an image.
 abbrev pub IsBeginning : Format → List ℕ → State → Type 0
-IsBeginning One text s = IsOpening One text s
-IsBeginning Two text s = IsOpening Two text s
-IsBeginning Three text s = IsImage text s
-IsBeginning Four text s = IsOpening Four text s
+IsBeginning f text s = IsOpening f text s ⊎ ((may_restore f ≡ true) × IsImage text s)
+
+abbrev pub has_send : List Entry → Bool
+has_send history = list_any (λ e. is_send e.event) history
+
+-- the format in which a history is written: format 5 if it has a send, and otherwise this one
+abbrev pub format_for : Format → List Entry → Format
+format_for f history = if has_send history then Five else f
 
 -- The text is the trace of a legal history of that many entries.
 pub record IsTrace (text : List ℕ) (entries : ℕ) : Type 0 where

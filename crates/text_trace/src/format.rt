@@ -1,29 +1,44 @@
 // The formats of a trace.
 ghost use Rattle.std.specs.Prelude.{◌≡◌};
-ghost use Rattle.text_trace.specs.Trace.{may_open};
+ghost use Rattle.text_trace.specs.Trace.{format_for, has_send, may_open, may_restore};
 ghost use Rattle.text_trace.specs.inside.Stages.{has_fields};
 
+use synic_board::{Entry, Event};
 use text_base::Fields;
 
 /// The formats of a trace, named by its first line. All but format 1 have lines for resets of a
 /// processor, and their last line has the next ticket. Format 3 has an image in place of the board
-/// line, and the board line of format 4 opens a sparse board.
+/// line, and the board line of format 4 opens a sparse board. Format 5 begins in any of these ways,
+/// and has lines for interrupts that are sent to several processors.
 #[derive(Clone, Copy, PartialEq, Eq, Debug)]
 pub enum Format {
     One,
     Two,
     Three,
     Four,
+    Five,
 }
 
 impl Format {
+    /// The format in which a history is written: format 5 if it has a send, and otherwise this one.
+    pub(crate) fn for_history(self, history: &[Entry]) -> Format
+        ensures { result ≡ format_for self history.now }
+    {
+        if has_send(history) {
+            Format::Five
+        } else {
+            self
+        }
+    }
+
     /// Whether an event whose line has these fields has a line in this format.
     pub(crate) fn has_fields(self, fields: &Fields<'_>) -> bool
         ensures { result ≡ has_fields self fields.now }
     {
         match self {
-            Format::One => fields.after(b"reset").is_none(),
-            Format::Two | Format::Three | Format::Four => true,
+            Format::One => fields.after(b"reset").is_none() && fields.after(b"send").is_none(),
+            Format::Two | Format::Three | Format::Four => fields.after(b"send").is_none(),
+            Format::Five => true,
         }
     }
 
@@ -33,8 +48,26 @@ impl Format {
         ensures { result ≡ may_open self pages }
     {
         match self {
-            Format::One | Format::Two | Format::Three => pages.is_some(),
+            Format::One | Format::Two => pages.is_some(),
+            Format::Three => false,
             Format::Four => pages.is_none(),
+            Format::Five => true,
         }
     }
+
+    /// Whether a trace of this format may begin with an image.
+    pub(crate) fn may_restore(self) -> bool
+        ensures { result ≡ may_restore self }
+    {
+        matches!(self, Format::Three | Format::Five)
+    }
+}
+
+/// Whether a history has a send.
+fn has_send(history: &[Entry]) -> bool
+    ensures { result ≡ has_send history.now }
+{
+    history
+        .iter()
+        .any(|entry| matches!(entry.event, Event::Send { .. }))
 }

@@ -7,7 +7,7 @@ ghost use Rattle.text_lines.specs.Printing.{reply_fields};
 ghost use Rattle.text_trace.specs.Trace.{end_fields};
 ghost use Rattle.text_driver.specs.Judging.{Judges};
 ghost use Rattle.text_restore.specs.Taking.{stage_of as image_stage_of};
-ghost use Rattle.text_trace.specs.inside.Stages.{Title, Opening, Over, entry_at, board_at, stage_of, count, IsGood, IsWrong, Opens, Reads, HasImage, started, Runs, IsOver};
+ghost use Rattle.text_trace.specs.inside.Stages.{Title, Opening, Over, entry_at, board_at, begins_image, stage_of, count, IsGood, IsWrong, Opens, Reads, HasImage, started, Runs, IsOver};
 
 use crate::format::Format;
 use crate::print::put_end;
@@ -25,10 +25,10 @@ use text_restore::{Stage as ImageStage, board_of, has_ended, take_line as take_i
 pub(crate) enum Stage {
     /// The title.
     Title,
-    /// The board line.
+    /// The board line, or the first line of an image.
     Opening(Format),
     /// A line of the image, of which these were read.
-    Image(ImageStage),
+    Image(Format, ImageStage),
     /// The reply that is due, or else an event or the end line, after that many entries.
     Running {
         format: Format,
@@ -74,7 +74,7 @@ pub(crate) fn take_line(
             let format = *format;
             take_opening(alloc, stage, format, line)
         }
-        Stage::Image(image) => match read_line(alloc, image, line) {
+        Stage::Image(_, image) => match read_line(alloc, image, line) {
             Ran::On => Taken::Good,
             Ran::End => {
                 start(stage);
@@ -116,21 +116,27 @@ fn take_title(stage: &mut Stage, line: &[u8]) -> Taken<()>
     } else if line == b"trace 2".as_slice() {
         Stage::Opening(Format::Two)
     } else if line == b"trace 3".as_slice() {
-        Stage::Image(ImageStage::Untitled)
+        Stage::Opening(Format::Three)
     } else if line == b"trace 4".as_slice() {
         Stage::Opening(Format::Four)
+    } else if line == b"trace 5".as_slice() {
+        Stage::Opening(Format::Five)
     } else {
         return Taken::Wrong(());
     };
     Taken::Good
 }
 
-/// Takes the board line.
+/// Takes the board line, or the first line of an image.
 #[inline(never)]
 fn take_opening(alloc: Global, stage: &mut Stage, format: Format, line: &[u8]) -> Taken<()>
     requires { stage_of stage.old ≡ Opening format }
     ensures { Judges IsGood IsWrong result (stage_of stage.old) (stage_of stage.new) line.now [] }
 {
+    if begins_image(format, line) {
+        *stage = Stage::Image(format, ImageStage::Titled);
+        return Taken::Good;
+    }
     match open(alloc, format, line) {
         Opened::Board(board) => {
             *stage = Stage::Running {
@@ -144,6 +150,13 @@ fn take_opening(alloc: Global, stage: &mut Stage, format: Format, line: &[u8]) -
         Opened::Wrong => Taken::Wrong(()),
         Opened::Memory => Taken::Memory,
     }
+}
+
+/// Whether a line is the first of an image, with which a trace of this format may begin.
+fn begins_image(format: Format, line: &[u8]) -> bool
+    ensures { result ≡ begins_image format line.now }
+{
+    format.may_restore() && line == b"image 1".as_slice()
 }
 
 /// Takes a line of the image, and returns whether it is the end.
@@ -164,14 +177,14 @@ fn start(stage: &mut Stage)
     requires whole { HasImage (stage_of stage.old) }
     ensures { stage_of stage.new ≡ started (stage_of stage.old) }
 {
-    let Stage::Image(image) = replace(stage, Stage::Title) else {
+    let Stage::Image(format, image) = replace(stage, Stage::Title) else {
         unreachable!()
     };
     let Some(board) = board_of(image) else {
         unreachable!()
     };
     *stage = Stage::Running {
-        format: Format::Three,
+        format,
         board,
         entries: 0,
         due: None,

@@ -109,6 +109,7 @@ fn host_event(fields: &[&str]) -> Option<Event> {
             Event::Absorb { vp: decimal(vp)?, part: decimal(part)?, bits: hexadecimal(bits)? }
         }
         ["tick", moment] => Event::Tick { moment: decimal(moment)? },
+        ["send", sent, mask] => Event::Send { vector: vector(sent)?, mask: hexadecimal(mask)? },
         _ => return None,
     })
 }

@@ -1,7 +1,7 @@
 -- The compact form of an entry: its numbers, and separately its bytes.
 use Rattle.std.specs.Prelude.{ℕ, ◌+◌, ◌≤◌, List, [], ◌∷◌, take, drop}
 use Rattle.synic_board.specs.declared.event.Event.{Event}
-use Rattle.synic_board.specs.declared.event.Event.TheVariants.{OpenPort, ClosePort, Write, Read, Post, Signal, Assert, Absorb, Store, Load, Tick, Take, Suspend, Resume, Reset}
+use Rattle.synic_board.specs.declared.event.Event.TheVariants.{OpenPort, ClosePort, Write, Read, Post, Signal, Assert, Absorb, Store, Load, Tick, Take, Suspend, Resume, Reset, Send}
 use Rattle.synic_board.specs.declared.event.Reply.{Reply}
 use Rattle.synic_board.specs.declared.event.Reply.TheVariants.{Done, Value, Bytes, Taken, Accepted, FlagWasClear, FlagWasSet, GeneralProtection, Refused}
 use Rattle.synic_board.specs.declared.history.Entry.{Entry}
@@ -54,6 +54,7 @@ event_with own (event.Take p) = Take p
 event_with own (event.Suspend p) = Suspend p
 event_with own (event.Resume p) = Resume p
 event_with own (event.Reset p) = Reset p
+event_with own (event.Send v mask) = Send v mask
 
 abbrev pub reply_with : List ℕ → CompactReply → Reply
 reply_with own reply.Done = Done

@@ -4,6 +4,7 @@ use Rattle.std.specs.Prelude.{Option, None, Some, ◌==◌, if◌then◌else◌}
 use Rattle.std.specs.Option.{option_map_or}
 use Rattle.std.proofs.lemmas.Bool.Decides.{nat_tests}
 use Rattle.std.specs.FinSet as finset
+use Rattle.std.specs.Int.{bit_at}
 use Rattle.board_terms.specs.declared.messages.Message.{Message}
 use Rattle.board_terms.specs.declared.messages.Message.TheVariants.{FromTimer}
 use Rattle.synic_regs.specs.Regs.{has, enable, raised_by}
@@ -22,6 +23,7 @@ use Rattle.synic_board.specs.State.{State, apic_of, regs_of, bank_of}
 use Rattle.synic_board.specs.Effects.{Effect, nothing}
 use Rattle.synic_board.specs.Interrupts.{requested, raised}
 use Rattle.synic_board.specs.Absorbing.{is_posted, absorbed_below}
+use Rattle.synic_board.specs.Sending.{sent_below}
 use Rattle.synic_board.specs.Delivery.{delivers, is_slot_empty, placed_head, placed, tried, tried_below, accepted, delivered}
 use Rattle.synic_board.specs.Posts.{are_tickets_left}
 use Rattle.synic_board.specs.Timers.{mode_at, is_ready_for, is_ready, delivery_by, signalled_by, expired_state, expiry_at, attempted, attempted_all}
@@ -46,6 +48,14 @@ buffers-absorbed_below s p part bits (suc i) h =
     let e : Effect = absorbed_below s p part bits i in
     let before = buffers-absorbed_below s p part bits i h in
     either (λ (f : Effect). HasBuffers f.0) (is_posted part bits i) _ _ (λ _. buffers-requested e.0 p (64 * part + i) before) (λ _. before)
+
+pub buffers-sent_below : (s : State) (v mask n : ℕ) → HasBuffers s → HasBuffers (sent_below s v mask n).0
+unfolding sent_below
+buffers-sent_below s v mask zero h = h
+buffers-sent_below s v mask (suc p) h =
+    let e : Effect = sent_below s v mask p in
+    let before = buffers-sent_below s v mask p h in
+    either (λ (f : Effect). HasBuffers f.0) (bit_at mask p == 1) _ _ (λ _. buffers-requested e.0 p v before) (λ _. before)
 
 -- delivery
 buffers-placed : (s : State) (p i : ℕ) → HasBuffers s → HasBuffers (placed s p i).0

@@ -1,8 +1,9 @@
 -- Requesting vectors, and raising them from sources.
 use Rattle.std.proofs.Common.{◌≡◌, ℕ, ◌+◌, ◌*◌, zero, suc, Bool, true, false, [], ◌∷◌, refl}
-use Rattle.std.specs.Prelude.{None, Some, if◌then◌else◌}
+use Rattle.std.specs.Prelude.{None, Some, ◌==◌, if◌then◌else◌}
 use Rattle.std.specs.Option.{option_map_or}
 use Rattle.std.specs.FinSet as set
+use Rattle.std.specs.Int.{bit_at}
 use Rattle.board_terms.specs.declared.notices.Notice.TheVariants.{Requested}
 use Rattle.lapic_core.specs.Apic.{Apic, request}
 use Rattle.synic_regs.specs.Regs.{raised_by}
@@ -10,6 +11,7 @@ use Rattle.synic_board.specs.State.{State, apic_of, regs_of, with_apic}
 use Rattle.synic_board.specs.Effects.{nothing}
 use Rattle.synic_board.specs.Interrupts.{requested, raised}
 use Rattle.synic_board.specs.Absorbing.{is_posted, absorbed_bit, absorbed_below}
+use Rattle.synic_board.specs.Sending.{sent_to, sent_below}
 use Rattle.synic_board.proofs.keeping.Left.{Leaves, leaves-same}
 use Rattle.synic_board.proofs.keeping.Wholes.{IsIntact, Keeps, AreStill, keeps-still, keeps-nothing, keeps-after, kept-apic}
 
@@ -45,3 +47,14 @@ keeps-absorbed_below n s p part bits (suc i) h =
     let first = keeps-absorbed_below n s p part bits i h in
     keeps-after n s (absorbed_below s p part bits i) (absorbed_bit (absorbed_below s p part bits i).0 p part bits i) first
     (keeps-absorbed_bit n (absorbed_below s p part bits i).0 p part bits i first.kept)
+
+-- several processors
+keeps-sent_to : (n : ℕ) (s : State) (v mask p : ℕ) → IsIntact n s → Keeps n s (sent_to s v mask p)
+keeps-sent_to n s v mask p h = either (Keeps n s) (bit_at mask p == 1) _ _ (λ _. keeps-requested n s p v h) (λ _. keeps-nothing n s h)
+
+pub keeps-sent_below : (n : ℕ) (s : State) (v mask k : ℕ) → IsIntact n s → Keeps n s (sent_below s v mask k)
+unfolding sent_below
+keeps-sent_below n s v mask zero h = keeps-nothing n s h
+keeps-sent_below n s v mask (suc p) h =
+    let first = keeps-sent_below n s v mask p h in
+    keeps-after n s (sent_below s v mask p) (sent_to (sent_below s v mask p).0 v mask p) first (keeps-sent_to n (sent_below s v mask p).0 v mask p first.kept)

@@ -1,5 +1,5 @@
 -- Invariants of every event.
-use Rattle.std.proofs.Common.{◌≡◌, ◌∙◌, Bool, true, false, ℕ, ◌%◌, ◌<◌, ◌≤◌, List, [], refl, sym, subst, arith, nat_lt}
+use Rattle.std.proofs.Common.{◌≡◌, ◌∙◌, Bool, true, false, ℕ, ◌%◌, ◌^◌, ◌<◌, ◌≤◌, List, [], refl, sym, subst, arith, nat_lt}
 use Rattle.std.specs.Prelude.{Option, None, Some, nat_le}
 use Rattle.std.specs.Option.{option_map_or}
 use Rattle.std.proofs.lemmas.Bool.Decides.{nat_tests}
@@ -12,7 +12,7 @@ use Rattle.synic_regs.specs.Registers.{register_of, Exists}
 use Rattle.synic_regs.specs.Regs.{is_refused, with_value}
 use Rattle.synic_regs.proofs.Numbers.{have_their_numbers}
 use Rattle.synic_board.specs.declared.event.Event.{Event}
-use Rattle.synic_board.specs.declared.event.Event.TheVariants.{OpenPort, ClosePort, Write, Read, Post, Signal, Assert, Absorb, Store, Load, Tick, Take, Suspend, Resume, Reset}
+use Rattle.synic_board.specs.declared.event.Event.TheVariants.{OpenPort, ClosePort, Write, Read, Post, Signal, Assert, Absorb, Store, Load, Tick, Take, Suspend, Resume, Reset, Send}
 use Rattle.synic_board.specs.declared.event.Reply.{Reply}
 use Rattle.synic_board.specs.declared.event.Reply.TheVariants.{Done, GeneralProtection, Refused}
 use Rattle.synic_board.specs.State.{State, processors, slot_of, apic_of, regs_of, with_apic, with_regs}
@@ -23,6 +23,7 @@ use Rattle.synic_board.specs.Registers.{stored, written_register, written, read}
 use Rattle.synic_board.specs.Stores.{read_bytes}
 use Rattle.synic_board.specs.Suspending.{is_suspended, suspended, resumed}
 use Rattle.synic_board.specs.Resetting.{reset}
+use Rattle.synic_board.specs.Sending.{sent}
 use Rattle.synic_board.specs.Step.{step}
 use Rattle.synic_board.specs.Locations.{Conserves}
 use Rattle.synic_board.specs.Slots.{IsApart, LeavesSlot}
@@ -30,7 +31,7 @@ use Rattle.synic_board.specs.Delivery.{is_slot_empty}
 use Rattle.synic_board.specs.Sound.{IsSound, PayloadFits}
 use Rattle.synic_board.proofs.keeping.Left.{leaves-page, leaves-same}
 use Rattle.synic_board.proofs.keeping.Wholes.{IsIntact, Keeps, KeepsOutcome, KeepsMessagesOf, messages-kept, kept_from_sound, sound_from_kept, tickets-conserved, kept-apic, keeps-still, keeps-nothing, keeps-unchanged}
-use Rattle.synic_board.proofs.keeping.Requests.{either, still-apic, leaves-apic, keeps-requested, keeps-absorbed_below}
+use Rattle.synic_board.proofs.keeping.Requests.{either, still-apic, leaves-apic, keeps-requested, keeps-absorbed_below, keeps-sent_below}
 use Rattle.synic_board.proofs.keeping.Attempts.{keeps-tried_below}
 use Rattle.synic_board.proofs.keeping.Changes.{kept-regs}
 use Rattle.synic_board.proofs.keeping.Posts.{keeps-opened_port, keeps-closed, keeps-posted, keeps-signalled}
@@ -71,6 +72,9 @@ keeps-written n s p number value h below = named (register_of number) refl
 keeps-absorbed : (n : ℕ) (s : State) (p part bits : ℕ) → IsIntact n s → KeepsOutcome n s (absorbed s p part bits)
 keeps-absorbed n s p part bits h = either (KeepsOutcome n s) (nat_le part 3) _ _ (λ _. keeps-absorbed_below n s p part bits 64 h) (λ _. keeps-unchanged n s (Refused BadTarget) h)
 
+keeps-sent : (n : ℕ) (s : State) (v mask : ℕ) → IsIntact n s → KeepsOutcome n s (sent s v mask)
+keeps-sent n s v mask h = either (KeepsOutcome n s) (nat_lt mask (2 ^ processors s)) _ _ (λ _. keeps-sent_below n s v mask 64 h) (λ _. keeps-unchanged n s (Refused NoSuchProcessor) h)
+
 keeps-taken : (n : ℕ) (s : State) (p : ℕ) → IsIntact n s → KeepsOutcome n s (taken s p)
 keeps-taken n s p h = elim (next (apic_of s p)) as (λ o. Keeps n s (option_map_or (λ v. with_apic s p (taken_at s p v)) o s, [])) [
   | None ↦ keeps-nothing n s h
@@ -109,6 +113,7 @@ keeps-other n s (Take p) other fits h = on-board n s p (taken s p) h (λ _. keep
 keeps-other n s (Suspend p) other fits h = on-board n s p (suspended s p) h (λ below. keeps-suspended n s p h below)
 keeps-other n s (Resume p) other fits h = on-board n s p (resumed s p) h (λ below. keeps-resumed n s p h below)
 keeps-other n s (Reset p) other fits h = absurd other
+keeps-other n s (Send v mask) other fits h = keeps-sent n s v mask h
 
 other-kept : (n : ℕ) (s : State) (e : Event) → LeavesAll e → PayloadFits e → IsIntact n s → KeepsMessagesOf n s (step s e)
 other-kept n s e other fits h = messages-kept n s ((step s e).0, (step s e).2) (keeps-other n s e other fits h)

@@ -2,7 +2,7 @@
 ghost use Rattle.std.specs.Prelude.{◌≡◌, ◌++◌, ◌∷◌, [], OnOk, decimal};
 ghost use Rattle.text_base.specs.Numbers.{hex};
 ghost use Rattle.text_base.specs.Fields.{spaced};
-ghost use Rattle.synic_board.specs.declared.event.Event.TheVariants.{OpenPort, Write, Read, Post, Signal, Assert, Absorb, Store, Load};
+ghost use Rattle.synic_board.specs.declared.event.Event.TheVariants.{OpenPort, Write, Read, Post, Signal, Assert, Absorb, Store, Load, Send};
 ghost use Rattle.text_lines.specs.Events.{event_fields, IsEvent, AtMostBytes};
 
 use crate::print::{put, put_data};
@@ -44,6 +44,7 @@ pub fn put_event<S: Sink>(out: &mut S, event: &Event) -> Result<(), S::Error>
         Event::Suspend { vp } => put_named(out, b"suspend", u64::from(*vp)),
         Event::Resume { vp } => put_named(out, b"resume", u64::from(*vp)),
         Event::Reset { vp } => put_named(out, b"reset", u64::from(*vp)),
+        Event::Send { vector, mask } => put_send(out, vector.number(), *mask),
     }
 }
 
@@ -185,4 +186,13 @@ fn put_load<S: Sink>(out: &mut S, address: u64, length: u8) -> Result<(), S::Err
     put(out, b"load")?;
     put_hex_field(out, address)?;
     put_decimal_field(out, u64::from(length))
+}
+
+/// Appends a send.
+fn put_send<S: Sink>(out: &mut S, vector: u8, mask: u64) -> Result<(), S::Error>
+    ensures { OnOk result (S.text out.new ≡ S.text out.old ++ spaced (event_fields (Send vector mask))) }
+{
+    put(out, b"send ")?;
+    put_byte(out, vector)?;
+    put_hex_field(out, mask)
 }

@@ -1,5 +1,5 @@
 -- The stages of a trace: which line comes next.
-use Rattle.std.specs.Prelude.{◌≡◌, ℕ, ◌+◌, ◌≤◌, Bool, true, false, not, List, [], ◌∷◌, if◌then◌else◌, Option, None, Some, codes}
+use Rattle.std.specs.Prelude.{◌≡◌, ℕ, ◌+◌, ◌≤◌, Bool, true, false, not, ◌&&◌, List, [], ◌∷◌, if◌then◌else◌, Option, None, Some, codes}
 use Rattle.std.specs.Option.{option_map, option_and_then}
 use Rattle.std.specs.Str.{bytes_eq}
 use Rattle.text_base.specs.Fields.{fields_of, spaced}
@@ -12,9 +12,9 @@ use Rattle.text_lines.specs.Reading.{Fields, take_then, u8_at, parse_event, pars
 use Rattle.text_lines.specs.Sizes.{are_sizes, opened_by}
 use Rattle.text_restore.specs.Restoring as images
 use Rattle.text_restore.specs.Taking.{has_ended, stage_of as image_stage_of}
-use Rattle.text_trace.specs.Trace.{has_line, may_open, title_fields, end_fields}
+use Rattle.text_trace.specs.Trace.{has_line, may_open, may_restore, title_fields, end_fields}
 use Rattle.text_trace.specs.declared.format.Format.{Format}
-use Rattle.text_trace.specs.declared.format.Format.TheVariants.{One, Two, Three, Four}
+use Rattle.text_trace.specs.declared.format.Format.TheVariants.{One, Two, Three, Four, Five}
 use Rattle.text_trace.specs.declared.stage.Stage.{Stage as BoardModel}
 use Rattle.text_trace.specs.declared.stage.Stage.TheVariants as held
 use Rattle.text_trace.specs.declared.stage.Opened.{Opened}
@@ -25,10 +25,10 @@ use Rattle.text_trace.specs.declared.stage.Ran.TheVariants as ran
 pub data Stage : Type 0 where
   -- the title
   Title : Stage
-  -- the board line
+  -- the board line, or the first line of an image
   Opening : Format → Stage
   -- a line of the image, of which these were read
-  Image : images.Stage → Stage
+  Image : Format → images.Stage → Stage
   -- the reply that is due, or else an event or the end line, after that many entries
   Running : Format → State → ℕ → Option Reply → Stage
   -- nothing, after that many entries
@@ -36,7 +36,10 @@ pub data Stage : Type 0 where
 
 -- an event whose line has these fields has a line in the format
 abbrev pub has_fields : Format → Fields → Bool
-has_fields One (word ∷ fields) = not (bytes_eq word (codes "reset"))
+has_fields One (word ∷ fields) = not (bytes_eq word (codes "reset")) && not (bytes_eq word (codes "send"))
+has_fields Two (word ∷ fields) = not (bytes_eq word (codes "send"))
+has_fields Three (word ∷ fields) = not (bytes_eq word (codes "send"))
+has_fields Four (word ∷ fields) = not (bytes_eq word (codes "send"))
 has_fields f fields = true
 
 -- the event of the fields after an actor's number, which may be any, if it has a line in the format
@@ -72,21 +75,30 @@ begun f board = Running f (opened_by board.0 board.1 board.2) 0 None
 abbrev pub performed : Format → State → ℕ → Event → Stage
 performed f s entries event = Running f (step s event).0 (entries + 1) (Some (step s event).1)
 
+-- the first line of an image
+abbrev pub image_title : List ℕ
+image_title = codes "image 1"
+
+-- the line begins an image
+abbrev pub begins_image : Format → List ℕ → Bool
+begins_image f line = may_restore f && bytes_eq line image_title
+
 -- after the end of the image its board is there, and the history starts
-abbrev pub entered : images.Stage → Stage
-entered (images.Body s last lapics) = if has_ended (images.Body s last lapics) then Running Three s 0 None else Image (images.Body s last lapics)
-entered stage = Image stage
+abbrev pub entered : Format → images.Stage → Stage
+entered f (images.Body s last lapics) = if has_ended (images.Body s last lapics) then Running f s 0 None else Image f (images.Body s last lapics)
+entered f stage = Image f stage
 
 -- the stage after a line that is not of an image, if the line is allowed here
 abbrev pub follow : Stage → List ℕ → Option Stage
 follow Title line =
     if bytes_eq line (spaced (title_fields One)) then Some (Opening One)
     else if bytes_eq line (spaced (title_fields Two)) then Some (Opening Two)
-    else if bytes_eq line (spaced (title_fields Three)) then Some (Image images.Untitled)
+    else if bytes_eq line (spaced (title_fields Three)) then Some (Opening Three)
     else if bytes_eq line (spaced (title_fields Four)) then Some (Opening Four)
+    else if bytes_eq line (spaced (title_fields Five)) then Some (Opening Five)
     else None
-follow (Opening f) line = option_map (begun f) (board_at f line)
-follow (Image image) line = None
+follow (Opening f) line = if begins_image f line then Some (Image f images.Titled) else option_map (begun f) (board_at f line)
+follow (Image f image) line = None
 follow (Running f s entries None) line =
     if bytes_eq line (spaced (end_fields f entries s.next_ticket)) then Some (Over entries)
     else option_map (performed f s entries) (entry_at f line)
@@ -95,14 +107,14 @@ follow (Over entries) line = None
 
 -- a line is allowed here and leads to the next stage
 abbrev pub Follows : Stage → List ℕ → Stage → Type 0
-Follows (Image image) line new = (next : images.Stage) × images.Follows image line next × (new ≡ entered next)
+Follows (Image f image) line new = (next : images.Stage) × images.Follows image line next × (new ≡ entered f next)
 Follows stage line new = follow stage line ≡ Some new
 
 -- the stage of a check, with its board
 abbrev pub stage_of : BoardModel → Stage
 stage_of held.Title = Title
 stage_of (held.Opening format) = Opening format
-stage_of (held.Image image) = Image (image_stage_of image)
+stage_of (held.Image format image) = Image format (image_stage_of image)
 stage_of (held.Running format board entries due) = Running format board.state entries due
 stage_of (held.Over entries) = Over entries
 
@@ -110,7 +122,7 @@ stage_of (held.Over entries) = Over entries
 abbrev pub count : Stage → ℕ
 count Title = 0
 count (Opening f) = 0
-count (Image image) = 0
+count (Image f image) = 0
 count (Running f s entries due) = entries
 count (Over entries) = entries
 
@@ -120,7 +132,7 @@ IsGood old line answer new = Follows old line new × (answer ≡ [])
 
 -- the line is not allowed
 abbrev pub IsWrong : Stage → List ℕ → Unit {0} → Type 0
-IsWrong (Image image) line fault = (next : images.Stage) → images.Follows image line next → ⊥
+IsWrong (Image f image) line fault = (next : images.Stage) → images.Follows image line next → ⊥
 IsWrong stage line fault = follow stage line ≡ None
 
 -- at least that many lines led here
@@ -129,8 +141,8 @@ HasLines lines stage = count stage ≤ lines
 
 -- a board line opened a board, or is not allowed there
 abbrev pub Opens : Opened → Format → List ℕ → Type 0
-Opens (openings.Board board) f line = follow (Opening f) line ≡ Some (Running f board.state 0 None)
-Opens openings.Wrong f line = follow (Opening f) line ≡ None
+Opens (openings.Board board) f line = option_map (begun f) (board_at f line) ≡ Some (Running f board.state 0 None)
+Opens openings.Wrong f line = option_map (begun f) (board_at f line) ≡ None
 Opens openings.Memory f line = Unit {0}
 
 -- a line of an image, from one of its stages to another: the image continues, or this is its end
@@ -142,12 +154,12 @@ Reads ran.Memory old new line = Unit {0}
 
 -- the whole image was read
 abbrev pub HasImage : Stage → Type 0
-HasImage (Image image) = has_ended image ≡ true
+HasImage (Image f image) = has_ended image ≡ true
 HasImage stage = ⊥
 
 -- the stage from which a history starts on the board of an image
 abbrev pub started : Stage → Stage
-started (Image image) = entered image
+started (Image f image) = entered f image
 started stage = stage
 
 -- a line after the board line, or after the image

@@ -1,4 +1,4 @@
-use Rattle.std.proofs.Common.{◌≡◌, ℕ, List, [], Err, ap, ◌∙◌, subst}
+use Rattle.std.proofs.Common.{◌≡◌, inr, ℕ, List, [], Err, refl, ap, ◌∙◌, subst}
 use Rattle.std.specs.Prelude.{Some}
 use Rattle.std.proofs.lemmas.Bool.{both_ways}
 use Rattle.board_threads.specs.Crew.{lists}
@@ -43,4 +43,4 @@ returns-in-Ok-run_crew_on g c =
     } in
     let after = subst (λ (t : List ℕ). IsTraced Three t c.put_given.result ended c.args.out.now.items out) (c.as_slice.ensures.value ∙ text) c.put_given.ensures in
     let was : IsTraced Three (image b) c.put_given.result ended [] out = subst (λ (old : List ℕ). IsTraced Three (image b) c.put_given.result ended old out) c.requires.empty after in
-    prepared (Some b) Three (image b) b (crew_of s) c.put_given.result ended out is c.image_of.ensures.image e.settled.leads was (λ t. t)
+    prepared (Some b) Three (image b) b (crew_of s) c.put_given.result ended out is (inr (refl, c.image_of.ensures.image)) e.settled.leads was (λ t. t)

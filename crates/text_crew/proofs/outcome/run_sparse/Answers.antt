@@ -1,4 +1,4 @@
-use Rattle.std.proofs.Common.{◌≡◌, ℕ, List, [], Err, refl, ap, ◌∙◌, subst}
+use Rattle.std.proofs.Common.{inl, ◌≡◌, ℕ, List, [], Err, refl, ap, ◌∙◌, subst}
 use Rattle.std.specs.Prelude.{None}
 use Rattle.std.proofs.lemmas.Bool.{both_ways}
 use Rattle.board_threads.specs.Crew.{lists}
@@ -47,7 +47,7 @@ returns-in-Ok-run_crew_on g c =
     } in
     let was : IsTraced Four text c.put_sparse.result ended [] out = subst (λ (old : List ℕ). IsTraced Four text c.put_sparse.result ended old out) c.requires.empty c.put_sparse.ensures.traced in
     prepared None Four text start (crew_of s) c.put_sparse.result ended out is
-    (record {
+    (inl (record {
       processors = s.setup.processors;
       pages = None;
       ticket = s.setup.first_ticket;
@@ -56,5 +56,5 @@ returns-in-Ok-run_crew_on g c =
       given = c.put_sparse.ensures.ticket;
       line = refl;
       state = refl;
-    })
+    }))
     (e.settled.leads ∙ ap (λ (t : State). leads_to t ended.history.items) same) was (opened-sparse (crew_of s) out c.requires.sparse)

@@ -1,4 +1,4 @@
-use Rattle.std.proofs.Common.{ℕ, List, [], Err, Some, refl, ap, ◌∙◌, subst}
+use Rattle.std.proofs.Common.{inl, ℕ, List, [], Err, Some, refl, ap, ◌∙◌, subst}
 use Rattle.std.specs.Prelude.{None}
 use Rattle.std.proofs.lemmas.Bool.{both_ways}
 use Rattle.board_threads.specs.Crew.{lists}
@@ -41,7 +41,7 @@ returns-in-Ok g c =
     } in
     let was : IsTraced Two text c.put_opened.result ended [] out = subst (λ (old : List ℕ). IsTraced Two text c.put_opened.result ended old out) c.requires.empty c.put_opened.ensures.traced in
     prepared None Two text start (crew_of s) c.put_opened.result ended out is
-    (record {
+    (inl (record {
       processors = s.setup.processors;
       pages = Some s.setup.pages;
       ticket = s.setup.first_ticket;
@@ -50,5 +50,5 @@ returns-in-Ok g c =
       given = c.put_opened.ensures.ticket;
       line = refl;
       state = refl;
-    })
+    }))
     e.settled.leads was (opened-whole (crew_of s) out some)

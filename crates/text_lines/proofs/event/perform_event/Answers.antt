@@ -20,6 +20,7 @@ returns g c = (
     not_suspend = c.in_default-after-12.ensures.none;
     not_resume = c.in_default-after-13.ensures.none;
     not_reset = c.in_default-after-14.ensures.none;
+    not_send = c.in_default-after-15.ensures.none;
   }),
   refl,
 )

@@ -3,7 +3,7 @@ use Rattle.std.specs.List.{All}
 use Rattle.std.proofs.lemmas.List.{take_all}
 use Rattle.std.proofs.lemmas.List.Elements.{All-more}
 use Rattle.synic_board.specs.declared.history.Entry.{Entry}
-use Rattle.text_trace.specs.declared.format.Format.TheVariants.{Two}
+use Rattle.text_trace.specs.declared.format.Format.TheVariants.{Five}
 use Rattle.text_trace.specs.Trace.{IsEntry}
 use Rattle.text_trace.proofs.PrintLemmas.{history-step}
 use Rattle.text_trace.proofs.print.put_history.Goals as goal
@@ -15,8 +15,8 @@ loop-entry-preserved c =
     let e = c.entry-item.result in
     let inside : i < length history = omega arith in (
       history-step history i e c.loop-entry.out.items _ _ inside c.entry-item.is c.in_ok-put_entry.ensures.written c.loop-entry.invariant.0,
-      All-more (IsEntry Two) history i e inside c.loop-entry.invariant.1 (subst (IsEntry Two) c.entry-item.is c.in_ok-put_entry.ensures.fits),
+      All-more (IsEntry Five) history i e inside c.loop-entry.invariant.1 (subst (IsEntry Five) c.entry-item.is c.in_ok-put_entry.ensures.fits),
     )
 
 pub returns-clause-fits : goal.returns-clause-fits
-returns-clause-fits c = subst (λ (xs : List Entry). All (IsEntry Two) xs) (take_all c.loop-entry.entry-index c.args.history.now (omega arith)) c.loop-entry.invariant.1
+returns-clause-fits c = subst (λ (xs : List Entry). All (IsEntry Five) xs) (take_all c.loop-entry.entry-index c.args.history.now (omega arith)) c.loop-entry.invariant.1

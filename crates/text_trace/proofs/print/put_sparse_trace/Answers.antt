@@ -1,15 +1,21 @@
+use Rattle.std.proofs.Common.{◌≡◌, ◌++◌, ℕ, List, OnOk, subst}
 use Rattle.std.specs.Prelude.{None}
 use Rattle.std.proofs.lemmas.Result.{on_ok_weaker}
+use Rattle.text_trace.specs.declared.format.Format.{Format}
 use Rattle.text_trace.specs.declared.format.Format.TheVariants.{Four}
-use Rattle.text_trace.specs.Trace.{board_text}
-use Rattle.text_trace.proofs.PrintLemmas.{trace-parts, all-in-four}
+use Rattle.text_trace.specs.Trace.{board_text, trace_text}
+use Rattle.text_trace.proofs.PrintLemmas.{trace-parts, four-all, all-written}
 use Rattle.text_trace.proofs.print.put_sparse_trace.Goals as goal
 
 pub returns-clause-written : goal.returns-clause-written
-returns-clause-written c = on_ok_weaker c.put_rest.result
-    (λ h. trace-parts Four (board_text c.args.processors None c.args.first_ticket) c.args.history.now c.args.next_ticket c.args.out.now.items _ _ _
-    c.in_ok-extend_from_slice.ensures.items c.in_ok-put_opening.ensures h)
-    c.put_rest.ensures.written
+returns-clause-written c =
+    let beginning : List ℕ = board_text c.args.processors None c.args.first_ticket in
+    let history = c.args.history.now in
+    let next = c.args.next_ticket in
+    subst (λ (f : Format). OnOk c.put_rest.result (c.put_rest.new.out.items ≡ c.args.out.now.items ++ trace_text f beginning history next)) c.for_history-format.ensures
+    (on_ok_weaker c.put_rest.result
+    (λ h. trace-parts c.for_history-format.result beginning history next c.args.out.now.items _ _ _ c.in_ok-put_title.ensures c.in_ok-put_opening.ensures h)
+    c.put_rest.ensures.written)
 
 pub returns-clause-fits : goal.returns-clause-fits
-returns-clause-fits c = on_ok_weaker c.put_rest.result (λ fits. all-in-four c.args.history.now fits) c.put_rest.ensures.fits
+returns-clause-fits c = on_ok_weaker c.put_rest.result (λ fits. all-written Four four-all c.args.history.now fits) c.put_rest.ensures.fits
