@@ -121,8 +121,7 @@ none_found m (Some r) h e n = absurd (none-some (r.0, timer_of r.1) (sym e))
 pub finds-least : (m : Dues) → FindsLeast m
 unfolding least
 finds-least m = record {
-  some = λ d n.
-      (λ is. (is.low, least_is m d n is), λ h. from_found m d n (least_below m (length m)) (found m (length m)) h.1);
+  some = λ d n. (least_is m d n, from_found m d n (least_below m (length m)) (found m (length m)));
   none = (least_none m, λ e. none_found m (least_below m (length m)) (found m (length m)) e);
 }
 
