@@ -1,5 +1,5 @@
 -- The deadlines of all timers, and the earliest one (TLFS, "Synthetic Timers").
-use Rattle.std.specs.Prelude.{◌≡◌, ◌≤◌, ℕ, zero, suc, ◌<◌, ◌+◌, ◌*◌, ◌/◌, ◌%◌, nat_lt, List, Option, None, Some, map, slice_index_or, if◌then◌else◌}
+use Rattle.std.specs.Prelude.{◌≡◌, ◌≤◌, ℕ, zero, suc, ◌<◌, ◌+◌, ◌*◌, ◌/◌, ◌%◌, nat_lt, List, Option, None, Some, length, map, slice_index_or, if◌then◌else◌}
 use Rattle.std.specs.Option.{option_map_or, option_map}
 use Rattle.board_terms.specs.Quantities.{TimerId, Moment}
 
@@ -29,11 +29,11 @@ least_below m (suc n) = option_map_or (λ d. Some (earlier (least_below m n) (d,
 
 -- the least (due, processor, index)
 unfoldable pub least : Dues → Option (Moment × TimerId)
-least m = option_map (λ r. (r.0, timer_of r.1)) (least_below m 32)
+least m = option_map (λ r. (r.0, timer_of r.1)) (least_below m (length m))
 
 -- timer n is due at d, and no timer is before it in the order (due, processor, index)
 pub record IsLeast (m : Dues) (d n : ℕ) : Type 0 where
-  pub low : n < 32
+  pub low : n < length m
   pub due : slice_index_or m n None ≡ Some d
   pub first : (k e : ℕ) → slice_index_or m k None ≡ Some e → (d ≤ e) × (e ≡ d → n ≤ k)
 

@@ -1,88 +1,134 @@
 -- The table after a timer's deadline is written.
-use Rattle.std.proofs.Common.{◌≡◌, ◌≢◌, ℕ, ◌+◌, ◌*◌, ◌/◌, ◌%◌, ◌^◌, ◌<◌, Bool, false, min, List, inl, inr, length, set, get_or, sym, ap, ◌∙◌, arith}
-use Rattle.std.specs.Prelude.{Option, None, Some, if◌then◌else◌}
-use Rattle.std.proofs.lemmas.Bool.{cases_eq}
-use Rattle.std.proofs.lemmas.List.{get_or-set_same, get_or-set_other, same_lists, length-set, get_or_default}
+use Rattle.std.proofs.Common.{◌≡◌, ◌≢◌, ℕ, suc, ◌+◌, ◌*◌, ◌/◌, ◌%◌, ◌^◌, ◌<◌, ◌≤◌, min, List, inl, inr, length, set, get_or, sym, ap, ◌∙◌, arith}
+use Rattle.std.specs.Prelude.{Option, None}
+use Rattle.std.proofs.lemmas.Bool.{cases_eq, cases_lt}
+use Rattle.std.proofs.lemmas.List.{get_or-set_same, get_or-set_other, same_lists, length-set, get_or_default, get_or_past}
 use Rattle.std.proofs.lemmas.List.FromFn.{length-map-range_with_len, get_or-map-range_with_len}
 use Rattle.deadline_tree.specs.declared.table.Table.{Table}
-use Rattle.deadline_tree.specs.inside.Table.{dues, due_at, node, is_set, moment_of, word_for, word_of, never, with_due, IsTree, IsOrdered}
-use Rattle.deadline_tree.specs.inside.Climbs.{IsClimbing, IsAlike}
+use Rattle.deadline_tree.specs.inside.Table.{count, node, word_of, late, late_due, due_from, due_at, dues, IsWord, IsTree, IsOrdered, IsSound}
+use Rattle.deadline_tree.specs.inside.Climbs.{IsClimbing}
 
-pub length-dues : (t : Table) → length (dues t) ≡ 32
+pub length-dues : (t : Table) → length (dues t) ≡ count t
 unfolding dues
-length-dues t = length-map-range_with_len (due_at t) 0 32
+length-dues t = length-map-range_with_len (due_at t) 0 (count t)
 
 -- the deadline of a timer
-pub dues_at : (t : Table) (n : ℕ) → n < 32 → get_or (dues t) n None ≡ due_at t n
+pub dues_at : (t : Table) (n : ℕ) → n < count t → get_or (dues t) n None ≡ due_at t n
 unfolding dues
-dues_at t n h = get_or-map-range_with_len (due_at t) 0 32 n n None h (omega arith)
+dues_at t n h = get_or-map-range_with_len (due_at t) 0 (count t) n n None h (omega arith)
+
+pub dues_past : (t : Table) (n : ℕ) → count t ≤ n → get_or (dues t) n None ≡ None
+dues_past t n h = get_or_past (dues t) n None (omega (arith, length-dues t))
 
 -- deadlines that are those of the timers
-pub dues-are : (t : Table) (m : List (Option ℕ)) → length m ≡ 32 → ((k : ℕ) → k < 32 → get_or m k None ≡ due_at t k) → dues t ≡ m
+pub dues-are : (t : Table) (m : List (Option ℕ)) → length m ≡ count t → ((k : ℕ) → k < count t → get_or m k None ≡ due_at t k) → dues t ≡ m
 dues-are t m l h = same_lists (dues t) m (length-dues t ∙ sym l) (λ k d low.
-    let less : k < 32 = omega (arith, length-dues t) in
+    let less : k < count t = omega (arith, length-dues t) in
     get_or_default (dues t) k d None low ∙ dues_at t k less ∙ sym (h k less) ∙ get_or_default m k None d (omega arith))
 
--- the deadlines do not depend on the tree
-pub dues-alike : (old new : Table) → IsAlike old new → dues new ≡ dues old
-dues-alike old new a = dues-are new (dues old) (length-dues old)
-    (λ k h. dues_at old k h ∙ sym (λ i. if get_or (a.marks i) k false then Some (get_or (a.highs i) k 0 * 2 ^ 64 + get_or (a.lows i) k 0) else None))
+-- the deadlines do not depend on the nodes above the leaves
+pub dues-alike : (t now : Table) → now.lates.items ≡ t.lates.items → ((n : ℕ) → n < count t → word_of now n ≡ word_of t n) → dues now ≡ dues t
+dues-alike t now lates words = dues-are now (dues t) (length-dues t ∙ sym (ap length lates)) (λ k h.
+    let low : k < count t = omega (arith, ap length lates) in
+    dues_at t k low ∙ sym (λ i. due_from (words k low i) (get_or (lates i) k 0)))
 
-module _ (t : Table) (n : ℕ) (mark : Bool) (word due count : ℕ) (tree : IsTree t) (low : n < 32) where
-  abbrev now : Table
-  now = with_due t n mark word due count
+-- timer n is written
+module _ (t now : Table) (n word : ℕ) (tree : IsTree t) (low : n < count t) (nodes : now.nodes.items ≡ set t.nodes.items (count t + n) word) (lates : now.lates.items ≡ t.lates.items) where
+  as-many : count now ≡ count t
+  as-many = ap length lates
 
-  moment_here : moment_of now n ≡ due
-  moment_here =
-      let h : get_or (set t.highs n (due / 2 ^ 64)) n 0 ≡ due / 2 ^ 64 = get_or-set_same t.highs n (due / 2 ^ 64) 0 (omega (arith, tree.highs)) in
-      let l : get_or (set t.lows n (due % 2 ^ 64)) n 0 ≡ due % 2 ^ 64 = get_or-set_same t.lows n (due % 2 ^ 64) 0 (omega (arith, tree.lows)) in
-      rw (h, l) (omega arith)
+  other : (j : ℕ) → j ≢ count t + n → node now j ≡ node t j
+  other j apart = ap (λ (ns : List ℕ). get_or ns j 0) nodes ∙ get_or-set_other t.nodes.items (count t + n) j word 0 apart
 
-  moment_other : (m : ℕ) → m ≢ n → moment_of now m ≡ moment_of t m
-  moment_other m apart = λ j. get_or-set_other t.highs n m (due / 2 ^ 64) 0 apart j * 2 ^ 64 + get_or-set_other t.lows n m (due % 2 ^ 64) 0 apart j
+  pub node-written : node now (count t + n) ≡ word
+  node-written = ap (λ (ns : List ℕ). get_or ns (count t + n) 0) nodes ∙ get_or-set_same t.nodes.items (count t + n) word 0 (omega (arith, tree.nodes))
 
-  mark_here : is_set now n ≡ mark
-  mark_here = get_or-set_same t.marks n mark false (omega (arith, tree.marks))
+  word-here : word_of now n ≡ word
+  word-here = ap (λ c. node now (c + n)) as-many ∙ node-written
 
-  mark_other : (m : ℕ) → m ≢ n → is_set now m ≡ is_set t m
-  mark_other m apart = get_or-set_other t.marks n m mark false apart
+  word-other : (m : ℕ) → m ≢ n → word_of now m ≡ word_of t m
+  word-other m apart = ap (λ c. node now (c + m)) as-many ∙ other (count t + m) (λ e. apart (omega arith))
+
+  far : (m : ℕ) → late_due now m ≡ late_due t m
+  far m = ap (λ (ls : List ℕ). get_or ls m 0) lates
 
   abbrev written : Option ℕ
-  written = if mark then Some due else None
+  written = due_from word (late_due t n)
 
-  pub dues_written : dues now ≡ set (dues t) n written
-  dues_written = dues-are now (set (dues t) n written) (length-set (dues t) n written ∙ length-dues t) (λ k h.
+  pub dues-written : dues now ≡ set (dues t) n written
+  dues-written = dues-are now (set (dues t) n written) (length-set (dues t) n written ∙ length-dues t ∙ sym as-many) (λ k h.
       elim (cases_eq k n) as (λ _. get_or (set (dues t) n written) k None ≡ due_at now k) [
         | inl e ↦ ap (λ i. get_or (set (dues t) n written) i None) e ∙ get_or-set_same (dues t) n written None (omega (arith, length-dues t))
-            ∙ sym (ap (due_at now) e ∙ (λ i. if mark_here i then Some (moment_here i) else None))
-        | inr e ↦ get_or-set_other (dues t) n k written None e ∙ dues_at t k h ∙ sym (λ i. if mark_other k e i then Some (moment_other k e i) else None)
+            ∙ sym (ap (due_at now) e ∙ (λ i. due_from (word-here i) (far n i)))
+        | inr e ↦ get_or-set_other (dues t) n k written None e ∙ dues_at t k (omega (arith, as-many)) ∙ sym (λ i. due_from (word-other k e i) (far k i))
       ])
 
-  node_here : node now (32 + n) ≡ word
-  node_here = get_or-set_same t.nodes (32 + n) word 0 (omega (arith, tree.nodes))
-
-  node_other : (j : ℕ) → j ≢ 32 + n → node now j ≡ node t j
-  node_other j apart = get_or-set_other t.nodes (32 + n) j word 0 apart
-
   -- the nodes above the timer are out of date
-  pub written_climbing : IsOrdered t → word ≡ (if mark then word_for due n else never) → IsClimbing now (32 + n)
-  written_climbing o is = record {
+  pub written-climbing : IsOrdered t → IsWord word (late_due t n) n → IsClimbing now (count t + n)
+  written-climbing o is = record {
     tree = record {
-      nodes = length-set t.nodes (32 + n) word ∙ tree.nodes;
-      marks = length-set t.marks n mark ∙ tree.marks;
-      highs = length-set t.highs n (due / 2 ^ 64) ∙ tree.highs;
-      lows = length-set t.lows n (due % 2 ^ 64) ∙ tree.lows;
-      leaves = λ m h. elim (cases_eq m n) as (λ _. node now (32 + m) ≡ word_of now m) [
-        | inl f ↦ ap (λ k. node now (32 + k)) f ∙ node_here ∙ is ∙ sym (ap (word_of now) f ∙ (λ i. if mark_here i then word_for (moment_here i) n else never))
-        | inr f ↦ node_other (32 + m) (λ e. f (omega arith)) ∙ tree.leaves m h ∙ sym (λ i. if mark_other m f i then word_for (moment_other m f i) m else never)
+      nodes = ap length nodes ∙ length-set t.nodes.items (count t + n) word ∙ tree.nodes ∙ sym (ap (λ c. 2 * c) as-many);
+      some = omega (arith, as-many, tree.some);
+      bound = omega (arith, as-many, tree.bound);
+      leaves = λ m h. elim (cases_eq m n) as (λ _. IsWord (word_of now m) (late_due now m) m) [
+        | inl e ↦ rw (e, word-here, far n) is
+        | inr e ↦ rw (word-other m e, far m) (tree.leaves m (omega (arith, as-many)))
       ];
     };
-    mins = λ j a b n2 n4 n8 n16 n32.
-        node_other j (λ e. absurd (omega arith)) ∙ o.mins j a b ∙ sym (λ i. min (node_other (2 * j) (λ e. absurd (omega arith)) i) (node_other (2 * j + 1) (λ e. absurd (omega arith)) i));
+    mins = λ j a b above.
+        let parent : j ≢ (count t + n) / 2 = λ e. above 0 e in
+        other j (λ e. absurd (omega (arith, as-many))) ∙ o.mins j a (omega (arith, as-many))
+        ∙ sym (λ i. min (other (2 * j) (λ e. parent (omega arith)) i) (other (2 * j + 1) (λ e. parent (omega arith)) i));
   }
 
-  pub written_word : word ≡ (if mark then word_for due n else never) → word ≡ word_of now n
-  written_word is = is ∙ sym (λ i. if mark_here i then word_for (moment_here i) n else never)
+-- another late deadline is stored for timer n
+module _ (t now : Table) (n due : ℕ) (sound : IsSound t) (low : n < count t) (nodes : now.nodes.items ≡ t.nodes.items) (lates : now.lates.items ≡ set t.lates.items n due) where
+  same-count : count now ≡ count t
+  same-count = ap length lates ∙ length-set t.lates.items n due
 
-  pub written_node : node now (32 + n) ≡ word
-  written_node = node_here
+  node-same : (j : ℕ) → node now j ≡ node t j
+  node-same j = ap (λ (ns : List ℕ). get_or ns j 0) nodes
+
+  word-same : (m : ℕ) → word_of now m ≡ word_of t m
+  word-same m = ap (λ c. node now (c + m)) same-count ∙ node-same (count t + m)
+
+  pub late-here : late_due now n ≡ due
+  late-here = ap (λ (ls : List ℕ). get_or ls n 0) lates ∙ get_or-set_same t.lates.items n due 0 low
+
+  late-other : (m : ℕ) → m ≢ n → late_due now m ≡ late_due t m
+  late-other m apart = ap (λ (ls : List ℕ). get_or ls m 0) lates ∙ get_or-set_other t.lates.items n m due 0 apart
+
+  pub stored-sound : late ≤ due → IsSound now
+  stored-sound is = record {
+    tree = record {
+      nodes = ap length nodes ∙ sound.tree.nodes ∙ sym (ap (λ c. 2 * c) same-count);
+      some = omega (arith, same-count, sound.tree.some);
+      bound = omega (arith, same-count, sound.tree.bound);
+      leaves = λ m h. elim (cases_eq m n) as (λ _. IsWord (word_of now m) (late_due now m) m) [
+        | inl e ↦ record {
+          number = λ l. ap (λ w. w % 256) (word-same m) ∙ (sound.tree.leaves m (omega (arith, same-count))).number (omega (arith, l, word-same m));
+          is_late = λ _. let here = ap (late_due now) e ∙ late-here in omega (arith, here, is);
+        }
+        | inr e ↦ rw (word-same m, late-other m e) (sound.tree.leaves m (omega (arith, same-count)))
+      ];
+    };
+    ordered = record {
+      mins = λ j a b. node-same j ∙ sound.ordered.mins j a (omega (arith, same-count)) ∙ sym (λ i. min (node-same (2 * j) i) (node-same (2 * j + 1) i));
+    };
+  }
+
+  -- once its word is written
+  pub stored-set : (o : Option ℕ) → set (dues now) n o ≡ set (dues t) n o
+  stored-set o = same_lists (set (dues now) n o) (set (dues t) n o)
+      (length-set (dues now) n o ∙ length-dues now ∙ same-count ∙ sym (length-set (dues t) n o ∙ length-dues t)) (λ k d h.
+      let inside : k < count now = omega (arith, length-set (dues now) n o, length-dues now) in
+      let below : k < length (set (dues t) n o) = omega (arith, length-set (dues t) n o, length-dues t, same-count) in
+      get_or_default (set (dues now) n o) k d None h ∙ each k inside ∙ get_or_default (set (dues t) n o) k None d below)
+    where
+      each : (k : ℕ) → k < count now → get_or (set (dues now) n o) k None ≡ get_or (set (dues t) n o) k None
+      each k h = elim (cases_eq k n) as (λ _. get_or (set (dues now) n o) k None ≡ get_or (set (dues t) n o) k None) [
+        | inl e ↦ ap (λ i. get_or (set (dues now) n o) i None) e ∙ get_or-set_same (dues now) n o None (omega (arith, length-dues now, same-count))
+            ∙ sym (ap (λ i. get_or (set (dues t) n o) i None) e ∙ get_or-set_same (dues t) n o None (omega (arith, length-dues t)))
+        | inr e ↦ get_or-set_other (dues now) n k o None e ∙ dues_at now k h ∙ (λ i. due_from (word-same k i) (late-other k e i))
+            ∙ sym (get_or-set_other (dues t) n k o None e ∙ dues_at t k (omega (arith, same-count)))
+      ]

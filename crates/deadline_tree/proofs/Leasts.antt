@@ -1,11 +1,11 @@
 -- The least of a list of deadlines.
-use Rattle.std.proofs.Common.{◌≡◌, ℕ, zero, suc, ◌/◌, ◌%◌, ◌<◌, ◌≤◌, true, false, nat_lt, length, get_or, inl, inr, refl, sym, ap, ◌∙◌, arith}
+use Rattle.std.proofs.Common.{◌≡◌, ℕ, zero, suc, ◌+◌, ◌/◌, ◌%◌, ◌<◌, ◌≤◌, true, false, nat_lt, length, get_or, inl, inr, refl, sym, ap, ◌∙◌, add-one, arith}
 use Rattle.std.specs.Prelude.{Option, None, Some, if◌then◌else◌}
 use Rattle.std.specs.Option.{option_map_or, option_map}
-use Rattle.std.proofs.Math.ListN.{get_or-eq_default}
 use Rattle.std.proofs.lemmas.Bool.{cases_eq, cases_lt}
 use Rattle.std.proofs.lemmas.Bool.Decides.{nat_tests}
 use Rattle.std.proofs.lemmas.Option.{none-some, same_Some}
+use Rattle.std.proofs.lemmas.List.{get_or_past}
 use Rattle.board_terms.specs.Dues.{Dues, least, least_below, earlier, timer_of, IsLeast}
 use Rattle.deadline_tree.specs.Laws.{FindsLeast}
 
@@ -68,7 +68,7 @@ unfolding least_below
 found m zero = λ k l. absurd (omega arith)
 found m (suc n) = step m n (least_below m n) (found m n) (get_or m n None) refl
 
-same_least : (m : Dues) (d n : ℕ) → IsLeast m d n → (o : Option (ℕ × ℕ)) → Found m 32 o → o ≡ Some (d, n)
+same_least : (m : Dues) (d n : ℕ) → IsLeast m d n → (o : Option (ℕ × ℕ)) → Found m (length m) o → o ≡ Some (d, n)
 same_least m d n l None h = absurd (none-some d (sym (h n l.low) ∙ l.due))
 same_least m d n l (Some r) h =
     let one = l.first r.1 r.0 h.due in
@@ -82,48 +82,67 @@ same_least m d n l (Some r) h =
 -- the least, given its properties
 pub least_is : (m : Dues) (d n : ℕ) → IsLeast m d n → least m ≡ Some (d, timer_of n)
 unfolding least
-least_is m d n l = ap (option_map (λ (r : ℕ × ℕ). (r.0, timer_of r.1))) (same_least m d n l (least_below m 32) (found m 32))
+least_is m d n l = ap (option_map (λ (r : ℕ × ℕ). (r.0, timer_of r.1))) (same_least m d n l (least_below m (length m)) (found m (length m)))
 
-same_none : (m : Dues) → ((k : ℕ) → get_or m k None ≡ None) → (o : Option (ℕ × ℕ)) → Found m 32 o → o ≡ None
+same_none : (m : Dues) → ((k : ℕ) → get_or m k None ≡ None) → (o : Option (ℕ × ℕ)) → Found m (length m) o → o ≡ None
 same_none m n None h = refl
 same_none m n (Some r) h = absurd (none-some r.0 (sym (n r.1) ∙ h.due))
 
 pub least_none : (m : Dues) → ((k : ℕ) → get_or m k None ≡ None) → least m ≡ None
 unfolding least
-least_none m n = ap (option_map (λ (r : ℕ × ℕ). (r.0, timer_of r.1))) (same_none m n (least_below m 32) (found m 32))
+least_none m n = ap (option_map (λ (r : ℕ × ℕ). (r.0, timer_of r.1))) (same_none m n (least_below m (length m)) (found m (length m)))
 
 -- a deadline with its timer
 abbrev with_timer : ℕ × ℕ → ℕ × (ℕ × ℕ)
 with_timer r = (r.0, timer_of r.1)
 
 -- the properties of the least
-beyond : (m : Dues) (k : ℕ) → length m ≡ 32 → 32 ≤ k → get_or m k None ≡ None
-beyond m k l above = get_or-eq_default m None (omega arith)
-
-from_found : (m : Dues) (d n : ℕ) → length m ≡ 32 → n < 32 → (o : Option (ℕ × ℕ)) → Found m 32 o → option_map with_timer o ≡ Some (d, timer_of n) → IsLeast m d n
-from_found m d n l low None h e = absurd (none-some (d, timer_of n) e)
-from_found m d n l low (Some r) h e =
+from_found : (m : Dues) (d n : ℕ) → (o : Option (ℕ × ℕ)) → Found m (length m) o → option_map with_timer o ≡ Some (d, timer_of n) → IsLeast m d n
+from_found m d n None h e = absurd (none-some (d, timer_of n) e)
+from_found m d n (Some r) h e =
     let same = same_Some (r.0, timer_of r.1) (d, timer_of n) e in
     let dues : r.0 ≡ d = ap (λ (x : ℕ × (ℕ × ℕ)). x.0) same in
     let processors : r.1 / 4 ≡ n / 4 = ap (λ (x : ℕ × (ℕ × ℕ)). x.1.0) same in
     let indices : r.1 % 4 ≡ n % 4 = ap (λ (x : ℕ × (ℕ × ℕ)). x.1.1) same in
     let numbers : r.1 ≡ n = omega arith in
     record {
-      low = low;
+      low = omega (arith, h.low, numbers);
       due = ap (λ k. get_or m k None) (sym numbers) ∙ h.due ∙ ap Some dues;
-      first = λ k e g. elim (cases_lt k 32) as (λ _. (d ≤ e) × (e ≡ d → n ≤ k)) [
+      first = λ k e g. elim (cases_lt k (length m)) as (λ _. (d ≤ e) × (e ≡ d → n ≤ k)) [
         | inl inside ↦ let f = h.first k e inside g in (omega (arith, f.0, dues), λ y. omega (arith, f.1 (y ∙ sym dues), numbers))
-        | inr outside ↦ absurd (none-some e (sym (beyond m k l outside) ∙ g))
+        | inr outside ↦ absurd (none-some e (sym (get_or_past m k None outside) ∙ g))
       ];
     }
 
-none_found : (m : Dues) → length m ≡ 32 → (o : Option (ℕ × ℕ)) → Found m 32 o → option_map with_timer o ≡ None → (n : ℕ) → get_or m n None ≡ None
-none_found m l None h e n = elim (cases_lt n 32) as (λ _. get_or m n None ≡ None) [ inl inside ↦ h n inside | inr outside ↦ beyond m n l outside ]
-none_found m l (Some r) h e n = absurd (none-some (r.0, timer_of r.1) (sym e))
+none_found : (m : Dues) → (o : Option (ℕ × ℕ)) → Found m (length m) o → option_map with_timer o ≡ None → (n : ℕ) → get_or m n None ≡ None
+none_found m None h e n = elim (cases_lt n (length m)) as (λ _. get_or m n None ≡ None) [ inl inside ↦ h n inside | inr outside ↦ get_or_past m n None outside ]
+none_found m (Some r) h e n = absurd (none-some (r.0, timer_of r.1) (sym e))
 
-pub finds-least : (m : Dues) → length m ≡ 32 → FindsLeast m
+pub finds-least : (m : Dues) → FindsLeast m
 unfolding least
-finds-least m l = record {
-  some = λ d n. (λ is. (is.low, least_is m d n is), λ h. from_found m d n l h.0 (least_below m 32) (found m 32) h.1);
-  none = (least_none m, λ e. none_found m l (least_below m 32) (found m 32) e);
+finds-least m = record {
+  some = λ d n. (least_is m d n, from_found m d n (least_below m (length m)) (found m (length m)));
+  none = (least_none m, λ e. none_found m (least_below m (length m)) (found m (length m)) e);
 }
+
+-- a scan of the numbers, one by one
+pub least-none : (m : Dues) → least_below m 0 ≡ None
+unfolding least_below
+least-none m = refl
+
+pub least-more : (m : Dues) (n : ℕ) → least_below m (n + 1) ≡ option_map_or (λ d. Some (earlier (least_below m n) (d, n))) (get_or m n None) (least_below m n)
+unfolding least_below
+least-more m n = rw add-one refl
+
+-- what it found after the last one
+pub least-is-found : (m : Dues) (d n : ℕ) → Some (d, n) ≡ least_below m (length m) → (n < length m) × (Some (d, timer_of n) ≡ least m)
+unfolding least
+least-is-found m d n h = (by (least_below m (length m)) (found m (length m)) h, ap (option_map with_timer) h)
+  where
+    by : (o : Option (ℕ × ℕ)) → Found m (length m) o → Some (d, n) ≡ o → n < length m
+    by None f e = absurd (none-some (d, n) (sym e))
+    by (Some r) f e = let same : n ≡ r.1 = ap (λ (x : ℕ × ℕ). x.1) (same_Some _ _ e) in omega (arith, same, f.low)
+
+pub least-is-none : (m : Dues) → None ≡ least_below m (length m) → None ≡ least m
+unfolding least
+least-is-none m h = ap (option_map with_timer) h

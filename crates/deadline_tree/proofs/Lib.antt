@@ -1,5 +1,5 @@
-pub mod Nodes
 pub mod Edits
+pub mod Levels
+pub mod Nodes
 pub mod Leasts
 pub mod Whole
-pub mod Marks

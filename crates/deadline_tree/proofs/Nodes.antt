@@ -1,14 +1,20 @@
--- The tree when a timer is written, and when a node is brought up to date.
-use Rattle.std.proofs.Common.{◌≡◌, ◌≢◌, ℕ, zero, suc, ◌+◌, ◌-◌, ◌*◌, ◌/◌, ◌%◌, ◌<◌, ◌≤◌, nat_lt, min, inl, inr, sym, ap, ◌∙◌, arith, bit_xor}
+-- The tree when a node is brought up to date.
+use Rattle.std.proofs.Common.{◌≡◌, ◌≢◌, ℕ, zero, suc, ◌+◌, ◌-◌, ◌*◌, ◌/◌, ◌%◌, ◌^◌, ◌<◌, ◌≤◌, nat_lt, List, length, set, get_or, min, inl, inr, sym, ap, ◌∙◌, arith, bit_xor}
 use Rattle.std.specs.Prelude.{if◌then◌else◌}
 use Rattle.std.specs.Int.{bit_at}
 use Rattle.std.proofs.lemmas.Bool.{cases_eq, cases_lt}
 use Rattle.std.proofs.lemmas.Bool.Decides.{nat_tests}
 use Rattle.std.proofs.lemmas.List.{get_or-set_same, get_or-set_other, length-set}
+use Rattle.std.proofs.lemmas.Nat.{shr-shr}
 use Rattle.std.proofs.lemmas.Nat.Bits.{bit_at_lowest, bit_at-suc, bit_at-zero, bit_at-lt, bit_at_xor, same_from_bits}
 use Rattle.deadline_tree.specs.declared.table.Table.{Table}
-use Rattle.deadline_tree.specs.inside.Table.{node, with_node, IsOrdered}
+use Rattle.deadline_tree.specs.inside.Table.{count, node, dues, IsTree, IsOrdered}
 use Rattle.deadline_tree.specs.inside.Climbs.{IsClimbing}
+use Rattle.deadline_tree.proofs.Edits.{dues-alike}
+
+-- one more halving
+halved : (x k : ℕ) → x / 2 / 2 ^ k ≡ x / 2 ^ suc k
+halved x k = let e : 1 + k ≡ suc k = omega arith in shr-shr x 1 k ∙ ap (λ i. x / 2 ^ i) e
 
 -- the other child of the same node
 pub sibling : (x : ℕ) → bit_xor x 1 ≡ 2 * (x / 2) + (1 - x % 2)
@@ -24,37 +30,48 @@ sibling x = same_from_bits (bit_xor x 1) (2 * (x / 2) + (1 - x % 2)) bits
         omega (arith, bit_at_xor x 1 (suc i), one, left, right, bit_at-lt (x / 2) i)
 
 -- a node is brought up to date
-module _ (t : Table) (x v : ℕ) (h : IsClimbing t x) (pos : 1 < x) (inside : x < 64) (is : v ≡ min (node t (2 * (x / 2))) (node t (2 * (x / 2) + 1))) where
-  abbrev now : Table
-  now = with_node t (x / 2) v
+module _ (t now : Table) (x v : ℕ) (h : IsClimbing t x) (pos : 1 < x) (inside : x < 2 * count t) (nodes : now.nodes.items ≡ set t.nodes.items (x / 2) v) (lates : now.lates.items ≡ t.lates.items)
+    (is : v ≡ min (node t (2 * (x / 2))) (node t (2 * (x / 2) + 1))) where
+  as-many : count now ≡ count t
+  as-many = ap length lates
 
   pub node-here : node now (x / 2) ≡ v
-  node-here = get_or-set_same t.nodes (x / 2) v 0 (omega (arith, h.tree.nodes))
+  node-here = ap (λ (ns : List ℕ). get_or ns (x / 2) 0) nodes ∙ get_or-set_same t.nodes.items (x / 2) v 0 (omega (arith, h.tree.nodes))
 
   other : (j : ℕ) → j ≢ x / 2 → node now j ≡ node t j
-  other j n = get_or-set_other t.nodes (x / 2) j v 0 n
+  other j n = ap (λ (ns : List ℕ). get_or ns j 0) nodes ∙ get_or-set_other t.nodes.items (x / 2) j v 0 n
+
+  leaf : (n : ℕ) → n < count t → node now (count now + n) ≡ node t (count t + n)
+  leaf n l = ap (λ c. node now (c + n)) as-many ∙ other (count t + n) (λ e. absurd (omega arith))
+
+  pub dues-stay : dues now ≡ dues t
+  dues-stay = dues-alike t now lates leaf
 
   pub climbs : IsClimbing now (x / 2)
   climbs = record {
     tree = record {
-      nodes = length-set t.nodes (x / 2) v ∙ h.tree.nodes;
-      marks = h.tree.marks;
-      highs = h.tree.highs;
-      lows = h.tree.lows;
-      leaves = λ n l. other (32 + n) (λ e. absurd (omega arith)) ∙ h.tree.leaves n l;
+      nodes = ap length nodes ∙ length-set t.nodes.items (x / 2) v ∙ h.tree.nodes ∙ sym (ap (λ c. 2 * c) as-many);
+      some = omega (arith, as-many, h.tree.some);
+      bound = omega (arith, as-many, h.tree.bound);
+      leaves = λ n l. rw (leaf n (omega (arith, as-many)), lates) (h.tree.leaves n (omega (arith, as-many)));
     };
-    mins = λ j a b n2 n4 n8 n16 n32.
+    mins = λ j a b above.
         elim (cases_eq j (x / 2)) as (λ _. node now j ≡ min (node now (2 * j)) (node now (2 * j + 1))) [
           | inl e ↦
               let left : node now (2 * j) ≡ node t (2 * (x / 2)) = other (2 * j) (λ f. absurd (omega arith)) ∙ ap (λ k. node t (2 * k)) e in
               let right : node now (2 * j + 1) ≡ node t (2 * (x / 2) + 1) = other (2 * j + 1) (λ f. absurd (omega arith)) ∙ ap (λ k. node t (2 * k + 1)) e in
               ap (node now) e ∙ node-here ∙ is ∙ sym (λ i. min (left i) (right i))
           | inr e ↦
+              let parent : j ≢ x / 2 / 2 = λ f. above 0 f in
               let left : node now (2 * j) ≡ node t (2 * j) = other (2 * j) (λ f. absurd (omega arith)) in
               let right : node now (2 * j + 1) ≡ node t (2 * j + 1) = other (2 * j + 1) (λ f. absurd (omega arith)) in
-              other j e ∙ h.mins j a b e (λ f. absurd (omega arith)) (λ f. absurd (omega arith)) (λ f. absurd (omega arith)) (λ f. absurd (omega arith)) ∙ sym (λ i. min (left i) (right i))
+              other j e ∙ h.mins j a (omega (arith, as-many)) (apart j e above) ∙ sym (λ i. min (left i) (right i))
         ];
   }
+    where
+      apart : (j : ℕ) → j ≢ x / 2 → ((k : ℕ) → j ≢ x / 2 / 2 ^ suc k) → (k : ℕ) → j ≢ x / 2 ^ suc k
+      apart j e above zero = e
+      apart j e above (suc k) = λ f. above k (f ∙ sym (halved x (suc k)))
 
 -- the lesser of a node and the other child of its parent
 pub lesser-is : (t : Table) (x first rest : ℕ) → first ≡ node t x → rest ≡ node t (bit_xor x 1) → (v : ℕ) → v ≡ (if nat_lt rest first then rest else first) →
@@ -82,10 +99,21 @@ lesser-is t x first rest here there v is =
 
 -- at the root all nodes are up to date
 pub climbed : (t : Table) (x : ℕ) → x ≡ 1 → IsClimbing t x → IsOrdered t
-climbed t x e h = record { mins = λ j a b. h.mins j a b (λ f. absurd (omega arith)) (λ f. absurd (omega arith)) (λ f. absurd (omega arith)) (λ f. absurd (omega arith)) (λ f. absurd (omega arith)) }
+climbed t x e h = record { mins = λ j a b. h.mins j a b (λ k f. absurd (omega (arith, f, none k))) }
+  where
+    nothing : (k : ℕ) → 0 / 2 ^ k ≡ 0
+    nothing zero = omega arith
+    nothing (suc k) = sym (halved 0 k) ∙ nothing k
+
+    lone : (k : ℕ) → 1 / 2 ^ suc k ≡ 0
+    lone zero = omega arith
+    lone (suc k) = sym (halved 1 (suc k)) ∙ nothing (suc k)
+
+    none : (k : ℕ) → x / 2 ^ suc k ≡ 0
+    none k = ap (λ y. y / 2 ^ suc k) e ∙ lone k
 
 module _ (t : Table) (o : IsOrdered t) where
-  edge : (j : ℕ) → 1 < j → j < 64 → node t (j / 2) ≤ node t j
+  edge : (j : ℕ) → 1 < j → j < 2 * count t → node t (j / 2) ≤ node t j
   edge j a b =
       let m = o.mins (j / 2) (omega arith) (omega arith) in
       elim (cases_eq (j % 2) 0) as (λ _. node t (j / 2) ≤ node t j) [
@@ -94,35 +122,26 @@ module _ (t : Table) (o : IsOrdered t) where
       ]
 
   -- no word is less than the one at the root
-  pub root-first : (n : ℕ) → n < 32 → node t 1 ≤ node t (32 + n)
-  root-first n low =
-      let x : ℕ = 32 + n in
-      let root : x / 2 / 2 / 2 / 2 / 2 ≡ 1 = omega arith in
-      let top : node t (x / 2 / 2 / 2 / 2 / 2) ≡ node t 1 = ap (node t) root in
-      chain (node t 1) _ _ _ _ _ (node t x) top (edge (x / 2 / 2 / 2 / 2) (omega arith) (omega arith)) (edge (x / 2 / 2 / 2) (omega arith) (omega arith))
-      (edge (x / 2 / 2) (omega arith) (omega arith)) (edge (x / 2) (omega arith) (omega arith)) (edge x (omega arith) (omega arith))
-    where
-      chain : (a b c d e f g : ℕ) → b ≡ a → b ≤ c → c ≤ d → d ≤ e → e ≤ f → f ≤ g → a ≤ g
-      chain a b c d e f g p q r s u v = omega arith
+  pub root-first : (fuel j : ℕ) → j ≤ fuel → 0 < j → j < 2 * count t → node t 1 ≤ node t j
+  root-first zero j f a b = absurd (omega arith)
+  root-first (suc fuel) j f a b = elim (cases_eq j 1) as (λ _. node t 1 ≤ node t j) [
+    | inl e ↦ let same = ap (node t) e in omega (arith, same)
+    | inr e ↦ let up = root-first fuel (j / 2) (omega arith) (omega arith) (omega arith) in omega (arith, up, edge j (omega arith) b)
+  ]
 
   -- each word is that of a leaf
-  abbrev pub Leaf : ℕ → Type 0
-  Leaf j = (n : ℕ) × ((n < 32) × (node t j ≡ node t (32 + n)))
-
-  above : (low : ℕ) → 0 < low → low ≤ 16 → ((c : ℕ) → 2 * low ≤ c → c < 4 * low → Leaf c) → (j : ℕ) → low ≤ j → j < 2 * low → Leaf j
-  above low pos most h j a b =
-      let m = o.mins j (omega arith) (omega arith) in
-      elim (cases_lt (node t (2 * j)) (node t (2 * j + 1))) as (λ _. Leaf j) [
-        | inl less ↦ let r = h (2 * j) (omega arith) (omega arith) in let e : node t j ≡ node t (2 * j) = omega (arith, m, less) in (r.0, (r.1.0, e ∙ r.1.1))
-        | inr more ↦ let r = h (2 * j + 1) (omega arith) (omega arith) in let e : node t j ≡ node t (2 * j + 1) = omega (arith, m, more) in (r.0, (r.1.0, e ∙ r.1.1))
-      ]
-
-  pub root-leaf : (n : ℕ) × ((n < 32) × (node t 1 ≡ node t (32 + n)))
-  root-leaf = level 1 (omega arith) (omega arith)
-      (level 2 (omega arith) (omega arith) (level 4 (omega arith) (omega arith) (level 8 (omega arith) (omega arith) (level 16 (omega arith) (omega arith) leaf)))) 1 (omega arith) (omega arith)
-    where
-      level : (low : ℕ) → 0 < low → low ≤ 16 → ((c : ℕ) → 2 * low ≤ c → c < 4 * low → Leaf c) → (j : ℕ) → low ≤ j → j < 2 * low → Leaf j
-      level = above
-
-      leaf : (c : ℕ) → 32 ≤ c → c < 64 → Leaf c
-      leaf c a b = let e : c ≡ 32 + (c - 32) = omega arith in (c - 32, (omega arith, ap (node t) e))
+  pub a-leaf : (fuel j : ℕ) → 2 * count t ≤ j + fuel → 0 < j → j < 2 * count t → (n : ℕ) × ((n < count t) × (node t j ≡ node t (count t + n)))
+  a-leaf zero j f a b = absurd (omega arith)
+  a-leaf (suc fuel) j f a b = elim (cases_lt j (count t)) as (λ _. (n : ℕ) × ((n < count t) × (node t j ≡ node t (count t + n)))) [
+    | inl inner ↦
+        let m = o.mins j a inner in
+        elim (cases_lt (node t (2 * j)) (node t (2 * j + 1))) as (λ _. (n : ℕ) × ((n < count t) × (node t j ≡ node t (count t + n)))) [
+          | inl less ↦
+              let r = a-leaf fuel (2 * j) (omega arith) (omega arith) (omega arith) in
+              let e : node t j ≡ node t (2 * j) = omega (arith, m, less) in (r.0, (r.1.0, e ∙ r.1.1))
+          | inr more ↦
+              let r = a-leaf fuel (2 * j + 1) (omega arith) (omega arith) (omega arith) in
+              let e : node t j ≡ node t (2 * j + 1) = omega (arith, m, more) in (r.0, (r.1.0, e ∙ r.1.1))
+        ]
+    | inr outer ↦ let e : j ≡ count t + (j - count t) = omega arith in (j - count t, (omega arith, ap (node t) e))
+  ]

@@ -1,216 +1,147 @@
 -- The tree as a map from timers to deadlines.
-use Rattle.std.proofs.Common.{◌≡◌, ℕ, zero, suc, ◌+◌, ◌*◌, ◌/◌, ◌%◌, ◌<◌, ◌≤◌, true, false, nat_lt, inl, inr, length, set, get_or, replicate, refl, sym, ap, ◌∙◌, arith}
-use Rattle.std.specs.Prelude.{Option, None, Some, Bool, is_none, cond, if◌then◌else◌}
-use Rattle.std.specs.Option.{option_map}
-use Rattle.std.proofs.lemmas.Bool.{cases_lt}
+use Rattle.std.proofs.Common.{◌≡◌, ℕ, zero, suc, ◌+◌, ◌*◌, ◌/◌, ◌%◌, ◌<◌, ◌≤◌, ◌==◌, true, false, nat_lt, List, inl, inr, length, set, get_or, replicate, refl, sym, ap, ◌∙◌, arith}
+use Rattle.std.specs.Prelude.{Option, None, Some, Bool, map, if◌then◌else◌}
+use Rattle.std.specs.Option.{option_map_or}
+use Rattle.std.proofs.lemmas.Bool.{cases_lt, cases_eq}
 use Rattle.std.proofs.lemmas.Bool.Decides.{nat_tests}
 use Rattle.std.proofs.lemmas.Option.{none-some, same_Some}
-use Rattle.std.proofs.lemmas.List.{set-get_or, length-set, get_or_past}
-use Rattle.std.proofs.lemmas.List.Sums.{sum_by-set, count_by-le-length}
-use Rattle.board_terms.specs.Dues.{Dues, least, least_below, timer_of}
+use Rattle.std.proofs.lemmas.List.{set-get_or, get_or-replicate, length-replicate, same_lists, get_or_default, get_or-map, length-map}
+use Rattle.board_terms.specs.Dues.{Dues, least, timer_of, if_later, later_than}
 use Rattle.deadline_tree.specs.declared.table.Table.{Table}
 use Rattle.deadline_tree.specs.Deadlines.{no_dues}
-use Rattle.deadline_tree.specs.inside.Table.{dues, due_at, node, is_set, moment_of, word_for, word_of, never, late, idle, IsSound}
-use Rattle.deadline_tree.proofs.Edits.{dues_at, length-dues, dues-are}
-use Rattle.deadline_tree.proofs.Nodes.{root-first, root-leaf}
-use Rattle.deadline_tree.proofs.Leasts.{Found, found, least_is, least_none}
+use Rattle.deadline_tree.specs.inside.Table.{count, node, word_of, late_due, due_from, due_at, dues, late, late_word, never, IsWord, IsSound}
+use Rattle.deadline_tree.proofs.Edits.{length-dues, dues_at, dues_past, dues-are}
+use Rattle.deadline_tree.proofs.Nodes.{root-first, a-leaf}
+use Rattle.deadline_tree.proofs.Leasts.{least_is, least_none}
 
-all_none : (k n : ℕ) → get_or {A = Option ℕ} (replicate k None) n None ≡ None
-all_none zero n = refl
-all_none (suc k) zero = refl
-all_none (suc k) (suc n) = all_none k n
+-- the deadline of a word
+pub due-early : (word far : ℕ) → word < late_word → due_from word far ≡ Some (word / 256)
+due-early word far h = let e : nat_lt word late_word ≡ true = grind (arith, nat_tests) in ap (λ b. if b then Some (word / 256) else if word == late_word then Some far else None) e
 
-abbrev weight : Option ℕ → ℕ
-weight o = cond (is_none o) 1 0
+pub due-late : (far : ℕ) → due_from late_word far ≡ Some far
+due-late far = refl
 
--- how many timers have no deadline, after one is written
-pub idle_taken : (m : Dues) (n x : ℕ) → n < length m → idle (set m n (Some x)) + 1 ≡ idle (set m n None)
-idle_taken m n x h = let some = sum_by-set weight m n (Some x) None h in let none = sum_by-set weight m n None None h in omega (arith, some, none)
+pub due-never : (word far : ℕ) → late_word < word → due_from word far ≡ None
+due-never word far h =
+    let e : nat_lt word late_word ≡ false = grind (arith, nat_tests) in
+    let f : (word == late_word) ≡ false = grind (arith, nat_tests) in
+    (λ i. if e i then Some (word / 256) else if f i then Some far else None)
 
-idle_given : (m : Dues) (n d : ℕ) → n < length m → get_or m n None ≡ Some d → idle (set m n None) ≡ idle m + 1
-idle_given m n d h e = let f : weight (get_or m n None) ≡ 0 = ap weight e in omega (arith, f, sum_by-set weight m n None None h)
+pub due-some : (due far n : ℕ) → due < late → n < 256 → due_from (256 * due + n) far ≡ Some due
+due-some due far n h low =
+    let e : (256 * due + n) / 256 ≡ due = omega arith in
+    due-early (256 * due + n) far (omega arith) ∙ ap Some e
 
-idle_most : (m : Dues) → idle m ≤ length m
-idle_most m = count_by-le-length is_none m
-
--- deadlines of which one is set
-pub one-set : (m : Dues) (n d : ℕ) → length m ≡ 32 → get_or m n None ≡ Some d → idle m < 32
-one-set m n d l e =
-    elim (cases_lt n (length m)) as (λ _. idle m < 32) [
-      | inl h ↦ omega (arith, idle_given m n d h e, idle_most (set m n None), length-set m n None, l)
-      | inr h ↦ absurd (none-some d (sym (get_or_past m n None h) ∙ e))
-    ]
-
--- deadlines of which none is set
-pub none-set : (m : Dues) → length m ≡ 32 → idle m ≡ 32 → (k : ℕ) → get_or m k None ≡ None
-none-set m l e k = by (get_or m k None) refl
-  where
-    by : (o : Option ℕ) → get_or m k None ≡ o → get_or m k None ≡ None
-    by None h = h
-    by (Some d) h = absurd (omega (arith, one-set m k d l h))
-
-module _ (t : Table) (n : ℕ) (low : n < 32) where
-  place : get_or (dues t) n None ≡ due_at t n
-  place = dues_at t n low
-
-  -- the others, if the timer has no deadline and if it has one
-  pub none-here : is_set t n ≡ false → get_or (dues t) n None ≡ None
-  none-here e = place ∙ ap (λ b. if b then Some (moment_of t n) else None) e
-
-  pub some-here : is_set t n ≡ true → get_or (dues t) n None ≡ Some (moment_of t n)
-  some-here e = place ∙ ap (λ b. if b then Some (moment_of t n) else None) e
-
-  pub cleared-same : is_set t n ≡ false → set (dues t) n None ≡ dues t
-  cleared-same e = ap (set (dues t) n) (sym (none-here e)) ∙ set-get_or (dues t) n None
-
-  pub others-unset : is_set t n ≡ false → idle (set (dues t) n None) ≡ idle (dues t)
-  others-unset e = ap idle (cleared-same e)
-
-  pub others-set : is_set t n ≡ true → idle (set (dues t) n None) ≡ idle (dues t) + 1
-  others-set e = idle_given (dues t) n (moment_of t n) (omega (arith, length-dues t)) (some-here e)
-
-  pub others-fit : is_set t n ≡ true → idle (dues t) < 32
-  others-fit e = omega (arith, others-set e, idle_most (set (dues t) n None), length-set (dues t) n None, length-dues t)
+-- a timer without a deadline is cleared
+pub cleared-same : (t : Table) (n : ℕ) → n < count t → nat_lt (word_of t n) never ≡ false → set (dues t) n None ≡ dues t
+cleared-same t n low is =
+    let past : never ≤ word_of t n = grind (arith, nat_tests) in
+    let none : get_or (dues t) n None ≡ None = dues_at t n low ∙ due-never (word_of t n) (late_due t n) (omega (arith, past)) in
+    ap (set (dues t) n) (sym none) ∙ set-get_or (dues t) n None
 
 -- the word at the root is that of the earliest timer
-module _ (t : Table) (sound : IsSound t) (word : ℕ) (is : word ≡ node t 1) (less : word < never) where
-  leaf : (n : ℕ) × ((n < 32) × (node t 1 ≡ node t (32 + n)))
-  leaf = root-leaf t sound.ordered
+module _ (t : Table) (sound : IsSound t) where
+  root-low : (n : ℕ) → n < count t → node t 1 ≤ word_of t n
+  root-low n low = root-first t sound.ordered (count t + n) (count t + n) (omega arith) (omega (arith, sound.tree.some)) (omega arith)
 
-  abbrev first : ℕ
-  first = leaf.0
+  module _ (less : node t 1 < late_word) where
+    pub leaf : (n : ℕ) × ((n < count t) × (node t 1 ≡ word_of t n))
+    leaf = a-leaf t sound.ordered (2 * count t) 1 (omega arith) (omega arith) (omega (arith, sound.tree.some))
 
-  own : word ≡ word_of t first
-  own = is ∙ leaf.1.1 ∙ sound.tree.leaves first leaf.1.0
+    abbrev first : ℕ
+    first = leaf.0
 
-  -- a word is the deadline with the number, unless it is late
-  early : (due n : ℕ) → word_for due n < never → (word_for due n ≡ 32 * due + n) × (due < late)
-  early due n h = elim (nat_lt due late) as (λ b. nat_lt due late ≡ b → (if b then 32 * due + n else never) < never → ((if b then 32 * due + n else never) ≡ 32 * due + n) × (due < late)) [
-    | true ↦ λ w g. (refl, grind (arith, nat_tests))
-    | false ↦ λ w g. absurd (omega (arith, g))
-  ] refl h
+    low-word : word_of t first < late_word
+    low-word = let own = leaf.1.1 in omega (arith, own, less)
 
-  whole : (b : Bool) → is_set t first ≡ b → word ≡ (if b then word_for (moment_of t first) first else never) →
-      (is_set t first ≡ true) × ((word ≡ 32 * moment_of t first + first) × (moment_of t first < late))
-  whole true e h = let f = early (moment_of t first) first (omega (arith, h, less)) in (e, (h ∙ f.0, f.1))
-  whole false e h = absurd (omega (arith, h, less))
+    pub root-number : node t 1 % 256 ≡ first
+    root-number = ap (λ w. w % 256) leaf.1.1 ∙ (sound.tree.leaves first leaf.1.0).number low-word
 
-  parts : (is_set t first ≡ true) × ((word ≡ 32 * moment_of t first + first) × (moment_of t first < late))
-  parts = whole (is_set t first) refl own
+    pub root-below : node t 1 % 256 < 32
+    root-below = let low = leaf.1.0 in omega (arith, root-number, low, sound.tree.bound)
 
-  root-number : word % 32 ≡ first
-  root-number = let low = leaf.1.0 in omega (arith, parts.1.0, low)
+    -- another timer with a deadline
+    before : (k e : ℕ) → k < count t → due_at t k ≡ Some e → (node t 1 / 256 ≤ e) × (e ≡ node t 1 / 256 → first ≤ k)
+    before k e low is =
+        let order : node t 1 ≤ word_of t k = root-low k low in
+        let word = sound.tree.leaves k low in
+        elim (cases_lt (word_of t k) late_word) as (λ _. (node t 1 / 256 ≤ e) × (e ≡ node t 1 / 256 → first ≤ k)) [
+          | inl early ↦
+              let due : word_of t k / 256 ≡ e = same_Some _ _ (sym (due-early (word_of t k) (late_due t k) early) ∙ is) in
+              let number : word_of t k % 256 ≡ k = word.number early in
+              (omega (arith, order, due), λ x. omega (arith, order, due, number, root-number, x))
+          | inr more ↦ elim (cases_eq (word_of t k) late_word) as (λ _. (node t 1 / 256 ≤ e) × (e ≡ node t 1 / 256 → first ≤ k)) [
+            | inl last ↦
+                let due : late_due t k ≡ e = same_Some _ _ (sym (ap (λ w. due_from w (late_due t k)) last) ∙ is) in
+                let far : late ≤ late_due t k = word.is_late last in
+                (omega (arith, due, far, less), λ x. absurd (omega (arith, due, far, less, x)))
+            | inr none ↦ absurd (none-some e (sym (due-never (word_of t k) (late_due t k) (omega (arith, more, none))) ∙ is))
+          ]
+        ]
 
-  root-due : word / 32 ≡ moment_of t first
-  root-due = let low = leaf.1.0 in omega (arith, parts.1.0, low)
+    pub root-least : least (dues t) ≡ Some (node t 1 / 256, timer_of (node t 1 % 256))
+    root-least =
+        least_is (dues t) (node t 1 / 256) first record {
+          low = let low = leaf.1.0 in omega (arith, low, length-dues t);
+          due = dues_at t first leaf.1.0 ∙ due-early (word_of t first) (late_due t first) low-word ∙ ap (λ w. Some (w / 256)) (sym leaf.1.1);
+          first = λ k e h. elim (cases_lt k (count t)) as (λ _. (node t 1 / 256 ≤ e) × (e ≡ node t 1 / 256 → first ≤ k)) [
+            | inl low ↦ before k e low (sym (dues_at t k low) ∙ h)
+            | inr high ↦ absurd (none-some e (sym (dues_past t k high) ∙ h))
+          ];
+        } ∙ sym (ap (λ k. Some (node t 1 / 256, timer_of k)) root-number)
 
-  later : (k e n : ℕ) → 32 * moment_of t first + first ≤ word_for e k → k < 32 → (moment_of t first ≤ e) × (e ≡ moment_of t first → first ≤ k)
-  later k e n h low = let fit = leaf.1.0 in elim (nat_lt e late) as
-      (λ b. nat_lt e late ≡ b → 32 * moment_of t first + first ≤ (if b then 32 * e + k else never) → (moment_of t first ≤ e) × (e ≡ moment_of t first → first ≤ k)) [
-        | true ↦ λ w g. (omega (arith, g, low, fit), λ x. omega (arith, g, low, fit, x))
-        | false ↦ λ w g. let far : late ≤ e = grind (arith, nat_tests) in (omega (arith, far, parts.1.1), λ x. absurd (omega (arith, far, parts.1.1, x)))
-      ] refl h
+  -- no timer has a deadline
+  pub root-none : late_word < node t 1 → least (dues t) ≡ None
+  root-none more = least_none (dues t) (λ k. elim (cases_lt k (count t)) as (λ _. get_or (dues t) k None ≡ None) [
+    | inl low ↦ let order = root-low k low in dues_at t k low ∙ due-never (word_of t k) (late_due t k) (omega (arith, order, more))
+    | inr high ↦ dues_past t k high
+  ])
 
-  before : (k e : ℕ) → k < 32 → (b : Bool) → is_set t k ≡ b → (if b then Some (moment_of t k) else None) ≡ Some e → (moment_of t first ≤ e) × (e ≡ moment_of t first → first ≤ k)
-  before k e low true set h =
-      let due : moment_of t k ≡ e = same_Some _ _ h in
-      let word-is : node t (32 + k) ≡ word_for e k = sound.tree.leaves k low ∙ ap (λ x. if x then word_for (moment_of t k) k else never) set ∙ ap (λ d. word_for d k) due in
-      let order = root-first t sound.ordered k low in
-      later k e first (omega (arith, order, word-is, is, parts.1.0)) low
-  before k e low false set h = absurd (none-some e h)
+  -- all deadlines are late
+  module _ (far : late_word ≤ node t 1) where
+    late-each : (k : ℕ) → k < count t → if_later 0 (due_at t k) ≡ due_at t k
+    late-each k low =
+        let order : node t 1 ≤ word_of t k = root-low k low in
+        elim (cases_eq (word_of t k) late_word) as (λ _. if_later 0 (due_at t k) ≡ due_at t k) [
+          | inl last ↦
+              let due = (sound.tree.leaves k low).is_late last in
+              let pos : nat_lt 0 (late_due t k) ≡ true = grind (arith, nat_tests, due) in
+              let is : due_at t k ≡ Some (late_due t k) = ap (λ w. due_from w (late_due t k)) last in
+              ap (if_later 0) is ∙ ap (λ b. if b then Some (late_due t k) else None) pos ∙ sym is
+          | inr other ↦
+              let is : due_at t k ≡ None = due-never (word_of t k) (late_due t k) (omega (arith, order, far, other)) in
+              ap (if_later 0) is ∙ sym is
+        ]
 
-  pub root-least : least (dues t) ≡ Some (word / 32, timer_of (word % 32))
-  root-least =
-      least_is (dues t) (moment_of t first) first record {
-        low = leaf.1.0;
-        due = dues_at t first leaf.1.0 ∙ ap (λ x. if x then Some (moment_of t first) else None) parts.0;
-        first = λ k e h. elim (cases_lt k 32) as (λ _. (moment_of t first ≤ e) × (e ≡ moment_of t first → first ≤ k)) [
-          | inl low ↦ before k e low (is_set t k) refl (sym (dues_at t k low) ∙ h)
-          | inr high ↦ absurd (none-some e (sym (get_or_past (dues t) k None (omega (arith, length-dues t))) ∙ h))
-        ];
-      } ∙ sym (λ i. Some (root-due i, timer_of (root-number i)))
-
--- the timer that a scan finds
-module _ (t : Table) (n : ℕ) where
-  found-due : (b : Bool) (d : ℕ) → is_set t n ≡ b → (if b then Some (moment_of t n) else None) ≡ Some d → moment_of t n ≡ d
-  found-due true d e h = same_Some _ _ h
-  found-due false d e h = absurd (none-some d h)
-
-  found-is : (o : Option (ℕ × ℕ)) → Found (dues t) 32 o → Some n ≡ option_map {U = ℕ} (λ (r : ℕ × ℕ). r.1) o →
-      (n < 32) × (option_map {U = ℕ × (ℕ × ℕ)} (λ (r : ℕ × ℕ). (r.0, timer_of r.1)) o ≡ Some (moment_of t n, timer_of n))
-  found-is None f h = absurd (none-some n (sym h))
-  found-is (Some r) f h =
-      let same : n ≡ r.1 = same_Some _ _ h in
-      let low : n < 32 = omega (arith, same, f.low) in
-      let due : moment_of t n ≡ r.0 = found-due (is_set t n) r.0 refl (sym (dues_at t n low) ∙ ap (λ k. get_or (dues t) k None) same ∙ f.due) in
-      (low, λ i. Some (sym due i, timer_of (sym same i)))
-
-  pub scan-least : Some n ≡ option_map {U = ℕ} (λ (r : ℕ × ℕ). r.1) (least_below (dues t) 32) → (n < 32) × (least (dues t) ≡ Some (moment_of t n, timer_of n))
-  unfolding least
-  scan-least h = found-is (least_below (dues t) 32) (found (dues t) 32) h
-
-pub scan-none : (m : Dues) → None ≡ option_map {U = ℕ} (λ (r : ℕ × ℕ). r.1) (least_below m 32) → least m ≡ None
-unfolding least
-scan-none m h = by (least_below m 32) h
-  where
-    by : (o : Option (ℕ × ℕ)) → None ≡ option_map {U = ℕ} (λ (r : ℕ × ℕ). r.1) o → option_map {U = ℕ × (ℕ × ℕ)} (λ (r : ℕ × ℕ). (r.0, timer_of r.1)) o ≡ None
-    by None e = refl
-    by (Some r) e = absurd (none-some r.1 e)
-
-pub scan-empty : (m : Dues) → length m ≡ 32 → idle m ≡ 32 → None ≡ option_map {U = ℕ} (λ (r : ℕ × ℕ). r.1) (least_below m 32)
-scan-empty m l e = by (least_below m 32) (found m 32)
-  where
-    by : (o : Option (ℕ × ℕ)) → Found m 32 o → None ≡ option_map {U = ℕ} (λ (r : ℕ × ℕ). r.1) o
-    by None f = refl
-    by (Some r) f = absurd (none-some r.0 (sym (none-set m l e r.1) ∙ f.due))
-
--- there is none
-pub empty-least : (t : Table) → idle (dues t) ≡ 32 → least (dues t) ≡ None
-empty-least t e = least_none (dues t) (none-set (dues t) (length-dues t) e)
+    pub all-later : later_than 0 (dues t) ≡ dues t
+    all-later = sym (dues-are t (later_than 0 (dues t)) (length-map (dues t) (if_later 0) ∙ length-dues t) (λ k low.
+        get_or-map (if_later 0) (dues t) k None None (omega (arith, low, length-dues t)) ∙ ap (if_later 0) (dues_at t k low) ∙ late-each k low))
 
 -- a table without deadlines
-abbrev pub fresh : Table
-fresh = record { nodes = replicate 64 18446744073709551615; marks = replicate 32 false; count = 0; highs = replicate 32 0; lows = replicate 32 0 }
+module _ (t : Table) (k : ℕ) (some : 1 ≤ k) (bound : k ≤ 8) (nodes : t.nodes.items ≡ replicate (2 * (4 * k)) never) (lates : t.lates.items ≡ replicate (4 * k) 0) where
+  many : count t ≡ 4 * k
+  many = ap length lates ∙ length-replicate (4 * k) 0
 
-repeated : (k n : ℕ) → n < k → get_or (replicate k 18446744073709551615) n 0 ≡ never
-repeated zero n h = absurd (omega arith)
-repeated (suc k) zero h = refl
-repeated (suc k) (suc n) h = repeated k n (omega arith)
+  each : (j : ℕ) → j < 2 * (4 * k) → node t j ≡ never
+  each j h = ap (λ (ns : List ℕ). get_or ns j 0) nodes ∙ get_or-replicate (2 * (4 * k)) j never 0 h
 
-unmarked : (k n : ℕ) → get_or (replicate k false) n false ≡ false
-unmarked zero n = refl
-unmarked (suc k) zero = refl
-unmarked (suc k) (suc n) = unmarked k n
+  leaf-never : (n : ℕ) → n < count t → word_of t n ≡ never
+  leaf-never n h = each (count t + n) (omega (arith, many))
 
-pub fresh-dues : dues fresh ≡ no_dues
-fresh-dues = dues-are fresh no_dues refl (λ k h. all_none 32 k ∙ sym (ap (λ b. if b then Some (moment_of fresh k) else None) (unmarked 32 k)))
+  pub fresh-dues : dues t ≡ no_dues k
+  fresh-dues = dues-are t (no_dues k) (length-replicate (4 * k) None ∙ sym many) (λ n h.
+      get_or-replicate (4 * k) n None None (omega (arith, many)) ∙ sym (ap (λ w. due_from w (late_due t n)) (leaf-never n h)))
 
-pub fresh-sound : IsSound fresh
-fresh-sound = record {
-  tree = record {
-    nodes = refl;
-    marks = refl;
-    highs = refl;
-    lows = refl;
-    leaves = λ n h. repeated 64 (32 + n) (omega arith)
-        ∙ sym (ap (λ b. if b then word_for (moment_of fresh n) n else never) (unmarked 32 n));
-  };
-  ordered = record {
-    mins = λ j a b. let here = repeated 64 j (omega arith) in let left = repeated 64 (2 * j) (omega arith) in let right = repeated 64 (2 * j + 1)
-        (omega arith) in omega (arith, here, left, right);
-  };
-  full = ap (λ m. idle m + 0) fresh-dues;
-}
-
--- the earliest of any deadlines, by its number
-pub least-is-found : (m : Dues) (d n : ℕ) → Some (d, n) ≡ least_below m 32 → (n < 32) × (Some (d, timer_of n) ≡ least m)
-unfolding least
-least-is-found m d n h = (by (least_below m 32) (found m 32) h, ap (option_map {U = ℕ × (ℕ × ℕ)} (λ (r : ℕ × ℕ). (r.0, timer_of r.1))) h)
-  where
-    by : (o : Option (ℕ × ℕ)) → Found m 32 o → Some (d, n) ≡ o → n < 32
-    by None f e = absurd (none-some (d, n) (sym e))
-    by (Some r) f e = let same : n ≡ r.1 = ap (λ (x : ℕ × ℕ). x.1) (same_Some _ _ e) in omega (arith, same, f.low)
-
-pub least-is-none : (m : Dues) → None ≡ least_below m 32 → None ≡ least m
-unfolding least
-least-is-none m h = ap (option_map {U = ℕ × (ℕ × ℕ)} (λ (r : ℕ × ℕ). (r.0, timer_of r.1))) h
+  pub fresh-sound : IsSound t
+  fresh-sound = record {
+    tree = record {
+      nodes = ap length nodes ∙ length-replicate (2 * (4 * k)) never ∙ sym (ap (λ c. 2 * c) many);
+      some = omega (arith, many);
+      bound = omega (arith, many);
+      leaves = λ n h. let is = leaf-never n h in record { number = λ l. absurd (omega (arith, is, l)); is_late = λ l. absurd (omega (arith, is, l)) };
+    };
+    ordered = record {
+      mins = λ j a b. let here = each j (omega (arith, many)) in let left = each (2 * j) (omega (arith, many)) in let right = each (2 * j + 1) (omega (arith, many)) in
+          omega (arith, here, left, right);
+    };
+  }

@@ -1,4 +1,4 @@
-//! The deadlines of 32 timers as a tournament tree: each node has the earliest timer below it.
+//! The deadlines of timers as a tournament tree: each node has the earliest timer below it.
 #![tactic(auto)]
 
 mod laws;

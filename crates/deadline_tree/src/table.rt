@@ -1,59 +1,33 @@
 // The deadlines of the timers, and a tree of the timers that come first.
-ghost use Rattle.std.specs.Prelude.{◌≡◌, ◌+◌, ◌/◌, ◌%◌, ◌^◌, ◌<◌, true, None, Some, slice_set};
-ghost use Rattle.std.specs.Option.{option_map};
-ghost use Rattle.board_terms.specs.Dues.{least, least_below, earlier, if_later, later_than};
-ghost use Rattle.deadline_tree.specs.Deadlines.{no_dues, is_due_by, MarksDue};
-ghost use Rattle.deadline_tree.specs.inside.Table.{node, is_set, moment_of, word_for, due_at, dues, idle, with_mark, with_word, IsTree, IsOrdered, IsSound};
-ghost use Rattle.deadline_tree.specs.inside.Climbs.{IsClimbing, IsAlike};
+ghost use Rattle.std.specs.Prelude.{◌≡◌, ◌≢◌, ◌+◌, ◌*◌, ◌/◌, ◌<◌, ◌≤◌, IsTrue, None, Some, IfOk, length, nat_lt, slice_index_or, slice_set};
+ghost use Rattle.board_terms.specs.Dues.{least, earlier, if_later, later_than};
+ghost use Rattle.deadline_tree.specs.Deadlines.{no_dues, levels};
+ghost use Rattle.deadline_tree.specs.inside.Table.{count, node, word_of, late_due, due_from, late, late_word, never, dues, IsWord, IsSound};
+ghost use Rattle.deadline_tree.specs.inside.Climbs.{IsClimbing};
 
 use crate::tree::comparer::Comparer;
 use board_terms::TimerId;
-
-/// The word of a timer without a deadline, or with a late one.
-const NEVER: u64 = u64::MAX;
+use std::alloc::{AllocError, Global};
 
 /// Deadlines before this one have a word of their own.
-const LATE: u128 = (1 << 59) - 1;
+const LATE: u128 = (1 << 56) - 1;
+
+/// The word of a timer with a late deadline.
+const LATE_WORD: u64 = 256 * ((1 << 56) - 1);
+
+/// The word of a timer without a deadline.
+const NEVER: u64 = u64::MAX;
 
 /// The deadlines of the timers, by number.
 #[derive(Drop)]
 pub(crate) struct Table {
-    /// The word of a timer is 32 times its deadline plus its number, so the lesser of two words is that
+    /// The word of a timer is 256 times its deadline plus its number, so the lesser of two words is that
     /// of the timer that comes first. For each node of a tree, this is the least word below it. Node 1 is
-    /// the root, node i has the children 2 * i and 2 * i + 1, and node 32 + n is the leaf of timer n.
-    nodes: [u64; 64],
-    /// Which timers have a deadline, and how many.
-    marks: [bool; 32],
-    count: u8,
-    /// The deadline of each timer that has one: the upper and the lower word.
-    highs: [u64; 32],
-    lows: [u64; 32],
-}
-
-/// The upper word of a deadline, usually 0.
-fn high(due: u128) -> u64
-    ensures { result ≡ due / 2 ^ 64 }
-{
-    (due >> 64) as u64
-}
-
-/// The lower word of a deadline.
-fn low(due: u128) -> u64
-    ensures { result ≡ due % 2 ^ 64 }
-{
-    (due % (1 << 64)) as u64
-}
-
-/// The word of a timer with a deadline.
-fn word(due: u128, number: u8) -> u64
-    requires { number < 32 }
-    ensures { result ≡ word_for due number }
-{
-    if due < LATE {
-        due as u64 * 32 + number as u64
-    } else {
-        NEVER
-    }
+    /// the root, and node i has the children 2 * i and 2 * i + 1. Of n timers, the leaf of number k is
+    /// node n + k, so any n will do: some leaves may be a level higher than others.
+    nodes: Vec<u64>,
+    /// The deadline of each timer that has a late one.
+    lates: Vec<u128>,
 }
 
 /// The earlier of a timer and the earliest so far. On a tie, the earliest so far.
@@ -68,102 +42,72 @@ fn earlier(first: Option<(u128, u8)>, due: u128, number: u8) -> (u128, u8)
 
 impl Table {
     /// A table without deadlines.
-    pub(crate) fn new() -> Table
-        ensures sound { IsSound result }
-        ensures dues { dues result ≡ no_dues }
+    pub(crate) fn open(alloc: Global, processors: u8) -> Result<Table, AllocError>
+        requires some { 1 ≤ processors }
+        requires bound { processors ≤ 8 }
+        ensures sound { IfOk result (λ table. IsSound table) }
+        ensures dues { IfOk result (λ table. dues table ≡ no_dues processors) }
     {
-        Table {
-            nodes: [NEVER; 64],
-            marks: [false; 32],
-            count: 0,
-            highs: [0; 32],
-            lows: [0; 32],
-        }
+        let timers = 4 * processors as usize;
+        let nodes = vec![in alloc; NEVER; 2 * timers]?;
+        let lates = vec![in alloc; 0; timers]?;
+        Ok(Table { nodes, lates })
+    }
+
+    /// How many timers there are.
+    #[inline]
+    pub(crate) fn count(&self) -> usize
+        ensures { result ≡ count self.now }
+    {
+        self.lates.len()
+    }
+
+    /// The leaf of a timer.
+    #[inline]
+    fn leaf(&self, number: u8) -> usize
+        requires sound { IsSound self.now }
+        requires number { number < count self.now }
+        ensures { result ≡ count self.now + number }
+    {
+        self.lates.len() + number as usize
+    }
+
+    /// The word of a timer.
+    #[inline]
+    fn word(&self, number: u8) -> u64
+        requires sound { IsSound self.now }
+        requires number { number < count self.now }
+        ensures { result ≡ word_of self.now number }
+    {
+        self.nodes[self.leaf(number)]
     }
 
     /// Whether a timer has a deadline.
     #[inline]
     pub(crate) fn is_set(&self, number: u8) -> bool
-        requires { number < 32 }
-        ensures { result ≡ is_set self.now number }
+        requires sound { IsSound self.now }
+        requires number { number < count self.now }
+        ensures { result ≡ nat_lt (word_of self.now number) never }
     {
-        self.marks[number as usize]
+        self.word(number) < NEVER
     }
 
-    /// The deadline of a timer that has one.
-    #[inline]
-    fn moment(&self, number: u8) -> u128
-        requires { number < 32 }
-        ensures { result ≡ moment_of self.now number }
-    {
-        let at = number as usize;
-        self.highs[at] as u128 * (1 << 64) + self.lows[at] as u128
-    }
-
-    /// The deadline of a timer, if it has one.
+    /// The deadline of a timer, if there is this timer and it has one.
     #[inline]
     pub(crate) fn due(&self, number: u8) -> Option<u128>
-        requires { number < 32 }
-        ensures { result ≡ due_at self.now number }
+        requires { IsSound self.now }
+        ensures { result ≡ slice_index_or (dues self.now) number None }
     {
-        if self.is_set(number) {
-            Some(self.moment(number))
+        if number as usize >= self.count() {
+            return None;
+        }
+        let word = self.word(number);
+        if word < LATE_WORD {
+            Some((word / 256) as u128)
+        } else if word == LATE_WORD {
+            Some(self.lates[number as usize])
         } else {
             None
-        }
-    }
-
-    /// Whether a timer is due by a time.
-    #[inline]
-    fn is_due(&self, number: u8, moment: u128) -> bool
-        requires { number < 32 }
-        ensures { result ≡ is_due_by (dues self.now) moment number }
-    {
-        match self.due(number) {
-            Some(due) => due <= moment,
-            None => false,
-        }
-    }
-
-    /// Writes the deadline and the word of a timer.
-    #[inline]
-    fn write(&mut self, number: u8, word: u64, due: u128)
-        requires { number < 32 }
-        ensures { self.new ≡ with_word self.old number word due }
-    {
-        let at = number as usize;
-        self.nodes[32 + at] = word;
-        self.highs[at] = high(due);
-        self.lows[at] = low(due);
-    }
-
-    /// Marks a timer as one with a deadline. Writes nothing if it has one, as when it expires and is set again.
-    #[inline]
-    fn mark(&mut self, number: u8)
-        requires number { number < 32 }
-        requires sound { IsSound self.old }
-        ensures marked { self.new ≡ with_mark self.old number true self.new.count }
-        ensures count { idle (slice_set (dues self.old) number None) + self.new.count ≡ 33 }
-    {
-        let others = self.others(number);
-        if self.is_set(number) {
-            return;
-        }
-        self.marks[number as usize] = true;
-        self.count = others + 1;
-    }
-
-    /// How many other timers have a deadline.
-    #[inline]
-    fn others(&self, number: u8) -> u8
-        requires number { number < 32 }
-        requires sound { IsSound self.now }
-        ensures { idle (slice_set (dues self.now) number None) + result ≡ 32 }
-    {
-        if self.is_set(number) {
-            self.count - 1
-        } else {
-            self.count
         }
     }
 
@@ -171,12 +115,14 @@ impl Table {
     /// one, which is returned.
     #[inline(always)]
     fn compare(&mut self, child: usize, first: u64, comparer: &mut Comparer) -> u64
-        requires child { 1 < child × child < 64 }
+        requires above { 1 < child }
+        requires bound { child < 2 * count self.old }
         requires climbing { IsClimbing self.old child }
         requires first { first ≡ node self.old child }
         ensures climbing { IsClimbing self.new (child / 2) }
         ensures first { result ≡ node self.new (child / 2) }
-        ensures alike { IsAlike self.old self.new }
+        ensures count { count self.new ≡ count self.old }
+        ensures dues { dues self.new ≡ dues self.old }
         ensures total { comparer.new.total.number ≡ comparer.old.total.number + 1 }
     {
         let other = self.nodes[child ^ 1];
@@ -189,55 +135,87 @@ impl Table {
         least
     }
 
-    /// Updates the nodes above a timer, each by a comparison. Out of line: in the loop of a caller LLVM makes
-    /// branches of the comparisons, which are mispredicted.
+    /// Updates the nodes above a leaf, each by a comparison. Out of line: in the loop of a caller LLVM makes
+    /// branches of the comparisons, which are mispredicted. Two levels in a turn save instructions; there
+    /// are two at least.
     #[inline(never)]
-    fn climb(&mut self, number: u8, word: u64, comparer: &mut Comparer)
-        requires number { number < 32 }
-        requires climbing { IsClimbing self.old (32 + number) }
-        requires word { word ≡ node self.old (32 + number) }
-        ensures tree { IsTree self.new }
-        ensures ordered { IsOrdered self.new }
-        ensures alike { IsAlike self.old self.new }
-        ensures compared { comparer.new.total.number ≡ comparer.old.total.number + 5 }
+    fn climb(&mut self, leaf: usize, word: u64, comparer: &mut Comparer)
+        requires above { count self.old ≤ leaf }
+        requires bound { leaf < 2 * count self.old }
+        requires climbing { IsClimbing self.old leaf }
+        requires word { word ≡ node self.old leaf }
+        ensures sound { IsSound self.new }
+        ensures dues { dues self.new ≡ dues self.old }
+        ensures compared { comparer.new.total.number ≤ comparer.old.total.number + levels (count self.old) }
     {
-        let leaf = 32 + number as usize;
-        let first = self.compare(leaf, word, comparer);
-        let first = self.compare(leaf / 2, first, comparer);
-        let first = self.compare(leaf / 4, first, comparer);
-        let first = self.compare(leaf / 8, first, comparer);
-        let _ = self.compare(leaf / 16, first, comparer);
+        let mut node = leaf;
+        let mut first = word;
+        while node > 3 {
+            first = self.compare(node, first, comparer);
+            first = self.compare(node / 2, first, comparer);
+            node /= 4;
+        }
+        if node > 1 {
+            let _ = self.compare(node, first, comparer);
+        }
+    }
+
+    /// Writes the word of a timer.
+    #[inline(always)]
+    fn write(&mut self, number: u8, word: u64, comparer: &mut Comparer)
+        requires sound { IsSound self.old }
+        requires number { number < count self.old }
+        requires word { IsWord word (late_due self.old number) number }
+        ensures sound { IsSound self.new }
+        ensures dues { dues self.new ≡ slice_set (dues self.old) number (due_from word (late_due self.old number)) }
+        ensures compared { comparer.new.total.number ≤ comparer.old.total.number + levels (count self.old) }
+    {
+        let leaf = self.leaf(number);
+        self.nodes[leaf] = word;
+        self.climb(leaf, word, comparer);
     }
 
     /// Sets the deadline of a timer.
     #[inline(always)]
     pub(crate) fn set(&mut self, number: u8, due: u128, comparer: &mut Comparer)
         requires sound { IsSound self.old }
-        requires number { number < 32 }
+        requires number { number < count self.old }
         ensures sound { IsSound self.new }
         ensures set { dues self.new ≡ slice_set (dues self.old) number (Some due) }
-        ensures compared { comparer.new.total.number ≡ comparer.old.total.number + 5 }
+        ensures compared { comparer.new.total.number ≤ comparer.old.total.number + levels (count self.old) }
     {
-        let word = word(due, number);
-        self.mark(number);
-        self.write(number, word, due);
-        self.climb(number, word, comparer);
+        if due < LATE {
+            self.write(number, due as u64 * 256 + number as u64, comparer);
+        } else {
+            self.set_late(number, due, comparer);
+        }
     }
 
-    /// Removes the deadline of a timer that has one.
+    /// Sets a late deadline.
+    #[cold]
+    #[inline(never)]
+    fn set_late(&mut self, number: u8, due: u128, comparer: &mut Comparer)
+        requires sound { IsSound self.old }
+        requires number { number < count self.old }
+        requires late { late ≤ due }
+        ensures sound { IsSound self.new }
+        ensures set { dues self.new ≡ slice_set (dues self.old) number (Some due) }
+        ensures compared { comparer.new.total.number ≤ comparer.old.total.number + levels (count self.old) }
+    {
+        self.lates[number as usize] = due;
+        self.write(number, LATE_WORD, comparer);
+    }
+
+    /// Removes the deadline of a timer.
     #[inline(never)]
     pub(crate) fn clear(&mut self, number: u8, comparer: &mut Comparer)
         requires sound { IsSound self.old }
-        requires number { number < 32 }
+        requires number { number < count self.old }
         ensures sound { IsSound self.new }
         ensures set { dues self.new ≡ slice_set (dues self.old) number None }
-        ensures compared { comparer.new.total.number ≡ comparer.old.total.number + 5 }
+        ensures compared { comparer.new.total.number ≤ comparer.old.total.number + levels (count self.old) }
     {
-        let others = self.others(number);
-        self.marks[number as usize] = false;
-        self.count = others;
-        self.write(number, NEVER, 0);
-        self.climb(number, NEVER, comparer);
+        self.write(number, NEVER, comparer);
     }
 
     /// The earliest timer and its deadline.
@@ -247,47 +225,35 @@ impl Table {
         ensures { result ≡ least (dues self.now) }
     {
         let word = self.nodes[1];
-        if word < NEVER {
-            let timer = TimerId::from_number((word % 32) as u8).unwrap();
-            return Some(((word / 32) as u128, timer));
+        if word < LATE_WORD {
+            let timer = TimerId::from_number((word % 256) as u8).unwrap();
+            return Some(((word / 256) as u128, timer));
         }
-        match self.scan() {
-            Some(number) => {
-                let timer = TimerId::from_number(number).unwrap();
-                Some((self.moment(number), timer))
-            }
-            None => None,
-        }
-    }
-
-    /// The earliest timer if no deadline has a word of its own.
-    #[cold]
-    #[inline(never)]
-    fn scan(&self) -> Option<u8>
-        requires { IsSound self.now }
-        ensures { result ≡ option_map (λ r. r.1) (least_below (dues self.now) 32) }
-    {
-        if self.count == 0 {
+        if word == NEVER {
             return None;
         }
-        let mut first = None;
-        for number in 0..32 {
-            if let Some(due) = self.due(number) {
-                first = Some(earlier(first, due, number));
-            }
-        }
-        match first {
-            Some((_, number)) => Some(number),
-            None => None,
-        }
+        self.least_late()
+    }
+
+    /// The earliest timer if all deadlines are late.
+    #[cold]
+    #[inline(never)]
+    fn least_late(&self) -> Option<(u128, TimerId)>
+        requires sound { IsSound self.now }
+        requires late { late_word ≤ node self.now 1 }
+        ensures { result ≡ least (dues self.now) }
+    {
+        // None of them is 0.
+        self.least_after(0)
     }
 
     /// The earliest of the timers whose deadlines are later than `moment`, and its deadline.
     pub(crate) fn least_after(&self, moment: u128) -> Option<(u128, TimerId)>
+        requires { IsSound self.now }
         ensures { result ≡ least (later_than moment (dues self.now)) }
     {
         let mut first = None;
-        for number in 0..32 {
+        for number in 0..self.count() as u8 {
             if let Some(due) = self.later(number, moment) {
                 first = Some(earlier(first, due, number));
             }
@@ -300,25 +266,12 @@ impl Table {
 
     /// The deadline of a timer, if it is later than `moment`.
     fn later(&self, number: u8, moment: u128) -> Option<u128>
-        requires { number < 32 }
-        ensures { result ≡ if_later moment (due_at self.now number) }
+        requires { IsSound self.now }
+        ensures { result ≡ if_later moment (slice_index_or (dues self.now) number None) }
     {
         match self.due(number) {
             Some(due) if due > moment => Some(due),
             _ => None,
         }
-    }
-
-    /// Which timers are due by a time, as the bits of a word.
-    pub(crate) fn due_by(&self, moment: u128) -> u32
-        ensures { MarksDue (dues self.now) moment result }
-    {
-        let mut word = 0;
-        for number in 0..32 {
-            if self.is_due(number, moment) {
-                word |= 1 << number;
-            }
-        }
-        word
     }
 }

@@ -1,17 +1,19 @@
 // The timers that have deadlines, with the earliest first.
-ghost use Rattle.std.specs.Prelude.{◌≡◌, ◌+◌, ◌≤◌, None, Some, slice_set};
+ghost use Rattle.std.specs.Prelude.{◌≡◌, ◌+◌, ◌*◌, ◌≤◌, None, Some, IfOk, length, slice_set};
 ghost use Rattle.board_terms.specs.Dues.{number_of, due_of, least, later_than};
-ghost use Rattle.deadline_tree.specs.Deadlines.{no_dues, without_processor, MarksDue};
+ghost use Rattle.deadline_tree.specs.Deadlines.{no_dues, without_processor, levels};
 
 pub(crate) mod comparer;
 
 use crate::table::Table;
 use crate::tree::comparer::Comparer;
 use board_terms::{TimerId, Vp};
+use std::alloc::{AllocError, Global};
 use std::marker::Model;
 
-/// The timers that have deadlines, and these deadlines (TLFS, "Synthetic Timers"). The contract also
-/// shows how many comparisons `set`, `clear` and `clear_processor` have made.
+/// The deadlines of the timers of some processors (TLFS, "Synthetic Timers"). The contract also shows how
+/// many comparisons `set`, `clear` and `clear_processor` have made. A timer of any other processor has
+/// no deadline, and is given none.
 #[derive(Drop)]
 pub struct DeadlineTree {
     table: Table,
@@ -35,42 +37,48 @@ impl Model for DeadlineTree {
 }
 
 impl DeadlineTree {
-    /// A tree without deadlines.
-    pub fn new() -> DeadlineTree
-        ensures dues { result.dues ≡ no_dues }
-        ensures compared { result.compared ≡ 0 }
+    /// A tree for the timers of that many processors, 1 to 8, without deadlines. The only call here that
+    /// allocates.
+    pub fn open(alloc: Global, processors: u8) -> Result<DeadlineTree, AllocError>
+        requires some { 1 ≤ processors }
+        requires bound { processors ≤ 8 }
+        ensures dues { IfOk result (λ tree. tree.dues ≡ no_dues processors) }
+        ensures compared { IfOk result (λ tree. tree.compared ≡ 0) }
     {
-        DeadlineTree {
-            table: Table::new(),
+        Ok(DeadlineTree {
+            table: Table::open(alloc, processors)?,
             comparer: Comparer::new(),
-        }
+        })
     }
 
-    /// Sets the deadline of a timer, and replaces an earlier one, with at most five comparisons: one
-    /// at each level.
+    /// Sets the deadline of a timer, and replaces an earlier one, with at most one comparison at each
+    /// level.
     #[inline(always)]
     pub fn set(&mut self, timer: TimerId, due: u128)
         ensures set { self.new.dues ≡ slice_set self.old.dues (number_of timer) (Some due) }
-        ensures compared { self.new.compared ≤ self.old.compared + 5 }
-    {
-        self.table.set(timer.number(), due, &mut self.comparer);
-    }
-
-    /// Removes the deadline of a timer, if it has one, with at most five comparisons.
-    pub fn clear(&mut self, timer: TimerId)
-        ensures set { self.new.dues ≡ slice_set self.old.dues (number_of timer) None }
-        ensures compared { self.new.compared ≤ self.old.compared + 5 }
+        ensures compared { self.new.compared ≤ self.old.compared + levels (length self.old.dues) }
     {
         let number = timer.number();
-        if self.table.is_set(number) {
+        if (number as usize) < self.table.count() {
+            self.table.set(number, due, &mut self.comparer);
+        }
+    }
+
+    /// Removes the deadline of a timer, if it has one, with at most one comparison at each level.
+    pub fn clear(&mut self, timer: TimerId)
+        ensures set { self.new.dues ≡ slice_set self.old.dues (number_of timer) None }
+        ensures compared { self.new.compared ≤ self.old.compared + levels (length self.old.dues) }
+    {
+        let number = timer.number();
+        if (number as usize) < self.table.count() && self.table.is_set(number) {
             self.table.clear(number, &mut self.comparer);
         }
     }
 
-    /// Removes the deadlines of a processor's timers, with at most twenty comparisons.
+    /// Removes the deadlines of a processor's timers, with at most four comparisons at each level.
     pub fn clear_processor(&mut self, vp: Vp)
         ensures set { self.new.dues ≡ without_processor self.old.dues vp }
-        ensures compared { self.new.compared ≤ self.old.compared + 20 }
+        ensures compared { self.new.compared ≤ self.old.compared + 4 * levels (length self.old.dues) }
     {
         self.clear(TimerId::new(vp, 0).unwrap());
         self.clear(TimerId::new(vp, 1).unwrap());
@@ -98,13 +106,5 @@ impl DeadlineTree {
         ensures { result ≡ due_of self.now.dues timer }
     {
         self.table.due(timer.number())
-    }
-
-    /// Which timers are due by a time: bit 4 * processor + index of the word is set iff that timer
-    /// is.
-    pub fn due_by(&self, moment: u128) -> u32
-        ensures { MarksDue self.now.dues moment result }
-    {
-        self.table.due_by(moment)
     }
 }

@@ -1,13 +1,12 @@
 -- What is saved of a state leads back to it.
 use Rattle.std.proofs.Common.{◌≡◌, ℕ, zero, suc, ◌+◌, ◌*◌, ◌<◌, ◌≤◌, Bool, true, false, ◌&&◌, List, [], ◌∷◌, ◌++◌, length, replicate, map, refl, ap, sym, ◌∙◌, arith, length-append, append_assoc, zero-add}
 use Rattle.std.specs.Prelude.{◌==◌, Option, None, Some, is_none, slice_set, slice_index_or, if◌then◌else◌}
-use Rattle.std.specs.List.{All, range_with_len}
+use Rattle.std.specs.List.{All}
 use Rattle.std.proofs.lemmas.Bool.Decides.{nat_tests}
-use Rattle.std.proofs.lemmas.List.{ext_get_or}
-use Rattle.std.proofs.lemmas.List.FromFn.{get_or-map-range_with_len}
+use Rattle.std.proofs.lemmas.List.{ext_get_or, get_or-map, length-map}
 use Rattle.std.proofs.lemmas.List.Elements.{All-head, All-tail}
 use Rattle.board_terms.specs.declared.messages.Message.{Message}
-use Rattle.lapic_core.specs.Apic.{empty_apic}
+use Rattle.lapic_core.specs.Apic.{Apic, empty_apic}
 use Rattle.gpa_space.specs.Page.{zero_page}
 use Rattle.stimer_bank.specs.declared.timer.Timer.{Timer}
 use Rattle.stimer_bank.specs.Bank.{idle_timer}
@@ -86,11 +85,12 @@ known-timer x _ e = by (x.config == 0) (x.count == 0) refl refl e
     by false b a c e = absurd (cc)
 
 -- the marks of the timers are those of the local APICs
-marks-back : (s : State) → HasPairedTimers s → map (λ p. (slice_index_or s.apics p empty_apic).suspended) (range_with_len 0 8) ≡ s.suspended
-marks-back s h = ext_get_or false (map mark (range_with_len 0 8)) s.suspended (sym h.marks) (λ p below. get_or-map-range_with_len mark 0 8 p p false below (zero-add p) ∙ sym (h.suspended p))
+marks-back : (s : State) → HasPairedTimers s → map (λ (a : Apic). a.suspended) s.apics ≡ s.suspended
+marks-back s h = ext_get_or false (map mark s.apics) s.suspended (length-map s.apics mark ∙ sym h.marks) (λ p below.
+    get_or-map mark s.apics p empty_apic false (let l = length-map s.apics mark in omega arith) ∙ sym (h.suspended p))
   where
-    mark : ℕ → Bool
-    mark p = (slice_index_or s.apics p empty_apic).suspended
+    mark : Apic → Bool
+    mark a = a.suspended
 
 pub saved-back : (s : State) → HasShape s → HasPairedTimers s → restored (saved s) ≡ s
 saved-back s h settled =
@@ -99,7 +99,7 @@ saved-back s h settled =
     let ports = back is_none None IsAny known-none s.ports 16 h.ports (all-any s.ports) in
     let queues = back is_empty [] IsAny known-queue s.queues (16 * length s.apics) h.queues (all-any s.queues) in
     let slots = back is_none None IsAny known-none s.slots (16 * length s.apics) h.slots (all-any s.slots) in
-    let timers = back is_idle idle_timer IsAny known-timer s.timers 32 h.timers (all-any s.timers) in
+    let timers = back is_idle idle_timer IsAny known-timer s.timers (4 * length s.apics) h.timers (all-any s.timers) in
     let suspended = marks-back s settled in
     (λ i. record {
       moment = s.moment;

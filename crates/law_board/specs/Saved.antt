@@ -1,9 +1,9 @@
 -- What an image holds of a state: a part unchanged, or its elements that differ from those of a newly opened board, with their numbers.
 use Rattle.std.specs.Prelude.{◌*◌, ℕ, suc, Bool, true, false, ◌==◌, List, [], ◌∷◌, Option, None, is_none, length, map, replicate, slice_index_or, slice_set, if◌then◌else◌}
-use Rattle.std.specs.List.{list_all, range_with_len}
+use Rattle.std.specs.List.{list_all}
 use Rattle.board_terms.specs.Quantities.{Moment, Ticket}
 use Rattle.board_terms.specs.declared.messages.Message.{Message}
-use Rattle.lapic_core.specs.Apic.{Apic, empty_apic}
+use Rattle.lapic_core.specs.Apic.{Apic}
 use Rattle.synic_regs.specs.Regs.{Regs}
 use Rattle.event_ports.specs.declared.ports.Port.{Port}
 use Rattle.gpa_space.specs.Page.{zero_page}
@@ -75,6 +75,6 @@ restored v =
       ports = put_back (replicate 16 None) v.ports;
       queues = put_back (replicate (16 * n) []) v.queues;
       slots = put_back (replicate (16 * n) None) v.slots;
-      timers = put_back (replicate 32 idle_timer) v.timers;
-      suspended = map (λ p. (slice_index_or v.apics p empty_apic).suspended) (range_with_len 0 8);
+      timers = put_back (replicate (4 * n) idle_timer) v.timers;
+      suspended = map (λ (a : Apic). a.suspended) v.apics;
     }

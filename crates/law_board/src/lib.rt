@@ -54,10 +54,10 @@ pub fn each_state_is_sound()
     ensures { (processors pages first : ℕ) (events : List Event) → All PayloadFits events → IsSound (run_of (opened processors pages first) events).0 }
 {}
 
-/// After any events from an opened board: a reset emits at most 276 notices, and any other event at
-/// most 192.
+/// After any events from an opened board, which has at most eight processors: a reset emits at most 276
+/// notices, and any other event at most 192.
 pub fn each_event_emits_a_bounded_number_of_notices()
-    ensures { (processors pages first : ℕ) (events : List Event) (event : Event) → length (step (run_of (opened processors pages first) events).0 event).2 ≤ most_notices event }
+    ensures { (processors pages first : ℕ) (events : List Event) (event : Event) → processors ≤ 8 → length (step (run_of (opened processors pages first) events).0 event).2 ≤ most_notices event }
 {}
 
 /// For any events from an opened board: the timers of a processor are suspended iff its local APIC is. So

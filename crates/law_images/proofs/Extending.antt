@@ -18,7 +18,7 @@ pub record IsShaped (n m ticket : ℕ) (s : State) : Type 0 where
   pub regs : length s.regs ≡ n
   pub own : length s.own ≡ 2 * n
   pub ports : length s.ports ≡ 16
-  pub timers : length s.timers ≡ 32
+  pub timers : length s.timers ≡ 4 * n
   pub queues : length s.queues ≡ 16 * n
   pub slots : length s.slots ≡ 16 * n
   pub sints : All (λ (r : Regs). length r.sints ≡ 16) s.regs

@@ -33,7 +33,7 @@ opened-shaped n m ticket = record {
   regs = length-replicate n reset_regs;
   own = length-replicate (2 * n) zero_page;
   ports = length-replicate {A = Option Port} 16 None;
-  timers = length-replicate 32 idle_timer;
+  timers = length-replicate (4 * n) idle_timer;
   queues = length-replicate {A = List Message} (16 * n) [];
   slots = length-replicate {A = Option ℕ} (16 * n) None;
   sints = All-replicate (λ (r : Regs). length r.sints ≡ 16) n reset_regs (length-replicate {A = ℕ} 16 masked);
@@ -71,8 +71,8 @@ opened-blank n m ticket sizes Owns p b c h =
     ∙ block-blank (pieces.Own p (kind_of b) (256 * c) (record { items = block_of zero_page c })) (block_of zero_page c) (zero-block c h.2)
 opened-blank n m ticket sizes Ports k b c h = ap (λ (o : Option Port). option_map_or (λ port. port_line k port ∷ []) o []) (get_or-replicate 16 k None None h.0)
 opened-blank n m ticket sizes Timers p i c h =
-    let below = h.0 in let inside = h.1 in let bound = sizes.processor_bound in
-    ap (λ (x : Timer). timer_line (p, i) x.config x.count x.due) (get_or-replicate 32 (4 * p + i) idle_timer idle_timer (omega arith))
+    let below = h.0 in let inside = h.1 in
+    ap (λ (x : Timer). timer_line (p, i) x.config x.count x.due) (get_or-replicate (4 * n) (4 * p + i) idle_timer idle_timer (omega arith))
 opened-blank n m ticket sizes Queues p i c h =
     let below = h.0 in let inside = h.1 in queue-blank p i (get_or (replicate (16 * n) []) (16 * p + i) []) (get_or-replicate (16 * n) (16 * p + i) [] [] (omega arith))
 opened-blank n m ticket sizes Slots p i c h =

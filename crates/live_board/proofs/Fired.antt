@@ -146,7 +146,7 @@ goes-fired : (n : ℕ) (s : State) (t : ℕ × ℕ) (mode : Mode) (p i : ℕ) �
 goes-fired n s t mode p i h low under names =
     let now : State = expired_state s t in
     goes-trans s now (fired s t mode).0 p i (goes-bank s now p i refl refl refl)
-    (goes-signalled n now t mode (expiry_at s t).signal p i (kept-timer n s t ((after_expiry (timer_in (bank_of s) t) s.moment).0) low h) (omega (arith, low)) under names)
+    (goes-signalled n now t mode (expiry_at s t).signal p i (kept-timer n s t ((after_expiry (timer_in (bank_of s) t) s.moment).0) h) (omega (arith, low)) under names)
 
 goes-attempted : (n : ℕ) (s : State) (t : ℕ × ℕ) (p i : ℕ) → IsIntact n s → i < 16 → Goes s p i (attempted s t).0
 unfolding attempted
@@ -163,10 +163,10 @@ goes-attempted_all n s (t ∷ ts) p i h under =
     goes-trans s now (attempted_all now ts).0 p i (goes-attempted n s t p i h under) (goes-attempted_all n now ts p i (keeps-attempted n s t h).kept under)
 
 -- a write of a timer
-pub goes-written : (n : ℕ) (s : State) (t : ℕ × ℕ) (x : Timer) (p i : ℕ) → number_of t < 4 * n → IsIntact n s → i < 16 → Goes s p i (written_timer s (with_timer (bank_of s) t x) t).0
-goes-written n s t x p i low h under =
+pub goes-written : (n : ℕ) (s : State) (t : ℕ × ℕ) (x : Timer) (p i : ℕ) → IsIntact n s → i < 16 → Goes s p i (written_timer s (with_timer (bank_of s) t x) t).0
+goes-written n s t x p i h under =
     let now : State = with_bank s (with_timer (bank_of s) t x) in
-    goes-trans s now (attempted now t).0 p i (goes-bank s now p i refl refl refl) (goes-attempted n now t p i (kept-timer n s t x low h) under)
+    goes-trans s now (attempted now t).0 p i (goes-bank s now p i refl refl refl) (goes-attempted n now t p i (kept-timer n s t x h) under)
 
 -- a tick
 pub goes-ticked : (n : ℕ) (s : State) (moment p i : ℕ) → IsIntact n s → i < 16 → Goes s p i (ticked s moment).0

@@ -13,6 +13,7 @@ use Rattle.stimer_bank.specs.declared.timer.Mode.{Mode}
 use Rattle.stimer_bank.specs.declared.timer.Mode.TheVariants.{Direct, Posted}
 use Rattle.stimer_bank.specs.Timer.{after_expiry}
 use Rattle.stimer_bank.specs.Bank.{timer_in, is_due_in, dues, due_list, with_timer}
+use Rattle.stimer_bank.proofs.Shown.{due-there}
 use Rattle.synic_board.specs.State.{State, bank_of, with_bank}
 use Rattle.synic_board.specs.Effects.{Effect, Outcome}
 use Rattle.synic_board.specs.Interrupts.{requested}
@@ -167,18 +168,12 @@ grows-signalled n s t mode (Some d) h on names = grows-emitted n s t mode d h on
 grows-fired : (n : ℕ) (s : State) (t : ℕ × ℕ) (mode : Mode) → IsIntact n s → number_of t < 4 * n → Names mode → Grows n (Only t.0) s (fired s t mode).0
 grows-fired n s t mode h low names =
     let now : State = expired_state s t in
-    let whole = (kept-timer n s t ((after_expiry (timer_in (bank_of s) t) s.moment).0) low h).whole in
+    let whole = (kept-timer n s t ((after_expiry (timer_in (bank_of s) t) s.moment).0) h).whole in
     grows-trans n (Only t.0) s now (fired s t mode).0 (grows-same n (Only t.0) s now refl refl refl) (grows-signalled n now t mode (expiry_at s t).signal whole (omega (arith, low)) names)
 
 -- a due timer belongs to a processor on the board
 pub due-on : (n : ℕ) (s : State) (t : ℕ × ℕ) → IsIntact n s → is_due_in (bank_of s) t s.moment ≡ true → number_of t < 4 * n
-due-on n s t h due = split (cases_lt (number_of t) (4 * n))
-  where
-    split : (number_of t < 4 * n) ⊎ (4 * n ≤ number_of t) → number_of t < 4 * n
-    split (inl low) = low
-    split (inr high) =
-        let never : is_due_in (bank_of s) t s.moment ≡ false = ap (λ o. option_map_or (λ d. nat_le d s.moment) o false) (h.whole.idle (number_of t) high) in
-        absurd (cc)
+due-on n s t h due = let there = due-there (bank_of s) t s.moment due in omega (arith, there, h.whole.timers)
 
 pub first-of : (a b : Bool) → (a && b) ≡ true → a ≡ true
 first-of true b e = refl
@@ -203,10 +198,10 @@ grows-attempted_all n s (t ∷ ts) h =
     grows-trans n Any s now (attempted_all now ts).0 (grows-more n (Only t.0) Any s now (λ j e. (t.0, e)) (grows-attempted n s t h)) (grows-attempted_all n now ts (keeps-attempted n s t h).kept)
 
 -- a write of a timer, and a tick
-pub grows-written : (n : ℕ) (s : State) (t : ℕ × ℕ) (x : Timer) → number_of t < 4 * n → IsIntact n s → Grows n (Only t.0) s (written_timer s (with_timer (bank_of s) t x) t).0
-grows-written n s t x low h =
+pub grows-written : (n : ℕ) (s : State) (t : ℕ × ℕ) (x : Timer) → IsIntact n s → Grows n (Only t.0) s (written_timer s (with_timer (bank_of s) t x) t).0
+grows-written n s t x h =
     let now : State = with_bank s (with_timer (bank_of s) t x) in
-    grows-trans n (Only t.0) s now (attempted now t).0 (grows-same n (Only t.0) s now refl refl refl) (grows-attempted n now t (kept-timer n s t x low h))
+    grows-trans n (Only t.0) s now (attempted now t).0 (grows-same n (Only t.0) s now refl refl refl) (grows-attempted n now t (kept-timer n s t x h))
 
 pub grows-ticked : (n : ℕ) (s : State) (moment : ℕ) → IsIntact n s → Grows n Any s (ticked s moment).0
 grows-ticked n s moment h =

@@ -63,9 +63,9 @@ rest-timer s now p event rest other = absurd other
 
 grows-register : (n : ℕ) (s : State) (p : ℕ) (r : Register) (value : ℕ) → is_timer_register r ≡ true → Exists r → p < n → processors s ≡ n → IsSound s → Grows n (Only p) s (written_register s p r value).0
 grows-register n s p (TimerConfig k) value timer exists on count sound =
-    subst (λ m. Grows m (Only p) s (written_register s p (TimerConfig k) value).0) count (grows-written (processors s) s (p, k) (after_config (timer_in (bank_of s) (p, k)) value s.moment) (omega (arith, on, exists, count)) (kept_from_sound s sound))
+    subst (λ m. Grows m (Only p) s (written_register s p (TimerConfig k) value).0) count (grows-written (processors s) s (p, k) (after_config (timer_in (bank_of s) (p, k)) value s.moment) (kept_from_sound s sound))
 grows-register n s p (TimerCount k) value timer exists on count sound =
-    subst (λ m. Grows m (Only p) s (written_register s p (TimerCount k) value).0) count (grows-written (processors s) s (p, k) (after_count (timer_in (bank_of s) (p, k)) value s.moment) (omega (arith, on, exists, count)) (kept_from_sound s sound))
+    subst (λ m. Grows m (Only p) s (written_register s p (TimerCount k) value).0) count (grows-written (processors s) s (p, k) (after_count (timer_in (bank_of s) (p, k)) value s.moment) (kept_from_sound s sound))
 grows-register n s p r value timer exists on count sound = absurd (cc)
 
 pub timer-grows : (s now : State) (p : ℕ) (event : Event) (reply : Reply) (notices : List Notice) → IsTimerOf s p event → (now, reply, notices) ≡ step s event → IsSound s → Grows (processors s) (Only p) s now

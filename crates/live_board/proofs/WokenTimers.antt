@@ -162,8 +162,8 @@ looks-access (suc n) i looks low (found, rest, is, more) = ap (is_accessed (head
 
 -- a write of a timer
 goes-register : (s : State) (p : ℕ) (r : Register) (value i : ℕ) → is_timer_register r ≡ true → Exists r → p < processors s → i < 16 → IsSound s → Goes s p i (written_register s p r value).0
-goes-register s p (TimerConfig k) value i timer exists on under sound = goes-written (processors s) s (p, k) (after_config (timer_in (bank_of s) (p, k)) value s.moment) p i (omega (arith, on, exists)) (kept_from_sound s sound) under
-goes-register s p (TimerCount k) value i timer exists on under sound = goes-written (processors s) s (p, k) (after_count (timer_in (bank_of s) (p, k)) value s.moment) p i (omega (arith, on, exists)) (kept_from_sound s sound) under
+goes-register s p (TimerConfig k) value i timer exists on under sound = goes-written (processors s) s (p, k) (after_config (timer_in (bank_of s) (p, k)) value s.moment) p i (kept_from_sound s sound) under
+goes-register s p (TimerCount k) value i timer exists on under sound = goes-written (processors s) s (p, k) (after_count (timer_in (bank_of s) (p, k)) value s.moment) p i (kept_from_sound s sound) under
 goes-register s p r value i timer exists on under sound = absurd (cc)
 
 timer-goes : (s : State) (p number value i : ℕ) → p < processors s → option_map_or is_timer_register (register_of number) false ≡ true → i < 16 → IsSound s → Goes s p i (step s (Write p number value)).0

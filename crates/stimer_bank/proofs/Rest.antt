@@ -21,9 +21,9 @@ is_marked word t = bit_at word (number_of t) == 1
 pub record IsRest (m : Dues) (moment word : ℕ) (ts : Timers) : Type 0 where
   pub index : Each (λ t. t.1 < 4) ts
   pub marked : Each (λ t. bit_at word (number_of t) ≡ 1) ts
-  pub each : Each (IsDueBy m moment 32) ts
+  pub each : Each (IsDueBy m moment (length m)) ts
   pub order : InOrder m ts
-  pub every : (k d : ℕ) → k < 32 → bit_at word k ≡ 1 → get_or m k None ≡ Some d → d ≤ moment → Has ts (timer_of k)
+  pub every : (k d : ℕ) → k < length m → bit_at word k ≡ 1 → get_or m k None ≡ Some d → d ≤ moment → Has ts (timer_of k)
 
 number_back : (k : ℕ) → number_of (timer_of k) ≡ k
 number_back k = omega arith
@@ -47,17 +47,17 @@ each_two P Q R [] f a b = tt
 each_two P Q R (u ∷ us) f a b = (f u a.0 b.0, each_two P Q R us f a.1 b.1)
 
 -- timers in order have different numbers
-apart : (m : Dues) (moment : ℕ) (t u : ℕ × ℕ) → IsDueBy m moment 32 t → IsDueBy m moment 32 u → Before m t u → number_of u ≢ number_of t
+apart : (m : Dues) (moment : ℕ) (t u : ℕ × ℕ) → IsDueBy m moment (length m) t → IsDueBy m moment (length m) u → Before m t u → number_of u ≢ number_of t
 apart m moment t u a b before e =
     let same : a.due ≡ b.due = let f : Some a.due ≡ Some b.due = sym a.is ∙ ap (λ k. get_or m k None) (sym e) ∙ b.is in cc in
     let less = (before a.due b.due a.is b.is).1 same in
     omega (arith, e, less)
 
 -- at first all are left
-pub all-rest : (m : Dues) (moment : ℕ) → IsRest m moment (2 ^ 32 - 1) (due_list m moment)
-all-rest m moment = let h = sorted m moment in record {
+pub all-rest : (m : Dues) (moment : ℕ) → length m ≤ 32 → IsRest m moment (2 ^ 32 - 1) (due_list m moment)
+all-rest m moment few = let h = sorted m moment in record {
   index = each-listed (λ t. t.1 < 4) (λ n. omega arith) m moment;
-  marked = each_more (IsDueBy m moment 32) (λ t. bit_at (2 ^ 32 - 1) (number_of t) ≡ 1) (due_list m moment) (λ t d. bit_at_ones 32 (number_of t) d.low) h.each;
+  marked = each_more (IsDueBy m moment (length m)) (λ t. bit_at (2 ^ 32 - 1) (number_of t) ≡ 1) (due_list m moment) (λ t d. bit_at_ones 32 (number_of t) (let low = d.low in omega arith)) h.each;
   each = h.each;
   order = h.order;
   every = λ k d l b e f. h.every k d l e f;
@@ -82,7 +82,7 @@ module _ (m : Dues) (moment word : ℕ) where
           absurd (omega (arith, low, high, number_back (number_of t)))
 
   -- if no timer is due, none is left
-  pub rest-empty : (ts : Timers) → IsRest m moment word ts → ((k d : ℕ) → k < 32 → get_or m k None ≡ Some d → d ≤ moment → ⊥) → ts ≡ []
+  pub rest-empty : (ts : Timers) → IsRest m moment word ts → ((k d : ℕ) → k < length m → get_or m k None ≡ Some d → d ≤ moment → ⊥) → ts ≡ []
   rest-empty [] h none = refl
   rest-empty (u ∷ us) h none = let due = h.each.0 in absurd (none (number_of u) due.due due.low due.is due.by)
 
@@ -94,10 +94,10 @@ same_order m n (t ∷ ts) s o =
 
 -- the first is tried: the deadlines of the others stay, and it is no longer marked
 module _ (m n : Dues) (moment word left : ℕ) (t : ℕ × ℕ) (us : Timers) (h : IsRest m moment word (t ∷ us))
-    (others : (k : ℕ) → k ≢ number_of t → get_or n k None ≡ get_or m k None) (cleared : bit_at left (number_of t) ≡ 0)
-    (stored : (k : ℕ) → k < 32 → k ≢ number_of t → bit_at left k ≡ bit_at word k) where
+    (as-many : length n ≡ length m) (others : (k : ℕ) → k ≢ number_of t → get_or n k None ≡ get_or m k None) (cleared : bit_at left (number_of t) ≡ 0)
+    (stored : (k : ℕ) → k < length m → k ≢ number_of t → bit_at left k ≡ bit_at word k) where
   other : Each (λ u. number_of u ≢ number_of t) us
-  other = each_two (IsDueBy m moment 32) (Before m t) (λ u. number_of u ≢ number_of t) us (λ u due before. apart m moment t u h.each.0 due before) h.each.1 h.order.0
+  other = each_two (IsDueBy m moment (length m)) (Before m t) (λ u. number_of u ≢ number_of t) us (λ u due before. apart m moment t u h.each.0 due before) h.each.1 h.order.0
 
   still : Each (λ u. due_of n u ≡ due_of m u) us
   still = each_more (λ u. number_of u ≢ number_of t) (λ u. due_of n u ≡ due_of m u) us (λ u a. others (number_of u) a) other
@@ -113,17 +113,17 @@ module _ (m n : Dues) (moment word left : ℕ) (t : ℕ × ℕ) (us : Timers) (h
   pub rest-next : IsRest n moment left us
   rest-next = record {
     index = h.index.1;
-    marked = each_two (IsDueBy n moment 32) (λ u. (number_of u ≢ number_of t) × (bit_at word (number_of u) ≡ 1)) (λ u. bit_at left (number_of u) ≡ 1) us
-        (λ u due a. stored (number_of u) due.low a.0 ∙ a.1) later
+    marked = each_two (IsDueBy n moment (length n)) (λ u. (number_of u ≢ number_of t) × (bit_at word (number_of u) ≡ 1)) (λ u. bit_at left (number_of u) ≡ 1) us
+        (λ u due a. stored (number_of u) (let low = due.low in omega (arith, as-many)) a.0 ∙ a.1) later
         (each_two (λ u. number_of u ≢ number_of t) (λ u. bit_at word (number_of u) ≡ 1) (λ u. (number_of u ≢ number_of t) × (bit_at word (number_of u) ≡ 1)) us (λ u a b. (a, b)) other h.marked.1);
     each = later;
     order = same_order m n us still h.order.1;
-    every = λ k d l b e f. let a = not-first k b in among k a (h.every k d l (sym (stored k l a) ∙ b) (sym (others k a) ∙ e) f);
+    every = λ k d l b e f. let a = not-first k b in let low : k < length m = omega (arith, as-many) in among k a (h.every k d low (sym (stored k low a) ∙ b) (sym (others k a) ∙ e) f);
   }
     where
-      later : Each (IsDueBy n moment 32) us
-      later = each_two (IsDueBy m moment 32) (λ u. due_of n u ≡ due_of m u) (IsDueBy n moment 32) us
-          (λ u due same. record { due = due.due; is = same ∙ due.is; by = due.by; low = due.low }) h.each.1 still
+      later : Each (IsDueBy n moment (length n)) us
+      later = each_two (IsDueBy m moment (length m)) (λ u. due_of n u ≡ due_of m u) (IsDueBy n moment (length n)) us
+          (λ u due same. record { due = due.due; is = same ∙ due.is; by = due.by; low = let low = due.low in omega (arith, as-many) }) h.each.1 still
 
 -- a list without some of its timers
 module _ (q : ℕ × ℕ → Bool) where
@@ -154,7 +154,7 @@ filtered-rest m moment word =
     let ts = due_list m moment in record {
       index = each-filter q (λ t. t.1 < 4) ts (each-listed (λ t. t.1 < 4) (λ n. omega arith) m moment);
       marked = each_more (λ t. q t ≡ true) (λ t. bit_at word (number_of t) ≡ 1) (filter q ts) (λ t e. grind (arith, nat_tests)) (all-pass q ts);
-      each = each-filter q (IsDueBy m moment 32) ts h.each;
+      each = each-filter q (IsDueBy m moment (length m)) ts h.each;
       order = order-filter q m ts h.order;
       every = λ k d l b e f.
           let mark : q (timer_of k) ≡ true = let bit : bit_at word (number_of (timer_of k)) ≡ 1 = ap (bit_at word) (number_back k) ∙ b in grind (arith, nat_tests) in
@@ -163,10 +163,10 @@ filtered-rest m moment word =
 
 -- two lists in order that have the same timers
 module _ (m : Dues) (moment : ℕ) where
-  never-twice : (t : ℕ × ℕ) → IsDueBy m moment 32 t → Before m t t → ⊥
+  never-twice : (t : ℕ × ℕ) → IsDueBy m moment (length m) t → Before m t t → ⊥
   never-twice t a before = apart m moment t t a a before refl
 
-  not-both : (x y : ℕ × ℕ) → IsDueBy m moment 32 x → IsDueBy m moment 32 y → Before m x y → Before m y x → ⊥
+  not-both : (x y : ℕ × ℕ) → IsDueBy m moment (length m) x → IsDueBy m moment (length m) y → Before m x y → Before m y x → ⊥
   not-both x y a b xy yx =
       let one = xy a.due b.due a.is b.is in
       let two = yx b.due a.due b.is a.is in
@@ -175,7 +175,7 @@ module _ (m : Dues) (moment : ℕ) where
       let q = two.1 (sym same) in
       omega (arith, p, q)
 
-  same-list : (xs ys : Timers) → Each (IsDueBy m moment 32) xs → Each (IsDueBy m moment 32) ys → InOrder m xs → InOrder m ys → ((t : ℕ × ℕ) → Has xs t → Has ys t) →
+  same-list : (xs ys : Timers) → Each (IsDueBy m moment (length m)) xs → Each (IsDueBy m moment (length m)) ys → InOrder m xs → InOrder m ys → ((t : ℕ × ℕ) → Has xs t → Has ys t) →
       ((t : ℕ × ℕ) → Has ys t → Has xs t) → xs ≡ ys
   same-list [] [] a b o p there back = refl
   same-list [] (y ∷ ys) a b o p there back = absurd (back y (inl refl))
@@ -203,14 +203,14 @@ rest-same m moment word xs ys h k = same-list m moment xs ys h.each k.each h.ord
   where
     within : (us vs : Timers) → IsRest m moment word us → IsRest m moment word vs → (t : ℕ × ℕ) → Has us t → Has vs t
     within us vs a b t g =
-        let due = each_has (IsDueBy m moment 32) us t g a.each in
+        let due = each_has (IsDueBy m moment (length m)) us t g a.each in
         let mark = each_has (λ u. bit_at word (number_of u) ≡ 1) us t g a.marked in
         let index = each_has (λ u. u.1 < 4) us t g a.index in
         subst (Has vs) (timer_back t index) (b.every (number_of t) due.due due.low mark due.is due.by)
 
 -- the earliest timer of all
-pub earliest-least : (m : Dues) (d : ℕ) (t : ℕ × ℕ) → length m ≡ 32 → t.0 < 8 → t.1 < 4 → least m ≡ Some (d, t) → IsLeast m d (number_of t)
-earliest-least m d t l p i h = ((finds-least m l).some d (number_of t)).1 (omega arith, h ∙ ap (λ u. Some (d, u)) (sym (timer_back t i)))
+pub earliest-least : (m : Dues) (d : ℕ) (t : ℕ × ℕ) → t.1 < 4 → least m ≡ Some (d, t) → IsLeast m d (number_of t)
+earliest-least m d t i h = ((finds-least m).some d (number_of t)).1 (h ∙ ap (λ u. Some (d, u)) (sym (timer_back t i)))
 
 -- at most one timer is listed for each number
 length-placed : (p : ℕ × ℕ → Bool) (x : ℕ × ℕ) (ts : Timers) → length (placed p x ts) ≡ length ts + 1
@@ -231,6 +231,6 @@ bound-below m moment (suc n) = by (bound-below m moment n) (get_or m n None)
           | false ↦ omega (arith, bound)
         ]
 
-pub bound-due : (m : Dues) (moment : ℕ) → length (due_list m moment) ≤ 32
+pub bound-due : (m : Dues) (moment : ℕ) → length (due_list m moment) ≤ length m
 unfolding due_list
-bound-due m moment = bound-below m moment 32
+bound-due m moment = bound-below m moment (length m)

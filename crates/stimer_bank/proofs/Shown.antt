@@ -2,7 +2,7 @@
 use Rattle.std.proofs.Common.{◌≡◌, ◌≢◌, ℕ, zero, suc, ◌+◌, ◌*◌, ◌/◌, ◌%◌, ◌<◌, ◌≤◌, Bool, true, false, not, ◌&&◌, nat_le, List, [], ◌∷◌, length, set, get_or, replicate, inl, inr, refl, sym, ap, ◌∙◌, arith}
 use Rattle.std.specs.Prelude.{Option, None, Some, IsSome, if◌then◌else◌}
 use Rattle.std.proofs.lemmas.Bool.{cases_eq, cases_lt}
-use Rattle.std.proofs.lemmas.List.{get_or-set_same, get_or-set_other, get_or_past, length-set, same_lists, get_or_default}
+use Rattle.std.proofs.lemmas.List.{get_or-set_same, get_or-set_other, get_or_past, length-set, length-replicate, same_lists, get_or_default}
 use Rattle.std.proofs.lemmas.List.FromFn.{length-map-range_with_len, get_or-map-range_with_len}
 use Rattle.board_terms.specs.Dues.{Dues, number_of, timer_of}
 use Rattle.deadline_tree.specs.Deadlines.{no_dues, without_processor}
@@ -64,29 +64,29 @@ set-default [] i d = refl
 set-default (x ∷ xs) zero d = refl
 set-default (x ∷ xs) (suc i) d = set-default xs i d
 
-pub length-dues : (b : Bank) → length (dues b) ≡ 32
+pub length-dues : (b : Bank) → length (dues b) ≡ length b.timers
 unfolding dues
-length-dues b = length-map-range_with_len (active_due b) 0 32
+length-dues b = length-map-range_with_len (active_due b) 0 (length b.timers)
 
 -- the deadline of the timer with a number
-pub due_at : (b : Bank) (k : ℕ) → k < 32 → get_or (dues b) k None ≡ active_due b k
+pub due_at : (b : Bank) (k : ℕ) → k < length b.timers → get_or (dues b) k None ≡ active_due b k
 unfolding dues
-due_at b k h = get_or-map-range_with_len (active_due b) 0 32 k k None h (omega arith)
+due_at b k h = get_or-map-range_with_len (active_due b) 0 (length b.timers) k k None h (omega arith)
 
-pub dues-past : (b : Bank) (k : ℕ) → 32 ≤ k → get_or (dues b) k None ≡ None
+pub dues-past : (b : Bank) (k : ℕ) → length b.timers ≤ k → get_or (dues b) k None ≡ None
 dues-past b k h = get_or_past (dues b) k None (omega (arith, length-dues b))
 
 -- two banks that agree on a number
-pub dues-alike : (a b : Bank) (k : ℕ) → active_due a k ≡ active_due b k → get_or (dues a) k None ≡ get_or (dues b) k None
-dues-alike a b k e = elim (cases_lt k 32) as (λ _. get_or (dues a) k None ≡ get_or (dues b) k None) [
-  | inl h ↦ due_at a k h ∙ e ∙ sym (due_at b k h)
-  | inr h ↦ dues-past a k h ∙ sym (dues-past b k h)
+pub dues-alike : (a b : Bank) (k : ℕ) → length a.timers ≡ length b.timers → active_due a k ≡ active_due b k → get_or (dues a) k None ≡ get_or (dues b) k None
+dues-alike a b k s e = elim (cases_lt k (length b.timers)) as (λ _. get_or (dues a) k None ≡ get_or (dues b) k None) [
+  | inl h ↦ due_at a k (omega (arith, s)) ∙ e ∙ sym (due_at b k h)
+  | inr h ↦ dues-past a k (omega (arith, s)) ∙ sym (dues-past b k h)
 ]
 
 -- these deadlines are those of a bank
-pub dues-are : (m : Dues) (b : Bank) → length m ≡ 32 → ((k : ℕ) → k < 32 → get_or m k None ≡ active_due b k) → dues b ≡ m
+pub dues-are : (m : Dues) (b : Bank) → length m ≡ length b.timers → ((k : ℕ) → k < length b.timers → get_or m k None ≡ active_due b k) → dues b ≡ m
 dues-are m b l h = same_lists (dues b) m (length-dues b ∙ sym l) (λ k d low.
-    let less : k < 32 = omega (arith, length-dues b) in
+    let less : k < length b.timers = omega (arith, length-dues b) in
     get_or_default (dues b) k d None low ∙ due_at b k less ∙ sym (h k less) ∙ get_or_default m k None d (omega arith))
 
 abbrev pub shown : Bool → Option ℕ → Option ℕ
@@ -100,7 +100,7 @@ module _ (b : Bank) (p : ℕ) where
   mark-other k mark n = ap (λ o. shown o (due_by_number b k)) (get_or-set_other b.suspended p (k / 4) mark false n)
 
   pub dues-mark-other : (k : ℕ) (mark : Bool) → k / 4 ≢ p → get_or (dues (with_suspension b p mark)) k None ≡ get_or (dues b) k None
-  dues-mark-other k mark n = dues-alike (with_suspension b p mark) b k (mark-other k mark n)
+  dues-mark-other k mark n = dues-alike (with_suspension b p mark) b k refl (mark-other k mark n)
 
   -- a processor that is suspended
   pub dues-suspended : p < length b.suspended → dues (with_suspension b p true) ≡ without_processor (dues b) p
@@ -124,16 +124,19 @@ module _ (b : Bank) (p : ℕ) where
       ])
 
 module _ (b : Bank) (t : ℕ × ℕ) (x : Timer) where
+  as-many : length (with_timer b t x).timers ≡ length b.timers
+  as-many = length-set b.timers (number_of t) x
+
   pub timer-other : (k : ℕ) → k ≢ number_of t → active_due (with_timer b t x) k ≡ active_due b k
   timer-other k n = ap (λ (y : Timer). shown (is_suspended b (k / 4)) y.due) (get_or-set_other b.timers (number_of t) k x idle_timer n)
 
   pub dues-timer-other : (k : ℕ) → k ≢ number_of t → get_or (dues (with_timer b t x)) k None ≡ get_or (dues b) k None
-  dues-timer-other k n = dues-alike (with_timer b t x) b k (timer-other k n)
+  dues-timer-other k n = dues-alike (with_timer b t x) b k as-many (timer-other k n)
 
   -- a timer of a suspended processor is written
   pub dues-timer-suspended : t.1 < 4 → is_suspended b t.0 ≡ true → dues (with_timer b t x) ≡ dues b
-  dues-timer-suspended four e = dues-are (dues b) (with_timer b t x) (length-dues b) (λ k low.
-      elim (cases_eq k (number_of t)) as (λ _. get_or (dues b) k None ≡ active_due (with_timer b t x) k) [
+  dues-timer-suspended four e = dues-are (dues b) (with_timer b t x) (length-dues b ∙ sym as-many) (λ k there.
+      let low : k < length b.timers = omega (arith, as-many) in elim (cases_eq k (number_of t)) as (λ _. get_or (dues b) k None ≡ active_due (with_timer b t x) k) [
         | inl i ↦
             let p : k / 4 ≡ t.0 = omega arith in
             let mark : is_suspended b (k / 4) ≡ true = ap (is_suspended b) p ∙ e in
@@ -143,8 +146,8 @@ module _ (b : Bank) (t : ℕ × ℕ) (x : Timer) where
 
   -- one of a processor that is not suspended
   pub dues-timer : t.1 < 4 → number_of t < length b.timers → is_suspended b t.0 ≡ false → dues (with_timer b t x) ≡ set (dues b) (number_of t) x.due
-  dues-timer four l e = dues-are (set (dues b) (number_of t) x.due) (with_timer b t x) (length-set (dues b) (number_of t) x.due ∙ length-dues b) (λ k low.
-      elim (cases_eq k (number_of t)) as (λ _. get_or (set (dues b) (number_of t) x.due) k None ≡ active_due (with_timer b t x) k) [
+  dues-timer four l e = dues-are (set (dues b) (number_of t) x.due) (with_timer b t x) (length-set (dues b) (number_of t) x.due ∙ length-dues b ∙ sym as-many) (λ k there.
+      let low : k < length b.timers = omega (arith, as-many) in elim (cases_eq k (number_of t)) as (λ _. get_or (set (dues b) (number_of t) x.due) k None ≡ active_due (with_timer b t x) k) [
         | inl i ↦
             let p : k / 4 ≡ t.0 = omega arith in
             let mark : is_suspended b (k / 4) ≡ false = ap (is_suspended b) p ∙ e in
@@ -159,15 +162,15 @@ all-default zero k d = refl
 all-default (suc n) zero d = refl
 all-default (suc n) (suc k) d = all-default n k d
 
-opened-shown : (k : ℕ) → active_due opened k ≡ None
-opened-shown k = (λ i. shown (all-default 8 (k / 4) false i) (all-default 32 k idle_timer i).due)
+opened-shown : (n k : ℕ) → active_due (opened n) k ≡ None
+opened-shown n k = (λ i. shown (all-default n (k / 4) false i) (all-default (4 * n) k idle_timer i).due)
 
 -- initially no timer has a deadline
-pub dues-none : dues opened ≡ no_dues
-dues-none = dues-are no_dues opened refl (λ k _. all-default 32 k None ∙ sym (opened-shown k))
+pub dues-none : (n : ℕ) → dues (opened n) ≡ no_dues n
+dues-none n = dues-are (no_dues n) (opened n) (length-replicate (4 * n) None ∙ sym (length-replicate (4 * n) idle_timer)) (λ k _. all-default (4 * n) k None ∙ sym (opened-shown n k))
 
-pub dues-opened : (k : ℕ) → get_or (dues opened) k None ≡ None
-dues-opened k = ap (λ m. get_or m k None) dues-none ∙ all-default 32 k None
+pub dues-opened : (n k : ℕ) → get_or (dues (opened n)) k None ≡ None
+dues-opened n k = ap (λ m. get_or m k None) (dues-none n) ∙ all-default (4 * n) k None
 
 -- the tree is updated for a timer that is written
 module _ (b : Bank) (t : ℕ × ℕ) (x : Timer) (i : ℕ) (at : i ≡ number_of t) (index : t.1 < 4) (h : Dues) (was : h ≡ dues b) where
@@ -200,7 +203,7 @@ module _ (b : Bank) (p : ℕ) where
   reset-other t n = four-other b.timers p (λ _. idle_timer) (number_of t) idle_timer n
 
   pub dues-reset-other : (k : ℕ) → k / 4 ≢ p → get_or (dues (reset b p)) k None ≡ get_or (dues b) k None
-  dues-reset-other k n = dues-alike (reset b p) b k ((λ i. shown (get_or-set_other b.suspended p (k / 4) false false n i) (four-other b.timers p (λ _. idle_timer) k idle_timer n i).due))
+  dues-reset-other k n = dues-alike (reset b p) b k (length-four b.timers p (λ _. idle_timer)) ((λ i. shown (get_or-set_other b.suspended p (k / 4) false false n i) (four-other b.timers p (λ _. idle_timer) k idle_timer n i).due))
 
   pub dues-reset-here : (k : ℕ) → k / 4 ≡ p → get_or (dues (reset b p)) k None ≡ None
   dues-reset-here k e =
@@ -208,7 +211,7 @@ module _ (b : Bank) (p : ℕ) where
       let same : number_of (timer_of k) ≡ k = omega arith in
       let idle : get_or (four b.timers p (λ _. idle_timer)) k idle_timer ≡ idle_timer = ap (λ j. get_or (four b.timers p (λ _. idle_timer)) j idle_timer) (sym same)
       ∙ reset-here (timer_of k) (ap (λ j. j / 4) same ∙ e) in
-      elim (cases_lt k 32) as (λ _. get_or (dues (reset b p)) k None ≡ None) [
+      elim (cases_lt k (length (reset b p).timers)) as (λ _. get_or (dues (reset b p)) k None ≡ None) [
         | inl h ↦ due_at (reset b p) k h ∙ (λ i. shown (mark i) (idle i).due)
         | inr h ↦ dues-past (reset b p) k h
       ]
@@ -221,26 +224,44 @@ is-awake : (mark due : Bool) → (not mark && due) ≡ true → mark ≡ false
 is-awake true due e = sym e
 is-awake false due e = refl
 
-module _ (b : Bank) (t : ℕ × ℕ) (moment : ℕ) (index : t.1 < 4) where
-  of-processor : number_of t / 4 ≡ t.0
-  of-processor = omega arith
+and-false : (b : Bool) → (b && false) ≡ false
+and-false true = refl
+and-false false = refl
+
+module _ (b : Bank) (t : ℕ × ℕ) (moment : ℕ) where
+  abbrev reached : Option ℕ → Bool
+  reached o = option_map_or (λ d. nat_le d moment) o false
+
+  -- a timer that the bank does not have is not due
+  past-idle : length b.timers ≤ number_of t → is_due (timer_in b t) moment ≡ false
+  past-idle h = ap (λ (x : Timer). is_due x moment) (get_or_past b.timers (number_of t) idle_timer h)
+
+  past-due : length b.timers ≤ number_of t → is_due_in b t moment ≡ false
+  past-due h = ap reached (dues-past b (number_of t) h)
 
   -- a timer is due iff its processor is not suspended and its deadline has been reached
-  pub due-by_dues : t.0 < 8 → is_due_in b t moment ≡ (not (is_suspended b t.0) && is_due (timer_in b t) moment)
-  due-by_dues low =
-      ap (λ o. option_map_or (λ d. nat_le d moment) o false) (due_at b (number_of t) (omega arith) ∙ ap (λ q. shown (is_suspended b q) (timer_in b t).due) of-processor)
-      ∙ due-shown_by moment (is_suspended b t.0) (timer_in b t).due
+  pub due-by_dues : t.1 < 4 → is_due_in b t moment ≡ (not (is_suspended b t.0) && is_due (timer_in b t) moment)
+  due-by_dues index =
+      let of-processor : number_of t / 4 ≡ t.0 = omega arith in
+      elim (cases_lt (number_of t) (length b.timers)) as (λ _. is_due_in b t moment ≡ (not (is_suspended b t.0) && is_due (timer_in b t) moment)) [
+        | inl h ↦ ap reached (due_at b (number_of t) h ∙ ap (λ q. shown (is_suspended b q) (timer_in b t).due) of-processor) ∙ due-shown_by moment (is_suspended b t.0) (timer_in b t).due
+        | inr h ↦ past-due h ∙ sym (ap (λ d. not (is_suspended b t.0) && d) (past-idle h) ∙ and-false (not (is_suspended b t.0)))
+      ]
+
+  -- the bank has a timer that is due
+  pub due-there : is_due_in b t moment ≡ true → number_of t < length b.timers
+  due-there e = elim (cases_lt (number_of t) (length b.timers)) as (λ _. number_of t < length b.timers) [
+    | inl h ↦ h
+    | inr h ↦ let no : true ≡ false = sym e ∙ past-due h in absurd (cc)
+  ]
 
 -- the processor of a timer that is due is not suspended
-pub due-awake : (b : Bank) (t : ℕ × ℕ) (moment : ℕ) → t.1 < 4 → t.0 < 8 → is_due_in b t moment ≡ true → is_suspended b t.0 ≡ false
-due-awake b t moment index low e = is-awake (is_suspended b t.0) (is_due (timer_in b t) moment) (sym (due-by_dues b t moment index low) ∙ e)
+pub due-awake : (b : Bank) (t : ℕ × ℕ) (moment : ℕ) → t.1 < 4 → is_due_in b t moment ≡ true → is_suspended b t.0 ≡ false
+due-awake b t moment index e = is-awake (is_suspended b t.0) (is_due (timer_in b t) moment) (sym (due-by_dues b t moment index) ∙ e)
 
 -- a due timer has a deadline that has been reached
 pub due-reached : (b : Bank) (t : ℕ × ℕ) (moment : ℕ) → is_due_in b t moment ≡ true → is_due (timer_in b t) moment ≡ true
-due-reached b t moment e = elim (cases_lt (number_of t) 32) as (λ _. is_due (timer_in b t) moment ≡ true) [
-  | inl h ↦ by (is_suspended b (number_of t / 4)) (sym (ap (λ o. option_map_or (λ d. nat_le d moment) o false) (due_at b (number_of t) h)) ∙ e)
-  | inr h ↦ let no : true ≡ false = sym e ∙ ap (λ o. option_map_or (λ d. nat_le d moment) o false) (dues-past b (number_of t) h) in absurd (cc)
-]
+due-reached b t moment e = by (is_suspended b (number_of t / 4)) (sym (ap (λ o. option_map_or (λ d. nat_le d moment) o false) (due_at b (number_of t) (due-there b t moment e))) ∙ e)
   where
     by : (mark : Bool) → option_map_or (λ d. nat_le d moment) (shown mark (timer_in b t).due) false ≡ true → is_due (timer_in b t) moment ≡ true
     by true e = absurd (cc)
@@ -252,3 +273,10 @@ is-some (Some d) moment e = refl
 
 pub due-is_some : (b : Bank) (t : ℕ × ℕ) (moment : ℕ) → is_due_in b t moment ≡ true → IsSome (timer_in b t).due
 due-is_some b t moment e = is-some (timer_in b t).due moment (due-reached b t moment e)
+
+-- the bank has a timer with a deadline
+pub some-there : (b : Bank) (t : ℕ × ℕ) → IsSome (timer_in b t).due → number_of t < length b.timers
+some-there b t e = elim (cases_lt (number_of t) (length b.timers)) as (λ _. number_of t < length b.timers) [
+  | inl h ↦ h
+  | inr h ↦ let none : (timer_in b t).due ≡ None = ap (λ (x : Timer). x.due) (get_or_past b.timers (number_of t) idle_timer h) in absurd (cc)
+]

@@ -1,5 +1,5 @@
 -- The timers of all processors (TLFS, "Synthetic Timers").
-use Rattle.std.specs.Prelude.{ℕ, zero, suc, ◌/◌, Bool, false, nat_lt, nat_le, List, [], map, replicate, slice_index_or, slice_set, Option, None, if◌then◌else◌}
+use Rattle.std.specs.Prelude.{ℕ, zero, suc, ◌*◌, ◌/◌, Bool, false, nat_lt, nat_le, List, [], length, map, replicate, slice_index_or, slice_set, Option, None, if◌then◌else◌}
 use Rattle.std.specs.List.{insert, position_or_len, range_with_len}
 use Rattle.std.specs.Option.{option_map_or}
 use Rattle.board_terms.specs.Quantities.{Processor, TimerId, Moment, Word}
@@ -18,8 +18,9 @@ pub record Bank : Type 0 where
 abbrev pub idle_timer : Timer
 idle_timer = record { config = 0; count = 0; due = None }
 
-abbrev pub opened : Bank
-opened = record { timers = replicate 32 idle_timer; suspended = replicate 8 false }
+-- the bank of n processors
+abbrev pub opened : ℕ → Bank
+opened n = record { timers = replicate (4 * n) idle_timer; suspended = replicate n false }
 
 abbrev pub timer_in : Bank → TimerId → Timer
 timer_in b t = slice_index_or b.timers (number_of t) idle_timer
@@ -51,7 +52,7 @@ active_due b n = if is_suspended b (n / 4) then None else (slice_index_or b.time
 
 -- the deadlines of all timers
 unfoldable pub dues : Bank → Dues
-dues b = map (active_due b) (range_with_len 0 32)
+dues b = map (active_due b) (range_with_len 0 (length b.timers))
 
 -- a timer is due at a time
 abbrev pub is_due_in : Bank → TimerId → Moment → Bool
@@ -75,4 +76,4 @@ due_below m moment zero = []
 due_below m moment (suc n) = listed m moment n (due_below m moment n)
 
 unfoldable pub due_list : Dues → Moment → List TimerId
-due_list m moment = due_below m moment 32
+due_list m moment = due_below m moment (length m)

@@ -1,17 +1,18 @@
 -- Writing and expiring timers, and the cached earliest one.
-use Rattle.std.proofs.Common.{◌≡◌, ◌≢◌, ℕ, ◌*◌, ◌<◌, ◌≤◌, Bool, List, [], ◌∷◌, length, refl, sym, ap, ◌∙◌, arith, get_or, nat_lt, true, false, zero, suc}
+use Rattle.std.proofs.Common.{◌≡◌, ◌≢◌, ℕ, ◌*◌, ◌<◌, ◌≤◌, List, [], ◌∷◌, length, refl, sym, ap, ◌∙◌, arith, get_or, nat_lt, true, false, zero, suc}
 use Rattle.std.specs.Prelude.{Option, None, Some, ◌==◌, if◌then◌else◌}
 use Rattle.std.specs.Option.{option_map_or, option_map}
 use Rattle.std.proofs.lemmas.Bool.Decides.{nat_tests}
+use Rattle.std.proofs.lemmas.List.{length-set}
 use Rattle.lapic_core.specs.Vectors.{Vectors}
 use Rattle.board_terms.specs.declared.pages.Owner.{Owner}
 use Rattle.board_terms.specs.Dues.{Dues, number_of, timer_of, earlier, least, least_below}
 use Rattle.stimer_bank.specs.declared.timer.Timer.{Timer}
-use Rattle.stimer_bank.specs.Bank.{Bank, with_timer, with_suspension, reset, dues, due_list}
+use Rattle.stimer_bank.specs.Bank.{Bank, idle_timer, with_timer, reset, dues, due_list}
 use Rattle.stimer_bank.specs.DueList.{Each, IsDueBy}
 use Rattle.stimer_bank.proofs.Members.{each_at}
 use Rattle.stimer_bank.proofs.Sorted.{sorted}
-use Rattle.stimer_bank.proofs.Shown.{dues-timer-other, dues-mark-other, dues-reset-other}
+use Rattle.stimer_bank.proofs.Shown.{length-dues, length-four}
 use Rattle.board_terms.specs.declared.refusal.Refusal.TheVariants.{ClockBack}
 use Rattle.synic_board.specs.declared.event.Reply.TheVariants.{Done}
 use Rattle.synic_board.specs.State.{State, bank_of}
@@ -20,17 +21,12 @@ use Rattle.synic_board.specs.Summaries.{Values}
 use Rattle.synic_board.specs.Timers.{at_moment, attempted_all, ticked}
 use Rattle.synic_board.specs.inside.Steps.{is_any_due}
 
--- the timers of processors that are not on the board stay idle
-pub idle-written : (b now : Bank) (t : ℕ × ℕ) (x : Timer) (m : ℕ) → now ≡ with_timer b t x → number_of t < 4 * m →
-    ((k : ℕ) → 4 * m ≤ k → get_or (dues b) k None ≡ None) → (k : ℕ) → 4 * m ≤ k → get_or (dues now) k None ≡ None
-idle-written b now t x m is low idle k h = ap (λ (y : Bank). get_or (dues y) k None) is ∙ dues-timer-other b t x k (λ e. omega arith) ∙ idle k h
+-- a bank keeps its timers
+pub many-written : (b now : Bank) (t : ℕ × ℕ) (x : Timer) → now ≡ with_timer b t x → length now.timers ≡ length b.timers
+many-written b now t x is = ap (λ (y : Bank). length y.timers) is ∙ length-set b.timers (number_of t) x
 
--- and also if a processor on the board is suspended, resumed or reset
-pub idle-marked : (b : Bank) (p m : ℕ) (mark : Bool) → p < m → ((k : ℕ) → 4 * m ≤ k → get_or (dues b) k None ≡ None) → (k : ℕ) → 4 * m ≤ k → get_or (dues (with_suspension b p mark)) k None ≡ None
-idle-marked b p m mark low idle k h = dues-mark-other b p k mark (λ e. omega (arith, e, low, h)) ∙ idle k h
-
-pub idle-reset : (b : Bank) (p m : ℕ) → p < m → ((k : ℕ) → 4 * m ≤ k → get_or (dues b) k None ≡ None) → (k : ℕ) → 4 * m ≤ k → get_or (dues (reset b p)) k None ≡ None
-idle-reset b p m low idle k h = dues-reset-other b p k (λ e. omega (arith, e, low, h)) ∙ idle k h
+pub many-reset : (b : Bank) (p : ℕ) → length (reset b p).timers ≡ length b.timers
+many-reset b p = length-four b.timers p (λ _. idle_timer)
 
 -- the summary after the earliest timer was written
 pub summary_of-earliest : (nexts : List (Option ℕ)) (autos : List Vectors) (owners : List Owner) (queued : List ℕ) (was now is : Option (ℕ × (ℕ × ℕ))) (before after : Values) →
@@ -40,15 +36,11 @@ summary_of-earliest nexts autos owners queued was now is before after start writ
     written ∙ (λ i. record (start i) { earliest = same i })
 
 -- a listed due timer belongs to a processor on the board
-pub listed_on : (b : Bank) (moment m : ℕ) → ((k : ℕ) → 4 * m ≤ k → get_or (dues b) k None ≡ None) → (k : ℕ) → k < length (due_list (dues b) moment) → (get_or (due_list (dues b) moment) k (0, 0)).0 < m
-listed_on b moment m idle k h = on (get_or (due_list (dues b) moment) k (0, 0)) (each_at (IsDueBy (dues b) moment 32) (due_list (dues b) moment) (sorted (dues b) moment).each k h)
+pub listed_on : (b : Bank) (moment m : ℕ) → length b.timers ≡ 4 * m → (k : ℕ) → k < length (due_list (dues b) moment) → (get_or (due_list (dues b) moment) k (0, 0)).0 < m
+listed_on b moment m many k h = on (get_or (due_list (dues b) moment) k (0, 0)) (each_at (IsDueBy (dues b) moment (length (dues b))) (due_list (dues b) moment) (sorted (dues b) moment).each k h)
   where
-    on : (t : ℕ × ℕ) → IsDueBy (dues b) moment 32 t → t.0 < m
-    on t due =
-        elim (nat_lt t.0 m) as (λ x. nat_lt t.0 m ≡ x → t.0 < m) [
-          | true ↦ λ e. grind (arith, nat_tests)
-          | false ↦ λ e. let high : m ≤ t.0 = grind (arith, nat_tests) in let none = idle (number_of t) (omega arith) in let some = due.is in absurd (cc)
-        ] refl
+    on : (t : ℕ × ℕ) → IsDueBy (dues b) moment (length (dues b)) t → t.0 < m
+    on t due = let low = due.low in omega (arith, low, length-dues b, many)
 
 -- the earliest so far is due at d or before
 abbrev IsBy : Option (ℕ × ℕ) → ℕ → Type 0
@@ -85,15 +77,15 @@ some_due : (o : Option (ℕ × ℕ)) (d moment : ℕ) → IsBy o d → d ≤ mom
 some_due None d moment h le = absurd h
 some_due (Some r) d moment h le = let low : r.0 ≤ moment = omega (arith, h, le) in grind (arith, nat_tests)
 
-pub listed_due : (m : Dues) (moment k d : ℕ) → k < 32 → get_or m k None ≡ Some d → d ≤ moment → is_any_due (least m) moment ≡ true
+pub listed_due : (m : Dues) (moment k d : ℕ) → k < length m → get_or m k None ≡ Some d → d ≤ moment → is_any_due (least m) moment ≡ true
 unfolding least
-listed_due m moment k d h e le = some_due (least_below m 32) d moment (by_due m 32 k d h e) le
+listed_due m moment k d h e le = some_due (least_below m (length m)) d moment (by_due m (length m) k d h e) le
 
 -- no timer is listed before the earliest deadline
 none_listed : (m : Dues) (moment : ℕ) → is_any_due (least m) moment ≡ false → due_list m moment ≡ []
 none_listed m moment none = empty (due_list m moment) (sorted m moment).each
   where
-    empty : (ts : List (ℕ × ℕ)) → Each (IsDueBy m moment 32) ts → ts ≡ []
+    empty : (ts : List (ℕ × ℕ)) → Each (IsDueBy m moment (length m)) ts → ts ≡ []
     empty [] h = refl
     empty (t ∷ ts) h = let some = listed_due m moment (number_of t) h.0.due h.0.low h.0.is h.0.by in absurd (cc)
 

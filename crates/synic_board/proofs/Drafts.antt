@@ -43,7 +43,6 @@ use Rattle.synic_board.specs.Buffers.{IsHome, SendsTo}
 use Rattle.synic_board.specs.Paired.{HasPairedTimers}
 use Rattle.synic_board.specs.Restoring.{with_processor, with_saved_timer, with_own_bytes, with_guest_bytes, with_message, HasNoTickets, IsUnplaced, HasFreeBuffer, IsWithinShare, MayCount, MayJoin, MayOccupy}
 use Rattle.synic_board.specs.inside.Drafts.{IsDraft}
-use Rattle.synic_board.proofs.Clocks.{idle-marked}
 use Rattle.synic_board.proofs.keeping.Counts.{in_queue, in_queues, in_slot, in_slots, one, times-locations, in_queue-push}
 use Rattle.synic_board.proofs.keeping.Wholes.{IsIntact, AreStill, kept_from_sound, sound_from_kept, still, tickets-conserved, kept-apic}
 use Rattle.synic_board.proofs.keeping.Changes.{kept-moment, kept-regs, kept-bank, kept-timer}
@@ -70,7 +69,7 @@ draft-still s now tickets intact same ports timed settled h = record {
 pub draft-opened : (n pages ticket : ℕ) → n ≤ 8 → IsDraft (opened n pages ticket) []
 draft-opened n pages ticket bound = record {
   sound = sound-opened n pages ticket;
-  buffers = buffers-opened n pages ticket;
+  buffers = buffers-opened n pages ticket bound;
   settled = settled-opened n pages ticket bound;
   listed = λ t. sym (no-locations n pages ticket t);
 }
@@ -84,13 +83,13 @@ draft-processor s p a tickets on h =
     let n = processors s in
     let first = kept-apic n s p a (kept_from_sound s h.sound) in
     let marked = bank_with_suspension (bank_of s) p a.suspended in
-    draft-still s (with_processor s p a) tickets (kept-bank n (with_apic s p a) marked (idle-marked (bank_of s) p n a.suspended on h.sound.whole.idle) first)
+    draft-still s (with_processor s p a) tickets (kept-bank n (with_apic s p a) marked h.sound.whole.timers first)
     (record { queues = refl; slots = refl; next = refl }) refl (timed-same s (with_processor s p a) refl refl refl refl h.buffers.timed) (settled-processor s p a on h.settled) h
 
 pub draft-timer : (s : State) (t : ℕ × ℕ) (x : Timer) (tickets : List ℕ) → t.0 < processors s → t.1 < 4 → MayCount s x → IsDraft s tickets → IsDraft (with_saved_timer s t x) tickets
 draft-timer s t x tickets on low may h =
-    draft-still s (with_saved_timer s t x) tickets (kept-timer (processors s) s t x (omega (arith, on, low)) (kept_from_sound s h.sound))
-    (record { queues = refl; slots = refl; next = refl }) refl (timed-timer s t x may.sound may.near h.buffers.timed) (settled-timer s t x on low h.settled) h
+    draft-still s (with_saved_timer s t x) tickets (kept-timer (processors s) s t x (kept_from_sound s h.sound))
+    (record { queues = refl; slots = refl; next = refl }) refl (timed-timer s t x may.sound may.near h.buffers.timed) (settled-timer s t x h.settled) h
 
 pub draft-regs : (s : State) (p : ℕ) (r : Regs) (tickets : List ℕ) → IsDraft s tickets → IsDraft (with_regs s p r) tickets
 draft-regs s p r tickets h = draft-still s (with_regs s p r) tickets (kept-regs (processors s) s p r (kept_from_sound s h.sound))
@@ -137,7 +136,7 @@ draft-guest s page at bytes tickets h =
         queues = whole.whole.queues;
         slots = whole.whole.slots;
         ports = whole.whole.ports;
-        idle = whole.whole.idle;
+        timers = whole.whole.timers;
         messages = whole.whole.messages;
       };
       empty = whole.empty;
@@ -281,7 +280,7 @@ draft-message s p i m tickets below under may h = record {
         queues = length-set s.queues (source_number p i) q ∙ whole.whole.queues;
         slots = whole.whole.slots;
         ports = whole.whole.ports;
-        idle = whole.whole.idle;
+        timers = whole.whole.timers;
         messages = All-set (All IsMessage) s.queues (source_number p i) q
             (All-append IsMessage (queue_of s.queues p i) (m ∷ []) (queue-good n s p i whole.whole below under) (All-cons IsMessage m [] may.message (All-nil IsMessage))) whole.whole.messages;
       };
@@ -332,7 +331,7 @@ draft-ticket s p i x tickets below under may h = record {
         queues = whole.whole.queues;
         slots = length-set s.slots (source_number p i) (Some x) ∙ whole.whole.slots;
         ports = whole.whole.ports;
-        idle = whole.whole.idle;
+        timers = whole.whole.timers;
         messages = whole.whole.messages;
       };
       empty = λ q j within inside. free q j within inside (cases_eq p q) (cases_eq i j);

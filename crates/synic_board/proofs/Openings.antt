@@ -64,14 +64,15 @@ owners-opened s n k e l =
     (λ i h. get_or-replicate k i Guest Guest (omega arith) ∙ sym (owner-opened s n i e h))
 
 -- no timer has a deadline
-none_below : (n : ℕ) → least_below (dues no_timers) n ≡ None
+none_below : (n k : ℕ) → least_below (dues (no_timers n)) k ≡ None
 unfolding least_below
-none_below zero = refl
-none_below (suc n) = ap (λ o. option_map_or (λ d. Some (earlier (least_below (dues no_timers) n) (d, n))) o (least_below (dues no_timers) n)) (dues-opened n) ∙ none_below n
+none_below n zero = refl
+none_below n (suc k) =
+    ap (λ o. option_map_or (λ d. Some (earlier (least_below (dues (no_timers n)) k) (d, k))) o (least_below (dues (no_timers n)) k)) (dues-opened n k) ∙ none_below n k
 
-none-due : least (dues no_timers) ≡ None
+none-due : (n : ℕ) → least (dues (no_timers n)) ≡ None
 unfolding least
-none-due = ap (option_map (λ (r : ℕ × ℕ). (r.0, timer_of r.1))) (none_below 32)
+none-due n = ap (option_map (λ (r : ℕ × ℕ). (r.0, timer_of r.1))) (none_below n (length (dues (no_timers n))))
 
 -- the cached summary when a board is opened
 pub summary_of-opened : (n pages ticket : ℕ) (v : Values) → v.nexts ≡ replicate n None → v.autos ≡ replicate n set.empty → v.owners ≡ replicate pages Guest →
@@ -82,12 +83,12 @@ summary_of-opened n pages ticket v nexts autos owners queued earliest =
     let b : v.autos ≡ map auto_vectors s.regs = autos ∙ ap (replicate n) (sym auto-reset) ∙ sym (map-replicate auto_vectors n reset_regs) in
     let c : v.owners ≡ owners_of (space_of s) = owners ∙ owners-opened (space_of s) (2 * n) pages (overlays-opened n) (length-replicate pages _) in
     let d : v.queued ≡ map length s.queues = queued ∙ sym (map-replicate length (16 * n) []) in
-    let e : v.earliest ≡ least (dues (bank_of s)) = earliest ∙ sym none-due in
+    let e : v.earliest ≡ least (dues (bank_of s)) = earliest ∙ sym (none-due n) in
     (λ i. record { nexts = a i; autos = b i; owners = c i; queued = d i; earliest = e i })
 
 -- the state of the fields of a newly opened board
 pub state-opened : (n pages ticket : ℕ) (apics : List Apic) (regs : List Regs) (space : Space) (ports : Ports) (queues : Queues) (slots : List (Option ℕ)) (bank : Bank) →
-    apics ≡ replicate n empty_apic → regs ≡ replicate n reset_regs → space ≡ opened_space n pages → ports ≡ no_ports n → queues ≡ no_messages n → slots ≡ replicate (16 * n) None → bank ≡ no_timers →
+    apics ≡ replicate n empty_apic → regs ≡ replicate n reset_regs → space ≡ opened_space n pages → ports ≡ no_ports n → queues ≡ no_messages n → slots ≡ replicate (16 * n) None → bank ≡ no_timers n →
     record {
       moment = 0;
       next_ticket = ticket;

@@ -95,7 +95,7 @@ kept-stored b t address bytes h is =
       ports = h.ports;
       queues = h.queues;
       slots = h.slots;
-      idle = h.idle;
+      timers = h.timers;
       summary = h.summary ∙ ap (λ owners. record (summary_of (state_of b)) { owners = owners })
           (sym (owners-same (record b.space { registers = overlay_registers b.regs.items }) (record t { registers = overlay_registers b.regs.items }) pages refl));
     }

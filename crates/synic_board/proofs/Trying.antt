@@ -1,12 +1,12 @@
 -- A tick tries the due timers one after another, each as the earliest of all.
-use Rattle.std.proofs.Common.{◌≡◌, ◌≢◌, ℕ, ◌+◌, ◌-◌, ◌*◌, ◌^◌, ◌<◌, ◌≤◌, Bool, true, false, ◌&&◌, nat_lt, nat_le, cond, take, List, [], ◌∷◌, ◌++◌, length, get_or, inl, inr, refl, sym, ap, ◌∙◌, arith, subst, append_assoc, append-nil, length-append}
+use Rattle.std.proofs.Common.{◌≡◌, ◌≢◌, ℕ, ◌+◌, ◌-◌, ◌*◌, ◌^◌, ◌<◌, ◌≤◌, Bool, true, false, ◌&&◌, nat_lt, nat_le, cond, take, List, [], ◌∷◌, ◌++◌, length, get_or, refl, sym, ap, ◌∙◌, arith, subst, append_assoc, append-nil, length-append}
 use Rattle.std.specs.Prelude.{Option, None, Some, filter, if◌then◌else◌}
 use Rattle.std.specs.Int.{bit_at}
 use Rattle.std.specs.Option.{option_map_or}
 use Rattle.std.specs.FinSet as set
 use Rattle.std.proofs.lemmas.Bool.Decides.{nat_tests}
-use Rattle.std.proofs.lemmas.Bool.{cases_lt}
-use Rattle.std.proofs.lemmas.Option.{none-some, same_Some}
+use Rattle.std.proofs.lemmas.List.{length-set}
+use Rattle.std.proofs.lemmas.Option.{same_Some}
 use Rattle.std.proofs.lemmas.List.Elements.{filter_more}
 use Rattle.std.proofs.lemmas.List.Sums.{length-filter, sum_by-take-le}
 use Rattle.board_terms.specs.Dues.{Dues, number_of, least, IsLeast}
@@ -83,16 +83,18 @@ leaves-signalled s t mode (Some d) = leaves-emitted s t mode d
 record LeavesOthers (t : ℕ × ℕ) (s : State) (e : Effect) : Type 0 where
   pub others : (k : ℕ) → k ≢ number_of t → get_or (dues (bank_of e.0)) k None ≡ get_or (dues (bank_of s)) k None
   pub moment : e.0.moment ≡ s.moment
+  pub count : length e.0.timers ≡ length s.timers
 
 leaves-fired : (s : State) (t : ℕ × ℕ) (mode : Mode) → LeavesOthers t s (fired s t mode)
 leaves-fired s t mode = let emitted = leaves-signalled (expired_state s t) t mode (expiry_at s t).signal in record {
   others = λ k n. ap (λ (b : Bank). get_or (dues b) k None) emitted.bank ∙ dues-timer-other (bank_of s) t (after_expiry (timer_in (bank_of s) t) s.moment).0 k n;
   moment = emitted.moment;
+  count = ap (λ (b : Bank). length b.timers) emitted.bank ∙ length-set s.timers (number_of t) (after_expiry (timer_in (bank_of s) t) s.moment).0;
 }
 
 leaves-attempted : (s : State) (t : ℕ × ℕ) → LeavesOthers t s (attempted s t)
 unfolding attempted
-leaves-attempted s t = either (LeavesOthers t s) (is_ready s t) _ _ (λ _. leaves-fired s t (mode_at s t)) (λ _. record { others = λ k n. refl; moment = refl })
+leaves-attempted s t = either (LeavesOthers t s) (is_ready s t) _ _ (λ _. leaves-fired s t (mode_at s t)) (λ _. record { others = λ k n. refl; moment = refl; count = refl })
 
 attempted_all-append : (s : State) (ts us : List (ℕ × ℕ)) → attempted_all s (ts ++ us) ≡ after (attempted_all s ts) (attempted_all (attempted_all s ts).0 us)
 unfolding attempted_all
@@ -145,12 +147,8 @@ due-none None moment h = refl
 due-none (Some r) moment h = elim (nat_le r.0 moment) as (λ b. (if b then Some r.1 else None) ≡ None → b ≡ false) [ true ↦ λ e. absurd (cc) | false ↦ λ e. refl ] h
 
 -- a timer with a deadline belongs to a processor on the board
-pub least-on : (b : Bank) (n d : ℕ) (t : ℕ × ℕ) → ((k : ℕ) → 4 * n ≤ k → get_or (dues b) k None ≡ None) → t.0 < 8 → t.1 < 4 → least (dues b) ≡ Some (d, t) → t.0 < n
-least-on b n d t idle p i h =
-    elim (cases_lt t.0 n) as (λ _. t.0 < n) [
-      | inl low ↦ low
-      | inr high ↦ let none = idle (number_of t) (omega arith) in absurd (none-some d (sym none ∙ (earliest-least (dues b) d t (length-dues b) p i h).due))
-    ]
+pub least-on : (b : Bank) (n d : ℕ) (t : ℕ × ℕ) → length b.timers ≡ 4 * n → t.1 < 4 → least (dues b) ≡ Some (d, t) → t.0 < n
+least-on b n d t many i h = let low = (earliest-least (dues b) d t i h).low in omega (arith, low, length-dues b, many)
 
 -- the timers before `rest` were tried, and `rest` are left
 pub record IsTrying (before : BoardModel) (emitted : List Notice) (now : BoardModel) (emitted_now : List Notice) (word : ℕ) : Type 0 where
@@ -159,16 +157,20 @@ pub record IsTrying (before : BoardModel) (emitted : List Notice) (now : BoardMo
   pub whole : done ++ rest ≡ due_list (dues (bank_of before.state)) before.state.moment
   pub so_far : Effected before emitted now emitted_now (attempted_all before.state done)
   pub moment : now.state.moment ≡ before.state.moment
+  pub few : length before.state.timers ≤ 32
+  pub count : length now.state.timers ≡ length before.state.timers
   pub left : IsRest (dues (bank_of now.state)) before.state.moment word rest
 
-pub starts-trying : (before : BoardModel) (emitted : List Notice) → IsTrying before emitted before emitted (2 ^ 32 - 1)
-starts-trying before emitted = record {
+pub starts-trying : (before : BoardModel) (emitted : List Notice) → length before.state.timers ≤ 32 → IsTrying before emitted before emitted (2 ^ 32 - 1)
+starts-trying before emitted few = record {
   done = [];
   rest = due_list (dues (bank_of before.state)) before.state.moment;
   whole = refl;
   so_far = record { effect = attempted_all-none before.state emitted; writes_monotone = omega arith; bound = omega arith };
   moment = refl;
-  left = all-rest (dues (bank_of before.state)) before.state.moment;
+  few = few;
+  count = refl;
+  left = all-rest (dues (bank_of before.state)) before.state.moment (omega (arith, few, length-dues (bank_of before.state)));
 }
 
 module _ (before now : BoardModel) (emitted emitted_now : List Notice) (word : ℕ) (h : IsTrying before emitted now emitted_now word) where
@@ -176,7 +178,7 @@ module _ (before now : BoardModel) (emitted emitted_now : List Notice) (word : �
   m = dues (bank_of now.state)
 
   bound-done : length h.done + length h.rest ≤ 32
-  bound-done = omega (arith, length-append h.done h.rest, ap length h.whole, bound-due (dues (bank_of before.state)) before.state.moment)
+  bound-done = omega (arith, length-append h.done h.rest, ap length h.whole, bound-due (dues (bank_of before.state)) before.state.moment, length-dues (bank_of before.state), h.few)
 
   said : length emitted_now ≤ length emitted + 6 * length h.done
   said = told_within (6 * length h.done) (within-attempted_all before.state h.done) h.so_far
@@ -210,12 +212,12 @@ module _ (before now : BoardModel) (emitted emitted_now : List Notice) (word : �
       ∙ rest-same m before.state.moment word _ _ (filtered-rest m before.state.moment word) h.left in
       omega (arith, ap length same, bound-done, said, none)
 
-  module _ (t : ℕ × ℕ) (p : t.0 < 8) (i : t.1 < 4) (first : first_due (least m) now.state.moment ≡ Some t) where
+  module _ (t : ℕ × ℕ) (i : t.1 < 4) (first : first_due (least m) now.state.moment ≡ Some t) where
     earliest : (d : ℕ) × (least m ≡ Some (d, t)) × (d ≤ now.state.moment)
     earliest = due-first (least m) now.state.moment t first
 
     is-least : IsLeast m earliest.0 (number_of t)
-    is-least = earliest-least m earliest.0 t (length-dues (bank_of now.state)) p i earliest.1
+    is-least = earliest-least m earliest.0 t i earliest.1
 
     by : earliest.0 ≤ now.state.moment
     by = earliest.2
@@ -250,7 +252,11 @@ module _ (before now : BoardModel) (emitted emitted_now : List Notice) (word : �
               bound = omega (arith, h.so_far.bound, e.bound);
             };
             moment = ap (λ (s : State). s.moment) state ∙ leaves.moment ∙ h.moment;
+            few = h.few;
+            count = ap (λ (s : State). length s.timers) state ∙ leaves.count ∙ h.count;
             left = rest-next m (dues (bank_of now'.state)) before.state.moment word left t us
                 (subst (λ (ts : List (ℕ × ℕ)). IsRest m before.state.moment word ts) next.1 h.left)
-                (λ k n. ap (λ (s : State). get_or (dues (bank_of s)) k None) state ∙ leaves.others k n) cleared kept;
+                (length-dues (bank_of now'.state) ∙ ap (λ (s : State). length s.timers) state ∙ leaves.count ∙ sym (length-dues (bank_of now.state)))
+                (λ k n. ap (λ (s : State). get_or (dues (bank_of s)) k None) state ∙ leaves.others k n) cleared
+                (λ k low. kept k (omega (arith, low, length-dues (bank_of now.state), h.count, h.few)));
           }

@@ -114,8 +114,8 @@ opened n pages ticket =
       ports = replicate 16 None;
       queues = no_messages n;
       slots = replicate (16 * n) None;
-      timers = no_timers.timers;
-      suspended = no_timers.suspended;
+      timers = (no_timers n).timers;
+      suspended = (no_timers n).suspended;
     }
 
 -- a board: its state, and how often its summary was written

@@ -85,7 +85,7 @@ impl Machine {
         let summary = Summary::open(alloc, processors, pages)?;
         let space = Space::open(alloc, processors, pages)?;
         let ports = Ports::new(processors);
-        let timers = TimerBank::new();
+        let timers = TimerBank::open(alloc, processors)?;
         let queues = Queues::open(alloc, processors)?;
         let slots = no_tickets(alloc, 16 * processors as usize)?;
         let lapics = vec_per_processor(alloc, processors, Lapic::new)?;

@@ -47,19 +47,19 @@ module _ (s : State) (h : IsBoardState s) (t : State) where
   })
     where
       marks : front (suc k) s.suspended false ≡ set (front k s.suspended false) k (apic_of s k).suspended
-      marks = front-more k s.suspended false false (omega (arith, h.settled.marks, h.settled.bound, below)) ∙ ap (set (front k s.suspended false) k) (h.settled.suspended k)
+      marks = front-more k s.suspended false false (omega (arith, h.settled.marks, below)) ∙ ap (set (front k s.suspended false) k) (h.settled.suspended k)
 
-  pub lapics-passed : Passes (point (with_lapics (replicate (processors s) empty_apic) (replicate 8 false)) 0 (place 2 0 0 0)) (each_below (processors s) (lapic_lines s))
+  pub lapics-passed : Passes (point (with_lapics (replicate (processors s) empty_apic) (replicate (processors s) false)) 0 (place 2 0 0 0)) (each_below (processors s) (lapic_lines s))
       (point (with_lapics s.apics s.suspended) (processors s) (place 3 0 0 0))
   lapics-passed =
-      passes-from (point (with_lapics (replicate (processors s) empty_apic) (replicate 8 false)) 0 (place 2 0 0 0)) (lapics-at 0)
+      passes-from (point (with_lapics (replicate (processors s) empty_apic) (replicate (processors s) false)) 0 (place 2 0 0 0)) (lapics-at 0)
       (point (with_lapics s.apics s.suspended) (processors s) (place 3 0 0 0)) (each_below (processors s) (lapic_lines s))
       (λ i. with_lapics (sym (front-none s.apics empty_apic) i) (sym none i)) refl (omega arith)
       (passes-to (lapics-at 0) (lapics-at (processors s)) (point (with_lapics s.apics s.suspended) (processors s) (place 3 0 0 0)) (each_below (processors s) (lapic_lines s))
       (λ i. with_lapics (sym whole i) (sym all i)) refl (omega (arith, h.settled.bound))
       (passes-each (processors s) (lapic_lines s) lapics-at lapic-passed))
     where
-      none : replicate 8 false ≡ front 0 s.suspended false
+      none : replicate (processors s) false ≡ front 0 s.suspended false
       none = ap (λ (n : ℕ). replicate n false) (sym h.settled.marks) ∙ front-none s.suspended false
 
       whole : front (processors s) s.apics empty_apic ≡ s.apics

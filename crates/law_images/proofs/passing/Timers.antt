@@ -1,6 +1,7 @@
 -- The timers.
 use Rattle.std.proofs.Common.{◌≡◌, ℕ, suc, ◌+◌, ◌*◌, ◌<◌, Bool, true, false, List, ◌&&◌, length, get_or, replicate, refl, sym, ap, subst, ◌∙◌, arith}
 use Rattle.std.specs.Prelude.{Option, None, Some, is_none, ◌==◌}
+use Rattle.std.proofs.lemmas.List.{get_or_past}
 use Rattle.stimer_bank.specs.declared.timer.Timer.{Timer}
 use Rattle.stimer_bank.specs.Bank.{idle_timer}
 use Rattle.synic_board.specs.State.{State, processors}
@@ -58,7 +59,7 @@ module _ (s : State) (h : IsBoardState s) (t : State) (full : processors t ≡ p
       x = get_or s.timers (4 * p + i) idle_timer
 
       inside : 4 * p + i < length s.timers
-      inside = omega (arith, h.shape.timers, h.settled.bound, below, low)
+      inside = omega (arith, h.shape.timers, below, low)
 
       is : IsTimer (get_or s.timers (4 * p + i) idle_timer)
       is = h.ranges.timers (4 * p + i) idle_timer inside
@@ -66,20 +67,20 @@ module _ (s : State) (h : IsBoardState s) (t : State) (full : processors t ≡ p
       next : front (4 * p + suc i) s.timers idle_timer ≡ front (suc (4 * p + i)) s.timers idle_timer
       next = let e : 4 * p + suc i ≡ suc (4 * p + i) = omega arith in ap (λ (k : ℕ). front k s.timers idle_timer) e
 
-  pub timers-passed : Passes (point (with_timers (replicate 32 idle_timer)) (processors s) (place 7 0 0 0)) (each_below (processors s) (timers_lines s))
+  pub timers-passed : Passes (point (with_timers (replicate (4 * processors s) idle_timer)) (processors s) (place 7 0 0 0)) (each_below (processors s) (timers_lines s))
       (point (with_timers s.timers) (processors s) (place 8 0 0 0))
   timers-passed =
-      passes-from (point (with_timers (replicate 32 idle_timer)) (processors s) (place 7 0 0 0)) (timers-at 0 0) (point (with_timers s.timers) (processors s) (place 8 0 0 0))
+      passes-from (point (with_timers (replicate (4 * processors s) idle_timer)) (processors s) (place 7 0 0 0)) (timers-at 0 0) (point (with_timers s.timers) (processors s) (place 8 0 0 0))
       (each_below (processors s) (timers_lines s)) (ap with_timers (sym none)) refl (omega arith)
       (passes-to (timers-at 0 0) (timers-at (processors s) 0) (point (with_timers s.timers) (processors s) (place 8 0 0 0)) (each_below (processors s) (timers_lines s))
       (ap with_timers (sym all)) refl (omega (arith, h.settled.bound))
       (passes-each (processors s) (timers_lines s) (λ p. timers-at p 0) step))
     where
-      none : replicate 32 idle_timer ≡ front 0 s.timers idle_timer
+      none : replicate (4 * processors s) idle_timer ≡ front 0 s.timers idle_timer
       none = ap (λ (n : ℕ). replicate n idle_timer) (sym h.shape.timers) ∙ front-none s.timers idle_timer
 
       all : front (4 * processors s + 0) s.timers idle_timer ≡ s.timers
-      all = front-all (4 * processors s + 0) s.timers idle_timer (λ j up below. h.settled.idle j (omega (arith, up)))
+      all = front-all (4 * processors s + 0) s.timers idle_timer (λ j up below. get_or_past s.timers j idle_timer (omega (arith, up, h.shape.timers)))
 
       step : (p : ℕ) → p < processors s → Passes (timers-at p 0) (timers_lines s p) (timers-at (suc p) 0)
       step p below =

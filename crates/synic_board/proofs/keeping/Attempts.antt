@@ -42,7 +42,7 @@ marked-whole n s p i h below = record {
   queues = h.queues;
   slots = h.slots;
   ports = h.ports;
-  idle = h.idle;
+  timers = h.timers;
   messages = h.messages;
 }
 
@@ -103,7 +103,7 @@ keeps-accepted n s p i m h below under good next =
           queues = length-set s.queues (source_number p i) q ∙ h.whole.queues;
           slots = h.whole.slots;
           ports = h.whole.ports;
-          idle = h.whole.idle;
+          timers = h.whole.timers;
           messages = All-set (All IsMessage) s.queues (source_number p i) q more h.whole.messages;
         };
         empty = h.empty;
@@ -159,7 +159,7 @@ keeps-withdrawn n s p i port h below under =
           queues = length-set s.queues (source_number p i) q ∙ h.whole.queues;
           slots = h.whole.slots;
           ports = h.whole.ports;
-          idle = h.whole.idle;
+          timers = h.whole.timers;
           messages = All-set (All IsMessage) s.queues (source_number p i) q
               (All-filter (λ m. not (is_from_port port m)) IsMessage (queue_of s.queues p i) (queue-good n s p i h.whole below under)) h.whole.messages;
         };

@@ -1,8 +1,7 @@
 -- Writing and expiring timers, and the clock.
-use Rattle.std.proofs.Common.{◌≡◌, ◌⊎◌, inl, inr, ℕ, ◌*◌, ◌<◌, ◌≤◌, Bool, true, false, ◌&&◌, List, [], ◌∷◌, refl, ap, arith, nat_lt}
-use Rattle.std.specs.Prelude.{Option, None, Some, ◌==◌, nat_le}
-use Rattle.std.specs.Option.{option_map_or}
-use Rattle.std.proofs.lemmas.Bool.{cases_lt}
+use Rattle.std.proofs.Common.{◌≡◌, ℕ, ◌*◌, ◌<◌, Bool, true, false, ◌&&◌, List, [], ◌∷◌, refl, arith, nat_lt}
+use Rattle.std.specs.Prelude.{Option, None, Some, ◌==◌}
+use Rattle.stimer_bank.proofs.Shown.{due-there}
 use Rattle.board_terms.specs.Dues.{number_of}
 use Rattle.board_terms.specs.declared.messages.Message.TheVariants.{FromTimer}
 use Rattle.board_terms.specs.declared.refusal.Refusal.TheVariants.{ClockBack}
@@ -24,13 +23,7 @@ use Rattle.synic_board.proofs.keeping.Changes.{kept-timer, kept-moment}
 
 -- a due timer belongs to a processor on the board
 due-on : (n : ℕ) (s : State) (t : ℕ × ℕ) → IsIntact n s → is_due_in (bank_of s) t s.moment ≡ true → number_of t < 4 * n
-due-on n s t h due = split (cases_lt (number_of t) (4 * n))
-  where
-    split : (number_of t < 4 * n) ⊎ (4 * n ≤ number_of t) → number_of t < 4 * n
-    split (inl low) = low
-    split (inr high) =
-        let never : is_due_in (bank_of s) t s.moment ≡ false = ap (λ o. option_map_or (λ d. nat_le d s.moment) o false) (h.whole.idle (number_of t) high) in
-        absurd (cc)
+due-on n s t h due = let there = due-there (bank_of s) t s.moment due in omega (arith, there, h.whole.timers)
 
 expiry-ends : (t : ℕ × ℕ) (signal : Option ℕ) (skipped : ℕ) → EndsNone (expiry_notices t signal skipped)
 expiry-ends t signal skipped ticket = omega (arith, ended-append ticket (expired_notices t signal) (skipped_notices t skipped), expired signal, skips)
@@ -62,7 +55,7 @@ keeps-fired : (n : ℕ) (s : State) (t : ℕ × ℕ) (mode : Mode) → IsIntact 
 keeps-fired n s t mode h low names =
     let now : State = expired_state s t in
     let emitted = expiry_notices t (expiry_at s t).signal (expiry_at s t).skipped in
-    let first = keeps-still n s (now, emitted) (kept-timer n s t ((after_expiry (timer_in (bank_of s) t) s.moment).0) low h)
+    let first = keeps-still n s (now, emitted) (kept-timer n s t ((after_expiry (timer_in (bank_of s) t) s.moment).0) h)
     (record { queues = refl; slots = refl; next = refl }) (leaves-same n s now refl refl) (expiry-ends t (expiry_at s t).signal (expiry_at s t).skipped) in
     keeps-after n s (now, emitted) (signalled_by now t mode (expiry_at s t).signal) first (keeps-signal n now t mode (expiry_at s t).signal first.kept (omega (arith, low)) names)
 
@@ -87,7 +80,7 @@ keeps-attempted_all n s (t ∷ ts) h =
 keeps-written : (n : ℕ) (s : State) (t : ℕ × ℕ) (x : Timer) → number_of t < 4 * n → IsIntact n s → KeepsOutcome n s (written_timer s (with_timer (bank_of s) t x) t)
 keeps-written n s t x low h =
     let now : State = with_bank s (with_timer (bank_of s) t x) in
-    let first = keeps-still n s (now, []) (kept-timer n s t x low h) (record { queues = refl; slots = refl; next = refl }) (leaves-same n s now refl refl) (λ _. refl) in
+    let first = keeps-still n s (now, []) (kept-timer n s t x h) (record { queues = refl; slots = refl; next = refl }) (leaves-same n s now refl refl) (λ _. refl) in
     keeps-after n s (now, []) (attempted now t) first (keeps-attempted n now t first.kept)
 
 pub keeps-written_config : (n : ℕ) (s : State) (t : ℕ × ℕ) (value : ℕ) → number_of t < 4 * n → IsIntact n s → KeepsOutcome n s (written_timer s (with_config (bank_of s) t value s.moment) t)

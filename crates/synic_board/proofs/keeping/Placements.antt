@@ -54,7 +54,7 @@ placed-whole n s p i m rest h below under good more = record {
   queues = length-set s.queues (source_number p i) rest ∙ h.queues;
   slots = length-set s.slots (source_number p i) (Some (ticket_of m)) ∙ h.slots;
   ports = h.ports;
-  idle = h.idle;
+  timers = h.timers;
   messages = All-set (All IsMessage) s.queues (source_number p i) rest more h.messages;
 }
 

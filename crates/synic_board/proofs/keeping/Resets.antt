@@ -25,7 +25,7 @@ use Rattle.synic_board.specs.Resetting.{withdrawn_ticket, slot_emptied, queue_em
 use Rattle.synic_board.specs.Locations.{times_ended}
 use Rattle.synic_board.specs.Slots.{LeavesSlot}
 use Rattle.synic_board.specs.Sound.{IsMessage}
-use Rattle.synic_board.proofs.Clocks.{idle-marked, idle-reset}
+use Rattle.synic_board.proofs.Clocks.{many-reset}
 use Rattle.synic_board.proofs.keeping.Counts.{in_queue, in_slot, one, times-locations, given-none}
 use Rattle.synic_board.proofs.keeping.Left.{leaves-page, leaves-same}
 use Rattle.synic_board.proofs.keeping.Wholes.{IsIntact, Keeps, KeepsMessages, KeepsMessagesOf, messages-kept, keeps-nothing, keeps-still, messages-after, kept-apic, still}
@@ -39,7 +39,7 @@ keeps-suspension n s p mark h below =
     let apic : Apic = apic_with_suspension (apic_of s p) mark in
     let marked : State = with_apic s p apic in
     keeps-still n s (with_suspension s p mark, [])
-    (kept-bank n marked (bank_with_suspension (bank_of s) p mark) (idle-marked (bank_of s) p n mark below h.whole.idle) (kept-apic n s p apic h))
+    (kept-bank n marked (bank_with_suspension (bank_of s) p mark) h.whole.timers (kept-apic n s p apic h))
     (record { queues = refl; slots = refl; next = refl }) (leaves-same n s (with_suspension s p mark) refl refl) (λ t. refl)
 
 -- a slot loses its ticket, which is withdrawn
@@ -80,7 +80,7 @@ keeps-queue n s p i h below under = record {
       queues = length-set s.queues (source_number p i) [] ∙ h.whole.queues;
       slots = h.whole.slots;
       ports = h.whole.ports;
-      idle = h.whole.idle;
+      timers = h.whole.timers;
       messages = All-set (All IsMessage) s.queues (source_number p i) [] (All-nil IsMessage) h.whole.messages;
     };
     empty = h.empty;
@@ -139,7 +139,7 @@ kept-cleared n s p h below free = record {
     queues = h.whole.queues;
     slots = h.whole.slots;
     ports = h.whole.ports;
-    idle = idle-reset (bank_of s) p n below h.whole.idle;
+    timers = many-reset (bank_of s) p ∙ h.whole.timers;
     messages = h.whole.messages;
   };
   empty = λ q j within inside z. by q j within inside z (cases_eq q p);

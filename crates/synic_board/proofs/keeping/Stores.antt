@@ -49,7 +49,7 @@ without-whole n s p i h = record {
   queues = h.queues;
   slots = length-set s.slots (source_number p i) None ∙ h.slots;
   ports = h.ports;
-  idle = h.idle;
+  timers = h.timers;
   messages = h.messages;
 }
 
@@ -144,7 +144,7 @@ own-whole n s k page h l = record {
   queues = h.queues;
   slots = h.slots;
   ports = h.ports;
-  idle = h.idle;
+  timers = h.timers;
   messages = h.messages;
 }
 
@@ -178,7 +178,7 @@ guest-kept n s pages h = record {
     queues = h.whole.queues;
     slots = h.whole.slots;
     ports = h.whole.ports;
-    idle = h.whole.idle;
+    timers = h.whole.timers;
     messages = h.whole.messages;
   };
   empty = h.empty;

@@ -113,7 +113,7 @@ kept-apic n s p a h = record {
     queues = h.whole.queues;
     slots = h.whole.slots;
     ports = h.whole.ports;
-    idle = h.whole.idle;
+    timers = h.whole.timers;
     messages = h.whole.messages;
   };
   empty = h.empty;

@@ -1,6 +1,5 @@
 -- The abstract view of the machine's fields, and their invariant.
-use Rattle.std.specs.Prelude.{◌≡◌, ◌≤◌, ◌*◌, ℕ, length, None, slice_index_or}
-use Rattle.stimer_bank.specs.Bank.{dues}
+use Rattle.std.specs.Prelude.{◌≡◌, ◌≤◌, ◌*◌, length}
 use Rattle.synic_board.specs.State.{State, BoardModel, overlay_registers}
 use Rattle.synic_board.specs.Summaries.{summary_of}
 use Rattle.synic_board.specs.declared.machine.Machine.TheInside.{Inside}
@@ -36,7 +35,6 @@ pub record MachineInvariant (b : Inside) : Type 0 where
   pub ports : b.ports.processors ≡ length b.lapics.items
   pub queues : length b.queues ≡ 16 * length b.lapics.items
   pub slots : length b.slots.items ≡ 16 * length b.lapics.items
-  -- no timer of a processor that is not on the board has a deadline
-  pub idle : (n : ℕ) → 4 * length b.lapics.items ≤ n → slice_index_or (dues b.timers) n None ≡ None
+  pub timers : length b.timers.timers ≡ 4 * length b.lapics.items
   -- the cached summary equals the one computed from scratch
   pub summary : b.summary.values ≡ summary_of (state_of b)

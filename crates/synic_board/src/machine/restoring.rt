@@ -1,5 +1,5 @@
 // Setting and reading the parts of a machine, for a board that is restored or saved.
-ghost use Rattle.std.specs.Prelude.{◌≡◌, ◌≢◌, ℕ, slice_index_or, ◌↔◌, ◌<◌, ◌≤◌, ◌+◌, ◌-◌, IsTrue, Some, None, slice_get, length, if◌then◌else◌};
+ghost use Rattle.std.specs.Prelude.{◌≡◌, ◌≢◌, ℕ, slice_index_or, ◌↔◌, ◌<◌, ◌≤◌, ◌+◌, ◌-◌, ◌*◌, IsTrue, Some, None, slice_get, length, if◌then◌else◌};
 ghost use Rattle.message_queues.specs.Queues.{HasBuffer, port_used};
 ghost use Rattle.stimer_bank.specs.Timer.{IsSoundTimer};
 ghost use Rattle.std.specs.List.{All};
@@ -137,7 +137,7 @@ impl Machine {
 
     /// What holds for the parts of every machine.
     pub(crate) fn facts(&self)
-        ensures timers { length self.now.state.timers ≡ 32 }
+        ensures timers { length self.now.state.timers ≡ 4 * processors self.now.state }
         ensures sound { (n : ℕ) → IsSoundTimer (slice_index_or self.now.state.timers n idle_timer) }
         ensures pages { All (λ page. length page ≡ 4096) self.now.state.pages }
         ensures sizes { IsWithinLimits (processors self.now.state) (length self.now.state.pages) }

@@ -1,23 +1,28 @@
-use Rattle.std.proofs.Common.{◌≡◌, ◌/◌, ◌%◌, refl, sym, ◌∙◌}
+use Rattle.std.proofs.Common.{◌≡◌, ◌/◌, ◌%◌, ◌<◌, sym, ap, ◌∙◌, arith}
 use Rattle.std.specs.Prelude.{Some}
+use Rattle.std.proofs.lemmas.Grind.{get_or_default_zero}
 use Rattle.board_terms.specs.Dues.{timer_of}
-use Rattle.deadline_tree.specs.inside.Table.{dues, node}
-use Rattle.deadline_tree.proofs.Whole.{root-least, scan-least, scan-none}
+use Rattle.deadline_tree.specs.inside.Table.{node, late_word}
+use Rattle.deadline_tree.proofs.Whole.{root-below, root-least, root-none}
 use Rattle.deadline_tree.proofs.table.Table.least.Goals as goal
 
-pub returns-then-word-lt-NEVER : goal.returns-then-word-lt-NEVER
-returns-then-word-lt-NEVER c =
+pub unwrap-timer-requires : goal.unwrap-timer-requires
+unwrap-timer-requires c =
     let t = c.args.self.now in
-    let timer : c.unwrap-timer.result ≡ timer_of (node t 1 % 32) = rw c.unwrap-timer.ensures at c.from_number.ensures.value in
-    (λ i. Some (node t 1 / 32, timer i)) ∙ sym (root-least t c.requires (node t 1) refl c.if-word-lt-NEVER.true)
+    let is : c.index-word.result.now ≡ node t 1 = c.index-word.ensures ∙ get_or_default_zero t.nodes.items 1 c.index-word.result.now (omega (arith, c.requires.tree.nodes, c.requires.tree.some)) in
+    let below = root-below t c.requires (omega (arith, is, c.if-word-lt-LATE_WORD.true)) in
+    c.from_number.ensures.valid.1 (omega (arith, below, is))
 
-pub unwrap-timer-requires-in-Some : goal.unwrap-timer-requires-in-Some
-unwrap-timer-requires-in-Some c = c.from_number-in-Some.ensures.valid.1 (scan-least c.args.self.now c.in-Some.number (sym c.in-Some.is ∙ c.scan.ensures)).0
+pub returns-then-word-lt-LATE_WORD : goal.returns-then-word-lt-LATE_WORD
+returns-then-word-lt-LATE_WORD c =
+    let t = c.args.self.now in
+    let is : c.index-word.result.now ≡ node t 1 = c.index-word.ensures ∙ get_or_default_zero t.nodes.items 1 c.index-word.result.now (omega (arith, c.requires.tree.nodes, c.requires.tree.some)) in
+    let timer : c.unwrap-timer.result ≡ timer_of (c.index-word.result.now % 256) = rw c.unwrap-timer.ensures at c.from_number.ensures.value in
+    (λ i. Some (c.index-word.result.now / 256, timer i)) ∙ ap (λ w. Some (w / 256, timer_of (w % 256))) is
+    ∙ sym (root-least t c.requires (omega (arith, is, c.if-word-lt-LATE_WORD.true)))
 
-pub returns-in-Some : goal.returns-in-Some
-returns-in-Some c =
-    let timer : c.unwrap-timer-in-Some.result ≡ timer_of c.in-Some.number = rw c.unwrap-timer-in-Some.ensures at c.from_number-in-Some.ensures.value in
-    (λ i. Some (c.moment.ensures i, timer i)) ∙ sym (scan-least c.args.self.now c.in-Some.number (sym c.in-Some.is ∙ c.scan.ensures)).1
-
-pub returns-in-None : goal.returns-in-None
-returns-in-None c = sym (scan-none (dues c.args.self.now) (sym c.in-None.is ∙ c.scan.ensures))
+pub returns-then-word : goal.returns-then-word
+returns-then-word c =
+    let t = c.args.self.now in
+    let is : c.index-word.result.now ≡ node t 1 = c.index-word.ensures ∙ get_or_default_zero t.nodes.items 1 c.index-word.result.now (omega (arith, c.requires.tree.nodes, c.requires.tree.some)) in
+    sym (root-none t c.requires (omega (arith, is, c.if-word.true)))

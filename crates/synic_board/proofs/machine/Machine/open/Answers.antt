@@ -1,4 +1,4 @@
-use Rattle.std.proofs.Common.{◌≡◌, ◌*◌, ap, sym, ◌∙◌, length, replicate, arith, slice_index_or}
+use Rattle.std.proofs.Common.{◌≡◌, ◌*◌, ap, sym, ◌∙◌, length, replicate, arith}
 use Rattle.std.proofs.lemmas.List.{length-replicate}
 use Rattle.lapic_core.specs.Apic.{empty_apic}
 use Rattle.synic_regs.specs.Regs.{reset_regs}
@@ -7,8 +7,7 @@ use Rattle.std.specs.Prelude.{ℕ, List, [], Option, None}
 use Rattle.board_terms.specs.declared.messages.Message.{Message}
 use Rattle.gpa_space.specs.Page.{zero_page}
 use Rattle.gpa_space.specs.Space.{Space}
-use Rattle.stimer_bank.specs.Bank.{Bank, dues}
-use Rattle.stimer_bank.proofs.Shown.{dues-opened}
+use Rattle.stimer_bank.specs.Bank.{Bank, idle_timer}
 use Rattle.synic_board.specs.Summaries.{summary_of}
 use Rattle.synic_board.specs.State.{overlay_registers}
 use Rattle.synic_board.proofs.Openings.{overlays-opened, summary_of-opened, state-opened}
@@ -32,7 +31,7 @@ invariant_of-result c =
     let queues = c.in_ok-queues.ensures {u = tt} in
     let slots = c.in_ok-slots.ensures {u = tt} in
     let state = state-opened n pages c.args.first_ticket c.in_ok-lapics.lapics.items c.in_ok-regs.regs.items c.in_ok-space.space c.new-ports.result c.in_ok-queues.queues
-    c.in_ok-slots.slots.items c.new-timers.result lapics regs space c.new-ports.ensures queues slots c.new-timers.ensures in
+    c.in_ok-slots.slots.items c.in_ok-timers.timers lapics regs space c.new-ports.ensures queues slots (c.in_ok-timers.ensures {u = tt}) in
     record {
       some_processor = omega (arith, c.requires.some_processor, ap length lapics, length-replicate n empty_apic);
       processor_bound = omega (arith, c.requires.processor_bound, ap length lapics, length-replicate n empty_apic);
@@ -44,12 +43,12 @@ invariant_of-result c =
       ports = ap (λ (p : Ports). p.processors) c.new-ports.ensures ∙ sym (ap length lapics ∙ length-replicate n empty_apic);
       queues = omega (arith, ap length queues, length-replicate {A = List Message} (16 * n) [], ap length lapics, length-replicate n empty_apic);
       slots = omega (arith, ap length slots, length-replicate {A = Option ℕ} (16 * n) None, ap length lapics, length-replicate n empty_apic);
-      idle = λ k _. ap (λ (b : Bank). slice_index_or (dues b) k None) c.new-timers.ensures ∙ dues-opened k;
+      timers = omega (arith, ap (λ (b : Bank). length b.timers) (c.in_ok-timers.ensures {u = tt}), length-replicate (4 * n) idle_timer, ap length lapics, length-replicate n empty_apic);
       summary = summary_of-opened n pages c.args.first_ticket c.in_ok-summary.summary.values summary.nexts summary.autos summary.owners summary.queued summary.earliest ∙ ap summary_of (sym state);
     }
 
 pub returns-clause-opened : goal.returns-clause-opened
 returns-clause-opened c =
     state-opened c.args.processors c.args.pages c.args.first_ticket c.in_ok-lapics.lapics.items c.in_ok-regs.regs.items c.in_ok-space.space c.new-ports.result
-    c.in_ok-queues.queues c.in_ok-slots.slots.items c.new-timers.result
-    (lapics-opened c) (regs-opened c) (c.in_ok-space.ensures {u = tt}) c.new-ports.ensures (c.in_ok-queues.ensures {u = tt}) (c.in_ok-slots.ensures {u = tt}) c.new-timers.ensures
+    c.in_ok-queues.queues c.in_ok-slots.slots.items c.in_ok-timers.timers
+    (lapics-opened c) (regs-opened c) (c.in_ok-space.ensures {u = tt}) c.new-ports.ensures (c.in_ok-queues.ensures {u = tt}) (c.in_ok-slots.ensures {u = tt}) (c.in_ok-timers.ensures {u = tt})

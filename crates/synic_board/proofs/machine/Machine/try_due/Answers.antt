@@ -10,10 +10,10 @@ in_set : (word : _) (t : _) → is_in_set word t ≡ true → bit_at word (numbe
 in_set word t e = grind (arith, nat_tests)
 
 pub loop-timer-init : goal.loop-timer-init
-loop-timer-init c = rw c.all-untried.ensures (starts-trying c.args.self.now c.args.notices.now)
+loop-timer-init c = rw c.all-untried.ensures (starts-trying c.args.self.now c.args.notices.now c.requires.few)
 
 pub try_rest-requires : goal.try_rest-requires
-try_rest-requires c = record { room = rest-room _ _ _ _ _ c.loop-timer.invariant (ap length c.requires) }
+try_rest-requires c = record { room = rest-room _ _ _ _ _ c.loop-timer.invariant (ap length c.requires.none) }
 
 pub remove-requires : goal.remove-requires
 remove-requires c = in_set c.loop-timer.untried.word c.in-Some.timer (sym c.contains.ensures ∙ c.if-not-contains.false)
@@ -24,8 +24,8 @@ attempt_due-requires c =
     let first = c.in-Some.ensures {u = tt} in
     record {
       on = first.on;
-      room = first-room _ _ _ _ _ c.loop-timer.invariant c.in-Some.timer (omega arith) (omega arith) (sym first.first) untried (ap length c.requires);
-      is_due = first-is_due _ _ _ _ _ c.loop-timer.invariant c.in-Some.timer (omega arith) (omega arith) (sym first.first);
+      room = first-room _ _ _ _ _ c.loop-timer.invariant c.in-Some.timer (omega arith) (sym first.first) untried (ap length c.requires.none);
+      is_due = first-is_due _ _ _ _ _ c.loop-timer.invariant c.in-Some.timer (omega arith) (sym first.first);
     }
 
 pub loop-timer-smaller : goal.loop-timer-smaller
@@ -35,7 +35,7 @@ pub loop-timer-preserved : goal.loop-timer-preserved
 loop-timer-preserved c =
     let untried = in_set c.loop-timer.untried.word c.in-Some.timer (sym c.contains.ensures ∙ c.if-not-contains.false) in
     let first = c.in-Some.ensures {u = tt} in
-    tries-next _ _ _ _ _ c.loop-timer.invariant c.in-Some.timer (omega arith) (omega arith) (sym first.first) untried _ _ _ c.attempt_due.ensures c.remove.ensures.removed c.remove.ensures.others
+    tries-next _ _ _ _ _ c.loop-timer.invariant c.in-Some.timer (omega arith) (sym first.first) untried _ _ _ c.attempt_due.ensures c.remove.ensures.removed c.remove.ensures.others
 
 pub returns : goal.returns
 returns c = tried-all _ _ _ _ _ c.loop-timer.invariant (sym c.first_due.ensures.first ∙ c.in_default.is)

@@ -10,7 +10,7 @@ use Rattle.synic_board.proofs.machine.Machine.try_rest.Goals as goal
 pub attempt_all-requires : goal.attempt_all-requires
 attempt_all-requires c =
     let listed : List (ℕ × ℕ) = due_list (dues c.self.inside.timers) c.self.inside.moment in
-    let on : AllOn (state_of c.self.inside) listed = listed_on c.self.inside.timers c.self.inside.moment (length c.self.inside.lapics.items) c.self.invariant.idle in
+    let on : AllOn (state_of c.self.inside) listed = listed_on c.self.inside.timers c.self.inside.moment (length c.self.inside.lapics.items) c.self.invariant.timers in
     let same : listed ≡ c.as_slice.result.now = sym (c.as_slice.ensures.value ∙ c.due_list-due.ensures) in
     let seen : due_list (dues (bank_of c.args.self.now.state)) c.args.self.now.state.moment ≡ c.as_slice.result.now = ap
     (λ (h : BoardModel). due_list (dues (bank_of h.state)) h.state.moment) (sym c.self.view_is) ∙ same in

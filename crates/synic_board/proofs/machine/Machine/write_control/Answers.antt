@@ -28,7 +28,7 @@ invariant_of-self c =
       ports = c.self.invariant.ports;
       queues = c.self.invariant.queues;
       slots = c.self.invariant.slots;
-      idle = c.self.invariant.idle;
+      timers = c.self.invariant.timers;
       summary = summary_of-kept c.self.inside.space.pages c.self.inside.space.own rs c.number.result c.write.new.self (map next c.self.inside.lapics.items)
           (map length c.self.inside.queues) (least (dues c.self.inside.timers)) c.self.inside.summary.values within sim sief (ap auto_vectors now) c.self.invariant.summary;
     }

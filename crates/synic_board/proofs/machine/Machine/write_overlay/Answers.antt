@@ -43,7 +43,7 @@ invariant_of-self c =
       ports = c.self.invariant.ports;
       queues = c.self.invariant.queues;
       slots = c.self.invariant.slots;
-      idle = c.self.invariant.idle;
+      timers = c.self.invariant.timers;
       summary = summary_of-moved c.self.inside.space c.set_overlay.new.self rs c.number.result
           (overlay_of c.number.result c.args.kind) c.read-before.result c.args.value c.write.new.self (map next c.self.inside.lapics.items) (map length c.self.inside.queues)
           (least (dues c.self.inside.timers))

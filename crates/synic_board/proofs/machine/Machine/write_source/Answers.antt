@@ -28,7 +28,7 @@ invariant_of-self-2 c =
       ports = c.self.invariant.ports;
       queues = c.self.invariant.queues;
       slots = c.self.invariant.slots;
-      idle = c.self.invariant.idle;
+      timers = c.self.invariant.timers;
       summary = summary_of-source c.self.inside.space.pages c.self.inside.space.own rs c.number.result c.args.vp c.write.new.self c.copy-auto.result
           (map next c.self.inside.lapics.items) (map length c.self.inside.queues) (least (dues c.self.inside.timers))
           c.self.inside.summary.values c.write-2.new.self.values within sim sief c.number.ensures.value
