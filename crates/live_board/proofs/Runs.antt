@@ -10,7 +10,7 @@ use Rattle.synic_regs.specs.declared.register.Register.{Register}
 use Rattle.synic_regs.specs.declared.register.Register.TheVariants as register
 use Rattle.synic_regs.specs.Registers.{register_of}
 use Rattle.synic_board.specs.declared.event.Event.{Event}
-use Rattle.synic_board.specs.declared.event.Event.TheVariants.{OpenPort, ClosePort, Write, Read, Post, Signal, Assert, Absorb, Store, Load, Tick, Take, Suspend, Resume, Reset}
+use Rattle.synic_board.specs.declared.event.Event.TheVariants.{OpenPort, ClosePort, Write, Read, Post, Signal, Assert, Absorb, Store, Load, Tick, Take, Suspend, Resume, Reset, Send}
 use Rattle.synic_board.specs.declared.event.Reply.{Reply}
 use Rattle.synic_board.specs.declared.event.Reply.TheVariants.{Refused}
 use Rattle.synic_board.specs.State.{State, processors, space_of}
@@ -151,6 +151,7 @@ acts-explained old now (Absorb p part bits) reply owed notices late h = around-l
 acts-explained old now (Take p) reply owed notices late h = around-late old.board.state now.board.state _ reply notices late h.2 (of-quiet old now _ reply notices h.0)
 acts-explained old now (Suspend p) reply owed notices late h = around-late old.board.state now.board.state _ reply notices late h.2 (of-quiet old now _ reply notices h.0)
 acts-explained old now (Resume p) reply owed notices late h = around-late old.board.state now.board.state _ reply notices late h.2 (of-quiet old now _ reply notices h.0)
+acts-explained old now (Send v mask) reply owed notices late h = around-late old.board.state now.board.state _ reply notices late h.2 (of-quiet old now _ reply notices h.0)
 
 pub run-explained : (calls : List Call) (old now : LiveModel) → AreCalls old calls now → IsRunOf calls old.board.state now.board.state
 unfolding run_of
