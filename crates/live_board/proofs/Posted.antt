@@ -50,7 +50,7 @@ accepted-whole n s p i m h below under good =
       queues = length-set s.queues (source_number p i) q ∙ h.queues;
       slots = h.slots;
       ports = h.ports;
-      idle = h.idle;
+      timers = h.timers;
       messages = All-set (All IsMessage) s.queues (source_number p i) q more h.messages;
     }
 

@@ -4,6 +4,7 @@ use board_terms::{Owner, Sint, Vp};
 use gpa_space::Space;
 use message_queues::Queues;
 use std::alloc::Global;
+use stimer_bank::TimerBank;
 
 pub(crate) fn space(alloc: Global) -> Result<bool, Stopped> {
     let space = Space::open(alloc, 8, 64)?;
@@ -16,4 +17,9 @@ pub(crate) fn queues(alloc: Global) -> Result<bool, Stopped> {
     let queues = Queues::open(alloc, 8)?;
     let count = queues.count(Vp::new(7).unwrap(), Sint::new(15).unwrap());
     ended(count == 0 && queues.port_used(15) == 0)
+}
+
+pub(crate) fn timers(alloc: Global) -> Result<bool, Stopped> {
+    let timers = TimerBank::open(alloc, 8)?;
+    ended(timers.earliest().is_none() && !timers.is_suspended(Vp::new(7).unwrap()))
 }

@@ -10,6 +10,7 @@ use std::thread::Threads;
 enum Scene {
     Space,
     Queues,
+    Timers,
     Board,
     Notices,
     Run,
@@ -28,9 +29,10 @@ enum Scene {
     Image,
 }
 
-const SCENES: [Scene; 18] = [
+const SCENES: [Scene; 19] = [
     Scene::Space,
     Scene::Queues,
+    Scene::Timers,
     Scene::Board,
     Scene::Notices,
     Scene::Run,
@@ -55,6 +57,7 @@ fn play<R: Threads + Wait + Sync>(rt: &R, alloc: Global, scene: Scene) -> Result
     match scene {
         Scene::Space => parts::space(alloc),
         Scene::Queues => parts::queues(alloc),
+        Scene::Timers => parts::timers(alloc),
         Scene::Board => boards::opened(alloc),
         Scene::Notices => boards::notices(alloc),
         Scene::Run => boards::ran(alloc),

@@ -1,7 +1,10 @@
-// A tree of deadlines with a few timers and with all 32.
-use crate::steps::{Part, first_other};
+// A tree of deadlines with a few timers, with all 32, and for three processors.
+ghost use Rattle.std.specs.Prelude.{◌≤◌};
+
+use crate::steps::{Other, Part, first_other};
 use board_terms::{TimerId, Vp};
 use deadline_tree::DeadlineTree;
+use std::alloc::{AllocError, Global};
 
 /// A call of the tree. Timers are named by their numbers.
 #[derive(Clone, Copy)]
@@ -12,7 +15,6 @@ pub(crate) enum Call {
     SetAll,
     Least,
     DueOf(u8),
-    DueBy(u128),
 }
 
 #[derive(Clone, Copy, PartialEq, Debug)]
@@ -21,12 +23,10 @@ pub(crate) enum Answer {
     Due(u128),
     First(u128, u8),
     Never,
-    /// A bit for each timer that is due.
-    Marks(u32),
 }
 
-use Answer::{Done, Due, First, Marks, Never};
-use Call::{Clear, ClearProcessor, DueBy, DueOf, Least, Set, SetAll};
+use Answer::{Done, Due, First, Never};
+use Call::{Clear, ClearProcessor, DueOf, Least, Set, SetAll};
 
 /// Sets each timer to ten times its number, the last timer first, so that each moves to the front.
 fn set_all(tree: &mut DeadlineTree) {
@@ -67,14 +67,13 @@ impl Part for DeadlineTree {
                 Some(due) => Due(due),
                 None => Never,
             },
-            DueBy(moment) => Marks(self.due_by(moment)),
         })
         // README deadline_tree: end
     }
 }
 
 /// A single entry, the last timer with a deadline beyond 64 bits.
-const AN_ENTRY_ALONE: [(Call, Answer); 16] = [
+const AN_ENTRY_ALONE: [(Call, Answer); 13] = [
     (Least, Never),
     (Clear(31), Done),
     (ClearProcessor(7), Done),
@@ -82,26 +81,21 @@ const AN_ENTRY_ALONE: [(Call, Answer); 16] = [
     (Set(31, 36893488147419103230), Done),
     (DueOf(31), Due(36893488147419103230)),
     (Least, First(36893488147419103230, 31)),
-    (DueBy(36893488147419103229), Marks(0)),
-    (DueBy(36893488147419103230), Marks(0x8000_0000)),
     (Set(31, 5), Done),
     (Least, First(5, 31)),
     (ClearProcessor(6), Done),
     (Clear(31), Done),
     (Least, Never),
     (DueOf(31), Never),
-    (DueBy(u128::MAX), Marks(0)),
 ];
 
 /// Of equal deadlines the least number comes first.
-const EQUALS: [(Call, Answer); 12] = [
+const EQUALS: [(Call, Answer); 10] = [
     // README deadline_tree: begin
     (Set(9, 5), Done),
     (Set(7, 5), Done),
     (Set(8, 5), Done),
     (Least, First(5, 7)),
-    (DueBy(4), Marks(0)),
-    (DueBy(5), Marks(0x380)),
     (Clear(7), Done),
     (Least, First(5, 8)),
     (Set(8, 6), Done),
@@ -111,12 +105,10 @@ const EQUALS: [(Call, Answer); 12] = [
     // README deadline_tree: end
 ];
 
-const A_FULL_TREE: [(Call, Answer); 17] = [
+const A_FULL_TREE: [(Call, Answer); 14] = [
     (SetAll, Done),
     (Least, First(0, 0)),
     (DueOf(31), Due(310)),
-    (DueBy(149), Marks(0x7fff)),
-    (DueBy(150), Marks(0xffff)),
     (Set(31, 0), Done),
     (Least, First(0, 0)),
     (Set(0, u128::MAX), Done),
@@ -124,12 +116,54 @@ const A_FULL_TREE: [(Call, Answer); 17] = [
     (Set(16, 160), Done),
     (Clear(31), Done),
     (Least, First(10, 1)),
-    (DueBy(u128::MAX), Marks(0x7fff_ffff)),
+    (ClearProcessor(0), Done),
+    (Least, First(40, 4)),
     (ClearProcessor(1), Done),
-    (DueBy(u128::MAX), Marks(0x7fff_ff0f)),
-    (ClearProcessor(1), Done),
-    (Set(31, 7), Done),
+    (Least, First(80, 8)),
 ];
+
+/// A tree for three processors: a timer of any other one has no deadline.
+const THREE_PROCESSORS: [(Call, Answer); 15] = [
+    (SetAll, Done),
+    (Least, First(0, 0)),
+    (DueOf(11), Due(110)),
+    (DueOf(12), Never),
+    (ClearProcessor(0), Done),
+    (Least, First(40, 4)),
+    (ClearProcessor(3), Done),
+    (Set(12, 1), Done),
+    (Clear(12), Done),
+    (Least, First(40, 4)),
+    (Set(11, 36028797018963968), Done),
+    (ClearProcessor(1), Done),
+    (Clear(8), Done),
+    (Set(9, u128::MAX), Done),
+    (Least, First(100, 10)),
+];
+
+/// Deadlines from 2^55 on are compared one by one.
+const LATE: [(Call, Answer); 8] = [
+    (Set(3, 36028797018963968), Done),
+    (Least, First(36028797018963968, 3)),
+    (Set(1, 36028797018963969), Done),
+    (Set(2, 36028797018963968), Done),
+    (Least, First(36028797018963968, 2)),
+    (Set(11, 36028797018963967), Done),
+    (Least, First(36028797018963967, 11)),
+    (DueOf(1), Due(36028797018963969)),
+];
+
+/// The first step at which a new tree gives another answer.
+fn other(
+    alloc: Global,
+    processors: u8,
+    steps: &[(Call, Answer)],
+) -> Result<Option<Other<Answer>>, AllocError>
+    requires some { 1 ≤ processors }
+    requires bound { processors ≤ 8 }
+{
+    Ok(first_other(&mut DeadlineTree::open(alloc, processors)?, steps))
+}
 
 const TABLES: [(&str, &[(Call, Answer)]); 3] = [
     ("an entry alone", &AN_ENTRY_ALONE),
@@ -137,13 +171,17 @@ const TABLES: [(&str, &[(Call, Answer)]); 3] = [
     ("a full tree", &A_FULL_TREE),
 ];
 
+const SMALL: [(&str, &[(Call, Answer)]); 2] = [
+    ("three processors", &THREE_PROCESSORS),
+    ("late deadlines", &LATE),
+];
+
 #[test]
 fn each_table_is_answered(rt: HostRuntime) {
     for (table, steps) in &TABLES {
-        assert_eq!(rt;
-            first_other(&mut DeadlineTree::new(), *steps),
-            None,
-            "{table}"
-        );
+        assert_eq!(rt; other(rt.alloc(), 8, *steps), Ok(None), "{table}");
+    }
+    for (table, steps) in &SMALL {
+        assert_eq!(rt; other(rt.alloc(), 3, *steps), Ok(None), "{table}");
     }
 }

@@ -1,6 +1,7 @@
 // Writing, suspending and resetting timers, and their expiries.
-use crate::steps::{Part, first_other};
+use crate::steps::{Other, Part, first_other};
 use board_terms::{Moment, TimerId, Vp};
+use std::alloc::{AllocError, Global};
 use stimer_bank::{Mode, TimerBank};
 
 /// A call of the bank. Timers are named by their numbers.
@@ -269,9 +270,14 @@ const TABLES: [(&str, &[(Call, Answer)]); 7] = [
     ),
 ];
 
+/// The first step at which a new bank gives another answer.
+fn other(alloc: Global, steps: &[(Call, Answer)]) -> Result<Option<Other<Answer>>, AllocError> {
+    Ok(first_other(&mut TimerBank::open(alloc, 8)?, steps))
+}
+
 #[test]
 fn each_table_is_answered(rt: HostRuntime) {
     for (table, steps) in &TABLES {
-        assert_eq!(rt; first_other(&mut TimerBank::new(), *steps), None, "{table}");
+        assert_eq!(rt; other(rt.alloc(), *steps), Ok(None), "{table}");
     }
 }
