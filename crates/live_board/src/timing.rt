@@ -95,7 +95,9 @@ fn is_direct(board: &Board, vp: Vp, event: &Event) -> bool
     ensures { result ≡ true → is_direct_write board.now.state event.now ≡ true }
 {
     let Event::Write {
-        register, value, ..
+        register,
+        value,
+        ..
     } = event
     else {
         return false;
@@ -154,10 +156,7 @@ pub(crate) fn time_on(
     ensures { IsTimedPart board.old.state vp page.old event.now board.new.state page.new result.0 result.1 notices.new }
 {
     if is_direct(board, vp, event) {
-        return (
-            time_direct(board, page, vp, event, scratch, notices),
-            false,
-        );
+        return (time_direct(board, page, vp, event, scratch, notices), false);
     }
     if is_shown(board, vp, Kind::Sim) {
         time_shown(board, page, vp, event, scratch, notices)
