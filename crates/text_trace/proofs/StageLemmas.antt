@@ -178,17 +178,20 @@ back-image f line ys n beginning s history one may h fits legal counted written 
     record {
       next = Opening f;
       is = ap (follow Title) parts.0 ∙ title-follows f;
-      on = inr (may, record {
-        lines = lines_of beginning;
-        each = (cut beginning).each;
-        last = h.stage;
-        leads = h.leads;
-        state = s;
-        complete = h.complete;
-        rest = rest;
-        text = parts.1 ∙ ap (λ (x : List ℕ). x ++ rest) whole;
-        goes = entries-go f s n history fits legal counted;
-      });
+      on = inr (
+        may,
+        record {
+          lines = lines_of beginning;
+          each = (cut beginning).each;
+          last = h.stage;
+          leads = h.leads;
+          state = s;
+          complete = h.complete;
+          rest = rest;
+          text = parts.1 ∙ ap (λ (x : List ℕ). x ++ rest) whole;
+          goes = entries-go f s n history fits legal counted;
+        },
+      );
     }
 
 back-title : (line ys : List ℕ) (n : ℕ) → IsOneLine line → IsTrace (line ++ 10 ∷ ys) n → Follow Title line ys n
@@ -232,12 +235,15 @@ lines-of : (lines : List (List ℕ)) → AreLines lines → lines_of (joined lin
 lines-of lines each = ap lines_of (sym (append-nil (joined lines))) ∙ lines_of-joined lines [] each ∙ append-nil lines
 
 on-image : (f : Format) (line ys : List ℕ) (n : ℕ) → line ≡ spaced (title_fields f) → may_restore f ≡ true → Imaged f images.Untitled ys n → IsTrace (line ++ 10 ∷ ys) n
-on-image f line ys n is may h = on-beginning f line ys (joined h.lines) h.state n h.rest (inr (may, record {
-  stage = h.last;
-  leads = subst (λ (ls : List (List ℕ)). Leads images.Untitled ls h.last) (sym (lines-of h.lines h.each)) h.leads;
-  complete = h.complete;
-  whole = ap rest_of (sym (append-nil (joined h.lines))) ∙ rest_of-joined h.lines [] h.each;
-})) is h.text h.goes
+on-image f line ys n is may h = on-beginning f line ys (joined h.lines) h.state n h.rest (inr (
+  may,
+  record {
+    stage = h.last;
+    leads = subst (λ (ls : List (List ℕ)). Leads images.Untitled ls h.last) (sym (lines-of h.lines h.each)) h.leads;
+    complete = h.complete;
+    whole = ap rest_of (sym (append-nil (joined h.lines))) ∙ rest_of-joined h.lines [] h.each;
+  },
+)) is h.text h.goes
 
 on-title : (f : Format) (line ys : List ℕ) (n : ℕ) → line ≡ spaced (title_fields f) → Continues (Opening f) ys n → IsTrace (line ++ 10 ∷ ys) n
 on-title f line ys n is (inl h) = on-board f line ys n is h
