@@ -146,3 +146,12 @@ least-is-found m d n h = (by (least_below m (length m)) (found m (length m)) h, 
 pub least-is-none : (m : Dues) → None ≡ least_below m (length m) → None ≡ least m
 unfolding least
 least-is-none m h = ap (option_map with_timer) h
+
+-- the earliest timer has an index below four
+pub least-index : (m : Dues) (d : ℕ) (t : ℕ × ℕ) → least m ≡ Some (d, t) → t.1 < 4
+unfolding least
+least-index m d t h = by (least_below m (length m)) h
+  where
+    by : (o : Option (ℕ × ℕ)) → option_map with_timer o ≡ Some (d, t) → t.1 < 4
+    by None e = absurd (none-some (d, t) e)
+    by (Some r) e = let index : r.1 % 4 ≡ t.1 = ap (λ (x : ℕ × (ℕ × ℕ)). x.1.1) (same_Some (r.0, timer_of r.1) (d, t) e) in omega arith

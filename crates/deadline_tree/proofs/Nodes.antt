@@ -8,7 +8,7 @@ use Rattle.std.proofs.lemmas.List.{get_or-set_same, get_or-set_other, length-set
 use Rattle.std.proofs.lemmas.Nat.{shr-shr}
 use Rattle.std.proofs.lemmas.Nat.Bits.{bit_at_lowest, bit_at-suc, bit_at-zero, bit_at-lt, bit_at_xor, same_from_bits}
 use Rattle.deadline_tree.specs.declared.table.Table.{Table}
-use Rattle.deadline_tree.specs.inside.Table.{count, node, dues, IsTree, IsOrdered}
+use Rattle.deadline_tree.specs.inside.Table.{count, node, dues, IsOrdered}
 use Rattle.deadline_tree.specs.inside.Climbs.{IsClimbing}
 use Rattle.deadline_tree.proofs.Edits.{dues-alike}
 

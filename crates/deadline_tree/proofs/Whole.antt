@@ -1,18 +1,18 @@
 -- The tree as a map from timers to deadlines.
-use Rattle.std.proofs.Common.{◌≡◌, ℕ, zero, suc, ◌+◌, ◌*◌, ◌/◌, ◌%◌, ◌<◌, ◌≤◌, ◌==◌, true, false, nat_lt, List, inl, inr, length, set, get_or, replicate, refl, sym, ap, ◌∙◌, arith}
-use Rattle.std.specs.Prelude.{Option, None, Some, Bool, map, if◌then◌else◌}
-use Rattle.std.specs.Option.{option_map_or}
+use Rattle.std.proofs.Common.{◌≡◌, ℕ, ◌+◌, ◌*◌, ◌/◌, ◌%◌, ◌<◌, ◌≤◌, ◌==◌, true, false, nat_lt, List, inl, inr, length, set, get_or, replicate, refl, sym, ap, ◌∙◌, arith}
+use Rattle.std.specs.Prelude.{None, Some, if◌then◌else◌}
+use Rattle.std.specs.Option.{option_map}
 use Rattle.std.proofs.lemmas.Bool.{cases_lt, cases_eq}
 use Rattle.std.proofs.lemmas.Bool.Decides.{nat_tests}
 use Rattle.std.proofs.lemmas.Option.{none-some, same_Some}
-use Rattle.std.proofs.lemmas.List.{set-get_or, get_or-replicate, length-replicate, same_lists, get_or_default, get_or-map, length-map}
-use Rattle.board_terms.specs.Dues.{Dues, least, timer_of, if_later, later_than}
+use Rattle.std.proofs.lemmas.List.{set-get_or, get_or-replicate, length-replicate, get_or-map, length-map}
+use Rattle.board_terms.specs.Dues.{Dues, number_of, least, timer_of, if_later, later_than}
 use Rattle.deadline_tree.specs.declared.table.Table.{Table}
 use Rattle.deadline_tree.specs.Deadlines.{no_dues}
-use Rattle.deadline_tree.specs.inside.Table.{count, node, word_of, late_due, due_from, due_at, dues, late, late_word, never, IsWord, IsSound}
+use Rattle.deadline_tree.specs.inside.Table.{count, node, word_of, late_due, due_from, due_at, dues, late, late_word, never, IsSound}
 use Rattle.deadline_tree.proofs.Edits.{length-dues, dues_at, dues_past, dues-are}
 use Rattle.deadline_tree.proofs.Nodes.{root-first, a-leaf}
-use Rattle.deadline_tree.proofs.Leasts.{least_is, least_none}
+use Rattle.deadline_tree.proofs.Leasts.{least_is, least_none, finds-least, least-index}
 
 -- the deadline of a word
 pub due-early : (word far : ℕ) → word < late_word → due_from word far ≡ Some (word / 256)
@@ -78,6 +78,10 @@ module _ (t : Table) (sound : IsSound t) where
             | inr none ↦ absurd (none-some e (sym (due-never (word_of t k) (late_due t k) (omega (arith, more, none))) ∙ is))
           ]
         ]
+
+    -- also without its upper bits
+    pub root-short : node t 1 % 32 ≡ node t 1 % 256
+    root-short = omega (arith, root-below)
 
     pub root-least : least (dues t) ≡ Some (node t 1 / 256, timer_of (node t 1 % 256))
     root-least =
@@ -145,3 +149,19 @@ module _ (t : Table) (k : ℕ) (some : 1 ≤ k) (bound : k ≤ 8) (nodes : t.nod
           omega (arith, here, left, right);
     };
   }
+
+-- the earliest timer by its number
+timer-back : (t : ℕ × ℕ) → t.1 < 4 → timer_of (number_of t) ≡ t
+timer-back t h = λ i. (processor i, index i)
+  where
+    processor : (4 * t.0 + t.1) / 4 ≡ t.0
+    processor = omega arith
+
+    index : (4 * t.0 + t.1) % 4 ≡ t.1
+    index = omega arith
+
+pub by-number : (m : Dues) (d n : ℕ) (t : ℕ × ℕ) → n ≡ number_of t → least m ≡ Some (d, t) → least m ≡ option_map (λ e. (e, timer_of n)) (get_or m n None)
+by-number m d n t at is =
+    let back : timer_of n ≡ t = ap timer_of at ∙ timer-back t (least-index m d t is) in
+    let found = ((finds-least m).some d n).1 (is ∙ ap (λ u. Some (d, u)) (sym back)) in
+    is ∙ ap (λ u. Some (d, u)) (sym back) ∙ sym (ap (option_map (λ e. (e, timer_of n))) found.due)

@@ -1,6 +1,7 @@
 // The deadlines of the timers, and a tree of the timers that come first.
-ghost use Rattle.std.specs.Prelude.{◌≡◌, ◌≢◌, ◌+◌, ◌*◌, ◌/◌, ◌<◌, ◌≤◌, IsTrue, None, Some, IfOk, length, nat_lt, slice_index_or, slice_set};
-ghost use Rattle.board_terms.specs.Dues.{least, earlier, if_later, later_than};
+ghost use Rattle.std.specs.Prelude.{◌≡◌, ◌≢◌, ◌+◌, ◌*◌, ◌/◌, ◌<◌, ◌≤◌, IsTrue, None, Some, IfOk, IfSome, length, nat_lt, slice_index_or, slice_set};
+ghost use Rattle.std.specs.Option.{option_map, option_map_or};
+ghost use Rattle.board_terms.specs.Dues.{timer_of, least, earlier, if_later, later_than};
 ghost use Rattle.deadline_tree.specs.Deadlines.{no_dues, levels};
 ghost use Rattle.deadline_tree.specs.inside.Table.{count, node, word_of, late_due, due_from, late, late_word, never, dues, IsWord, IsSound};
 ghost use Rattle.deadline_tree.specs.inside.Climbs.{IsClimbing};
@@ -10,10 +11,10 @@ use board_terms::TimerId;
 use std::alloc::{AllocError, Global};
 
 /// Deadlines before this one have a word of their own.
-const LATE: u128 = (1 << 56) - 1;
+const LATE: u128 = 1 << 55;
 
 /// The word of a timer with a late deadline.
-const LATE_WORD: u64 = 256 * ((1 << 56) - 1);
+const LATE_WORD: u64 = 1 << 63;
 
 /// The word of a timer without a deadline.
 const NEVER: u64 = u64::MAX;
@@ -226,25 +227,37 @@ impl Table {
     {
         let word = self.nodes[1];
         if word < LATE_WORD {
-            let timer = TimerId::from_number((word % 256) as u8).unwrap();
+            // No timer has a greater number, so this tests nothing.
+            let timer = TimerId::from_number((word % 32) as u8).unwrap();
             return Some(((word / 256) as u128, timer));
         }
-        if word == NEVER {
-            return None;
+        match self.first_late() {
+            Some(number) => match self.due(number) {
+                Some(due) => Some((due, TimerId::from_number(number).unwrap())),
+                None => None,
+            },
+            None => None,
         }
-        self.least_late()
     }
 
-    /// The earliest timer if all deadlines are late.
+    /// The number of the earliest timer, if all deadlines are late. Out of line, with a result that needs no
+    /// memory.
     #[cold]
     #[inline(never)]
-    fn least_late(&self) -> Option<(u128, TimerId)>
+    fn first_late(&self) -> Option<u8>
         requires sound { IsSound self.now }
         requires late { late_word ≤ node self.now 1 }
-        ensures { result ≡ least (dues self.now) }
+        ensures low { IfSome result (λ n. n < 32) }
+        ensures least { least (dues self.now) ≡ option_map_or (λ n. option_map (λ d. (d, timer_of n)) (slice_index_or (dues self.now) n None)) result None }
     {
-        // None of them is 0.
-        self.least_after(0)
+        if self.nodes[1] == NEVER {
+            return None;
+        }
+        // None of the deadlines is 0.
+        match self.least_after(0) {
+            Some(first) => Some(first.1.number()),
+            None => None,
+        }
     }
 
     /// The earliest of the timers whose deadlines are later than `moment`, and its deadline.

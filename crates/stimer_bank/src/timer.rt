@@ -160,12 +160,13 @@ impl Timer {
         catch_up(self.count, due, missed)
     }
 
-    /// Expires the timer at a time. A periodic timer gets its next deadline.
+    /// Expires the timer at a time. A periodic timer gets its next deadline, which is returned too.
     #[inline(always)]
-    pub(crate) fn expire(&mut self, moment: Moment) -> Expiry
+    pub(crate) fn expire(&mut self, moment: Moment) -> (Expiry, Option<u128>)
         requires sound { IsSoundTimer self.old }
         requires is_due { IsTrue (is_due self.old moment) }
-        ensures after { (self.new, result) ≡ after_expiry self.old moment }
+        ensures after { (self.new, result.0) ≡ after_expiry self.old moment }
+        ensures due { result.1 ≡ self.new.due }
         ensures sound { IsSoundTimer self.new }
     {
         let due = self.due.unwrap() as u64;
@@ -175,7 +176,7 @@ impl Timer {
             self.config = word.disabled().bits();
         }
         self.due = next;
-        expiry
+        (expiry, next)
     }
 }
 

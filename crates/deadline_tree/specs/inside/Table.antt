@@ -22,7 +22,7 @@ late_due t n = slice_index_or t.lates.items n 0
 
 -- deadlines before this one have a word of their own
 abbrev pub late : ℕ
-late = 2 ^ 56 - 1
+late = 2 ^ 55
 
 -- the word of a timer with a late deadline
 abbrev pub late_word : ℕ
