@@ -4,44 +4,43 @@ use Rattle.std.specs.Prelude.{Option, None}
 use Rattle.std.proofs.lemmas.Bool.{cases_eq}
 use Rattle.std.proofs.lemmas.List.{get_or-set_same, get_or-set_other, same_lists, length-set, get_or_default, get_or_past}
 use Rattle.std.proofs.lemmas.List.FromFn.{length-map-range_with_len, get_or-map-range_with_len}
-use Rattle.deadline_tree.specs.declared.table.Table.{Table}
-use Rattle.deadline_tree.specs.inside.Table.{count, node, word_of, late, late_due, due_from, due_at, dues, IsWord, IsTree, IsOrdered, IsSound}
+use Rattle.deadline_tree.specs.inside.Table.{Tree, count, node, word_of, late, late_due, due_from, due_at, dues, IsWord, IsTree, IsOrdered, IsSound}
 use Rattle.deadline_tree.specs.inside.Climbs.{IsClimbing}
 
-pub length-dues : (t : Table) → length (dues t) ≡ count t
+pub length-dues : (t : Tree) → length (dues t) ≡ count t
 unfolding dues
 length-dues t = length-map-range_with_len (due_at t) 0 (count t)
 
 -- the deadline of a timer
-pub dues_at : (t : Table) (n : ℕ) → n < count t → get_or (dues t) n None ≡ due_at t n
+pub dues_at : (t : Tree) (n : ℕ) → n < count t → get_or (dues t) n None ≡ due_at t n
 unfolding dues
 dues_at t n h = get_or-map-range_with_len (due_at t) 0 (count t) n n None h (omega arith)
 
-pub dues_past : (t : Table) (n : ℕ) → count t ≤ n → get_or (dues t) n None ≡ None
+pub dues_past : (t : Tree) (n : ℕ) → count t ≤ n → get_or (dues t) n None ≡ None
 dues_past t n h = get_or_past (dues t) n None (omega (arith, length-dues t))
 
 -- deadlines that are those of the timers
-pub dues-are : (t : Table) (m : List (Option ℕ)) → length m ≡ count t → ((k : ℕ) → k < count t → get_or m k None ≡ due_at t k) → dues t ≡ m
+pub dues-are : (t : Tree) (m : List (Option ℕ)) → length m ≡ count t → ((k : ℕ) → k < count t → get_or m k None ≡ due_at t k) → dues t ≡ m
 dues-are t m l h = same_lists (dues t) m (length-dues t ∙ sym l) (λ k d low.
     let less : k < count t = omega (arith, length-dues t) in
     get_or_default (dues t) k d None low ∙ dues_at t k less ∙ sym (h k less) ∙ get_or_default m k None d (omega arith))
 
 -- the deadlines do not depend on the nodes above the leaves
-pub dues-alike : (t now : Table) → now.lates.items ≡ t.lates.items → ((n : ℕ) → n < count t → word_of now n ≡ word_of t n) → dues now ≡ dues t
+pub dues-alike : (t now : Tree) → now.lates ≡ t.lates → ((n : ℕ) → n < count t → word_of now n ≡ word_of t n) → dues now ≡ dues t
 dues-alike t now lates words = dues-are now (dues t) (length-dues t ∙ sym (ap length lates)) (λ k h.
     let low : k < count t = omega (arith, ap length lates) in
     dues_at t k low ∙ sym (λ i. due_from (words k low i) (get_or (lates i) k 0)))
 
 -- timer n is written
-module _ (t now : Table) (n word : ℕ) (tree : IsTree t) (low : n < count t) (nodes : now.nodes.items ≡ set t.nodes.items (count t + n) word) (lates : now.lates.items ≡ t.lates.items) where
+module _ (t now : Tree) (n word : ℕ) (tree : IsTree t) (low : n < count t) (nodes : now.nodes ≡ set t.nodes (count t + n) word) (lates : now.lates ≡ t.lates) where
   as-many : count now ≡ count t
   as-many = ap length lates
 
   other : (j : ℕ) → j ≢ count t + n → node now j ≡ node t j
-  other j apart = ap (λ (ns : List ℕ). get_or ns j 0) nodes ∙ get_or-set_other t.nodes.items (count t + n) j word 0 apart
+  other j apart = ap (λ (ns : List ℕ). get_or ns j 0) nodes ∙ get_or-set_other t.nodes (count t + n) j word 0 apart
 
   pub node-written : node now (count t + n) ≡ word
-  node-written = ap (λ (ns : List ℕ). get_or ns (count t + n) 0) nodes ∙ get_or-set_same t.nodes.items (count t + n) word 0 (omega (arith, tree.nodes))
+  node-written = ap (λ (ns : List ℕ). get_or ns (count t + n) 0) nodes ∙ get_or-set_same t.nodes (count t + n) word 0 (omega (arith, tree.nodes))
 
   word-here : word_of now n ≡ word
   word-here = ap (λ c. node now (c + n)) as-many ∙ node-written
@@ -67,7 +66,7 @@ module _ (t now : Table) (n word : ℕ) (tree : IsTree t) (low : n < count t) (n
   pub written-climbing : IsOrdered t → IsWord word (late_due t n) n → IsClimbing now (count t + n)
   written-climbing o is = record {
     tree = record {
-      nodes = ap length nodes ∙ length-set t.nodes.items (count t + n) word ∙ tree.nodes ∙ sym (ap (λ c. 2 * c) as-many);
+      nodes = ap length nodes ∙ length-set t.nodes (count t + n) word ∙ tree.nodes ∙ sym (ap (λ c. 2 * c) as-many);
       some = omega (arith, as-many, tree.some);
       bound = omega (arith, as-many, tree.bound);
       leaves = λ m h. elim (cases_eq m n) as (λ _. IsWord (word_of now m) (late_due now m) m) [
@@ -82,9 +81,9 @@ module _ (t now : Table) (n word : ℕ) (tree : IsTree t) (low : n < count t) (n
   }
 
 -- another late deadline is stored for timer n
-module _ (t now : Table) (n due : ℕ) (sound : IsSound t) (low : n < count t) (nodes : now.nodes.items ≡ t.nodes.items) (lates : now.lates.items ≡ set t.lates.items n due) where
+module _ (t now : Tree) (n due : ℕ) (sound : IsSound t) (low : n < count t) (nodes : now.nodes ≡ t.nodes) (lates : now.lates ≡ set t.lates n due) where
   same-count : count now ≡ count t
-  same-count = ap length lates ∙ length-set t.lates.items n due
+  same-count = ap length lates ∙ length-set t.lates n due
 
   node-same : (j : ℕ) → node now j ≡ node t j
   node-same j = ap (λ (ns : List ℕ). get_or ns j 0) nodes
@@ -93,10 +92,10 @@ module _ (t now : Table) (n due : ℕ) (sound : IsSound t) (low : n < count t) (
   word-same m = ap (λ c. node now (c + m)) same-count ∙ node-same (count t + m)
 
   pub late-here : late_due now n ≡ due
-  late-here = ap (λ (ls : List ℕ). get_or ls n 0) lates ∙ get_or-set_same t.lates.items n due 0 low
+  late-here = ap (λ (ls : List ℕ). get_or ls n 0) lates ∙ get_or-set_same t.lates n due 0 low
 
   late-other : (m : ℕ) → m ≢ n → late_due now m ≡ late_due t m
-  late-other m apart = ap (λ (ls : List ℕ). get_or ls m 0) lates ∙ get_or-set_other t.lates.items n m due 0 apart
+  late-other m apart = ap (λ (ls : List ℕ). get_or ls m 0) lates ∙ get_or-set_other t.lates n m due 0 apart
 
   pub stored-sound : late ≤ due → IsSound now
   stored-sound is = record {

@@ -7,8 +7,7 @@ use Rattle.std.proofs.lemmas.Bool.Decides.{nat_tests}
 use Rattle.std.proofs.lemmas.List.{get_or-set_same, get_or-set_other, length-set}
 use Rattle.std.proofs.lemmas.Nat.{shr-shr}
 use Rattle.std.proofs.lemmas.Nat.Bits.{bit_at_lowest, bit_at-suc, bit_at-zero, bit_at-lt, bit_at_xor, same_from_bits}
-use Rattle.deadline_tree.specs.declared.table.Table.{Table}
-use Rattle.deadline_tree.specs.inside.Table.{count, node, dues, IsOrdered}
+use Rattle.deadline_tree.specs.inside.Table.{Tree, count, node, dues, IsOrdered}
 use Rattle.deadline_tree.specs.inside.Climbs.{IsClimbing}
 use Rattle.deadline_tree.proofs.Edits.{dues-alike}
 
@@ -30,16 +29,16 @@ sibling x = same_from_bits (bit_xor x 1) (2 * (x / 2) + (1 - x % 2)) bits
         omega (arith, bit_at_xor x 1 (suc i), one, left, right, bit_at-lt (x / 2) i)
 
 -- a node is brought up to date
-module _ (t now : Table) (x v : ℕ) (h : IsClimbing t x) (pos : 1 < x) (inside : x < 2 * count t) (nodes : now.nodes.items ≡ set t.nodes.items (x / 2) v) (lates : now.lates.items ≡ t.lates.items)
+module _ (t now : Tree) (x v : ℕ) (h : IsClimbing t x) (pos : 1 < x) (inside : x < 2 * count t) (nodes : now.nodes ≡ set t.nodes (x / 2) v) (lates : now.lates ≡ t.lates)
     (is : v ≡ min (node t (2 * (x / 2))) (node t (2 * (x / 2) + 1))) where
   as-many : count now ≡ count t
   as-many = ap length lates
 
   pub node-here : node now (x / 2) ≡ v
-  node-here = ap (λ (ns : List ℕ). get_or ns (x / 2) 0) nodes ∙ get_or-set_same t.nodes.items (x / 2) v 0 (omega (arith, h.tree.nodes))
+  node-here = ap (λ (ns : List ℕ). get_or ns (x / 2) 0) nodes ∙ get_or-set_same t.nodes (x / 2) v 0 (omega (arith, h.tree.nodes))
 
   other : (j : ℕ) → j ≢ x / 2 → node now j ≡ node t j
-  other j n = ap (λ (ns : List ℕ). get_or ns j 0) nodes ∙ get_or-set_other t.nodes.items (x / 2) j v 0 n
+  other j n = ap (λ (ns : List ℕ). get_or ns j 0) nodes ∙ get_or-set_other t.nodes (x / 2) j v 0 n
 
   leaf : (n : ℕ) → n < count t → node now (count now + n) ≡ node t (count t + n)
   leaf n l = ap (λ c. node now (c + n)) as-many ∙ other (count t + n) (λ e. absurd (omega arith))
@@ -50,7 +49,7 @@ module _ (t now : Table) (x v : ℕ) (h : IsClimbing t x) (pos : 1 < x) (inside 
   pub climbs : IsClimbing now (x / 2)
   climbs = record {
     tree = record {
-      nodes = ap length nodes ∙ length-set t.nodes.items (x / 2) v ∙ h.tree.nodes ∙ sym (ap (λ c. 2 * c) as-many);
+      nodes = ap length nodes ∙ length-set t.nodes (x / 2) v ∙ h.tree.nodes ∙ sym (ap (λ c. 2 * c) as-many);
       some = omega (arith, as-many, h.tree.some);
       bound = omega (arith, as-many, h.tree.bound);
       leaves = λ n l. rw (leaf n (omega (arith, as-many)), lates) (h.tree.leaves n (omega (arith, as-many)));
@@ -74,23 +73,23 @@ module _ (t now : Table) (x v : ℕ) (h : IsClimbing t x) (pos : 1 < x) (inside 
       apart j e above (suc k) = λ f. above k (f ∙ sym (halved x (suc k)))
 
 -- the lesser of a node and the other child of its parent
-pub lesser-is : (t : Table) (x first rest : ℕ) → first ≡ node t x → rest ≡ node t (bit_xor x 1) → (v : ℕ) → v ≡ (if nat_lt rest first then rest else first) →
-    v ≡ min (node t (2 * (x / 2))) (node t (2 * (x / 2) + 1))
-lesser-is t x first rest here there v is =
+pub lesser-is : (nodes : List ℕ) (x first rest : ℕ) → first ≡ get_or nodes x 0 → rest ≡ get_or nodes (bit_xor x 1) 0 → (v : ℕ) → v ≡ (if nat_lt rest first then rest else first) →
+    v ≡ min (get_or nodes (2 * (x / 2)) 0) (get_or nodes (2 * (x / 2) + 1) 0)
+lesser-is nodes x first rest here there v is =
     let lesser : v ≡ min first rest = is ∙ smaller first rest in
-    let beside : rest ≡ node t (2 * (x / 2) + (1 - x % 2)) = there ∙ ap (node t) (sibling x) in
-    elim (cases_eq (x % 2) 0) as (λ _. v ≡ min (node t (2 * (x / 2))) (node t (2 * (x / 2) + 1))) [
+    let beside : rest ≡ get_or nodes (2 * (x / 2) + (1 - x % 2)) 0 = there ∙ ap (λ k. get_or nodes k 0) (sibling x) in
+    elim (cases_eq (x % 2) 0) as (λ _. v ≡ min (get_or nodes (2 * (x / 2)) 0) (get_or nodes (2 * (x / 2) + 1) 0)) [
       | inl e ↦
           let a : x ≡ 2 * (x / 2) = omega arith in
           let b : 2 * (x / 2) + (1 - x % 2) ≡ 2 * (x / 2) + 1 = omega arith in
-          let left : first ≡ node t (2 * (x / 2)) = here ∙ ap (node t) a in
-          let right : rest ≡ node t (2 * (x / 2) + 1) = beside ∙ ap (node t) b in
+          let left : first ≡ get_or nodes (2 * (x / 2)) 0 = here ∙ ap (λ k. get_or nodes k 0) a in
+          let right : rest ≡ get_or nodes (2 * (x / 2) + 1) 0 = beside ∙ ap (λ k. get_or nodes k 0) b in
           lesser ∙ (λ i. min (left i) (right i))
       | inr e ↦
           let a : x ≡ 2 * (x / 2) + 1 = omega arith in
           let b : 2 * (x / 2) + (1 - x % 2) ≡ 2 * (x / 2) = omega arith in
-          let right : first ≡ node t (2 * (x / 2) + 1) = here ∙ ap (node t) a in
-          let left : rest ≡ node t (2 * (x / 2)) = beside ∙ ap (node t) b in
+          let right : first ≡ get_or nodes (2 * (x / 2) + 1) 0 = here ∙ ap (λ k. get_or nodes k 0) a in
+          let left : rest ≡ get_or nodes (2 * (x / 2)) 0 = beside ∙ ap (λ k. get_or nodes k 0) b in
           omega (arith, lesser, left, right)
     ]
   where
@@ -98,7 +97,7 @@ lesser-is t x first rest here there v is =
     smaller a b = grind (arith, nat_tests)
 
 -- at the root all nodes are up to date
-pub climbed : (t : Table) (x : ℕ) → x ≡ 1 → IsClimbing t x → IsOrdered t
+pub climbed : (t : Tree) (x : ℕ) → x ≡ 1 → IsClimbing t x → IsOrdered t
 climbed t x e h = record { mins = λ j a b. h.mins j a b (λ k f. absurd (omega (arith, f, none k))) }
   where
     nothing : (k : ℕ) → 0 / 2 ^ k ≡ 0
@@ -112,7 +111,7 @@ climbed t x e h = record { mins = λ j a b. h.mins j a b (λ k f. absurd (omega 
     none : (k : ℕ) → x / 2 ^ suc k ≡ 0
     none k = ap (λ y. y / 2 ^ suc k) e ∙ lone k
 
-module _ (t : Table) (o : IsOrdered t) where
+module _ (t : Tree) (o : IsOrdered t) where
   edge : (j : ℕ) → 1 < j → j < 2 * count t → node t (j / 2) ≤ node t j
   edge j a b =
       let m = o.mins (j / 2) (omega arith) (omega arith) in

@@ -7,9 +7,8 @@ use Rattle.std.proofs.lemmas.Bool.Decides.{nat_tests}
 use Rattle.std.proofs.lemmas.Option.{none-some, same_Some}
 use Rattle.std.proofs.lemmas.List.{set-get_or, get_or-replicate, length-replicate, get_or-map, length-map}
 use Rattle.board_terms.specs.Dues.{Dues, number_of, least, timer_of, if_later, later_than}
-use Rattle.deadline_tree.specs.declared.table.Table.{Table}
 use Rattle.deadline_tree.specs.Deadlines.{no_dues}
-use Rattle.deadline_tree.specs.inside.Table.{count, node, word_of, late_due, due_from, due_at, dues, late, late_word, never, IsSound}
+use Rattle.deadline_tree.specs.inside.Table.{Tree, count, node, word_of, late_due, due_from, due_at, dues, late, late_word, never, IsSound}
 use Rattle.deadline_tree.proofs.Edits.{length-dues, dues_at, dues_past, dues-are}
 use Rattle.deadline_tree.proofs.Nodes.{root-first, a-leaf}
 use Rattle.deadline_tree.proofs.Leasts.{least_is, least_none, finds-least, least-index}
@@ -33,14 +32,14 @@ due-some due far n h low =
     due-early (256 * due + n) far (omega arith) ∙ ap Some e
 
 -- a timer without a deadline is cleared
-pub cleared-same : (t : Table) (n : ℕ) → n < count t → nat_lt (word_of t n) never ≡ false → set (dues t) n None ≡ dues t
+pub cleared-same : (t : Tree) (n : ℕ) → n < count t → nat_lt (word_of t n) never ≡ false → set (dues t) n None ≡ dues t
 cleared-same t n low is =
     let past : never ≤ word_of t n = grind (arith, nat_tests) in
     let none : get_or (dues t) n None ≡ None = dues_at t n low ∙ due-never (word_of t n) (late_due t n) (omega (arith, past)) in
     ap (set (dues t) n) (sym none) ∙ set-get_or (dues t) n None
 
 -- the word at the root is that of the earliest timer
-module _ (t : Table) (sound : IsSound t) where
+module _ (t : Tree) (sound : IsSound t) where
   root-low : (n : ℕ) → n < count t → node t 1 ≤ word_of t n
   root-low n low = root-first t sound.ordered (count t + n) (count t + n) (omega arith) (omega (arith, sound.tree.some)) (omega arith)
 
@@ -122,7 +121,7 @@ module _ (t : Table) (sound : IsSound t) where
         get_or-map (if_later 0) (dues t) k None None (omega (arith, low, length-dues t)) ∙ ap (if_later 0) (dues_at t k low) ∙ late-each k low))
 
 -- a table without deadlines
-module _ (t : Table) (k : ℕ) (some : 1 ≤ k) (bound : k ≤ 8) (nodes : t.nodes.items ≡ replicate (2 * (4 * k)) never) (lates : t.lates.items ≡ replicate (4 * k) 0) where
+module _ (t : Tree) (k : ℕ) (some : 1 ≤ k) (bound : k ≤ 8) (nodes : t.nodes ≡ replicate (2 * (4 * k)) never) (lates : t.lates ≡ replicate (4 * k) 0) where
   many : count t ≡ 4 * k
   many = ap length lates ∙ length-replicate (4 * k) 0
 

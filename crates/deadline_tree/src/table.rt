@@ -1,9 +1,9 @@
 // The deadlines of the timers, and a tree of the timers that come first.
-ghost use Rattle.std.specs.Prelude.{◌≡◌, ◌≢◌, ◌+◌, ◌*◌, ◌/◌, ◌<◌, ◌≤◌, IsTrue, None, Some, IfOk, IfSome, length, nat_lt, slice_index_or, slice_set};
+ghost use Rattle.std.specs.Prelude.{◌≡◌, ◌≢◌, ◌+◌, ◌*◌, ◌/◌, ◌<◌, ◌≤◌, IsTrue, None, Some, IfOk, IfSome, length, min, nat_lt, slice_index_or, slice_set};
 ghost use Rattle.std.specs.Option.{option_map, option_map_or};
 ghost use Rattle.board_terms.specs.Dues.{timer_of, least, earlier, if_later, later_than};
 ghost use Rattle.deadline_tree.specs.Deadlines.{no_dues, levels};
-ghost use Rattle.deadline_tree.specs.inside.Table.{count, node, word_of, late_due, due_from, late, late_word, never, dues, IsWord, IsSound};
+ghost use Rattle.deadline_tree.specs.inside.Table.{tree_in, count, node, word_of, late_due, due_from, late, late_word, never, dues, IsWord, IsSound};
 ghost use Rattle.deadline_tree.specs.inside.Climbs.{IsClimbing};
 
 use crate::tree::comparer::Comparer;
@@ -41,13 +41,34 @@ fn earlier(first: Option<(u128, u8)>, due: u128, number: u8) -> (u128, u8)
     }
 }
 
+/// Compares the word of a node and that of the other child of its parent. The parent gets the lesser
+/// one, which is returned.
+#[inline(always)]
+fn compare(nodes: &mut [u64], child: usize, first: u64, comparer: &mut Comparer) -> u64
+    requires above { 1 < child }
+    requires bound { child / 2 * 2 + 1 < length nodes.old }
+    requires first { first ≡ slice_index_or nodes.old child 0 }
+    ensures lesser { result ≡ min (slice_index_or nodes.old (2 * (child / 2)) 0) (slice_index_or nodes.old (2 * (child / 2) + 1) 0) }
+    ensures written { nodes.new ≡ slice_set nodes.old (child / 2) result }
+    ensures total { comparer.new.total.number ≡ comparer.old.total.number + 1 }
+{
+    let other = nodes[child ^ 1];
+    let least = if comparer.is_before(other, first) {
+        other
+    } else {
+        first
+    };
+    nodes[child / 2] = least;
+    least
+}
+
 impl Table {
     /// A table without deadlines.
     pub(crate) fn open(alloc: Global, processors: u8) -> Result<Table, AllocError>
         requires some { 1 ≤ processors }
         requires bound { processors ≤ 8 }
-        ensures sound { IfOk result (λ table. IsSound table) }
-        ensures dues { IfOk result (λ table. dues table ≡ no_dues processors) }
+        ensures sound { IfOk result (λ table. IsSound (tree_in table)) }
+        ensures dues { IfOk result (λ table. dues (tree_in table) ≡ no_dues processors) }
     {
         let timers = 4 * processors as usize;
         let nodes = vec![in alloc; NEVER; 2 * timers]?;
@@ -58,7 +79,7 @@ impl Table {
     /// How many timers there are.
     #[inline]
     pub(crate) fn count(&self) -> usize
-        ensures { result ≡ count self.now }
+        ensures { result ≡ count (tree_in self.now) }
     {
         self.lates.len()
     }
@@ -66,9 +87,9 @@ impl Table {
     /// The leaf of a timer.
     #[inline]
     fn leaf(&self, number: u8) -> usize
-        requires sound { IsSound self.now }
-        requires number { number < count self.now }
-        ensures { result ≡ count self.now + number }
+        requires sound { IsSound (tree_in self.now) }
+        requires number { number < count (tree_in self.now) }
+        ensures { result ≡ count (tree_in self.now) + number }
     {
         self.lates.len() + number as usize
     }
@@ -76,9 +97,9 @@ impl Table {
     /// The word of a timer.
     #[inline]
     fn word(&self, number: u8) -> u64
-        requires sound { IsSound self.now }
-        requires number { number < count self.now }
-        ensures { result ≡ word_of self.now number }
+        requires sound { IsSound (tree_in self.now) }
+        requires number { number < count (tree_in self.now) }
+        ensures { result ≡ word_of (tree_in self.now) number }
     {
         self.nodes[self.leaf(number)]
     }
@@ -86,9 +107,9 @@ impl Table {
     /// Whether a timer has a deadline.
     #[inline]
     pub(crate) fn is_set(&self, number: u8) -> bool
-        requires sound { IsSound self.now }
-        requires number { number < count self.now }
-        ensures { result ≡ nat_lt (word_of self.now number) never }
+        requires sound { IsSound (tree_in self.now) }
+        requires number { number < count (tree_in self.now) }
+        ensures { result ≡ nat_lt (word_of (tree_in self.now) number) never }
     {
         self.word(number) < NEVER
     }
@@ -96,8 +117,8 @@ impl Table {
     /// The deadline of a timer, if there is this timer and it has one.
     #[inline]
     pub(crate) fn due(&self, number: u8) -> Option<u128>
-        requires { IsSound self.now }
-        ensures { result ≡ slice_index_or (dues self.now) number None }
+        requires { IsSound (tree_in self.now) }
+        ensures { result ≡ slice_index_or (dues (tree_in self.now)) number None }
     {
         if number as usize >= self.count() {
             return None;
@@ -112,64 +133,41 @@ impl Table {
         }
     }
 
-    /// Compares the word of a node and that of the other child of its parent. The parent gets the lesser
-    /// one, which is returned.
-    #[inline(always)]
-    fn compare(&mut self, child: usize, first: u64, comparer: &mut Comparer) -> u64
-        requires above { 1 < child }
-        requires bound { child < 2 * count self.old }
-        requires climbing { IsClimbing self.old child }
-        requires first { first ≡ node self.old child }
-        ensures climbing { IsClimbing self.new (child / 2) }
-        ensures first { result ≡ node self.new (child / 2) }
-        ensures count { count self.new ≡ count self.old }
-        ensures dues { dues self.new ≡ dues self.old }
-        ensures total { comparer.new.total.number ≡ comparer.old.total.number + 1 }
-    {
-        let other = self.nodes[child ^ 1];
-        let least = if comparer.is_before(other, first) {
-            other
-        } else {
-            first
-        };
-        self.nodes[child / 2] = least;
-        least
-    }
-
     /// Updates the nodes above a leaf, each by a comparison. Out of line: in the loop of a caller LLVM makes
-    /// branches of the comparisons, which are mispredicted. Two levels in a turn save instructions; there
-    /// are two at least.
+    /// branches of the comparisons, which are mispredicted. Two levels at a time save instructions.
     #[inline(never)]
     fn climb(&mut self, leaf: usize, word: u64, comparer: &mut Comparer)
-        requires above { count self.old ≤ leaf }
-        requires bound { leaf < 2 * count self.old }
-        requires climbing { IsClimbing self.old leaf }
-        requires word { word ≡ node self.old leaf }
-        ensures sound { IsSound self.new }
-        ensures dues { dues self.new ≡ dues self.old }
-        ensures compared { comparer.new.total.number ≤ comparer.old.total.number + levels (count self.old) }
+        requires above { count (tree_in self.old) ≤ leaf }
+        requires bound { leaf < 2 * count (tree_in self.old) }
+        requires climbing { IsClimbing (tree_in self.old) leaf }
+        requires word { word ≡ node (tree_in self.old) leaf }
+        ensures sound { IsSound (tree_in self.new) }
+        ensures dues { dues (tree_in self.new) ≡ dues (tree_in self.old) }
+        ensures compared { comparer.new.total.number ≤ comparer.old.total.number + levels (count (tree_in self.old)) }
     {
+        // The slice is in a register, and the vector is in memory.
+        let nodes = self.nodes.as_mut_slice();
         let mut node = leaf;
         let mut first = word;
         while node > 3 {
-            first = self.compare(node, first, comparer);
-            first = self.compare(node / 2, first, comparer);
+            first = compare(nodes, node, first, comparer);
+            first = compare(nodes, node / 2, first, comparer);
             node /= 4;
         }
         if node > 1 {
-            let _ = self.compare(node, first, comparer);
+            let _ = compare(nodes, node, first, comparer);
         }
     }
 
     /// Writes the word of a timer.
     #[inline(always)]
     fn write(&mut self, number: u8, word: u64, comparer: &mut Comparer)
-        requires sound { IsSound self.old }
-        requires number { number < count self.old }
-        requires word { IsWord word (late_due self.old number) number }
-        ensures sound { IsSound self.new }
-        ensures dues { dues self.new ≡ slice_set (dues self.old) number (due_from word (late_due self.old number)) }
-        ensures compared { comparer.new.total.number ≤ comparer.old.total.number + levels (count self.old) }
+        requires sound { IsSound (tree_in self.old) }
+        requires number { number < count (tree_in self.old) }
+        requires word { IsWord word (late_due (tree_in self.old) number) number }
+        ensures sound { IsSound (tree_in self.new) }
+        ensures dues { dues (tree_in self.new) ≡ slice_set (dues (tree_in self.old)) number (due_from word (late_due (tree_in self.old) number)) }
+        ensures compared { comparer.new.total.number ≤ comparer.old.total.number + levels (count (tree_in self.old)) }
     {
         let leaf = self.leaf(number);
         self.nodes[leaf] = word;
@@ -179,11 +177,11 @@ impl Table {
     /// Sets the deadline of a timer.
     #[inline(always)]
     pub(crate) fn set(&mut self, number: u8, due: u128, comparer: &mut Comparer)
-        requires sound { IsSound self.old }
-        requires number { number < count self.old }
-        ensures sound { IsSound self.new }
-        ensures set { dues self.new ≡ slice_set (dues self.old) number (Some due) }
-        ensures compared { comparer.new.total.number ≤ comparer.old.total.number + levels (count self.old) }
+        requires sound { IsSound (tree_in self.old) }
+        requires number { number < count (tree_in self.old) }
+        ensures sound { IsSound (tree_in self.new) }
+        ensures set { dues (tree_in self.new) ≡ slice_set (dues (tree_in self.old)) number (Some due) }
+        ensures compared { comparer.new.total.number ≤ comparer.old.total.number + levels (count (tree_in self.old)) }
     {
         if due < LATE {
             self.write(number, due as u64 * 256 + number as u64, comparer);
@@ -196,12 +194,12 @@ impl Table {
     #[cold]
     #[inline(never)]
     fn set_late(&mut self, number: u8, due: u128, comparer: &mut Comparer)
-        requires sound { IsSound self.old }
-        requires number { number < count self.old }
+        requires sound { IsSound (tree_in self.old) }
+        requires number { number < count (tree_in self.old) }
         requires late { late ≤ due }
-        ensures sound { IsSound self.new }
-        ensures set { dues self.new ≡ slice_set (dues self.old) number (Some due) }
-        ensures compared { comparer.new.total.number ≤ comparer.old.total.number + levels (count self.old) }
+        ensures sound { IsSound (tree_in self.new) }
+        ensures set { dues (tree_in self.new) ≡ slice_set (dues (tree_in self.old)) number (Some due) }
+        ensures compared { comparer.new.total.number ≤ comparer.old.total.number + levels (count (tree_in self.old)) }
     {
         self.lates[number as usize] = due;
         self.write(number, LATE_WORD, comparer);
@@ -210,11 +208,11 @@ impl Table {
     /// Removes the deadline of a timer.
     #[inline(never)]
     pub(crate) fn clear(&mut self, number: u8, comparer: &mut Comparer)
-        requires sound { IsSound self.old }
-        requires number { number < count self.old }
-        ensures sound { IsSound self.new }
-        ensures set { dues self.new ≡ slice_set (dues self.old) number None }
-        ensures compared { comparer.new.total.number ≤ comparer.old.total.number + levels (count self.old) }
+        requires sound { IsSound (tree_in self.old) }
+        requires number { number < count (tree_in self.old) }
+        ensures sound { IsSound (tree_in self.new) }
+        ensures set { dues (tree_in self.new) ≡ slice_set (dues (tree_in self.old)) number None }
+        ensures compared { comparer.new.total.number ≤ comparer.old.total.number + levels (count (tree_in self.old)) }
     {
         self.write(number, NEVER, comparer);
     }
@@ -222,8 +220,8 @@ impl Table {
     /// The earliest timer and its deadline.
     #[inline]
     pub(crate) fn least(&self) -> Option<(u128, TimerId)>
-        requires { IsSound self.now }
-        ensures { result ≡ least (dues self.now) }
+        requires { IsSound (tree_in self.now) }
+        ensures { result ≡ least (dues (tree_in self.now)) }
     {
         let word = self.nodes[1];
         if word < LATE_WORD {
@@ -245,10 +243,10 @@ impl Table {
     #[cold]
     #[inline(never)]
     fn first_late(&self) -> Option<u8>
-        requires sound { IsSound self.now }
-        requires late { late_word ≤ node self.now 1 }
+        requires sound { IsSound (tree_in self.now) }
+        requires late { late_word ≤ node (tree_in self.now) 1 }
         ensures low { IfSome result (λ n. n < 32) }
-        ensures least { least (dues self.now) ≡ option_map_or (λ n. option_map (λ d. (d, timer_of n)) (slice_index_or (dues self.now) n None)) result None }
+        ensures least { least (dues (tree_in self.now)) ≡ option_map_or (λ n. option_map (λ d. (d, timer_of n)) (slice_index_or (dues (tree_in self.now)) n None)) result None }
     {
         if self.nodes[1] == NEVER {
             return None;
@@ -262,8 +260,8 @@ impl Table {
 
     /// The earliest of the timers whose deadlines are later than `moment`, and its deadline.
     pub(crate) fn least_after(&self, moment: u128) -> Option<(u128, TimerId)>
-        requires { IsSound self.now }
-        ensures { result ≡ least (later_than moment (dues self.now)) }
+        requires { IsSound (tree_in self.now) }
+        ensures { result ≡ least (later_than moment (dues (tree_in self.now))) }
     {
         let mut first = None;
         for number in 0..self.count() as u8 {
@@ -279,8 +277,8 @@ impl Table {
 
     /// The deadline of a timer, if it is later than `moment`.
     fn later(&self, number: u8, moment: u128) -> Option<u128>
-        requires { IsSound self.now }
-        ensures { result ≡ if_later moment (slice_index_or (dues self.now) number None) }
+        requires { IsSound (tree_in self.now) }
+        ensures { result ≡ if_later moment (slice_index_or (dues (tree_in self.now)) number None) }
     {
         match self.due(number) {
             Some(due) if due > moment => Some(due),
