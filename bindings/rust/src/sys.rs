@@ -605,6 +605,7 @@ extern "C" {
     pub fn synicboard_next_ticket(board: *const synicboard) -> u64;
     /// The local APIC of a processor; all 0 if there is no such processor.
     pub fn synicboard_lapic(board: *const synicboard, vp: u8) -> synicboard_local_apic;
+    /// Whether no EOI is required of a processor: a vector is in service, and none is requested.
     pub fn synicboard_no_eoi_required(board: *const synicboard, vp: u8) -> bool;
     /// The timer of a processor; all 0 if there is no such timer.
     pub fn synicboard_timer(board: *const synicboard, vp: u8, timer: u8) -> synicboard_timer_state;
