@@ -1,6 +1,6 @@
-/* A fuzz target for live pages: a board with live pages beside one whose pages trap. Both get the same events, and the
+/* A fuzz target for live pages: a board with live pages next to one whose pages trap. Both get the same events, and the
  * same stores of a guest: on one board these go to the live page, on the other each is an event. The replies must be the same, the
- * notices too but for CONSUMED, which comes later with live pages, and at the end, when all words have been looked
+ * notices too except for CONSUMED, which comes later with live pages, and at the end, when all words have been looked
  * at, the images. Host and guest take turns here, so no processor is ever owed an EOM.
  *
  * An input is a list of actions, each of a byte and the bytes that it takes. A byte that is missing is 0. */
@@ -39,7 +39,7 @@ static uint64_t read_word(struct input *input)
     return word;
 }
 
-/* The notices of the last event but for CONSUMED, which are counted. */
+/* The notices of the last event except for CONSUMED, which are counted. */
 static size_t notices_of(const synicboard *board, uint64_t *count, synicboard_notice *room)
 {
     static synicboard_notice all[SYNICBOARD_MOST_LIVE_NOTICES];

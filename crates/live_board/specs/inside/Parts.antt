@@ -334,7 +334,7 @@ pub record SlotGrows (s : State) (p i : ℕ) (now : State) : Type 0 where
   pub bytes : (b : ℕ) → b < 256 → b ≢ 5 → slot_byte now p i b ≡ slot_byte s p i b
   pub flags : (slot_byte now p i 5 ≡ slot_byte s p i 5) ⊎ (slot_byte now p i 5 ≡ bit_or (slot_byte s p i 5) (2 ^ 0))
 
--- an empty slot that stays as it is, or gets a message
+-- an empty slot that stays unchanged, or gets a message
 abbrev pub SlotFills : State → ℕ → ℕ → State → Type 0
 SlotFills s p i now = ((b : ℕ) → b < 256 → slot_byte now p i b ≡ slot_byte s p i b) ⊎ (is_slot_empty now p i ≡ false)
 
