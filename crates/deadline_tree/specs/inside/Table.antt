@@ -40,7 +40,7 @@ late_word = 256 * late
 abbrev pub never : ℕ
 never = 2 ^ 64 - 1
 
--- the deadline that a word stands for, if a late one is `far`
+-- the deadline that a word has, if a late one is `far`
 abbrev pub due_from : ℕ → ℕ → Option ℕ
 due_from word far =
     if nat_lt word late_word then Some (word / 256)
