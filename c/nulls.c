@@ -14,6 +14,7 @@
  *   `page` of a page call  a variable that is not read
  *   a view, or owners      zeros, which are not read
  *   `due` of a tick        a variable that is not read
+ *   `handed`               a variable that is not read
  *   `ticket` of a slot     a variable that is not read
  *
  * A handle to open and a text with a length have no such value. The header defines what their calls
@@ -117,6 +118,9 @@ CALL(bool, synicboard_flag_page, board == NULL || page == NULL, CONST_BOARD(boar
      (board, vp, page), const synicboard *board, uint8_t vp, const uint8_t **page)
 CALL(bool, synicboard_guest_page, board == NULL || page == NULL, CONST_BOARD(board) PLACE(page),
      (board, number, page), const synicboard *board, uint64_t number, const uint8_t **page)
+
+CALL(synicboard_reply, synicboard_hand_over, board == NULL || handed == NULL, BOARD(board) HANDED(handed),
+     (board, vp, handed), synicboard *board, uint8_t vp, synicboard_handed_over *handed)
 
 /* ---- Live pages ---- */
 

@@ -38,10 +38,18 @@ void board_split_line(synicboard_line *line)
         fail("synicboard_split_line");
 }
 
+static void handle_request(uint8_t vp)
+{
+    if (vm.has_irqchip)
+        irqchip_mark(vp);
+    else
+        vp_kick(&vm.vp[vp]);
+}
+
 static void handle_notice(const synicboard_notice *notice)
 {
     switch (notice->kind) {
-    case SYNICBOARD_NOTICE_REQUESTED: vp_kick(&vm.vp[notice->vp]); break;
+    case SYNICBOARD_NOTICE_REQUESTED: handle_request(notice->vp); break;
     case SYNICBOARD_NOTICE_PLACED: placed++; lock_signal(&has_buffer); break;
     case SYNICBOARD_NOTICE_WITHDRAWN: withdrawn++; lock_signal(&has_buffer); break;
     case SYNICBOARD_NOTICE_CONSUMED: consumed++; break;
@@ -76,6 +84,7 @@ static synicboard_reply perform(const synicboard_event *event)
     answer(event, live.reply);
     if (live.late != 0)
         handle_notices(synicboard_late_notices);
+    irqchip_collect();
     for (uint8_t vp = 0; live.owed >> vp != 0; vp++)
         if (live.owed >> vp & 1)
             perform(&(synicboard_event){ .kind = SYNICBOARD_WRITE, .vp = vp, .msr = SYNICBOARD_MSR_EOM });
@@ -207,9 +216,12 @@ void board_suspend(struct vp *vp)
     perform(&(synicboard_event){ .kind = SYNICBOARD_SUSPEND, .vp = vp->number });
 }
 
-/* Timers whose deadlines passed meanwhile are tried by a later tick, which its thread makes. */
+/* Timers whose deadlines passed meanwhile are tried by a later tick, which its thread makes. A suspended processor
+ * hands nothing over, so what was requested meanwhile is handed over now. */
 void board_resume(struct vp *vp)
 {
+    if (vm.has_irqchip)
+        irqchip_mark(vp->number);
     perform(&(synicboard_event){ .kind = SYNICBOARD_RESUME, .vp = vp->number });
     vp_kick(vp);
 }
@@ -226,9 +238,14 @@ void board_reset(struct vp *vp)
 /* ---- What devices do ---- */
 
 /* Bit n of `vps` is processor n. */
-synicboard_reply board_send(uint8_t vector, uint64_t vps)
+void board_send(uint8_t vector, uint64_t vps)
 {
-    return perform(&(synicboard_event){ .kind = SYNICBOARD_SEND, .vector = vector, .value = vps });
+    if (!vm.has_irqchip)
+        perform(&(synicboard_event){ .kind = SYNICBOARD_SEND, .vector = vector, .value = vps });
+    else
+        for (uint8_t vp = 0; vp < vm.vps; vp++)
+            if (vps >> vp & 1)
+                irqchip_request(vp, vector);
 }
 
 synicboard_reply board_open_message_port(uint8_t port, uint8_t vp, uint8_t sint, uint8_t buffers)
@@ -276,9 +293,13 @@ void board_end_waiting(void)
 
 /* If the bit was set already, whoever set it makes the processor absorb it. The part is marked
  * after the raise, and the processor clears the mark before it sweeps, so a marked part is swept
- * after its raise. */
+ * after its raise. KVM's local APICs need none of that. */
 void board_raise(synicboard_line *line, struct vp *vp, uint8_t vector)
 {
+    if (vm.has_irqchip) {
+        irqchip_request(vp->number, vector);
+        return;
+    }
     if (synicboard_raise(line, vp->number, vector) != SYNICBOARD_FRESH)
         return;
     atomic_fetch_add(&board_fresh, 1);

@@ -16,11 +16,12 @@ enum {
     HAS_REFERENCE_COUNTER = 1 << 1, HAS_SYNIC = 1 << 2, HAS_TIMERS = 1 << 3, HAS_APIC = 1 << 4, HAS_HYPERCALL = 1 << 5,
     HAS_VP_INDEX = 1 << 6, HAS_RESET = 1 << 7, HAS_REFERENCE_TSC = 1 << 9, HAS_FREQUENCIES = 1 << 11,
     CAN_POST_MESSAGES = 1 << 4, CAN_SIGNAL_EVENTS = 1 << 5, CAN_READ_FREQUENCIES = 1 << 8, HAS_DIRECT_TIMERS = 1 << 19,
-    PREFERS_APIC_REGISTERS = 1 << 3, PREFERS_RELAXED_TIMING = 1 << 5, PREFERS_CLUSTER_IPI = 1 << 10,
+    PREFERS_APIC_REGISTERS = 1 << 3, PREFERS_RELAXED_TIMING = 1 << 5, HAS_NO_AUTO_EOI = 1 << 9, PREFERS_CLUSTER_IPI = 1 << 10,
 };
 
 static uint64_t guest_os_id, hypercall, reference_tsc, vp_assist[MOST_VPS];
 
+/* An interrupt that KVM's local APIC delivers ends by EOI alone, which the guest writes to it, as to any local APIC. */
 unsigned hyperv_add_cpuid(struct kvm_cpuid_entry2 *entries, unsigned count)
 {
     const struct kvm_cpuid_entry2 leaves[] = {
@@ -29,11 +30,12 @@ unsigned hyperv_add_cpuid(struct kvm_cpuid_entry2 *entries, unsigned count)
         { .function = 0x40000001, .eax = 0x31237648 },
         { .function = 0x40000002, .eax = 14393, .ebx = 10 << 16 },
         { .function = 0x40000003,
-          .eax = HAS_REFERENCE_COUNTER | HAS_SYNIC | HAS_TIMERS | HAS_APIC | HAS_HYPERCALL | HAS_VP_INDEX | HAS_RESET
+          .eax = HAS_REFERENCE_COUNTER | HAS_SYNIC | HAS_TIMERS | (vm.has_irqchip ? 0 : HAS_APIC) | HAS_HYPERCALL | HAS_VP_INDEX | HAS_RESET
               | HAS_REFERENCE_TSC | HAS_FREQUENCIES,
           .ebx = vm.vmbus.is_on ? CAN_POST_MESSAGES | CAN_SIGNAL_EVENTS : 0,
           .edx = CAN_READ_FREQUENCIES | HAS_DIRECT_TIMERS },
-        { .function = 0x40000004, .eax = PREFERS_APIC_REGISTERS | PREFERS_RELAXED_TIMING | PREFERS_CLUSTER_IPI, .ebx = 0xffffffff },
+        { .function = 0x40000004, .eax = (vm.has_irqchip ? HAS_NO_AUTO_EOI : PREFERS_APIC_REGISTERS) | PREFERS_RELAXED_TIMING | PREFERS_CLUSTER_IPI,
+          .ebx = 0xffffffff },
         { .function = 0x40000005, .eax = vm.vps, .ebx = vm.vps },
     };
     memcpy(entries + count, leaves, sizeof leaves);
@@ -41,6 +43,12 @@ unsigned hyperv_add_cpuid(struct kvm_cpuid_entry2 *entries, unsigned count)
 }
 
 /* ---- Registers ---- */
+
+/* EOI, ICR, TPR and the assist page. */
+static bool is_of_apic(uint32_t msr)
+{
+    return msr >= SYNICBOARD_MSR_EOI && msr <= MSR_VP_ASSIST;
+}
 
 static bool is_of_board(uint32_t msr)
 {
@@ -81,6 +89,8 @@ uint32_t *hyperv_assist(const struct vp *vp)
 
 bool hyperv_read_msr(struct vp *vp, uint32_t msr, uint64_t *value)
 {
+    if (vm.has_irqchip && is_of_apic(msr))
+        return false;
     if (is_of_board(msr)) {
         synicboard_reply reply = board_read(vp, msr);
         *value = reply.value;
@@ -102,6 +112,8 @@ bool hyperv_read_msr(struct vp *vp, uint32_t msr, uint64_t *value)
 
 bool hyperv_write_msr(struct vp *vp, uint32_t msr, uint64_t value)
 {
+    if (vm.has_irqchip && is_of_apic(msr))
+        return false;
     if (is_of_board(msr))
         return board_write(vp, msr, value).kind == SYNICBOARD_DONE;
     switch (msr) {

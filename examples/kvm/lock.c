@@ -40,8 +40,12 @@ void lock_wake(const struct vp *vp)
 void lock_release(void)
 {
     uint32_t signals = interrupted, wakes = woken;
+    struct vectors vectors[MOST_VPS];
+    bool has_vectors = vm.has_irqchip && irqchip_take(vectors);
     interrupted = woken = 0;
     synicboard_release(&shared);
+    if (has_vectors)
+        irqchip_inject(vectors);
     for (unsigned number = 0; number < vm.vps; number++) {
         if (signals >> number & 1)
             syscall(SYS_tgkill, getpid(), vm.vp[number].thread_id, SIGUSR1);

@@ -27,6 +27,7 @@ static const char usage[] =
     "  --save-after MS --save-to FILE  after MS milliseconds, save the guest to FILE and end\n"
     "  --report      print at the end what was counted\n"
     "  --trap-pages  the guest's stores to message and event flags pages exit, and are events of the board\n"
+    "  --irqchip     the local APICs are KVM's, which get what the board requests\n"
     "  --trace FILE  with --trap-pages: write the events and replies as a trace, which `synicboard check` checks\n"
     "  --vmbus       Linux finds a VMBus with the services heartbeat, time synchronisation and shutdown\n"
     "  --vmbus-version M.N  the newest version of VMBus that is accepted (5.3)\n"
@@ -141,7 +142,7 @@ static bool parse(int count, char **words, struct options *options)
         { "flat", 1, NULL, 'f' }, { "load", 1, NULL, 'n' }, { "linux", 1, NULL, 'l' }, { "initrd", 1, NULL, 'i' },
         { "append", 1, NULL, 'a' }, { "cpus", 1, NULL, 'c' }, { "memory", 1, NULL, 'm' }, { "restore-every", 1, NULL, 's' },
         { "continue", 1, NULL, 'g' }, { "save-after", 1, NULL, 't' }, { "save-to", 1, NULL, 'o' },
-        { "report", 0, NULL, 'r' }, { "trace", 1, NULL, 'x' }, { "trap-pages", 0, NULL, 'p' }, { "vmbus", 0, NULL, VMBUS }, { "vmbus-version", 1, NULL, VERSION },
+        { "report", 0, NULL, 'r' }, { "trace", 1, NULL, 'x' }, { "trap-pages", 0, NULL, 'p' }, { "irqchip", 0, NULL, 'k' }, { "vmbus", 0, NULL, VMBUS }, { "vmbus-version", 1, NULL, VERSION },
         { "heartbeat-every", 1, NULL, HEARTBEAT_EVERY }, { "timesync-every", 1, NULL, TIMESYNC_EVERY },
         { "heartbeats", 1, NULL, HEARTBEATS }, { "shutdown-after", 1, NULL, SHUTDOWN_AFTER },
         { "rescind-after", 1, NULL, RESCIND_AFTER }, { "signal-from-threads", 0, NULL, FROM_THREADS }, { 0 },
@@ -165,6 +166,7 @@ static bool parse(int count, char **words, struct options *options)
         case 'r': options->reports = true; break;
         case 'x': vm.trace = optarg; break;
         case 'p': vm.pages_trap = true; break;
+        case 'k': vm.has_irqchip = true; break;
         default:
             if (!parse_vmbus(option, optarg))
                 return false;

@@ -14,7 +14,7 @@
 #define FIRST_SUM 0xcbf29ce484222325
 #define SUM_FACTOR 0x100000001b3
 
-static const char magic[16] = "saved guest 3";
+static const char magic[16] = "saved guest 4";
 static const char *path;
 static FILE *file;
 static bool is_reading;
@@ -67,6 +67,9 @@ static void transfer_header(void)
     uint8_t traps = vm.pages_trap;
     saved_transfer(&traps, sizeof traps);
     vm.pages_trap = traps != 0;
+    uint8_t has_irqchip = vm.has_irqchip;
+    saved_transfer(&has_irqchip, sizeof has_irqchip);
+    vm.has_irqchip = has_irqchip != 0;
     if (vm.trace != NULL && !vm.pages_trap)
         saved_refuse("its pages do not trap, so there is no trace");
     if (!vm_has_valid_size())
@@ -155,6 +158,7 @@ static void write_file(void)
         fail(vm.save_to);
     }
     clock_stop();
+    irqchip_wait();
     for (unsigned number = 0; number < vm.vps; number++) {
         board_absorb(&vm.vp[number]);
         state_get(&vm.vp[number]);

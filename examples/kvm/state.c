@@ -22,6 +22,7 @@ struct state {
     struct kvm_debugregs debugregs;
     struct kvm_mp_state mp_state;
     struct kvm_vcpu_events events;
+    struct kvm_lapic_state lapic;       /* if it is KVM's */
     uint64_t msr[MSRS];
     uint64_t tsc_ahead;                 /* of the partition's TSC: 0 unless the guest has written it */
 };
@@ -39,10 +40,17 @@ static const struct {
     { "KVM_DEBUGREGS", KVM_GET_DEBUGREGS, KVM_SET_DEBUGREGS, offsetof(struct state, debugregs) },
     { "KVM_MP_STATE", KVM_GET_MP_STATE, KVM_SET_MP_STATE, offsetof(struct state, mp_state) },
     { "KVM_VCPU_EVENTS", KVM_GET_VCPU_EVENTS, KVM_SET_VCPU_EVENTS, offsetof(struct state, events) },
+    { "KVM_LAPIC", KVM_GET_LAPIC, KVM_SET_LAPIC, offsetof(struct state, lapic) },
 };
 enum { PARTS = sizeof parts / sizeof parts[0] };
 
 static struct state states[MOST_VPS];
+
+/* The last is there if it is KVM's. */
+static unsigned parts_used(void)
+{
+    return vm.has_irqchip ? PARTS : PARTS - 1;
+}
 
 /* ---- The TSC ---- */
 
@@ -79,7 +87,7 @@ static void request_msrs(struct vp *vp, unsigned long request, uint64_t *values)
 void state_get(struct vp *vp)
 {
     struct state *state = &states[vp->number];
-    for (unsigned at = 0; at < PARTS; at++)
+    for (unsigned at = 0; at < parts_used(); at++)
         if (ioctl(vp->fd, parts[at].get, (uint8_t *)state + parts[at].at) != 0)
             fail(parts[at].name);
     request_msrs(vp, KVM_GET_MSRS, state->msr);
@@ -90,7 +98,7 @@ void state_get(struct vp *vp)
 void state_set(struct vp *vp)
 {
     struct state *state = &states[vp->number];
-    for (unsigned at = 0; at < PARTS; at++)
+    for (unsigned at = 0; at < parts_used(); at++)
         if (ioctl(vp->fd, parts[at].set, (uint8_t *)state + parts[at].at) != 0)
             fail(parts[at].name);
     request_msrs(vp, KVM_SET_MSRS, state->msr);

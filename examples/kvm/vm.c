@@ -53,6 +53,7 @@ void vm_open(void)
     if (ioctl(vm.fd, KVM_SET_TSS_ADDR, 0xfffbd000) != 0)
         fail("KVM_SET_TSS_ADDR");
     open_memory();
+    irqchip_open();
     filter_msrs();
     board_open();
     for (unsigned number = 0; number < vm.vps; number++)

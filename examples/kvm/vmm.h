@@ -1,6 +1,6 @@
 /* A small hypervisor over /dev/kvm. KVM runs the processors and nothing else: a synicboard is
  * their SynIC, their synthetic timers and their local APICs, and KVM's own interrupt controllers
- * and Hyper-V support are unused. */
+ * and Hyper-V support are unused. With --irqchip the local APICs are KVM's. */
 #ifndef VMM_H
 #define VMM_H
 
@@ -70,6 +70,7 @@ struct vm {
     const char *save_to;
     const char *trace;          /* the file that gets the trace of the board; null for none */
     bool pages_trap;            /* the guest's stores to message and event flags pages exit */
+    bool has_irqchip;           /* the local APICs are KVM's */
     struct vmbus_options vmbus;
     uint64_t tsc_hz;
     uint64_t slot_changes, emulated;
@@ -129,6 +130,16 @@ void devices_transfer(void);
 void load_transfer(void);
 void vmbus_transfer(void);
 
+/* irqchip.c: the local APICs of KVM */
+struct vectors { uint64_t words[4]; };
+void irqchip_open(void);                    /* before the processors are made */
+void irqchip_mark(uint8_t vp);              /* it has requests that it may hand over */
+void irqchip_collect(void);                 /* those that are marked hand over what is requested */
+bool irqchip_take(struct vectors vectors[MOST_VPS]);    /* what they handed over; whether there is anything */
+void irqchip_inject(const struct vectors vectors[MOST_VPS]);    /* injects that, without the lock */
+void irqchip_request(uint8_t vp, uint8_t vector);   /* needs no lock */
+void irqchip_wait(void);                    /* until all that was taken is injected */
+
 /* state.c */
 void state_get(struct vp *vp);
 void state_set(struct vp *vp);
@@ -161,7 +172,7 @@ void board_absorb(struct vp *vp);
 uint8_t board_take(struct vp *vp);
 synicboard_reply board_write(struct vp *vp, uint32_t msr, uint64_t value);
 synicboard_reply board_read(struct vp *vp, uint32_t msr);
-synicboard_reply board_send(uint8_t vector, uint64_t vps);
+void board_send(uint8_t vector, uint64_t vps);  /* an interrupt to each of these processors */
 void board_store(uint64_t address, const uint8_t *bytes, size_t length);
 void board_suspend(struct vp *vp);
 void board_resume(struct vp *vp);

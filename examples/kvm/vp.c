@@ -250,7 +250,7 @@ static void enter(struct vp *vp)
     /* SDM, "Interaction of Task Priorities between CR8 and APIC": both are one register. A guest
      * that raises CR8 does not exit, which is soon enough: only a later event of its own can
      * make the board use the new value. */
-    if (vp->run->cr8 != vp->tpr >> 4)
+    if (!vm.has_irqchip && vp->run->cr8 != vp->tpr >> 4)
         board_write(vp, SYNICBOARD_MSR_TPR, vp->run->cr8 << 4);
     if (result == 0)
         handle_exit(vp);
@@ -316,7 +316,7 @@ void vp_open(unsigned number)
     state_set_tsc_offset(vp, 0);
     get_reset_state(vp);
     apic_reset(vp);
-    vp->waits_for_sipi = number != 0;
+    vp->waits_for_sipi = number != 0 && !vm.has_irqchip;
     if (vp->waits_for_sipi)
         board_suspend(vp);
 }

@@ -2,7 +2,7 @@
 
 use crate::board::ask;
 use crate::notice::{Room, ROOM};
-use crate::{beyond_the_header, sys, Board, Event, Line, Notices, Reply, Vp};
+use crate::{beyond_the_header, sys, Board, Event, HandedOver, Line, Notices, Reply, Vp};
 use core::fmt;
 use core::ptr;
 
@@ -86,6 +86,11 @@ impl LiveBoard {
     /// [`Board::absorb_line`].
     pub fn absorb_line(&mut self, line: &mut Line, vp: u8, part: u8) -> Reply {
         Reply::of(ask!(self.board, synicboard_absorb_line, &mut line.handle, vp, part))
+    }
+
+    /// [`Board::hand_over`], which accesses no live page.
+    pub fn hand_over(&mut self, vp: u8) -> HandedOver {
+        self.board.hand_over(vp)
     }
 
     /// Looks at the message slots of a processor, if the guest sees its message page: the notices are those of

@@ -95,7 +95,7 @@ fn encoded(lapic: &Lapic) -> CLapic
     }
 }
 
-fn words(vectors: &VectorSet) -> [u64; 4]
+pub(crate) fn words(vectors: &VectorSet) -> [u64; 4]
     ensures { result ≡ words_of vectors.now }
 {
     [

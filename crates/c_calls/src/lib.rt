@@ -4,6 +4,7 @@
 
 mod batches;
 mod events;
+mod handing;
 mod inspect;
 mod inspect_parts;
 mod lines;

@@ -5,3 +5,5 @@ pub mod OfBoard
 pub mod OfLine
 pub mod OfHistory
 pub mod Sent
+mod Leaving
+mod Handed

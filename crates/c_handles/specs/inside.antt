@@ -1,3 +1,4 @@
--- The ownership of a handle, and the invariant of a board with its history. Callers need neither.
+-- The ownership of a handle, the invariant of a board with its history, and one vector that is handed over. Callers need none of them.
 pub mod Owned
 pub mod Leading
+pub mod HandingOne

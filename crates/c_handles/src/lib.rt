@@ -5,6 +5,7 @@
 mod any_board;
 mod board;
 mod board_handle;
+mod handing;
 mod history;
 mod history_handle;
 mod line;
@@ -15,6 +16,7 @@ mod recorded_handle;
 pub use any_board::AnyBoard;
 pub use board::BoardWithNotices;
 pub use board_handle::BoardHandle;
+pub use handing::HandedOver;
 pub use history::History;
 pub use history_handle::HistoryHandle;
 pub use line::{OwnedLine, SplitFault};

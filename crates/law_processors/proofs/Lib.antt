@@ -3,3 +3,5 @@ mod Moved
 mod Forms
 mod Frames
 mod Commuting
+mod Elsewhere
+mod Alike

@@ -59,6 +59,52 @@ void print_number(const char *what, uint64_t number, const char *unit)
     print("\n");
 }
 
+/* ---- The local APIC ---- */
+
+bool has_apic_registers;
+
+static volatile uint32_t *apic_register(uint32_t offset)
+{
+    return (volatile uint32_t *)(uintptr_t)(0xfee00000 + offset);
+}
+
+void write_eoi(void)
+{
+    if (has_apic_registers)
+        write_msr(EOI, 0);
+    else
+        *apic_register(APIC_EOI) = 0;
+}
+
+void write_icr(uint64_t value)
+{
+    if (has_apic_registers) {
+        write_msr(ICR, value);
+        return;
+    }
+    *apic_register(APIC_ICR + 0x10) = (uint32_t)(value >> 32);
+    *apic_register(APIC_ICR) = (uint32_t)value;
+}
+
+void write_tpr(uint32_t value)
+{
+    if (has_apic_registers)
+        write_msr(TPR, value);
+    else
+        *apic_register(APIC_TPR) = value;
+}
+
+uint32_t read_tpr(void)
+{
+    return has_apic_registers ? (uint32_t)read_msr(TPR) : *apic_register(APIC_TPR);
+}
+
+/* SDM, "Spurious-Interrupt Vector Register": after reset a local APIC is disabled by software. */
+void enable_apic(void)
+{
+    *apic_register(APIC_SVR) = 0x1ff;
+}
+
 /* ---- Interrupts ---- */
 
 /* TLFS, "Message Delivery": the type is cleared first, and MessagePending is read after it; EOM
@@ -94,7 +140,7 @@ static void handle_timer_message(struct processor *self)
 static void handle_high(struct processor *self)
 {
     uint32_t before = self->seen[LOW_VECTOR];
-    write_msr(ICR, LOW_VECTOR | TO_SELF);
+    write_icr(LOW_VECTOR | TO_SELF);
     enable_interrupts();
     __asm__ volatile("nop; nop");
     disable_interrupts();
@@ -107,7 +153,7 @@ static void end_interrupt(struct processor *self)
     if ((__atomic_exchange_n(&assist_pages[self->number][0], 0, __ATOMIC_SEQ_CST) & 1) != 0)
         self->ended_without++;
     else
-        write_msr(EOI, 0);
+        write_eoi();
 }
 
 /* Called by start.S. A vector of an AutoEOI source gets no EOI. */
@@ -119,7 +165,11 @@ void on_interrupt(unsigned vector)
     switch (vector) {
     case TIMER_MESSAGE_VECTOR: handle_timer_message(self); break;
     case MESSAGE_VECTOR: handle_letter(self); break;
-    case FLAG_VECTOR: handle_flags(self); return;       /* AutoEOI */
+    case FLAG_VECTOR:
+        handle_flags(self);
+        if (has_apic_registers)
+            return;                                     /* AutoEOI */
+        break;
     case HIGH_VECTOR: handle_high(self); break;
     case DIRECT_VECTOR: self->last_time = read_msr(COUNTER); break;
     default:
@@ -169,7 +219,7 @@ void set_up_synic(struct processor *self)
     write_msr(SIEFP, (uintptr_t)flag_pages[self->number] | OVERLAY_ENABLED);
     write_msr(SINT0 + TIMER_SINT, TIMER_MESSAGE_VECTOR);
     write_msr(SINT0 + MESSAGE_SINT, MESSAGE_VECTOR);
-    write_msr(SINT0 + FLAG_SINT, FLAG_VECTOR | AUTO_EOI);
+    write_msr(SINT0 + FLAG_SINT, FLAG_VECTOR | (has_apic_registers ? AUTO_EOI : 0));
 }
 
 /* ---- Checks of one processor ---- */
@@ -188,6 +238,10 @@ static void check_identity(void)
     eax = 0x40000003, ecx = 0;
     __asm__ volatile("cpuid" : "+a"(eax), "=b"(ebx), "+c"(ecx), "=d"(edx));
     check((eax & 12) == 12 && (edx >> 19 & 1) == 1, "it has a SynIC, synthetic timers and their direct mode");
+    has_apic_registers = (eax >> 4 & 1) != 0;
+    eax = 0x40000004, ecx = 0;
+    __asm__ volatile("cpuid" : "+a"(eax), "=b"(ebx), "+c"(ecx), "=d"(edx));
+    check(has_apic_registers != ((eax >> 9 & 1) != 0), "it has registers of the local APIC, or says that AutoEOI is not to be used");
 }
 
 static void check_registers(void)
@@ -233,18 +287,18 @@ static void check_priorities(void)
 {
     struct processor *self = this_processor();
     disable_interrupts();
-    write_msr(TPR, 0x60);
-    write_msr(ICR, HIGH_VECTOR | TO_SELF);
+    write_tpr(0x60);
+    write_icr(HIGH_VECTOR | TO_SELF);
     __asm__ volatile("sti; nop; nop" : : : "memory");
     check(self->seen[HIGH_VECTOR] == 0, "TPR holds back a vector of its class");
-    write_msr(TPR, 0x5f);
+    write_tpr(0x5f);
     check(self->seen[HIGH_VECTOR] == 1, "a lower TPR releases it");
     check(self->seen[LOW_VECTOR] == 0, "TPR still holds back a vector of a lower class");
-    write_msr(TPR, 0);
+    write_tpr(0);
     check(self->seen[LOW_VECTOR] == 1 && self->nested == 0, "which did not interrupt the handler of the higher one");
     __asm__ volatile("mov %0, %%cr8" : : "r"(0x7UL));
-    check(read_msr(TPR) == 0x70, "TPR reads what is written to CR8");
-    write_msr(TPR, 0x20);
+    check(read_tpr() == 0x70, "TPR reads what is written to CR8");
+    write_tpr(0x20);
     uint64_t cr8;
     __asm__ volatile("mov %%cr8, %0" : "=r"(cr8));
     check(cr8 == 2, "CR8 reads what is written to TPR");
@@ -347,7 +401,7 @@ static uint64_t nanoseconds(uint64_t tsc)
 static void interrupt_self(struct processor *self)
 {
     uint32_t before = self->seen[LOW_VECTOR];
-    write_msr(ICR, LOW_VECTOR | TO_SELF);
+    write_icr(LOW_VECTOR | TO_SELF);
     for (unsigned turn = 0; turn < 10000 && self->seen[LOW_VECTOR] == before; turn++)
         __asm__ volatile("pause");
 }
@@ -357,8 +411,8 @@ static void measure(void)
     struct processor *self = this_processor();
     uint32_t before = self->seen[LOW_VECTOR];
     MEASURE("a read of VP_INDEX, which the board does not see, takes", (void)read_msr(VP_INDEX));
-    MEASURE("a write of TPR takes", write_msr(TPR, 0));
-    MEASURE("a write of EOI takes", write_msr(EOI, 0));
+    MEASURE("a write of TPR takes", write_tpr(0));
+    MEASURE("a write of EOI takes", write_eoi());
     MEASURE("a write of EOM takes", write_msr(EOM, 0));
     MEASURE("a store to an overlay takes", message_pages[0][5].origin = 0);
     MEASURE("a load from an overlay takes", (void)message_pages[0][5].origin);
@@ -377,7 +431,7 @@ static void check_assist(void)
     check(self->seen[LOW_VECTOR] - before == ROUNDS, "2000 interrupts to itself were taken with an assist page");
     check(self->ended_without >= ROUNDS / 2, "most of which ended without a write of EOI");
     before = self->seen[LOW_VECTOR];
-    write_msr(ICR, HIGH_VECTOR | TO_SELF);
+    write_icr(HIGH_VECTOR | TO_SELF);
     check(WAIT_UNTIL(self->seen[LOW_VECTOR] == before + 1, 2) && self->nested == 0, "one of a lower class still waits for the end of another, and comes then");
 }
 
@@ -389,6 +443,7 @@ void first_main(void)
 {
     load_idt();
     check_identity();
+    enable_apic();
     check_registers();
     check_overlays();
     check_priorities();
@@ -397,11 +452,13 @@ void first_main(void)
     check_direct_timers();
     set_up_synic(this_processor());
     check_timer_messages(0, "100 messages of a periodic timer of 1 ms, each for a period of its grid");
-    check_timer_messages(AUTO_EOI, "100 more from an AutoEOI source, with a needless EOI");
+    if (has_apic_registers)
+        check_timer_messages(AUTO_EOI, "100 more from an AutoEOI source, with a needless EOI");
     write_msr(SINT0 + TIMER_SINT, TIMER_MESSAGE_VECTOR);
     check_occupied_slot();
     measure();
-    check_assist();
+    if (has_apic_registers)
+        check_assist();
     check_processors();
     check_load();
     print("1..");

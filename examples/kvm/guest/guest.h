@@ -18,6 +18,7 @@ enum {
 enum { MASKED = 1 << 16, AUTO_EOI = 1 << 17, OVERLAY_ENABLED = 1 };
 enum { ENABLED = 1, PERIODIC = 2, AUTO_ENABLE = 8, DIRECT = 1 << 12 };  /* bits of STIMERn_CONFIG */
 enum { TO_SELF = 1 << 18 };                                             /* of ICR */
+enum { APIC_EOI = 0xb0, APIC_ICR = 0x300, APIC_TPR = 0x80, APIC_SVR = 0xf0 };    /* in the page of the local APIC */
 
 /* Vectors of this guest; those of the devices are 70 to 7f. */
 enum {
@@ -125,6 +126,12 @@ static inline void wait_for_interrupt(void)
     (bool)(condition); })
 
 /* flat.c */
+extern bool has_apic_registers;             /* of Hyper-V: EOI, ICR, TPR and the assist page; otherwise the APIC's page is used */
+void write_eoi(void);
+void write_icr(uint64_t value);
+void write_tpr(uint32_t value);
+uint32_t read_tpr(void);
+void enable_apic(void);
 struct processor *this_processor(void);
 void check(bool holds, const char *what);
 void print_number(const char *what, uint64_t number, const char *unit);

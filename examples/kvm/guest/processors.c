@@ -17,6 +17,7 @@ void second_main(void)
 {
     struct processor *self = this_processor();
     load_idt();
+    enable_apic();
     second_index = read_msr(VP_INDEX);
     second_scontrol = read_msr(SCONTROL);
     second_sint = read_msr(SINT0 + TIMER_SINT);
@@ -41,15 +42,15 @@ static bool start_second(void)
     uint32_t before = starts;
     for (size_t at = 0; trampoline + at < trampoline_end; at++)
         ((volatile uint8_t *)TRAMPOLINE)[at] = trampoline[at];
-    write_msr(ICR, TO_SECOND | INIT);
-    write_msr(ICR, TO_SECOND | STARTUP | TRAMPOLINE >> 12);
+    write_icr(TO_SECOND | INIT);
+    write_icr(TO_SECOND | STARTUP | TRAMPOLINE >> 12);
     return WAIT_UNTIL(starts == before + 1, 10);
 }
 
 static bool run_on_second(void (*work)(struct processor *self))
 {
     second->work = work;
-    write_msr(ICR, TO_SECOND | CALL_VECTOR);
+    write_icr(TO_SECOND | CALL_VECTOR);
     return WAIT_UNTIL(second->work == NULL, 10);
 }
 
@@ -63,7 +64,7 @@ static void answer_calls(struct processor *self)
     for (uint32_t turn = 1; turn <= CALLS; turn++) {
         if (!WAIT_UNTIL(self->seen[LOW_VECTOR] >= turn, 2))
             return;
-        write_msr(ICR, HIGH_VECTOR + 1);        /* to processor 0 */
+        write_icr(HIGH_VECTOR + 1);        /* to processor 0 */
     }
 }
 
@@ -71,9 +72,9 @@ static void check_calls(void)
 {
     bool has_come = true;
     second->work = answer_calls;
-    write_msr(ICR, TO_SECOND | CALL_VECTOR);
+    write_icr(TO_SECOND | CALL_VECTOR);
     for (uint32_t turn = 1; turn <= CALLS && has_come; turn++) {
-        write_msr(ICR, TO_SECOND | LOW_VECTOR);
+        write_icr(TO_SECOND | LOW_VECTOR);
         has_come = WAIT_UNTIL(first->seen[HIGH_VECTOR + 1] >= turn, 2);
     }
     check(has_come && first->seen[HIGH_VECTOR + 1] == CALLS, "500 interrupts to it, and 500 from it, come in turn");
@@ -160,7 +161,7 @@ static void check_init(void)
 {
     run_on_second(occupy_slot);
     check(message_pages[1][TIMER_SINT].type == TIMER_EXPIRED, "the first processor sees the message of the second");
-    write_msr(ICR, TO_SECOND | INIT);
+    write_icr(TO_SECOND | INIT);
     check(WAIT_UNTIL(message_pages[1][TIMER_SINT].origin == 77, 2), "INIT unmaps the overlays of the second");
     uint32_t before = second->seen[WATCH_VECTOR], watches = first->seen[WATCH_VECTOR];
     WAIT_UNTIL(first->seen[WATCH_VECTOR] - watches >= 5, 2);
@@ -182,7 +183,8 @@ void check_processors(void)
     check_calls();
     check_suspending();
     check_sending();
-    check_init();
+    if (has_apic_registers)         /* an APIC outside the board resets its processor without the board */
+        check_init();
 }
 
 /* ---- The load ---- */

@@ -1,0 +1,101 @@
+/* KVM's own local APICs (--irqchip). The board requests vectors; each processor hands them over, and they are
+ * injected as MSIs. Nothing of a local APIC is the board's then, and KVM does the halting, EOI, TPR, the interrupts
+ * between processors, INIT and SIPI without an exit. */
+#include <sched.h>
+#include <sys/ioctl.h>
+
+#include "vmm.h"
+
+enum { IOAPIC_ROUTES = 24 };
+
+static uint64_t marked;                         /* processors with new requests, a bit each */
+static struct vectors collected[MOST_VPS];  /* to inject after the lock is released */
+static atomic_uint under_way;                   /* threads that have released the lock and inject */
+
+/* Local APICs alone: no PIC, no I/O APIC, no PIT. */
+void irqchip_open(void)
+{
+    struct kvm_enable_cap cap = { .cap = KVM_CAP_SPLIT_IRQCHIP, .args = { IOAPIC_ROUTES } };
+    if (vm.has_irqchip && ioctl(vm.fd, KVM_ENABLE_CAP, &cap) != 0)
+        fail("KVM_CAP_SPLIT_IRQCHIP");
+}
+
+void irqchip_mark(uint8_t vp)
+{
+    marked |= 1ULL << vp;
+}
+
+static bool has(const uint64_t words[4], unsigned vector)
+{
+    return (words[vector / 64] >> vector % 64 & 1) != 0;
+}
+
+/* In the trace, a local APIC takes each vector, the greatest first, and ends it at once. */
+static void trace_taken(uint8_t vp, const synicboard_handed_over *handed)
+{
+    for (unsigned vector = 255; vector >= 16; vector--) {
+        if (!has(handed->vectors, vector))
+            continue;
+        trace_entry(&(synicboard_event){ .kind = SYNICBOARD_TAKE, .vp = vp },
+                    &(synicboard_reply){ .kind = SYNICBOARD_TAKEN, .vector = (uint8_t)vector });
+        if (!has(handed->auto_eoi, vector))
+            trace_entry(&(synicboard_event){ .kind = SYNICBOARD_WRITE, .vp = vp, .msr = SYNICBOARD_MSR_EOI },
+                        &(synicboard_reply){ .kind = SYNICBOARD_DONE });
+    }
+}
+
+static void collect(uint8_t vp)
+{
+    synicboard_handed_over handed;
+    synicboard_hand_over(board, vp, &handed);
+    trace_taken(vp, &handed);
+    for (unsigned word = 0; word < 4; word++)
+        collected[vp].words[word] |= handed.vectors[word];
+}
+
+void irqchip_collect(void)
+{
+    for (uint8_t vp = 0; marked >> vp != 0 && vp < vm.vps; vp++)
+        if (marked >> vp & 1)
+            collect(vp);
+    marked = 0;
+}
+
+/* A fixed, edge-triggered interrupt to the processor with this APIC ID (SDM, "Message Address Register Format"). */
+void irqchip_request(uint8_t vp, uint8_t vector)
+{
+    struct kvm_msi msi = { .address_lo = APIC_BASE | (uint32_t)vp << 12, .data = vector };
+    if (ioctl(vm.fd, KVM_SIGNAL_MSI, &msi) < 0)
+        fail("KVM_SIGNAL_MSI");
+}
+
+bool irqchip_take(struct vectors vectors[MOST_VPS])
+{
+    uint64_t any = 0;
+    for (unsigned vp = 0; vp < vm.vps; vp++) {
+        vectors[vp] = collected[vp];
+        for (unsigned word = 0; word < 4; word++) {
+            any |= vectors[vp].words[word];
+            vm.vp[vp].injected += (uint64_t)__builtin_popcountll(vectors[vp].words[word]);
+        }
+        collected[vp] = (struct vectors){ 0 };
+    }
+    if (any != 0)
+        atomic_fetch_add(&under_way, 1);
+    return any != 0;
+}
+
+void irqchip_inject(const struct vectors vectors[MOST_VPS])
+{
+    for (unsigned vp = 0; vp < vm.vps; vp++)
+        for (unsigned vector = 16; vector < 256; vector++)
+            if (has(vectors[vp].words, vector))
+                irqchip_request((uint8_t)vp, (uint8_t)vector);
+    atomic_fetch_sub(&under_way, 1);
+}
+
+void irqchip_wait(void)
+{
+    while (atomic_load(&under_way) != 0)
+        sched_yield();
+}
