@@ -1,8 +1,10 @@
 -- A quiet event changes no own page.
-use Rattle.std.proofs.Common.{◌≡◌, ℕ, zero, suc, ◌+◌, ◌*◌, ◌/◌, ◌%◌, ◌^◌, ◌<◌, ◌==◌, Bool, true, false, ◌&&◌, not, List, [], length, set, refl, sym, ap, ◌∙◌, arith, nat_lt, nat_le}
+use Rattle.std.proofs.Common.{◌≡◌, ◌⊎◌, inl, inr, ℕ, zero, suc, ◌+◌, ◌*◌, ◌/◌, ◌%◌, ◌^◌, ◌<◌, ◌==◌, Bool, true, false, ◌&&◌, not, List, [], length, set, refl, sym, ap, ◌∙◌, arith, nat_lt, nat_le}
 use Rattle.std.specs.Prelude.{Option, None, Some, is_none, Ok, Err, Result, ◌||◌, if◌then◌else◌}
 use Rattle.std.specs.Int.{bit_at}
 use Rattle.std.specs.Option.{option_map_or}
+use Rattle.std.proofs.lemmas.Bool.{and_right}
+use Rattle.std.proofs.lemmas.Bool.Decides.{nat_tests}
 use Rattle.board_terms.specs.declared.refusal.Refusal.{Refusal}
 use Rattle.board_terms.specs.declared.refusal.Refusal.TheVariants.{NoSuchProcessor, BadLength, OutsideSpace, CrossesPage, Elsewhere}
 use Rattle.board_terms.specs.declared.pages.Owner.TheVariants.{Guest, Nothing}
@@ -216,6 +218,19 @@ eom-there s p number (Write q other value) (same, names) eom on =
     below : nat_lt p (processors s) ≡ true
     below = grind (arith)
 eom-there s p number e other eom on = absurd other
+
+eom-nowhere : (s : State) (p number : ℕ) (e : Event) → IsWriteTo p number e → nat_lt p (processors s) ≡ false → eom_of s e ≡ None
+eom-nowhere s p number (Write q other value) (same, names) off =
+    (λ i. if option_map_or is_eom_register (register_of other) false && nat_lt (same i) (processors s) then Some (same i) else None)
+    ∙ ap (λ b. if b then Some p else None) (and_right (option_map_or is_eom_register (register_of other) false) (nat_lt p (processors s)) off)
+eom-nowhere s p number e other off = absurd other
+
+pub eom-cases : (s : State) (p number : ℕ) (e : Event) → IsWriteTo p number e → register_of number ≡ Some Eom → (eom_of s e ≡ Some p) ⊎ (eom_of s e ≡ None)
+eom-cases s p number e to eom = by (nat_lt p (processors s)) refl
+  where
+    by : (on : Bool) → nat_lt p (processors s) ≡ on → (eom_of s e ≡ Some p) ⊎ (eom_of s e ≡ None)
+    by true on = inl (eom-there s p number e to eom (grind (arith, nat_tests)))
+    by false off = inr (eom-nowhere s p number e to off)
 
 pub quiet-is : (p number : ℕ) (e : Event) → IsWriteTo p number e → option_map_or is_quiet_register (register_of number) true ≡ true → is_quiet e ≡ true
 quiet-is p number (Write q other value) (same, names) quiet = ap (λ n. option_map_or is_quiet_register (register_of n) true) names ∙ quiet

@@ -31,7 +31,7 @@ use Rattle.synic_board.proofs.keeping.Requests.{either}
 use Rattle.live_pages.specs.declared.access.Access.{Access}
 use Rattle.live_board.specs.Live.{all_done, explained}
 use Rattle.live_board.specs.Words.{word_at}
-use Rattle.live_board.specs.inside.Kinds.{is_direct_by, is_direct_write}
+use Rattle.live_board.specs.Timers.{is_direct_by, is_direct_write}
 use Rattle.live_board.specs.inside.Parts.{IsStep, IsViewed, IsTimedPart, IsTimerOf}
 use Rattle.live_board.proofs.TimedPart.{run-around}
 use Rattle.live_board.proofs.Tried.{own-requested}
@@ -111,6 +111,7 @@ part-direct s mid now p log log-now event reply first after v one own = record {
   page = v.watched.page;
   run = run-around s mid now now earlier [] event reply first one.emitted [] v.watched.run one.step refl ∙ ap (λ (ns : List Notice). (now, all_done earlier ++ reply ∷ [], ns)) (ap (λ ns. first ++ ns) (append-nil one.emitted) ∙ sym one.notices);
   owes = refl;
+  direct = λ _. (refl, refl);
   shadow = λ x low. v.shadow x low ∙ ap (λ l. word_at (get_or l (2 * p) []) (8 * x)) (sym own);
   others = λ j x low ne. ap (λ l. word_at (get_or l j []) (8 * x)) own ∙ v.watched.others j x low ne;
   count = ap length own ∙ v.watched.count;

@@ -1,8 +1,10 @@
 -- An EOM on one page.
-use Rattle.std.proofs.Common.{◌≡◌, ◌≢◌, ◌⊎◌, inl, inr, ℕ, zero, suc, ◌+◌, ◌*◌, ◌/◌, ◌%◌, ◌<◌, Bool, true, false, List, [], ◌∷◌, ◌++◌, length, get_or, refl, sym, ap, ◌∙◌, subst, arith, append_assoc, append-nil}
+use Rattle.std.proofs.Common.{◌≡◌, ◌≢◌, ◌⊎◌, inl, inr, ℕ, zero, suc, ◌+◌, ◌*◌, ◌/◌, ◌%◌, ◌<◌, Bool, true, false, ◌&&◌, nat_lt, List, [], ◌∷◌, ◌++◌, length, get_or, refl, sym, ap, ◌∙◌, subst, arith, append_assoc, append-nil}
 use Rattle.std.specs.Prelude.{◌==◌}
+use Rattle.std.proofs.Math.Bool.{and-false}
 use Rattle.std.proofs.lemmas.Bool.{cases_eq}
 use Rattle.std.proofs.lemmas.Bool.Decides.{nat_tests}
+use Rattle.board_terms.specs.declared.messages.Message.{Message}
 use Rattle.board_terms.specs.declared.notices.Notice.{Notice}
 use Rattle.board_terms.specs.declared.pages.Kind.TheVariants.{Sim}
 use Rattle.message_queues.specs.Image.{slot_type}
@@ -12,7 +14,7 @@ use Rattle.synic_board.specs.declared.event.Reply.{Reply}
 use Rattle.synic_board.specs.State.{State, processors}
 use Rattle.synic_board.specs.Effects.{Outcome}
 use Rattle.synic_board.specs.Run.{run_of}
-use Rattle.synic_board.specs.Delivery.{is_slot_empty}
+use Rattle.synic_board.specs.Delivery.{delivers, is_slot_empty}
 use Rattle.synic_board.specs.Ranges.{HasRanges}
 use Rattle.synic_board.specs.Sound.{IsSound, HasShape, PayloadFits}
 use Rattle.synic_board.specs.Step.{step}
@@ -20,7 +22,7 @@ use Rattle.synic_board.proofs.keeping.Placements.{page_of}
 use Rattle.live_pages.specs.Slot.{known, type_of}
 use Rattle.live_pages.specs.declared.access.Access.{Access}
 use Rattle.live_board.specs.Words.{word_of}
-use Rattle.live_board.specs.Live.{explained, all_done, AreCareful, IsShown, HasProbed, ProbesIf, AreProbes, is_waiting}
+use Rattle.live_board.specs.Live.{explained, all_done, AreCareful, IsShown, HasProbed, ProbesIf, AreProbes, NoneQueued, is_waiting}
 use Rattle.live_board.specs.inside.Parts.{IsShadow, IsStep, IsPart, IsLeft, IsProbing, IsPublished, IsWatched, Ends, IsEomOf}
 use Rattle.live_board.proofs.Ended.{ended}
 use Rattle.live_board.proofs.Filled.{stores-show}
@@ -55,6 +57,10 @@ joined s mid now p log log-mid log-now more event reply first after w one silent
   where
     shows : explained s p Sim (more ++ w.news) log ≡ explained s p Sim w.news log
     shows = explained-append s p Sim more w.news log ∙ ap (λ (es : List Event). explained s p Sim w.news log ++ es) silent ∙ append-nil (explained s p Sim w.news log)
+
+-- what is not queued does not wait
+pub none-waiting : (s : State) (p : ℕ) → NoneQueued s p → (i : ℕ) → i < 16 → is_waiting s p i ≡ false
+none-waiting s p none i under = ap (λ (q : List Message). delivers s p && nat_lt 0 (length q)) (none i under) ∙ and-false (delivers s p)
 
 -- an EOM of a processor for which no message waits changes nothing that the guest sees
 pub part-idle : (s now : State) (p : ℕ) (log : List Access) (event : Event) (reply : Reply) (after : List Notice) → ((i : ℕ) → i < 16 → is_waiting s p i ≡ false) → (now, reply, after) ≡ step s event → Ends s p now → IsShadow s (2 * p) log

@@ -3,7 +3,7 @@ use Rattle.std.proofs.Common.{◌≡◌, ◌≢◌, ◌⊎◌, inl, inr, ℕ, �
 use Rattle.std.specs.Prelude.{◌==◌}
 use Rattle.std.specs.Int.{bit_at}
 use Rattle.std.specs.FinSet.{contains}
-use Rattle.std.proofs.lemmas.Bool.{cases_eq}
+use Rattle.std.proofs.lemmas.Bool.{cases_eq, and_parts}
 use Rattle.std.proofs.lemmas.List.{get_or-set_other}
 use Rattle.board_terms.specs.Dues.{number_of}
 use Rattle.board_terms.specs.Sources.{source_number}
@@ -29,7 +29,7 @@ use Rattle.synic_board.proofs.keeping.Requests.{either}
 use Rattle.synic_board.proofs.keeping.Wholes.{IsIntact}
 use Rattle.live_board.specs.Live.{is_waiting}
 use Rattle.live_board.proofs.Ended.{aside-tried, bytes-tried, pages-aside, queues-raised, same-empty}
-use Rattle.live_board.proofs.Grown.{due-on, first-of}
+use Rattle.live_board.proofs.Grown.{due-on}
 use Rattle.live_board.proofs.Posted.{accepted-whole}
 use Rattle.live_board.proofs.Seen.{IsSeen, WaitsSeen, seen-tried}
 use Rattle.live_board.proofs.Tried.{pages-tried}
@@ -152,7 +152,7 @@ goes-attempted : (n : ℕ) (s : State) (t : ℕ × ℕ) (p i : ℕ) → IsIntact
 unfolding attempted
 goes-attempted n s t p i h under =
     either (λ (e : Effect). Goes s p i e.0) (is_ready s t) _ _
-    (λ ready. goes-fired n s t (mode_at s t) p i h (due-on n s t h (first-of (is_due_in (bank_of s) t s.moment) (is_ready_for s t (mode_at s t)) ready)) under (mode-names (timer_in (bank_of s) t).config))
+    (λ ready. goes-fired n s t (mode_at s t) p i h (due-on n s t h (and_parts (is_due_in (bank_of s) t s.moment) (is_ready_for s t (mode_at s t)) ready).0) under (mode-names (timer_in (bank_of s) t).config))
     (λ _. inl (refl, λ x. x))
 
 pub goes-attempted_all : (n : ℕ) (s : State) (ts : List (ℕ × ℕ)) (p i : ℕ) → IsIntact n s → i < 16 → Goes s p i (attempted_all s ts).0

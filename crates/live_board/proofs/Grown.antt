@@ -1,8 +1,7 @@
 -- What writes of timers and ticks change: in an occupied slot at most MessagePending, which they set.
-use Rattle.std.proofs.Common.{◌≡◌, ◌≢◌, ◌⊎◌, inl, inr, ℕ, ◌+◌, ◌*◌, ◌^◌, ◌<◌, ◌≤◌, Bool, true, false, ◌&&◌, nat_lt, List, [], ◌∷◌, length, get_or, set, Option, None, Some, refl, sym, ap, ◌∙◌, subst, arith}
-use Rattle.std.specs.Prelude.{◌==◌, bit_or, nat_le}
-use Rattle.std.specs.Option.{option_map_or}
-use Rattle.std.proofs.lemmas.Bool.{cases_eq, cases_lt}
+use Rattle.std.proofs.Common.{◌≡◌, ◌≢◌, ◌⊎◌, inl, inr, ℕ, ◌+◌, ◌*◌, ◌^◌, ◌<◌, true, false, nat_lt, List, [], ◌∷◌, length, get_or, set, Option, None, Some, refl, sym, ap, ◌∙◌, subst, arith}
+use Rattle.std.specs.Prelude.{◌==◌, bit_or}
+use Rattle.std.proofs.lemmas.Bool.{cases_eq, and_parts}
 use Rattle.std.proofs.lemmas.List.{get_or-set_same, get_or-set_other}
 use Rattle.board_terms.specs.Dues.{number_of}
 use Rattle.board_terms.specs.declared.messages.Message.{Message}
@@ -175,15 +174,11 @@ grows-fired n s t mode h low names =
 pub due-on : (n : ℕ) (s : State) (t : ℕ × ℕ) → IsIntact n s → is_due_in (bank_of s) t s.moment ≡ true → number_of t < 4 * n
 due-on n s t h due = let there = due-there (bank_of s) t s.moment due in omega (arith, there, h.whole.timers)
 
-pub first-of : (a b : Bool) → (a && b) ≡ true → a ≡ true
-first-of true b e = refl
-first-of false b e = absurd (cc)
-
 grows-attempted : (n : ℕ) (s : State) (t : ℕ × ℕ) → IsIntact n s → Grows n (Only t.0) s (attempted s t).0
 unfolding attempted
 grows-attempted n s t h =
     either (λ (e : Effect). Grows n (Only t.0) s e.0) (is_ready s t) _ _
-    (λ ready. grows-fired n s t (mode_at s t) h (due-on n s t h (first-of (is_due_in (bank_of s) t s.moment) (is_ready_for s t (mode_at s t)) ready)) (mode-names (timer_in (bank_of s) t).config))
+    (λ ready. grows-fired n s t (mode_at s t) h (due-on n s t h (and_parts (is_due_in (bank_of s) t s.moment) (is_ready_for s t (mode_at s t)) ready).0) (mode-names (timer_in (bank_of s) t).config))
     (λ _. grows-same n (Only t.0) s s refl refl refl)
 
 -- some message page

@@ -4,7 +4,7 @@ use Rattle.std.specs.Prelude.{◌==◌, bit_or, if◌then◌else◌}
 use Rattle.std.specs.Int.{bit_at}
 use Rattle.std.specs.FinSet.{contains}
 use Rattle.std.specs.Option.{option_map_or}
-use Rattle.std.proofs.lemmas.Bool.{cases_eq}
+use Rattle.std.proofs.lemmas.Bool.{cases_eq, and_parts}
 use Rattle.std.proofs.lemmas.Bool.Decides.{nat_tests}
 use Rattle.std.proofs.lemmas.List.{get_or-set_same}
 use Rattle.std.proofs.lemmas.Nat.Bits.{bit_at_or, bit_at-lt}
@@ -81,10 +81,6 @@ pending-marked page i long under =
 own : (n : ℕ) (s : State) (p : ℕ) (page : List ℕ) → IsIntact n s → p < n → get_or (set s.own (2 * p) page) (2 * p) [] ≡ page
 own n s p page h below = get_or-set_same s.own (2 * p) page [] (omega (arith, h.whole.own, below))
 
-second : (a b : Bool) → (a && b) ≡ true → b ≡ true
-second true b e = e
-second false b e = absurd (cc)
-
 no-length : (q : List Message) → nat_lt 0 (length q) ≡ true → q ≢ []
 no-length [] e = absurd (cc)
 no-length (m ∷ rest) e = λ z. cc
@@ -94,7 +90,7 @@ seen-placed : (n : ℕ) (s : State) (p i : ℕ) → IsIntact n s → p < n → i
 seen-placed n s p i h below under = head (queue_of s.queues p i) refl
   where
     waits : (t : State) → queue_of t.queues p i ≡ [] → WaitsSeen t p i
-    waits t none w = absurd (no-length (queue_of t.queues p i) (second (delivers t p) _ w) none)
+    waits t none w = absurd (no-length (queue_of t.queues p i) (and_parts (delivers t p) _ w).1 none)
 
     head : (q : List Message) → queue_of s.queues p i ≡ q → WaitsSeen (placed_head s p i q).0 p i
     head [] is = waits s is

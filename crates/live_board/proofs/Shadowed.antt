@@ -2,7 +2,7 @@
 use Rattle.std.proofs.Common.{◌≡◌, ◌≢◌, ◌⊎◌, inl, inr, ℕ, ◌+◌, ◌*◌, ◌<◌, Bool, List, [], ◌∷◌, ◌++◌, length, get_or, set, refl, sym, ap, ◌∙◌, subst, arith, length-set, append-nil}
 use Rattle.std.specs.Prelude.{None}
 use Rattle.std.proofs.lemmas.Bool.{cases_eq}
-use Rattle.std.proofs.lemmas.List.{get_or-set_same, get_or-set_other, get_or_default}
+use Rattle.std.proofs.lemmas.List.{get_or-set_same, get_or-set_other, get_or_default, set-get_or}
 use Rattle.arrayvec.specs.ArrayVec.{ArrayVec}
 use Rattle.board_terms.specs.declared.notices.Notice.{Notice}
 use Rattle.board_terms.specs.declared.pages.Kind.{Kind}
@@ -21,7 +21,7 @@ use Rattle.synic_board.specs.Run.{run_of}
 use Rattle.live_pages.specs.Slot.{known}
 use Rattle.live_pages.specs.declared.access.Access.{Access}
 use Rattle.live_board.specs.Words.{word_of}
-use Rattle.live_board.specs.Live.{LiveModel, Shadows, IsLive, IsQuietly, IsObserved, IsShown, IsTimed, IsReset, HasProbed, log_of}
+use Rattle.live_board.specs.Live.{LiveModel, Shadows, IsLive, IsQuietly, IsObserved, IsShown, IsTimed, IsReset, HasProbed, NoneQueued, log_of}
 use Rattle.live_board.specs.inside.Parts.{IsShadow, LeavesOthers, IsPart, IsTimedPart, IsViewed, IsResetPart, IsCleared}
 
 abbrev pub live : BoardModel → List (List Access) → LiveModel
@@ -57,6 +57,7 @@ timed-live old now pages p event log-now reply owed notices part = record {
   pages = ap (set pages (2 * p)) part.page;
   run = part.run;
   owes = part.owes;
+  direct = part.direct;
 }
 
 -- the same, in terms of the whole board
@@ -79,17 +80,13 @@ part-live old now pages p k event log-now reply notices part = record {
 }
 
 -- an event without accesses
-set-same : (pages : List (List Access)) → set pages 0 (get_or pages 0 []) ≡ pages
-set-same [] = refl
-set-same (x ∷ xs) = refl
-
 pub untouched-live : (old now : BoardModel) (pages : List (List Access)) (event : Event) (reply : Reply) (notices : List Notice) → (now.state, reply, notices) ≡ step old.state event → IsLive (live old pages) event (live now pages) reply notices
 unfolding run_of
 untouched-live old now pages event reply notices is = record {
   vp = 0;
   kind = kind.Sim;
   news = [];
-  pages = sym (set-same pages);
+  pages = sym (set-get_or pages 0 []);
   run = ap (λ (o : Outcome). (o.0, o.1 ∷ [], o.2 ++ [])) (sym is) ∙ ap (λ (ns : List Notice). (now.state, reply ∷ [], ns)) (append-nil notices);
   careful = λ _. tt;
 }
@@ -165,6 +162,13 @@ probed-at old now pages other p i log log-now is index inside page h =
   where
     there : get_or (set pages i log-now) (2 * p) [] ≡ log-now
     there = ap (λ n. get_or (set pages n log-now) (2 * p) []) index ∙ get_or-set_same pages (2 * p) log-now [] inside
+
+-- what an EOM with nothing queued accessed, in terms of the whole board
+pub idle-at : (old now : BoardModel) (pages : List (List Access)) (other : LiveModel) (p i : ℕ) (log log-now : List Access) → live old pages ≡ other → i ≡ 2 * p → log ≡ get_or pages (2 * p) []
+    → (NoneQueued old.state p → log-now ≡ log) → NoneQueued other.board.state p → set pages i log-now ≡ other.pages
+idle-at old now pages other p i log log-now is index page h =
+    subst (λ (m : LiveModel). NoneQueued m.board.state p → set pages i log-now ≡ m.pages) is
+    (λ none. ap (set pages i) (h none ∙ page ∙ ap (λ n. get_or pages n []) (sym index)) ∙ set-get_or pages i [])
 
 -- a reset keeps the shadow
 pub reset-shadows : (s now : State) (pages : List (List Access)) (p i j : ℕ) (page1 page2 log1 log2 : List Access) (event : Event) (reply : Reply) (notices : List Notice) → i ≡ 2 * p → j ≡ 2 * p + 1 → 2 * p + 1 < length s.own → Shadows s pages

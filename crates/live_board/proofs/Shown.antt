@@ -1,8 +1,9 @@
 -- A guest's store of a word of an overlay that it sees.
 use Rattle.std.proofs.Common.{◌≡◌, ◌≢◌, ℕ, zero, suc, ◌+◌, ◌*◌, ◌/◌, ◌%◌, ◌<◌, Bool, true, false, List, [], ◌∷◌, ◌++◌, get_or, set, Option, None, Some, refl, sym, ap, ◌∙◌, arith, nat_lt, append-nil}
-use Rattle.std.specs.Prelude.{◌==◌, ◌&&◌, if◌then◌else◌}
+use Rattle.std.specs.Prelude.{◌==◌, if◌then◌else◌}
 use Rattle.std.specs.Option.{option_map_or}
 use Rattle.std.specs.Int.{to_le_bytes, w64}
+use Rattle.std.proofs.Math.Bool.{and-false}
 use Rattle.std.proofs.lemmas.Bool.Decides.{nat_tests}
 use Rattle.board_terms.specs.declared.notices.Notice.{Notice}
 use Rattle.board_terms.specs.declared.pages.Kind.{Kind}
@@ -66,16 +67,12 @@ shows s page p k e = judged (nat_lt page (page_count s)) refl
     judged true is = (is, seen (visible s page) (sym (ap (λ (b : Bool). if b then option_map_or overlay_owner (visible s page) Guest else Nothing) is) ∙ e))
     judged false is = absurd (no_nothing p k (sym (ap (λ (b : Bool). if b then option_map_or overlay_owner (visible s page) Guest else Nothing) is) ∙ e))
 
-nowhere : (b : Bool) → (b && false) ≡ false
-nowhere true = refl
-nowhere false = refl
-
 -- a store of a word of it is not refused
 not-refused : (s : Space) (number w o : ℕ) → nat_lt number (page_count s) ≡ true → visible s number ≡ Some o → w < 512 → refusal_of s (number * 4096 + 8 * w) 8 ≡ None
 not-refused s number w o inside seen low =
     let page : (number * 4096 + 8 * w) / 4096 ≡ number = omega arith in
     let at : nat_lt 4096 ((number * 4096 + 8 * w) % 4096 + 8) ≡ false = grind (arith, nat_tests) in
-    rw (page, inside, at, seen, nowhere (is_sparse s)) refl
+    rw (page, inside, at, seen, and-false (is_sparse s)) refl
 
 -- consuming messages changes only the tickets of slots
 still-ticket : (s : State) (p i : ℕ) (o : Option ℕ) → (consumed_ticket s p i o).0 ≡ record s { slots = (consumed_ticket s p i o).0.slots }

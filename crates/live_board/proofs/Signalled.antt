@@ -2,7 +2,7 @@
 use Rattle.std.proofs.Common.{◌≡◌, ◌≢◌, ◌⊎◌, inl, inr, ℕ, ◌+◌, ◌*◌, ◌/◌, ◌%◌, ◌<◌, ◌≤◌, ◌^◌, Bool, true, false, ◌&&◌, List, [], ◌∷◌, ◌++◌, length, get_or, set, Option, None, Some, Ok, Err, refl, sym, ap, ◌∙◌, subst, arith, nat_lt, length-set, append-nil}
 use Rattle.std.specs.Prelude.{not, bit_or, nat_le, if◌then◌else◌}
 use Rattle.std.specs.Option.{option_map_or}
-use Rattle.std.proofs.lemmas.Bool.{cases_eq}
+use Rattle.std.proofs.lemmas.Bool.{cases_eq, and_parts}
 use Rattle.std.proofs.lemmas.Bool.Decides.{nat_tests}
 use Rattle.std.proofs.lemmas.List.{get_or-set_same, get_or-set_other}
 use Rattle.board_terms.specs.declared.messages.PortShape.{PortShape}
@@ -126,11 +126,7 @@ sets-flag s now p i f inside long under low bytes own = record {
 
 -- the flags of a port are in range
 pub flags-low : (base count flag : ℕ) → fits (Flags base count) ≡ true → flag < count → base + flag < 2048
-flags-low base count flag ok low = let h : nat_le (base + count) 2048 ≡ true = second (nat_le 1 count) (nat_le (base + count) 2048) ok in let bound : base + count ≤ 2048 = grind (arith, nat_tests) in omega (arith, bound, low)
-  where
-    second : (a b : Bool) → (a && b) ≡ true → b ≡ true
-    second true b e = e
-    second false b e = absurd (cc)
+flags-low base count flag ok low = let h : nat_le (base + count) 2048 ≡ true = (and_parts (nat_le 1 count) (nat_le (base + count) 2048) ok).1 in let bound : base + count ≤ 2048 = grind (arith, nat_tests) in omega (arith, bound, low)
 
 -- a call that changes no own page and accesses none
 pub part-untouched : (s now : State) (p : ℕ) (k : Kind) (log : List Access) (event : Event) (reply : Reply) (before after : List Notice) → before ≡ [] → IsShadow s (overlay_of p k) log → now.own ≡ s.own → IsStep s event now reply before after

@@ -15,18 +15,20 @@ use Rattle.synic_board.specs.State.{State, processors}
 use Rattle.synic_board.specs.Effects.{Outcome}
 use Rattle.synic_board.specs.Delivery.{is_slot_empty}
 use Rattle.synic_board.specs.Run.{Run, run_of}
-use Rattle.synic_board.specs.Sound.{IsSound}
+use Rattle.synic_board.specs.Ranges.{HasRanges}
+use Rattle.synic_board.specs.Sound.{IsSound, HasShape}
 use Rattle.synic_board.specs.Step.{step}
 use Rattle.synic_board.proofs.keeping.Wholes.{kept_from_sound}
 use Rattle.live_pages.specs.declared.access.Access.{Access}
 use Rattle.live_board.specs.Words.{word_at}
 use Rattle.live_board.specs.Live.{number_at, explained, explained_after, all_done, AreCareful, AreTimed, looked_from, marked_from, finds_empty}
-use Rattle.live_board.specs.inside.Parts.{IsShadow, IsStep, IsFirst, IsFinished, IsTick, IsTickFrom, SlotGrows, SlotFills}
+use Rattle.live_board.specs.inside.Parts.{IsShadow, IsStep, IsFirst, IsFinished, IsTick, IsTickFrom, SlotGrows, SlotFills, WordsGrow, AreKept}
 use Rattle.live_board.proofs.Grown.{Grows, Any, grows-ticked, slot-same, slot-trans, fills-same, fills-trans, still-occupied}
 use Rattle.live_board.proofs.Joined as runs
+use Rattle.live_board.proofs.Kept.{kept-grown}
 use Rattle.live_board.proofs.Marked.{same-after}
 use Rattle.live_board.proofs.Staying.{stays}
-use Rattle.live_board.proofs.TimedPart.{shown-same}
+use Rattle.live_board.proofs.TimedPart.{shown-same, words-grow}
 
 same-true : (x h : ℕ) → x ≡ h → (x == h) ≡ true
 same-true x h e = grind (arith, nat_tests)
@@ -90,6 +92,20 @@ tick-base s now k pages event reply owed before after all tick sound one eight =
   where
     g : Grows (processors s) Any s now
     g = tick-grows s now event reply one.emitted tick one.step sound
+
+-- in the message page of the processor before, the inner tick sets at most MessagePending in occupied slots
+pub tick-leaves : (s s1 s2 : State) (v k m : ℕ) (pages pages2 : List (List Access)) (log log1 : List Access) (words : List ℕ) (event : Event) (reply : Reply) (owed : List Bool) (before between after late : List Notice) → v ≡ k → k < processors s
+    → IsFirst s v log s1 log1 words before between → IsTickFrom s1 (k + 1) m pages event s2 pages2 reply owed between after late → HasShape s1 → HasRanges s1 → HasShape s2 → HasRanges s2 → WordsGrow s2 v words × AreKept s2 v words
+tick-leaves s s1 s2 v k m pages pages2 log log1 words event reply owed before between after late same less first inner shape ranges shape2 ranges2 = (
+  words-grow s1 s2 v words first.are slots shape ranges on,
+  kept-grown s1 s2 v words shape ranges shape2 ranges2 on (omega (arith, on, inner.processors)) first.are slots (λ i under empty. inner.fills v i (omega (arith, same)) under empty),
+)
+  where
+    on : v < processors s1
+    on = omega (arith, same, less, ap processors first.viewed.watched.rest)
+
+    slots : (i : ℕ) → i < 16 → is_slot_empty s1 v i ≡ false → SlotGrows s1 v i s2
+    slots i under full = inner.slots v i (omega (arith, same)) under full
 
 -- three runs
 run-three : (s s1 s2 s3 : State) (a b c d : List Event) (event : Event) (reply : Reply) (first second third : List Notice) → run_of s a ≡ (s1, all_done a, first) → run_of s1 (b ++ event ∷ c) ≡ (s2, all_done b ++ reply ∷ all_done c, second)

@@ -35,7 +35,7 @@ use Rattle.synic_board.proofs.keeping.Wholes.{kept_from_sound}
 use Rattle.live_pages.specs.Slot.{known, type_of}
 use Rattle.live_pages.specs.declared.access.Access.{Access}
 use Rattle.live_board.specs.Words.{word_at, word_of}
-use Rattle.live_board.specs.Timers.{is_timer_register}
+use Rattle.live_board.specs.Timers.{is_timer_register, is_direct_write}
 use Rattle.live_board.specs.Live.{explained, explained_after, all_done, number_at, AreCareful, IsShown}
 use Rattle.live_board.specs.inside.Parts.{IsStep, IsLooks, IsPublished, MayBeMarked, IsMarking, IsTimedPart, IsTimerOf, SlotGrows, WordsGrow}
 use Rattle.live_board.proofs.Bytes.{word-bytes, same-word, joined-set}
@@ -178,9 +178,9 @@ run-around s mid between now before after event reply first second third a is b 
     runs.run-append s before (event ∷ after) ∙ ap (λ (r : Run). runs.joined r (run_of r.0 (event ∷ after))) a
     ∙ ap (runs.joined (mid, all_done before, first)) (ap (λ (o : Outcome). followed_by o (run_of o.0 after)) (sym is) ∙ ap (followed_by (between, reply, second)) b)
 
-pub part-timed : (s mid now end : State) (p : ℕ) (log log-mid log-now log-end : List Access) (words : List ℕ) (event : Event) (reply : Reply) (owed : Bool) (first between after : List Notice) → IsShown s p Sim → IsLooks s p log mid log-mid first 16
+pub part-timed : (s mid now end : State) (p : ℕ) (log log-mid log-now log-end : List Access) (words : List ℕ) (event : Event) (reply : Reply) (owed : Bool) (first between after : List Notice) → is_direct_write s event ≡ false → IsShown s p Sim → IsLooks s p log mid log-mid first 16
     → IsStep mid event now reply first between → Grows (processors mid) (Only p) mid now → IsPublished now p true words 16 log-mid log-now → IsMarking now p words log-now end log-end owed between after 16 → IsTimedPart s p log event end log-end reply owed after
-part-timed s mid now end p log log-mid log-now log-end words event reply owed first between after shown look one g published m = record {
+part-timed s mid now end p log log-mid log-now log-end words event reply owed first between after posted shown look one g published m = record {
   looks = look.watched.news;
   stores = published.news;
   marks = m.news;
@@ -194,6 +194,7 @@ part-timed s mid now end p log log-mid log-now log-end words event reply owed fi
   page = m.page ∙ ap (λ l. m.news ++ l) page;
   run = run-around s mid now end earlier later event reply first one.emitted m.emitted look.watched.run one.step marked ∙ ap (λ (ns : List Notice). (end, all_done earlier ++ reply ∷ all_done later, ns)) (sym notices);
   owes = m.owes;
+  direct = λ direct. absurd (cc);
   shadow = λ x low. m.done x low (inr (omega (arith, low)));
   others = λ j x low ne. m.others j x low ne ∙ ap (λ l. word_at l (8 * x)) (g.others j ne) ∙ look.watched.others j x low ne;
   count = m.count ∙ g.count ∙ look.watched.count;
@@ -220,10 +221,10 @@ part-timed s mid now end p log log-mid log-now log-end words event reply owed fi
     notices : after ≡ first ++ (one.emitted ++ m.emitted)
     notices = m.notices ∙ ap (λ ns. ns ++ m.emitted) one.notices ∙ append_assoc first one.emitted m.emitted
 
-pub part-timed-hidden : (s now : State) (p : ℕ) (log log-now : List Access) (words : List ℕ) (event : Event) (reply : Reply) (before after : List Notice) → before ≡ [] → (IsShown s p Sim → ⊥) → IsStep s event now reply before after
+pub part-timed-hidden : (s now : State) (p : ℕ) (log log-now : List Access) (words : List ℕ) (event : Event) (reply : Reply) (before after : List Notice) → is_direct_write s event ≡ false → before ≡ [] → (IsShown s p Sim → ⊥) → IsStep s event now reply before after
     → Grows (processors s) (Only p) s now → IsPublished now p false words 16 log log-now → IsTimedPart s p log event now log-now reply false after
 unfolding run_of
-part-timed-hidden s now p log log-now words event reply before after empty hidden one g published = record {
+part-timed-hidden s now p log log-now words event reply before after posted empty hidden one g published = record {
   looks = [];
   stores = published.news;
   marks = [];
@@ -237,6 +238,7 @@ part-timed-hidden s now p log log-now words event reply before after empty hidde
   page = published.page;
   run = run-around s s now now [] [] event reply [] one.emitted [] refl one.step refl ∙ ap (λ (ns : List Notice). (now, reply ∷ [], ns)) (append-nil one.emitted ∙ sym (one.notices ∙ ap (λ ns. ns ++ one.emitted) empty));
   owes = refl;
+  direct = λ direct. absurd (cc);
   shadow = λ x low. published.done x low (omega (arith, low)) (inl refl);
   others = λ j x low ne. ap (λ l. word_at l (8 * x)) (g.others j ne);
   count = g.count;

@@ -1,8 +1,8 @@
 -- The words that a delivery attempt changes.
-use Rattle.std.proofs.Common.{◌≡◌, ◌≢◌, ◌⊎◌, inl, inr, ℕ, ◌+◌, ◌*◌, ◌/◌, ◌%◌, ◌^◌, ◌<◌, Bool, true, false, ◌&&◌, List, [], ◌∷◌, length, get_or, set, None, Some, refl, sym, ap, ◌∙◌, subst, arith, nat_lt, All, length-set}
+use Rattle.std.proofs.Common.{◌≡◌, ◌≢◌, ◌⊎◌, inl, inr, ℕ, ◌+◌, ◌*◌, ◌/◌, ◌%◌, ◌^◌, ◌<◌, Bool, true, false, List, [], ◌∷◌, length, get_or, set, None, Some, refl, sym, ap, ◌∙◌, subst, arith, nat_lt, All, length-set}
 use Rattle.std.specs.Prelude.{◌==◌, bit_or, if◌then◌else◌}
 use Rattle.std.specs.Option.{option_map_or}
-use Rattle.std.proofs.lemmas.Bool.{cases_eq}
+use Rattle.std.proofs.lemmas.Bool.{cases_eq, and_parts}
 use Rattle.std.proofs.lemmas.Bool.Decides.{nat_tests}
 use Rattle.std.proofs.lemmas.List.{get_or-set_same, get_or-set_other}
 use Rattle.board_terms.specs.declared.messages.Message.{Message}
@@ -48,11 +48,7 @@ pages-tried n s p i h on under =
     (λ none. inl (none, refl))
   where
     some : is_waiting s p i ≡ true → nat_lt 0 (length (queue_of s.queues p i)) ≡ true
-    some tries = second (delivers s p) _ tries
-      where
-        second : (a b : Bool) → (a && b) ≡ true → b ≡ true
-        second true b e = e
-        second false b e = absurd (cc)
+    some tries = (and_parts (delivers s p) _ tries).1
 
     head : (q : List Message) → queue_of s.queues p i ≡ q → nat_lt 0 (length q) ≡ true
         → (bytes : List ℕ) × (length bytes ≡ 256) × (slot_type (with_slot (page_of s p) i bytes) i ≢ 0) × ((after (placed_head s p i q) (raised (placed_head s p i q).0 p i)).0.own ≡ set s.own (2 * p) (with_slot (page_of s p) i bytes))

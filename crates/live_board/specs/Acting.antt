@@ -14,7 +14,7 @@ use Rattle.synic_board.specs.declared.event.Event.TheVariants.{Write, Post, Sign
 use Rattle.synic_board.specs.declared.event.Reply.{Reply}
 use Rattle.synic_board.specs.declared.event.Reply.TheVariants.{Refused}
 use Rattle.synic_board.specs.State.{processors, ports_of, space_of}
-use Rattle.live_board.specs.Live.{LiveModel, IsShown, HasLooked, HasProbed, log_of, IsLive, IsQuietly, IsTimed, IsTicked, IsReset}
+use Rattle.live_board.specs.Live.{LiveModel, IsShown, HasLooked, HasProbed, NoneQueued, log_of, IsLive, IsQuietly, IsTimed, IsTicked, IsReset}
 
 -- before a post to a port that is open, the host looks at the header of the port's slot, if the guest sees the page
 abbrev pub HasLookedAt : ℕ → LiveModel → LiveModel → Type 0
@@ -24,6 +24,10 @@ HasLookedAt port old now = (target : Port) → port_at (ports_of old.board.state
 -- before an EOM of a processor on the board, the host probes the slots of the sources that wait, if the guest sees the page
 abbrev pub HasProbedAt : ℕ → LiveModel → LiveModel → Type 0
 HasProbedAt p old now = p < processors old.board.state → IsShown old.board.state p Sim → HasProbed old.board.state p (log_of old p Sim) (log_of now p Sim)
+
+-- an EOM of a processor with no queued message accesses no live page
+abbrev pub IsIdleAt : ℕ → LiveModel → LiveModel → Type 0
+IsIdleAt p old now = NoneQueued old.board.state p → now.pages ≡ old.pages
 
 -- no processor is owed an EOM
 abbrev pub none_owed : List Bool
@@ -36,7 +40,7 @@ IsTimedWrite false p old event now reply owed notices = IsQuietly old event now 
 
 -- a write of a register, by the register
 abbrev pub IsRegisterWrite : Option Register → ℕ → LiveModel → Event → LiveModel → Reply → List Bool → List Notice → Type 0
-IsRegisterWrite (Some Eom) p old event now reply owed notices = IsLive old event now reply notices × HasProbedAt p old now × (owed ≡ none_owed)
+IsRegisterWrite (Some Eom) p old event now reply owed notices = IsLive old event now reply notices × HasProbedAt p old now × IsIdleAt p old now × (owed ≡ none_owed)
 IsRegisterWrite (Some (TimerConfig n)) p old event now reply owed notices = IsTimedWrite (nat_lt p (processors old.board.state)) p old event now reply owed notices
 IsRegisterWrite (Some (TimerCount n)) p old event now reply owed notices = IsTimedWrite (nat_lt p (processors old.board.state)) p old event now reply owed notices
 IsRegisterWrite other p old event now reply owed notices = IsQuietly old event now reply notices × (owed ≡ none_owed)

@@ -23,6 +23,7 @@ use Rattle.live_pages.specs.Slot.{known, type_of, is_pending, header, pending_ma
 use Rattle.live_pages.specs.declared.access.Access.{Access}
 use Rattle.live_pages.specs.declared.access.Access.TheVariants.{Load, FetchOr, Store}
 use Rattle.live_board.specs.Words.{word_of}
+use Rattle.live_board.specs.Timers.{is_direct_write}
 
 -- a board, and the host's accesses to each own page, in the order of visibility, each list with the last access first
 pub record LiveModel : Type 0 where
@@ -115,6 +116,10 @@ AreStores (FetchOr w mask found ∷ news) = ⊥
 abbrev pub is_waiting : State → ℕ → ℕ → Bool
 is_waiting s p i = delivers s p && nat_lt 0 (length (queue_of s.queues p i))
 
+-- no message of a processor is queued
+abbrev pub NoneQueued : State → ℕ → Type 0
+NoneQueued s p = (i : ℕ) → i < 16 → queue_of s.queues p i ≡ []
+
 -- a look at the header of a slot, and a mark if it is occupied and not marked
 abbrev pub IsProbe : ℕ → List Access → Type 0
 IsProbe i news = (found : ℕ)
@@ -183,7 +188,8 @@ pub record AreTimed (s : State) (p : ℕ) (looks stores marks log : List Access)
   pub careful : IsShown s p kind.Sim → AreCareful kind.Sim stores (looks ++ log)
 
 -- a live board performs a write of a timer of a processor: the reference model performs the guest's stores that the looks show, then
--- the event, and then the guest's stores that the marks show. The processor is owed an EOM if a mark found an empty slot
+-- the event, and then the guest's stores that the marks show. The processor is owed an EOM if a mark found an empty slot. If the timer is
+-- in direct mode then, nothing is stored or marked
 pub record IsTimed (p : ℕ) (old : LiveModel) (event : Event) (now : LiveModel) (reply : Reply) (owed : Bool) (notices : List Notice) : Type 0 where
   pub looks : List Access
   pub stores : List Access
@@ -193,6 +199,7 @@ pub record IsTimed (p : ℕ) (old : LiveModel) (event : Event) (now : LiveModel)
   pub run : run_of old.board.state (explained old.board.state p kind.Sim looks (log_of old p kind.Sim) ++ event ∷ explained_after old.board.state p marks (stores ++ (looks ++ log_of old p kind.Sim)))
       ≡ (now.board.state, all_done (explained old.board.state p kind.Sim looks (log_of old p kind.Sim)) ++ reply ∷ all_done (explained_after old.board.state p marks (stores ++ (looks ++ log_of old p kind.Sim))), notices)
   pub owes : owed ≡ finds_empty marks
+  pub direct : is_direct_write old.board.state event ≡ true → (stores ≡ []) × (marks ≡ [])
 
 -- some timer is due at a time
 abbrev pub is_any_due : State → ℕ → Bool

@@ -1,14 +1,14 @@
 // An EOM of a processor, whose message page a guest may see.
-ghost use Rattle.std.specs.Prelude.{◌≡◌, ℕ, ◌<◌, ◌*◌, [], false, IfSome};
+ghost use Rattle.std.specs.Prelude.{◌≡◌, ◌*◌, [], IfSome};
 ghost use Rattle.board_terms.specs.declared.pages.Kind.TheVariants.{Sim};
 ghost use Rattle.synic_board.specs.State.{processors};
-ghost use Rattle.live_board.specs.Live.{IsShown, HasProbed, is_waiting};
-ghost use Rattle.live_board.specs.inside.Kinds.{is_eom, eom_of};
+ghost use Rattle.live_board.specs.Live.{IsShown, HasProbed, NoneQueued};
+ghost use Rattle.live_board.specs.inside.Kinds.{eom_of};
 ghost use Rattle.live_board.specs.inside.Parts.{IsShadow, IsPart, IsEomOf};
 
 use crate::passing::is_shown;
 use crate::performing::perform_after;
-use crate::probing::{is_any_waiting, probe_waiting};
+use crate::probing::{is_any_queued, probe_waiting};
 use crate::publishing::{page_words, publish};
 use board_terms::{Kind, Notices, Vp};
 use live_pages::LivePage;
@@ -79,7 +79,7 @@ fn end_hidden(
     reply
 }
 
-/// Performs an EOM of a processor for which no message waits: it changes no own page.
+/// Performs an EOM of a processor with no queued message: it changes no own page.
 fn end_idle(
     board: &mut Board,
     page: &LivePage,
@@ -88,7 +88,7 @@ fn end_idle(
     notices: &mut Notices,
 ) -> Reply
     requires eom { IsEomOf board.old.state vp event.now }
-    requires idle { (i : ℕ) → i < 16 → is_waiting board.old.state vp i ≡ false }
+    requires idle { NoneQueued board.old.state vp }
     requires shadow { IsShadow board.old.state (2 * vp) page.now }
     ensures part { IsPart board.old.state vp Sim page.now event.now board.new.state page.now result notices.new }
     ensures probed { HasProbed board.old.state vp page.now page.now }
@@ -112,8 +112,9 @@ pub(crate) fn end_on(
     requires empty { notices.old ≡ [] }
     ensures part { IsPart board.old.state vp Sim page.old event.now board.new.state page.new result notices.new }
     ensures probed { IsShown board.old.state vp Sim → HasProbed board.old.state vp page.old page.new }
+    ensures idle { NoneQueued board.old.state vp → page.new ≡ page.old }
 {
-    if !is_any_waiting(board, vp) {
+    if !is_any_queued(board, vp) {
         return end_idle(board, page, vp, event, notices);
     }
     if is_shown(board, vp, Kind::Sim) {

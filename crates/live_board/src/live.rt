@@ -1,5 +1,5 @@
 // A board with live pages.
-ghost use Rattle.std.specs.Prelude.{◌≡◌, ℕ, ◌<◌, ◌≤◌, ◌+◌, ◌*◌, [], length, false, IfOk, IfErr, IsTrue, None, Some};
+ghost use Rattle.std.specs.Prelude.{◌≡◌, ℕ, ◌<◌, ◌≤◌, ◌+◌, ◌*◌, length, false, IfOk, IfErr, IsTrue, None, Some};
 ghost use Rattle.board_terms.specs.declared.pages.Kind.TheVariants.{Sim};
 ghost use Rattle.gpa_space.specs.Space.{overlay_of};
 ghost use Rattle.synic_board.specs.declared.event.Event.TheVariants.{Post, Signal};
@@ -7,7 +7,7 @@ ghost use Rattle.synic_board.specs.State.{processors, ports_of};
 ghost use Rattle.synic_board.specs.Step.{step};
 ghost use Rattle.event_ports.specs.Ports.{port_at};
 ghost use Rattle.event_ports.specs.declared.ports.Port.{Port};
-ghost use Rattle.live_board.specs.Live.{IsShown, HasLooked, HasProbed, log_of, IsLive, IsQuietly, IsTimed, IsTicked, IsReset, IsObserved, Shadows};
+ghost use Rattle.live_board.specs.Live.{IsShown, HasLooked, HasProbed, NoneQueued, log_of, IsLive, IsQuietly, IsTimed, IsTicked, IsReset, IsObserved, Shadows};
 ghost use Rattle.live_board.specs.Settling.{IsSettled};
 ghost use Rattle.live_board.specs.Timers.{is_timer_write, timer_of};
 ghost use Rattle.live_board.specs.inside.Kinds.{is_eom, eom_of};
@@ -174,6 +174,8 @@ impl LiveBoard {
         requires { IsTrue (is_eom event.now) }
         ensures live { IsLive self.old event.now self.new result notices.new }
         ensures probed { (p : ℕ) → eom_of self.old.board.state event.now ≡ Some p → IsShown self.old.board.state p Sim → HasProbed self.old.board.state p (log_of self.old p Sim) (log_of self.new p Sim) }
+        ensures idle { (p : ℕ) → eom_of self.old.board.state event.now ≡ Some p → NoneQueued self.old.board.state p → self.new.pages ≡ self.old.pages }
+        ensures nowhere { eom_of self.old.board.state event.now ≡ None → self.new.pages ≡ self.old.pages }
     {
         let LiveBoard {
             board,

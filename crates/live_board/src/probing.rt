@@ -1,10 +1,10 @@
 // Probes of the message slots of a live page before an EOM.
-ghost use Rattle.std.specs.Prelude.{◌≡◌, ℕ, ◌<◌, ◌≤◌, ◌*◌, [], false, length};
+ghost use Rattle.std.specs.Prelude.{◌≡◌, ◌<◌, ◌*◌, [], true, false, length};
 ghost use Rattle.board_terms.specs.declared.pages.Kind.TheVariants.{Sim};
 ghost use Rattle.live_pages.specs.Slot.{known};
 ghost use Rattle.synic_board.specs.State.{processors};
 ghost use Rattle.live_board.specs.Words.{word_of};
-ghost use Rattle.live_board.specs.Live.{IsShown, is_waiting};
+ghost use Rattle.live_board.specs.Live.{IsShown, NoneQueued, is_waiting};
 ghost use Rattle.live_board.specs.inside.Parts.{IsShadow, IsProbed, IsProbing};
 
 use crate::attempt::ENABLE;
@@ -27,10 +27,10 @@ fn is_waiting(board: &Board, vp: Vp, sint: Sint) -> bool
         && board.summary().queued(vp, sint) > 0
 }
 
-/// Whether a delivery attempt at some source of a processor may have a message to deliver.
-pub(crate) fn is_any_waiting(board: &Board, vp: Vp) -> bool
-    requires { vp < processors board.now.state }
-    ensures { result ≡ false → (i : ℕ) → i < 16 → is_waiting board.now.state vp i ≡ false }
+/// Whether a message of a processor is queued.
+pub(crate) fn is_any_queued(board: &Board, vp: Vp) -> bool
+    ensures some { result ≡ true → NoneQueued board.now.state vp → ⊥ }
+    ensures none { result ≡ false → NoneQueued board.now.state vp }
 {
     board.summary().has_queued(vp)
 }

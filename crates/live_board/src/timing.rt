@@ -4,8 +4,7 @@ ghost use Rattle.board_terms.specs.declared.pages.Kind.TheVariants.{Sim};
 ghost use Rattle.stimer_bank.specs.Bank.{timer_in};
 ghost use Rattle.synic_board.specs.State.{processors, bank_of};
 ghost use Rattle.live_board.specs.Live.{IsShown};
-ghost use Rattle.live_board.specs.Timers.{timer_of};
-ghost use Rattle.live_board.specs.inside.Kinds.{is_direct_write};
+ghost use Rattle.live_board.specs.Timers.{timer_of, is_direct_write};
 ghost use Rattle.live_board.specs.inside.Parts.{IsShadow, IsTimedPart, IsTimerOf};
 
 use crate::marking::mark_slots;
@@ -50,6 +49,7 @@ fn time_shown(
     notices: &mut Notices,
 ) -> (Reply, bool)
     requires timer { IsTimerOf board.old.state vp event.now }
+    requires posted { is_direct_write board.old.state event.now ≡ false }
     requires shown { IsShown board.old.state vp Sim }
     requires shadow { IsShadow board.old.state (2 * vp) page.old }
     requires empty { notices.old ≡ [] }
@@ -76,6 +76,7 @@ fn time_hidden(
     notices: &mut Notices,
 ) -> (Reply, bool)
     requires timer { IsTimerOf board.old.state vp event.now }
+    requires posted { is_direct_write board.old.state event.now ≡ false }
     requires hidden { IsShown board.old.state vp Sim → ⊥ }
     requires shadow { IsShadow board.old.state (2 * vp) page.old }
     requires empty { notices.old ≡ [] }
@@ -92,7 +93,7 @@ fn time_hidden(
 /// Whether an event writes a timer of a processor that is in direct mode then.
 fn is_direct(board: &Board, vp: Vp, event: &Event) -> bool
     requires { IsTimerOf board.now.state vp event.now }
-    ensures { result ≡ true → is_direct_write board.now.state event.now ≡ true }
+    ensures { result ≡ is_direct_write board.now.state event.now }
 {
     let Event::Write {
         register,
@@ -104,14 +105,14 @@ fn is_direct(board: &Board, vp: Vp, event: &Event) -> bool
     };
     let config = match decode(*register) {
         Some(Register::TimerConfig(_)) => *value & STORED,
-        Some(Register::TimerCount(index)) => count_config(board, vp, index),
+        Some(Register::TimerCount(index)) => config_of(board, vp, index),
         _ => 0,
     };
     (config >> 12) & 1 == 1
 }
 
 /// The configuration of a timer, 0 if there is none.
-fn count_config(board: &Board, vp: Vp, index: u8) -> u64
+fn config_of(board: &Board, vp: Vp, index: u8) -> u64
     ensures { index < 4 → result ≡ (timer_in (bank_of board.now.state) (vp, index)).config }
 {
     match TimerId::new(vp, index) {

@@ -1,12 +1,10 @@
 -- The events that change no own page of a board, and those that may deliver messages to one processor. Callers need neither.
-use Rattle.std.specs.Prelude.{◌≡◌, ℕ, ◌&&◌, Bool, true, false, nat_lt, bit_and, Option, None, Some, if◌then◌else◌}
+use Rattle.std.specs.Prelude.{◌≡◌, ℕ, ◌&&◌, Bool, true, false, nat_lt, Option, None, Some, if◌then◌else◌}
 use Rattle.std.specs.Option.{option_map_or}
 use Rattle.synic_regs.specs.declared.register.Register.{Register}
 use Rattle.synic_regs.specs.declared.register.Register.TheVariants.{Eom, TimerConfig, TimerCount}
 use Rattle.synic_regs.specs.Registers.{register_of}
-use Rattle.stimer_bank.specs.Bank.{timer_in}
-use Rattle.stimer_bank.specs.Timer.{is_direct}
-use Rattle.synic_board.specs.State.{State, processors, bank_of}
+use Rattle.synic_board.specs.State.{State, processors}
 use Rattle.synic_board.specs.declared.event.Event.{Event}
 use Rattle.synic_board.specs.declared.event.Event.TheVariants.{Write, Post, Signal, Store, Load, Tick, Reset}
 use Rattle.live_board.specs.Timers.{is_timer_register}
@@ -51,16 +49,6 @@ eom_of s _ = None
 abbrev pub IsTimerWriteBy : ℕ → Event → Type 0
 IsTimerWriteBy p (Write q number value) = (q ≡ p) × (option_map_or is_timer_register (register_of number) false ≡ true)
 IsTimerWriteBy p _ = ⊥
-
--- a write of a timer that is in direct mode then, and sends no message
-abbrev pub is_direct_by : State → ℕ → ℕ → Option Register → Bool
-is_direct_by s p value (Some (TimerConfig n)) = is_direct (bit_and value 0xf1fff)
-is_direct_by s p value (Some (TimerCount n)) = is_direct (timer_in (bank_of s) (p, n)).config
-is_direct_by s p value _ = false
-
-abbrev pub is_direct_write : State → Event → Bool
-is_direct_write s (Write p number value) = is_direct_by s p value (register_of number)
-is_direct_write s _ = false
 
 -- the address of an access of the guest to memory
 abbrev pub accessed_at : Event → Option ℕ

@@ -25,7 +25,7 @@ use Rattle.board_terms.specs.declared.pages.Kind.TheVariants.{Sim}
 use Rattle.live_pages.specs.Slot.{known, type_of, is_pending}
 use Rattle.live_pages.specs.declared.access.Access.{Access}
 use Rattle.live_pages.specs.declared.access.Access.TheVariants.{Load, FetchOr}
-use Rattle.live_board.specs.Timers.{is_timer_register}
+use Rattle.live_board.specs.Timers.{is_timer_register, is_direct_write}
 use Rattle.std.specs.Option.{option_map_or}
 use Rattle.live_board.specs.Words.{word_of}
 use Rattle.live_board.specs.Settling.{AreLoads, AreAllLoads}
@@ -325,6 +325,7 @@ pub record IsTimedPart (s : State) (p : ℕ) (log : List Access) (event : Event)
   pub page : log_now ≡ marks ++ (stores ++ (looks ++ log))
   pub run : run_of s (explained s p Sim looks log ++ event ∷ explained_after s p marks (stores ++ (looks ++ log))) ≡ (now, all_done (explained s p Sim looks log) ++ reply ∷ all_done (explained_after s p marks (stores ++ (looks ++ log))), notices)
   pub owes : owed ≡ finds_empty marks
+  pub direct : is_direct_write s event ≡ true → (stores ≡ []) × (marks ≡ [])
   pub shadow : IsShadow now (2 * p) log_now
   pub others : LeavesOthers s (2 * p) now
   pub count : length now.own ≡ length s.own

@@ -3,10 +3,8 @@ use Rattle.board_terms.specs.declared.notices.Notice.{Notice}
 use Rattle.synic_board.specs.State.{State, processors}
 use Rattle.live_pages.specs.declared.access.Access.{Access}
 use Rattle.live_board.specs.inside.Parts.{IsTickFrom}
-use Rattle.live_board.proofs.Kept.{kept-grown}
 use Rattle.live_board.proofs.Shadowed.{page-at}
-use Rattle.live_board.proofs.Ticked.{tick-base, tick-step-at}
-use Rattle.live_board.proofs.TimedPart.{words-grow}
+use Rattle.live_board.proofs.Ticked.{tick-base, tick-leaves, tick-step-at}
 use Rattle.live_board.proofs.ticking.+tick_from.Goals as goal
 
 none-owed : List Bool
@@ -24,26 +22,15 @@ returns-then-number-processors n c =
 
 pub finish-requires-clause-grow : goal.finish-requires-clause-grow
 finish-requires-clause-grow n c =
-    let s : State = c.args.board.now.state in
-    let s1 : State = c.look_first-words.new.board.state in
-    let inner = c.tick_from-reply.ensures in
-    let first = c.look_first-words.ensures.looks in
     let same : c.in-Some.vp ≡ c.args.number = search rules in
-    let count : processors s1 ≡ processors s = ap processors first.viewed.watched.rest in
-    let on : c.in-Some.vp < processors s1 = omega (arith, same, count, c.if-number-processors.false, c.processors.ensures.count) in
-    words-grow s1 _ _ _ first.are (λ i under full. inner.slots c.in-Some.vp i (omega (arith, same)) under full) c.facts-2.ensures.shape c.facts-2.ensures.ranges on
+    let less : c.args.number < processors c.args.board.now.state = omega (arith, c.if-number-processors.false, c.processors.ensures.count) in
+    (tick-leaves _ _ _ _ _ _ _ _ _ _ _ _ _ _ _ _ _ _ same less c.look_first-words.ensures.looks c.tick_from-reply.ensures c.facts-2.ensures.shape c.facts-2.ensures.ranges c.facts-3.ensures.shape c.facts-3.ensures.ranges).0
 
 pub finish-requires-clause-kept : goal.finish-requires-clause-kept
 finish-requires-clause-kept n c =
-    let s : State = c.args.board.now.state in
-    let s1 : State = c.look_first-words.new.board.state in
-    let inner = c.tick_from-reply.ensures in
-    let first = c.look_first-words.ensures.looks in
     let same : c.in-Some.vp ≡ c.args.number = search rules in
-    let count : processors s1 ≡ processors s = ap processors first.viewed.watched.rest in
-    let on : c.in-Some.vp < processors s1 = omega (arith, same, count, c.if-number-processors.false, c.processors.ensures.count) in
-    kept-grown s1 _ _ _ c.facts-2.ensures.shape c.facts-2.ensures.ranges c.facts-3.ensures.shape c.facts-3.ensures.ranges on (omega (arith, on, inner.processors)) first.are
-    (λ i under full. inner.slots c.in-Some.vp i (omega (arith, same)) under full) (λ i under empty. inner.fills c.in-Some.vp i (omega (arith, same)) under empty)
+    let less : c.args.number < processors c.args.board.now.state = omega (arith, c.if-number-processors.false, c.processors.ensures.count) in
+    (tick-leaves _ _ _ _ _ _ _ _ _ _ _ _ _ _ _ _ _ _ same less c.look_first-words.ensures.looks c.tick_from-reply.ensures c.facts-2.ensures.shape c.facts-2.ensures.ranges c.facts-3.ensures.shape c.facts-3.ensures.ranges).1
 
 pub returns : goal.returns
 returns n c =

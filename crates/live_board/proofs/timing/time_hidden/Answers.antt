@@ -20,4 +20,4 @@ returns c =
     let s : State = c.args.board.now.state in
     let one = c.perform_after-reply.ensures in
     let grows = timer-grows s _ _ _ _ _ c.requires.timer one.step c.facts.ensures.sound in
-    part-timed-hidden s _ _ _ _ _ _ _ _ _ c.requires.empty c.requires.hidden one grows c.publish.ensures
+    part-timed-hidden s _ _ _ _ _ _ _ _ _ c.requires.posted c.requires.empty c.requires.hidden one grows c.publish.ensures

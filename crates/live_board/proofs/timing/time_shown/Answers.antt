@@ -74,4 +74,4 @@ returns c =
     let one = c.perform_after-reply.ensures in
     let timer = rest-timer s mid _ _ c.look_at_slots.ensures.watched.rest c.requires.timer in
     let grows = timer-grows mid _ _ _ _ _ timer one.step c.facts.ensures.sound in
-    part-timed s mid _ _ _ _ _ _ _ _ _ _ _ _ _ _ c.requires.shown c.look_at_slots.ensures one grows c.publish.ensures c.mark_slots-owed.ensures
+    part-timed s mid _ _ _ _ _ _ _ _ _ _ _ _ _ _ c.requires.posted c.requires.shown c.look_at_slots.ensures one grows c.publish.ensures c.mark_slots-owed.ensures
