@@ -70,6 +70,7 @@ ticked-early old now pages moment reply owed notices late none is empty owes = r
   run = (λ i. run_of s (looks i ++ Tick moment ∷ marks i)) ∙ ap (λ (o : Outcome). (o.0, o.1 ∷ [], o.2 ++ [])) (sym is)
       ∙ (λ i. (now.state, all_done (sym looks i) ++ reply ∷ all_done (sym marks i), notices ++ sym empty i));
   owes = λ p _. owes p;
+  direct = λ p _ _. (refl, refl);
 }
   where
     s : State
@@ -94,6 +95,7 @@ ticked-due old now pages pages-now moment m reply owed before after late due cou
   run = t.run ∙ ap (λ (ns : List Notice). (now.state, all_done (looked_from old.state pages t.looks 0 (processors old.state)) ++ reply ∷ all_done (marked_from old.state pages t.looks t.stores t.marks 0 (processors old.state)), ns ++ late))
       (sym (t.notices ∙ ap (λ ns. ns ++ t.emitted) empty));
   owes = λ p less. t.owes p (omega arith) (omega (arith, less));
+  direct = λ p less. t.direct p (omega arith) (omega (arith, less));
 }
   where
     t : IsTickFrom old.state 0 (processors old.state) pages (Tick moment) now.state pages-now reply owed before after late

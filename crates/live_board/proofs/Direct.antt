@@ -40,7 +40,7 @@ own-signalled : (s : State) (t : ℕ × ℕ) (v : ℕ) (o : Option ℕ) → (sig
 own-signalled s t v None = refl
 own-signalled s t v (Some d) = own-requested s t.0 v
 
-own-attempted : (s : State) (t : ℕ × ℕ) → is_direct (timer_in (bank_of s) t).config ≡ true → (attempted s t).0.own ≡ s.own
+pub own-attempted : (s : State) (t : ℕ × ℕ) → is_direct (timer_in (bank_of s) t).config ≡ true → (attempted s t).0.own ≡ s.own
 unfolding attempted
 own-attempted s t direct =
     let config : ℕ = (timer_in (bank_of s) t).config in
@@ -49,7 +49,7 @@ own-attempted s t direct =
     (λ _. subst (λ (m : Mode). (fired s t m).0.own ≡ s.own) (sym mode) (own-signalled (expired_state s t) t (vector_of config) (expiry_at s t).signal)) (λ _. refl)
 
 -- what a write stores has the same mode
-direct-disabled : (c : ℕ) → is_direct (disabled c) ≡ is_direct c
+pub direct-disabled : (c : ℕ) → is_direct (disabled c) ≡ is_direct c
 direct-disabled c = ap (λ q. q % 2 == 1) (let e : (c - c % 2) / 2 ^ 12 ≡ c / 2 ^ 12 = omega arith in e)
 
 direct-enabled : (c : ℕ) → is_direct (enabled c) ≡ is_direct c

@@ -1,12 +1,39 @@
 -- A message page is brought up to date after a tick.
-use Rattle.std.proofs.Common.{inl, inr, ℕ, Bool, true, false, List, [], ◌++◌, refl, sym, ap, ◌∙◌, arith, append-nil}
+use Rattle.std.proofs.Common.{◌≡◌, inl, inr, ℕ, ◌*◌, Bool, true, false, List, [], ◌++◌, refl, sym, ap, ◌∙◌, arith, append-nil}
 use Rattle.board_terms.specs.declared.notices.Notice.{Notice}
 use Rattle.board_terms.specs.declared.pages.Kind.TheVariants.{Sim}
 use Rattle.synic_board.specs.State.{State}
 use Rattle.synic_board.specs.Run.{run_of}
 use Rattle.live_pages.specs.declared.access.Access.{Access}
 use Rattle.live_board.specs.Live.{IsShown, explained_after, all_done}
-use Rattle.live_board.specs.inside.Parts.{IsPublished, IsMarking, IsFinished}
+use Rattle.live_board.specs.inside.Parts.{IsShadow, IsPublished, IsMarking, IsFinished}
+
+-- nothing is left to do
+pub finished-none : (s : State) (p : ℕ) (log : List Access) (late : List Notice) → IsShadow s (2 * p) log → (one : IsFinished s p log s log false late late) × (one.stores ≡ []) × (one.marks ≡ [])
+unfolding run_of
+finished-none s p log late shadow = (
+  record {
+    emitted = [];
+    notices = sym (append-nil late);
+    few = omega arith;
+    stores = [];
+    marks = [];
+    page = refl;
+    stored = tt;
+    marked = tt;
+    careful = λ _. tt;
+    hidden = λ _. refl;
+    run = refl;
+    rest = refl;
+    count = refl;
+    others = λ j w _ _. refl;
+    same = λ j _. refl;
+    shadow = shadow;
+    owes = refl;
+  },
+  refl,
+  refl,
+)
 
 pub finished-hidden : (s : State) (p : ℕ) (words : List ℕ) (log log-now : List Access) (before : List Notice) → (IsShown s p Sim → ⊥) → IsPublished s p false words 16 log log-now → IsFinished s p log s log-now false before before
 unfolding run_of

@@ -174,7 +174,7 @@ grows-fired n s t mode h low names =
 pub due-on : (n : ℕ) (s : State) (t : ℕ × ℕ) → IsIntact n s → is_due_in (bank_of s) t s.moment ≡ true → number_of t < 4 * n
 due-on n s t h due = let there = due-there (bank_of s) t s.moment due in omega (arith, there, h.whole.timers)
 
-grows-attempted : (n : ℕ) (s : State) (t : ℕ × ℕ) → IsIntact n s → Grows n (Only t.0) s (attempted s t).0
+pub grows-attempted : (n : ℕ) (s : State) (t : ℕ × ℕ) → IsIntact n s → Grows n (Only t.0) s (attempted s t).0
 unfolding attempted
 grows-attempted n s t h =
     either (λ (e : Effect). Grows n (Only t.0) s e.0) (is_ready s t) _ _

@@ -18,6 +18,7 @@ pub mod Published
 pub mod TimedPart
 pub mod Kept
 pub mod Direct
+pub mod DirectTicks
 pub mod Finished
 pub mod Ticked
 pub mod EndedPart

@@ -3,7 +3,7 @@ use Rattle.std.proofs.Common.{◌≡◌, ◌≢◌, ◌⊎◌, inl, inr, ℕ, ze
 use Rattle.std.specs.Prelude.{◌==◌, if◌then◌else◌}
 use Rattle.std.proofs.lemmas.Bool.{cases_eq}
 use Rattle.std.proofs.lemmas.Bool.Decides.{nat_tests}
-use Rattle.std.proofs.lemmas.List.{get_or-set_same, get_or-set_other}
+use Rattle.std.proofs.lemmas.List.{get_or-set_same, get_or-set_other, set-get_or}
 use Rattle.board_terms.specs.declared.notices.Notice.{Notice}
 use Rattle.board_terms.specs.declared.pages.Kind.TheVariants.{Sim}
 use Rattle.gpa_space.specs.Space.{page_of as page_in}
@@ -19,10 +19,13 @@ use Rattle.synic_board.specs.Ranges.{HasRanges}
 use Rattle.synic_board.specs.Sound.{IsSound, HasShape}
 use Rattle.synic_board.specs.Step.{step}
 use Rattle.synic_board.proofs.keeping.Wholes.{kept_from_sound}
+use Rattle.live_pages.specs.Slot.{known}
 use Rattle.live_pages.specs.declared.access.Access.{Access}
-use Rattle.live_board.specs.Words.{word_at}
+use Rattle.live_board.specs.Words.{word_at, word_of}
 use Rattle.live_board.specs.Live.{number_at, explained, explained_after, all_done, AreCareful, AreTimed, looked_from, marked_from, finds_empty}
-use Rattle.live_board.specs.inside.Parts.{IsShadow, IsStep, IsFirst, IsFinished, IsTick, IsTickFrom, SlotGrows, SlotFills, WordsGrow, AreKept}
+use Rattle.live_board.specs.inside.Parts.{IsShadow, IsStep, IsFirst, IsFinished, IsTick, AreDirectAt, IsTickFrom, SlotGrows, SlotFills, WordsGrow, AreKept}
+use Rattle.live_board.proofs.DirectTicks.{own-tick, rest-due}
+use Rattle.live_board.proofs.Finished.{finished-none}
 use Rattle.live_board.proofs.Grown.{Grows, Any, grows-ticked, slot-same, slot-trans, fills-same, fills-trans, still-occupied}
 use Rattle.live_board.proofs.Joined as runs
 use Rattle.live_board.proofs.Kept.{kept-grown}
@@ -88,6 +91,8 @@ tick-base s now k pages event reply owed before after all tick sound one eight =
   fills = λ p i less under empty. g.fills p i (omega (arith, less, all)) under empty;
   eight = eight;
   owes = λ p le less. absurd (omega (arith, le, less));
+  still = λ p _ direct. own-tick s now p event reply one.emitted direct sound one.step;
+  direct = λ p le less. absurd (omega (arith, le, less));
 }
   where
     g : Grows (processors s) Any s now
@@ -95,10 +100,10 @@ tick-base s now k pages event reply owed before after all tick sound one eight =
 
 -- in the message page of the processor before, the inner tick sets at most MessagePending in occupied slots
 pub tick-leaves : (s s1 s2 : State) (v k m : ℕ) (pages pages2 : List (List Access)) (log log1 : List Access) (words : List ℕ) (event : Event) (reply : Reply) (owed : List Bool) (before between after late : List Notice) → v ≡ k → k < processors s
-    → IsFirst s v log s1 log1 words before between → IsTickFrom s1 (k + 1) m pages event s2 pages2 reply owed between after late → HasShape s1 → HasRanges s1 → HasShape s2 → HasRanges s2 → WordsGrow s2 v words × AreKept s2 v words
-tick-leaves s s1 s2 v k m pages pages2 log log1 words event reply owed before between after late same less first inner shape ranges shape2 ranges2 = (
-  words-grow s1 s2 v words first.are slots shape ranges on,
-  kept-grown s1 s2 v words shape ranges shape2 ranges2 on (omega (arith, on, inner.processors)) first.are slots (λ i under empty. inner.fills v i (omega (arith, same)) under empty),
+    → IsFirst s v log s1 log1 before between → ((x : ℕ) → x < 512 → get_or words x 0 ≡ word_of s1 (2 * v) x) → IsTickFrom s1 (k + 1) m pages event s2 pages2 reply owed between after late → HasShape s1 → HasRanges s1 → HasShape s2 → HasRanges s2 → WordsGrow s2 v words × AreKept s2 v words
+tick-leaves s s1 s2 v k m pages pages2 log log1 words event reply owed before between after late same less first are inner shape ranges shape2 ranges2 = (
+  words-grow s1 s2 v words are slots shape ranges on,
+  kept-grown s1 s2 v words shape ranges shape2 ranges2 on (omega (arith, on, inner.processors)) are slots (λ i under empty. inner.fills v i (omega (arith, same)) under empty),
 )
   where
     on : v < processors s1
@@ -124,11 +129,12 @@ run-three s s1 s2 s3 a b c d event reply first second third one two three =
         ∙ append_assoc (all_done a) (all_done b) (reply ∷ (all_done c ++ all_done d)) ∙ ap (λ l. all_done a ++ l) (sym (append_assoc (all_done b) (reply ∷ all_done c) (all_done d)))
 
 -- one page more
-module _ (s s1 s2 s3 : State) (k m : ℕ) (pages pages2 : List (List Access)) (log1 log3 : List Access) (words : List ℕ) (event : Event) (reply : Reply) (owed : List Bool) (owe : Bool) (before between after late2 late3 : List Notice)
+module _ (s s1 s2 s3 : State) (k m : ℕ) (pages pages2 : List (List Access)) (log1 log3 : List Access) (event : Event) (reply : Reply) (owed : List Bool) (owe : Bool) (before between after late2 late3 : List Notice)
     (below : 2 * k < length pages) (few : k < 8)
-    (first : IsFirst s k (get_or pages (2 * k) []) s1 log1 words before between)
+    (first : IsFirst s k (get_or pages (2 * k) []) s1 log1 before between)
     (inner : IsTickFrom s1 (suc k) m (set pages (2 * k) log1) event s2 pages2 reply owed between after late2)
-    (last : IsFinished s2 k (get_or pages2 (2 * k) []) s3 log3 owe late2 late3) where
+    (last : IsFinished s2 k (get_or pages2 (2 * k) []) s3 log3 owe late2 late3)
+    (quiet : AreDirectAt s k event → (last.stores ≡ []) × (last.marks ≡ [])) where
   looks : ℕ → List Access
   looks p = if p == k then first.viewed.watched.news else inner.looks p
 
@@ -294,6 +300,23 @@ module _ (s s1 s2 s3 : State) (k m : ℕ) (pages pages2 : List (List Access)) (l
       by (inl e) = ap (λ q. get_or (set owed k owe) q false) e ∙ get_or-set_same owed k owe false (omega (arith, inner.eight, few)) ∙ last.owes ∙ ap (λ b. finds_empty (if b then last.marks else inner.marks p)) (sym (same-true p k e))
       by (inr ne) = get_or-set_other owed k p owe false ne ∙ inner.owes p (omega (arith, le, ne)) (omega (arith, less)) ∙ ap (λ b. finds_empty (if b then last.marks else inner.marks p)) (sym (other-false p k ne))
 
+  still : (p : ℕ) → p < k → AreDirectAt s p event → get_or s3.own (2 * p) [] ≡ get_or s.own (2 * p) []
+  still p less direct =
+      let other : 2 * p ≢ 2 * k = λ e. omega (arith, e, less) in
+      last.same (2 * p) other ∙ inner.still p (omega (arith, less)) (rest-due s s1 p event first.viewed.watched.rest direct) ∙ first.viewed.watched.same (2 * p) other
+
+  direct : (p : ℕ) → k ≤ p → p < k + suc m → AreDirectAt s p event → (stores p ≡ []) × (marks p ≡ [])
+  unfolding stores marks
+  direct p le less at = by (cases_eq p k)
+    where
+      by : (p ≡ k) ⊎ (p ≢ k) → ((if p == k then last.stores else inner.stores p) ≡ []) × ((if p == k then last.marks else inner.marks p) ≡ [])
+      by (inl e) =
+          let none = quiet (subst (λ q. AreDirectAt s q event) e at) in
+          subst (λ b. ((if b then last.stores else inner.stores p) ≡ []) × ((if b then last.marks else inner.marks p) ≡ [])) (sym (same-true p k e)) none
+      by (inr ne) =
+          let none = inner.direct p (omega (arith, le, ne)) (omega (arith, less)) (rest-due s s1 p event first.viewed.watched.rest at) in
+          subst (λ b. ((if b then last.stores else inner.stores p) ≡ []) × ((if b then last.marks else inner.marks p) ≡ [])) (sym (other-false p k ne)) none
+
   pub tick-step : IsTickFrom s k (suc m) pages event s3 (set pages2 (2 * k) log3) reply (set owed k owe) before after late3
   tick-step = record {
     looks = looks;
@@ -318,19 +341,47 @@ module _ (s s1 s2 s3 : State) (k m : ℕ) (pages pages2 : List (List Access)) (l
     fills = fills;
     eight = length-set owed k owe ∙ inner.eight;
     owes = owes;
+    still = still;
+    direct = direct;
   }
 
 -- the same, with the numbers and pages of a call
-pub tick-step-at : (s s1 s2 s3 : State) (k m total v i j : ℕ) (pages pages2 : List (List Access)) (page1 page2 log1 log3 : List Access) (words : List ℕ) (event : Event) (reply : Reply) (owed : List Bool) (owe : Bool) (before between after late2 late3 : List Notice)
+pub tick-step-at : (s s1 s2 s3 : State) (k m total v i j : ℕ) (pages pages2 : List (List Access)) (page1 page2 log1 log3 : List Access) (event : Event) (reply : Reply) (owed : List Bool) (owe : Bool) (before between after late2 late3 : List Notice)
     → v ≡ k → i ≡ 2 * k → j ≡ k → page1 ≡ get_or pages (2 * k) [] → page2 ≡ get_or pages2 (2 * k) [] → total ≡ suc m → 2 * k < length pages → k < 8
-    → IsFirst s v page1 s1 log1 words before between → IsTickFrom s1 (k + 1) m (set pages i log1) event s2 pages2 reply owed between after late2 → IsFinished s2 v page2 s3 log3 owe late2 late3
+    → (AreDirectAt s v event → ⊥) → IsFirst s v page1 s1 log1 before between → IsTickFrom s1 (k + 1) m (set pages i log1) event s2 pages2 reply owed between after late2 → IsFinished s2 v page2 s3 log3 owe late2 late3
     → IsTickFrom s k total pages event s3 (set pages2 i log3) reply (set owed j owe) before after late3
-tick-step-at s s1 s2 s3 k m total v i j pages pages2 page1 page2 log1 log3 words event reply owed owe before between after late2 late3 a b c d e f below few first inner last =
-    let first-at = subst (λ q. IsFirst s q (get_or pages (2 * k) []) s1 log1 words before between) a (subst (λ l. IsFirst s v l s1 log1 words before between) d first) in
+tick-step-at s s1 s2 s3 k m total v i j pages pages2 page1 page2 log1 log3 event reply owed owe before between after late2 late3 a b c d e f below few posted first inner last =
+    let first-at = subst (λ q. IsFirst s q (get_or pages (2 * k) []) s1 log1 before between) a (subst (λ l. IsFirst s v l s1 log1 before between) d first) in
     let inner-at = subst (λ n. IsTickFrom s1 n m (set pages (2 * k) log1) event s2 pages2 reply owed between after late2) (let one : k + 1 ≡ suc k = omega arith in one)
     (subst (λ n. IsTickFrom s1 (k + 1) m (set pages n log1) event s2 pages2 reply owed between after late2) b inner) in
     let last-at = subst (λ q. IsFinished s2 q (get_or pages2 (2 * k) []) s3 log3 owe late2 late3) a (subst (λ l. IsFinished s2 v l s3 log3 owe late2 late3) e last) in
     subst (λ n. IsTickFrom s k n pages event s3 (set pages2 i log3) reply (set owed j owe) before after late3) (sym f)
     (subst (λ n. IsTickFrom s k (suc m) pages event s3 (set pages2 n log3) reply (set owed j owe) before after late3) (sym b)
     (subst (λ n. IsTickFrom s k (suc m) pages event s3 (set pages2 (2 * k) log3) reply (set owed n owe) before after late3) (sym c)
-    (tick-step s s1 s2 s3 k m pages pages2 log1 log3 words event reply owed owe before between after late2 late3 below few first-at inner-at last-at)))
+    (tick-step s s1 s2 s3 k m pages pages2 log1 log3 event reply owed owe before between after late2 late3 below few first-at inner-at last-at (λ at. absurd (posted (subst (λ q. AreDirectAt s q event) (sym a) at))))))
+
+-- one page more, at which the event stores and marks nothing
+pub tick-skip : (s s1 s2 : State) (k m total v i j : ℕ) (pages pages2 : List (List Access)) (page1 log1 : List Access) (event : Event) (reply : Reply) (owed : List Bool) (before between after late : List Notice)
+    → v ≡ k → i ≡ 2 * k → j ≡ k → page1 ≡ get_or pages (2 * k) [] → total ≡ suc m → 2 * k < length pages → k < 8
+    → AreDirectAt s v event → IsFirst s v page1 s1 log1 before between → IsTickFrom s1 (k + 1) m (set pages i log1) event s2 pages2 reply owed between after late
+    → IsTickFrom s k total pages event s2 pages2 reply (set owed j false) before after late
+tick-skip s s1 s2 k m total v i j pages pages2 page1 log1 event reply owed before between after late a b c d f below few direct first inner =
+    subst (λ n. IsTickFrom s k n pages event s2 pages2 reply (set owed j false) before after late) (sym f)
+    (subst (λ n. IsTickFrom s k (suc m) pages event s2 pages2 reply (set owed n false) before after late) (sym c)
+    (subst (λ ps. IsTickFrom s k (suc m) pages event s2 ps reply (set owed k false) before after late) (set-get_or pages2 (2 * k) [])
+    (tick-step s s1 s2 s2 k m pages pages2 log1 (get_or pages2 (2 * k) []) event reply owed false before between after late late below few first-at inner-at none.0 (λ _. (none.1, none.2)))))
+  where
+    first-at : IsFirst s k (get_or pages (2 * k) []) s1 log1 before between
+    first-at = subst (λ q. IsFirst s q (get_or pages (2 * k) []) s1 log1 before between) a (subst (λ l. IsFirst s v l s1 log1 before between) d first)
+
+    inner-at : IsTickFrom s1 (suc k) m (set pages (2 * k) log1) event s2 pages2 reply owed between after late
+    inner-at = subst (λ n. IsTickFrom s1 n m (set pages (2 * k) log1) event s2 pages2 reply owed between after late) (let one : k + 1 ≡ suc k = omega arith in one)
+        (subst (λ n. IsTickFrom s1 (k + 1) m (set pages n log1) event s2 pages2 reply owed between after late) b inner)
+
+    shadow : IsShadow s2 (2 * k) (get_or pages2 (2 * k) [])
+    shadow x low =
+        ap (λ l. known l x) (inner-at.lower k (omega arith) ∙ get_or-set_same pages (2 * k) log1 [] below) ∙ first-at.viewed.shadow x low
+        ∙ ap (λ l. word_at l (8 * x)) (sym (inner-at.still k (omega arith) (rest-due s s1 k event first-at.viewed.watched.rest (subst (λ q. AreDirectAt s q event) a direct))))
+
+    none : (one : IsFinished s2 k (get_or pages2 (2 * k) []) s2 (get_or pages2 (2 * k) []) false late late) × (one.stores ≡ []) × (one.marks ≡ [])
+    none = finished-none s2 k (get_or pages2 (2 * k) []) late shadow

@@ -10,7 +10,8 @@ use Rattle.board_terms.specs.declared.pages.Owner.TheVariants as owner
 use Rattle.board_terms.specs.declared.notices.Notice.{Notice}
 use Rattle.gpa_space.specs.Space.{page_of, overlay_of, owner_of}
 use Rattle.message_queues.specs.Queues.{queue_of}
-use Rattle.stimer_bank.specs.Bank.{dues}
+use Rattle.stimer_bank.specs.Bank.{dues, timer_in}
+use Rattle.stimer_bank.specs.Timer.{is_due, is_direct}
 use Rattle.synic_board.specs.declared.event.Event.{Event}
 use Rattle.synic_board.specs.declared.event.Event.TheVariants as event
 use Rattle.synic_board.specs.declared.event.Reply.{Reply}
@@ -205,6 +206,10 @@ pub record IsTimed (p : ℕ) (old : LiveModel) (event : Event) (now : LiveModel)
 abbrev pub is_any_due : State → ℕ → Bool
 is_any_due s moment = option_map_or (λ r. nat_le r.0 moment) (least (dues (bank_of s))) false
 
+-- each timer of a processor that is due at a time is in direct mode
+abbrev pub AreDueDirect : State → ℕ → ℕ → Type 0
+AreDueDirect s p moment = (i : ℕ) → i < 4 → is_due (timer_in (bank_of s) (p, i)) moment ≡ true → is_direct (timer_in (bank_of s) (p, i)).config ≡ true
+
 -- the guest's stores that looks at the m message pages from k on show, and those that marks there show, the last page first
 abbrev pub looked_from : State → List (List Access) → (ℕ → List Access) → ℕ → ℕ → List Event
 looked_from s pages looks k zero = []
@@ -216,7 +221,8 @@ marked_from s pages looks stores marks k (suc m) = marked_from s pages looks sto
 
 -- a live board performs a tick. If a timer is due, it may access at each message page what a write of a timer may access: the reference
 -- model performs the guest's stores that the looks show, then the tick, and then the guest's stores that the marks show, whose notices
--- are `late`. A processor is owed an EOM if a mark at its page found an empty slot. If none is due, nothing is accessed
+-- are `late`. A processor is owed an EOM if a mark at its page found an empty slot. If none is due, nothing is accessed; if those of a
+-- processor that are due are in direct mode, nothing is stored or marked at its page
 pub record IsTicked (old : LiveModel) (moment : ℕ) (now : LiveModel) (reply : Reply) (owed : List Bool) (notices late : List Notice) : Type 0 where
   pub looks : ℕ → List Access
   pub stores : ℕ → List Access
@@ -228,6 +234,7 @@ pub record IsTicked (old : LiveModel) (moment : ℕ) (now : LiveModel) (reply : 
   pub run : run_of old.board.state (looked_from old.board.state old.pages looks 0 (processors old.board.state) ++ event.Tick moment ∷ marked_from old.board.state old.pages looks stores marks 0 (processors old.board.state))
       ≡ (now.board.state, all_done (looked_from old.board.state old.pages looks 0 (processors old.board.state)) ++ reply ∷ all_done (marked_from old.board.state old.pages looks stores marks 0 (processors old.board.state)), notices ++ late)
   pub owes : (p : ℕ) → p < processors old.board.state → slice_index_or owed p false ≡ finds_empty (marks p)
+  pub direct : (p : ℕ) → p < processors old.board.state → AreDueDirect old.board.state p moment → (stores p ≡ []) × (marks p ≡ [])
 
 -- stores of zero to the words below n, in order
 abbrev pub AreClears : ℕ → List Access → Type 0

@@ -220,10 +220,11 @@ impl LiveBoard {
     /// Moves the clock, in units of 100 ns. If a timer is due, the host looks at the header of each slot
     /// of each message page that the guest sees first. After the tick it stores the messages that the
     /// board placed, each header last, and sets MessagePending by an atomic or where the board has set
-    /// it. If the guest has emptied such a slot since the look, it may not see MessagePending: then the
-    /// answer for that processor is true, and the caller performs an EOM of it, which places the
-    /// message. Replaces `notices` by those of the guest's stores that the looks found, and of the tick,
-    /// and `late` by those of the stores that the ors found.
+    /// it. It does neither at the page of a processor whose due timers are in direct mode. If the guest
+    /// has emptied such a slot since the look, it may not see MessagePending: then the answer for that
+    /// processor is true, and the caller performs an EOM of it, which places the message. Replaces
+    /// `notices` by those of the guest's stores that the looks found, and of the tick, and `late` by
+    /// those of the stores that the ors found.
     pub fn tick(
         &mut self,
         moment: Moment,

@@ -1,18 +1,24 @@
 // A tick, which may deliver messages to several sources of several processors.
-ghost use Rattle.std.specs.Prelude.{◌≡◌, ℕ, ◌<◌, ◌≤◌, ◌+◌, ◌-◌, ◌*◌, [], length, slice_index, slice_index_or};
-ghost use Rattle.synic_board.specs.State.{processors};
+ghost use Rattle.std.specs.Prelude.{◌≡◌, ℕ, ◌<◌, ◌≤◌, ◌+◌, ◌-◌, ◌*◌, ◌&&◌, not, true, false, [], length, slice_index, slice_index_or};
+ghost use Rattle.stimer_bank.specs.Bank.{timer_in};
+ghost use Rattle.stimer_bank.specs.Timer.{is_due, is_direct};
+ghost use Rattle.synic_board.specs.State.{processors, bank_of};
 ghost use Rattle.live_pages.specs.Slot.{known};
 ghost use Rattle.live_board.specs.Live.{is_any_due};
-ghost use Rattle.live_board.specs.inside.Parts.{IsShadow, IsFirst, IsFinished, IsTick, IsTickFrom, WordsGrow, AreKept};
+ghost use Rattle.live_board.specs.inside.Parts.{IsShadow, IsFirst, IsFinished, IsTick, AreDirectAt, IsTickFrom, WordsGrow, AreKept};
 
 use crate::marking::mark_slots;
 use crate::observing::view_slots;
 use crate::passing::is_shown;
 use crate::performing::{append, perform_after};
 use crate::publishing::{page_words, publish};
-use board_terms::{Kind, Moment, Notices, Vp};
+use crate::timing::is_direct_config;
+use board_terms::{Kind, Moment, Notices, TimerId, Vp};
 use live_pages::{LivePage, WORDS};
 use synic_board::{Board, Event, Reply};
+
+/// The timers of a processor.
+const TIMERS: u8 = 4;
 
 /// Whether some timer is due at a time.
 pub(crate) fn is_any_due(board: &Board, moment: Moment) -> bool
@@ -24,8 +30,39 @@ pub(crate) fn is_any_due(board: &Board, moment: Moment) -> bool
     }
 }
 
-/// Looks at the header of each slot of a message page that the guest sees, and returns the words
-/// that the host knows then. `late` is empty before and after.
+/// Whether a timer, 0 to 3, is due at a time and in message mode.
+fn is_due_posted(board: &Board, vp: Vp, index: u8, moment: Moment) -> bool
+    requires { index < 4 }
+    ensures { result ≡ (is_due (timer_in (bank_of board.now.state) (vp, index)) moment && not (is_direct (timer_in (bank_of board.now.state) (vp, index)).config)) }
+{
+    let Some(timer) = TimerId::new(vp, index) else {
+        unreachable!()
+    };
+    let (config, _, due) = board.timer(timer);
+    let Some(due) = due else {
+        return false;
+    };
+    due <= u128::from(moment) && !is_direct_config(config)
+}
+
+/// Whether an event is a tick at which the due timers of a processor are in direct mode.
+fn are_due_direct(board: &Board, vp: Vp, event: &Event) -> bool
+    ensures all { result ≡ true → AreDirectAt board.now.state vp event.now }
+    ensures some { result ≡ false → AreDirectAt board.now.state vp event.now → ⊥ }
+{
+    let Event::Tick { moment } = event else {
+        return false;
+    };
+    for index in 0..TIMERS {
+        if is_due_posted(board, vp, index, *moment) {
+            return false;
+        }
+    }
+    true
+}
+
+/// Looks at the header of each slot of a message page that the guest sees. `late` is empty before and
+/// after.
 fn look_first(
     board: &mut Board,
     page: &mut LivePage,
@@ -33,18 +70,17 @@ fn look_first(
     scratch: &mut Notices,
     notices: &mut Notices,
     late: &mut Notices,
-) -> [u64; WORDS]
+)
     requires on { vp < processors board.old.state }
     requires shadow { IsShadow board.old.state (2 * vp) page.old }
     requires capacity { length notices.old + 16 ≤ 320 }
     requires empty { late.old ≡ [] }
-    ensures looks { IsFirst board.old.state vp page.old board.new.state page.new result notices.old notices.new }
+    ensures looks { IsFirst board.old.state vp page.old board.new.state page.new notices.old notices.new }
     ensures empty { late.new ≡ [] }
 {
     view_slots(board, page, vp, scratch, late);
     append(late, notices);
     late.clear();
-    page_words(board, vp)
 }
 
 /// Brings a message page up to date after an event that sets at most MessagePending in its occupied
@@ -74,6 +110,7 @@ fn finish(
 
 /// Performs a tick, and brings the message pages of the processors from `number` on up to date.
 /// Returns for each whether it is owed an EOM.
+#[cycle(tick_from)]
 pub(crate) fn tick_from(
     board: &mut Board,
     pages: &mut Vec<LivePage>,
@@ -98,10 +135,45 @@ pub(crate) fn tick_from(
     let Some(vp) = Vp::new(number) else {
         unreachable!()
     };
+    if !are_due_direct(board, vp, event) {
+        return tick_posted(board, pages, vp, event, scratch, notices, late);
+    }
+    let page = &mut pages[2 * usize::from(number)];
+    look_first(board, page, vp, scratch, notices, late);
+    let (reply, mut owed) = tick_from(board, pages, number + 1, event, scratch, notices, late);
+    owed[usize::from(number)] = false;
+    (reply, owed)
+}
+
+/// The same from a processor on of which a timer in message mode is due. Out of line: an event that has
+/// no use for the words of a page must not make room for them.
+#[cycle(tick_from)]
+#[inline(never)]
+fn tick_posted(
+    board: &mut Board,
+    pages: &mut Vec<LivePage>,
+    vp: Vp,
+    event: &Event,
+    scratch: &mut Notices,
+    notices: &mut Notices,
+    late: &mut Notices,
+) -> (Reply, [bool; 8])
+    requires tick { IsTick event.now }
+    requires posted { AreDirectAt board.old.state vp event.now → ⊥ }
+    requires on { vp < processors board.old.state }
+    requires count { length pages.old.items ≡ 2 * processors board.old.state }
+    requires shadow { (p : ℕ) → vp ≤ p → p < processors board.old.state → IsShadow board.old.state (2 * p) (slice_index_or pages.old.items (2 * p) []) }
+    requires capacity { length notices.old + 16 * (processors board.old.state - vp) + 192 ≤ 320 }
+    requires empty { late.old ≡ [] }
+    ensures { IsTickFrom board.old.state vp (processors board.old.state - vp) pages.old.items event.now board.new.state pages.new.items result.0 result.1 notices.old notices.new late.new }
+{
+    board.facts();
+    let number = vp.number();
     let index = 2 * usize::from(number);
     let first = &mut pages[index];
-    let words = look_first(board, first, vp, scratch, notices, late);
+    look_first(board, first, vp, scratch, notices, late);
     board.facts();
+    let words = page_words(board, vp);
     let (reply, mut owed) = tick_from(board, pages, number + 1, event, scratch, notices, late);
     board.facts();
     let last = &mut pages[index];

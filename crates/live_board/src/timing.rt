@@ -2,6 +2,7 @@
 ghost use Rattle.std.specs.Prelude.{◌≡◌, ◌<◌, ◌*◌, [], true, false, IfSome};
 ghost use Rattle.board_terms.specs.declared.pages.Kind.TheVariants.{Sim};
 ghost use Rattle.stimer_bank.specs.Bank.{timer_in};
+ghost use Rattle.stimer_bank.specs.Timer.{is_direct};
 ghost use Rattle.synic_board.specs.State.{processors, bank_of};
 ghost use Rattle.live_board.specs.Live.{IsShown};
 ghost use Rattle.live_board.specs.Timers.{timer_of, is_direct_write};
@@ -108,6 +109,13 @@ fn is_direct(board: &Board, vp: Vp, event: &Event) -> bool
         Some(Register::TimerCount(index)) => config_of(board, vp, index),
         _ => 0,
     };
+    is_direct_config(config)
+}
+
+/// Whether a timer with a configuration is in direct mode.
+pub(crate) fn is_direct_config(config: u64) -> bool
+    ensures { result ≡ is_direct config }
+{
     (config >> 12) & 1 == 1
 }
 

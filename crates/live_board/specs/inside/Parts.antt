@@ -29,7 +29,7 @@ use Rattle.live_board.specs.Timers.{is_timer_register, is_direct_write}
 use Rattle.std.specs.Option.{option_map_or}
 use Rattle.live_board.specs.Words.{word_of}
 use Rattle.live_board.specs.Settling.{AreLoads, AreAllLoads}
-use Rattle.live_board.specs.Live.{store_of, explained, all_done, AreCareful, HasLooked, AreLooks, AreStores, AreProbes, IsProbe, is_waiting, IsShown, explained_after, AreMarks, finds_empty, AreTimed, looked_from, marked_from, AreClears}
+use Rattle.live_board.specs.Live.{store_of, explained, all_done, AreCareful, HasLooked, AreLooks, AreStores, AreProbes, IsProbe, is_waiting, IsShown, explained_after, AreMarks, finds_empty, AreTimed, AreDueDirect, looked_from, marked_from, AreClears}
 
 -- a word that the host found is a guest's store if the reference model has another one
 abbrev pub found_stores : State → ℕ → Kind → ℕ → ℕ → List Event
@@ -344,12 +344,11 @@ abbrev pub WordsGrow : State → ℕ → List ℕ → Type 0
 WordsGrow s p words = (i : ℕ) → i < 16 → type_of (slice_index words (32 * i)) ≢ 0
     → ((w : ℕ) → 1 ≤ w → w < 32 → word_of s (2 * p) (32 * i + w) ≡ slice_index words (32 * i + w)) × ((word_of s (2 * p) (32 * i) ≡ slice_index words (32 * i)) ⊎ (word_of s (2 * p) (32 * i) ≡ bit_or (slice_index words (32 * i)) (2 ^ 40)))
 
--- the looks at a message page before a tick, and the words that the host knows then
-pub record IsFirst (s : State) (p : ℕ) (log : List Access) (now : State) (log_now : List Access) (words : List ℕ) (before after : List Notice) : Type 0 where
+-- the looks at a message page before a tick
+pub record IsFirst (s : State) (p : ℕ) (log : List Access) (now : State) (log_now : List Access) (before after : List Notice) : Type 0 where
   pub emitted : List Notice
   pub notices : after ≡ before ++ emitted
   pub viewed : IsViewed s p log now log_now emitted
-  pub are : (x : ℕ) → x < 512 → slice_index words x ≡ word_of now (2 * p) x
 
 -- a message page is brought up to date after a tick
 pub record IsFinished (s : State) (p : ℕ) (log : List Access) (now : State) (log_now : List Access) (owed : Bool) (before after : List Notice) : Type 0 where
@@ -373,6 +372,11 @@ pub record IsFinished (s : State) (p : ℕ) (log : List Access) (now : State) (l
 
 abbrev pub IsTick : Event → Type 0
 IsTick event = (moment : ℕ) × (event ≡ Tick moment)
+
+-- an event is a tick at which the due timers of a processor are in direct mode
+abbrev pub AreDirectAt : State → ℕ → Event → Type 0
+AreDirectAt s p (Tick moment) = AreDueDirect s p moment
+AreDirectAt s p _ = ⊥
 
 -- a tick, with the looks, stores and marks of the m message pages from k on
 pub record IsTickFrom (s : State) (k m : ℕ) (pages : List (List Access)) (event : Event) (now : State) (pages_now : List (List Access)) (reply : Reply) (owed : List Bool) (before after late : List Notice) : Type 0 where
@@ -398,6 +402,8 @@ pub record IsTickFrom (s : State) (k m : ℕ) (pages : List (List Access)) (even
   pub fills : (p i : ℕ) → p < k → i < 16 → is_slot_empty s p i ≡ true → SlotFills s p i now
   pub eight : length owed ≡ 8
   pub owes : (p : ℕ) → k ≤ p → p < k + m → slice_index_or owed p false ≡ finds_empty (marks p)
+  pub still : (p : ℕ) → p < k → AreDirectAt s p event → slice_index_or now.own (2 * p) [] ≡ slice_index_or s.own (2 * p) []
+  pub direct : (p : ℕ) → k ≤ p → p < k + m → AreDirectAt s p event → (stores p ≡ []) × (marks p ≡ [])
 
 -- all words of a page are stored, below n
 pub record IsCleared (n : ℕ) (log now : List Access) : Type 0 where

@@ -1,5 +1,8 @@
-use Rattle.std.proofs.Common.{◌-◌}
+use Rattle.std.proofs.Common.{◌-◌, ◌*◌}
 use Rattle.live_board.proofs.ticking.+tick_from.Given as goal
 
 abbrev pub decreases-tick_from : goal.decreases-tick_from
-decreases-tick_from l = 8 - l.number
+decreases-tick_from l = 17 - 2 * l.number
+
+abbrev pub decreases-tick_posted : goal.decreases-tick_posted
+decreases-tick_posted l = 16 - 2 * l.vp
