@@ -1,4 +1,5 @@
-//! The fields of a line: decimals in one pass, and hexadecimal digits by a table.
+//! The fields of a line: decimals in one pass, and hexadecimal digits by a table, or eight at once as
+//! one word.
 
 const NO_DIGIT: u8 = 255;
 
@@ -49,9 +50,16 @@ impl Fields<'_> {
         self.decimal()?.try_into().ok()
     }
 
-    /// A number has no leading zero, and at most 16 digits.
+    /// A number has no leading zero, and at most 16 digits. Eight digits that end the field are one word.
     #[inline(always)]
     pub fn hexadecimal(&mut self) -> Option<u64> {
+        if let Some((word, rest)) = self.0.split_first_chunk()
+            && matches!(rest, [] | [b' ', ..])
+            && word[0] != b'0'
+        {
+            self.0 = rest;
+            return eight_digits(word).map(u64::from);
+        }
         let mut value: u64 = 0;
         let mut count = 0;
         while let Some(byte) = self.0.get(count)
@@ -90,7 +98,12 @@ impl Fields<'_> {
         if !odd.is_empty() || pairs.len() > bytes.len() {
             return None;
         }
-        for (byte, pair) in bytes.iter_mut().zip(pairs) {
+        let (digits, rest) = pairs.as_chunks::<4>();
+        let (words, tail) = bytes[..pairs.len()].as_chunks_mut();
+        for (word, digits) in words.iter_mut().zip(digits) {
+            *word = eight_digits(digits.as_flattened().try_into().ok()?)?.to_be_bytes();
+        }
+        for (byte, pair) in tail.iter_mut().zip(rest) {
             *byte = byte_of(pair)?;
         }
         Some(pairs.len())
@@ -106,6 +119,23 @@ impl Fields<'_> {
     pub fn end(&self) -> Option<()> {
         self.0.is_empty().then_some(())
     }
+}
+
+/// Eight digits as one word. A digit's byte is `0x30` and its value, and a letter's `0x60` and its value
+/// less 9. So bit 6 says that the byte is a letter, and the high half of the byte follows from it. The low
+/// half of a digit plus 6, and that of a letter plus 9, is below 16; that of a letter is not 0.
+#[inline(always)]
+fn eight_digits(text: &[u8; 8]) -> Option<u32> {
+    const ONES: u64 = u64::MAX / 255;
+    let word = u64::from_be_bytes(*text);
+    let letters = word >> 6 & ONES;
+    let low = word & ONES * 0x0f;
+    let values = low + 9 * letters;
+    let is_good = word == low | ONES * 0x30 + 0x30 * letters
+        && (low + ONES * 6 + 3 * letters | low.wrapping_sub(letters)) & ONES * 0xf0 == 0;
+    let bytes = (values | values >> 4) & 0x00ff_00ff_00ff_00ff;
+    let pairs = (bytes | bytes >> 8) & 0x0000_ffff_0000_ffff;
+    is_good.then_some((pairs | pairs >> 16) as u32)
 }
 
 /// A value above 15 is no digit.

@@ -9,8 +9,12 @@ pub fn put_reply(text: &mut Text, reply: &Reply) {
         Reply::Done => text.put(b"= done\n"),
         Reply::Bytes { word, length } => {
             text.put(b"= bytes ");
-            for byte in &word.to_le_bytes()[..length as usize] {
-                text.put_byte(*byte);
+            if length == 8 {
+                text.put_word(word.swap_bytes());
+            } else {
+                for byte in &word.to_le_bytes()[..length as usize] {
+                    text.put_byte(*byte);
+                }
             }
             text.put(b"\n");
         }

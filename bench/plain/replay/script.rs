@@ -22,6 +22,7 @@ pub fn opening_of(line: &[u8]) -> Option<(u8, u8, u64)> {
 }
 
 /// Dispatches on the first bytes. A payload is decoded to the buffer that the event borrows.
+#[inline(always)]
 pub fn event_of<'a>(line: &[u8], payload: &'a mut [u8; PAYLOAD]) -> Option<Item<'a>> {
     let event = match line {
         [b'w', b'r', b'i', b't', b'e', b' ', rest @ ..] => write_of(Fields(rest)),

@@ -135,12 +135,32 @@ impl Text {
         }
     }
 
+    /// Sixteen hexadecimal digits, as two words.
+    #[inline(always)]
+    pub fn put_word(&mut self, word: u64) {
+        self.put(&eight_digits((word >> 32) as u32));
+        self.put(&eight_digits(word as u32));
+    }
+
     /// Two hexadecimal digits.
     #[inline(always)]
     pub fn put_byte(&mut self, byte: u8) {
         let at = 2 * byte as usize;
         self.put(&[BYTES[at], BYTES[at + 1]]);
     }
+}
+
+/// The eight digits of 32 bits as one word. The bytes are spread to half bytes. A value above 9 has bit 4
+/// after 6 is added, and its letter is 39 more than a digit would be.
+#[inline(always)]
+fn eight_digits(number: u32) -> [u8; 8] {
+    const ONES: u64 = u64::MAX / 255;
+    let pairs = u64::from(number);
+    let bytes = (pairs | pairs << 16) & 0x0000_ffff_0000_ffff;
+    let halves = (bytes | bytes << 8) & 0x00ff_00ff_00ff_00ff;
+    let values = (halves | halves << 4) & ONES * 0x0f;
+    let letters = (values + ONES * 6) >> 4 & ONES;
+    (values + ONES * 0x30 + letters * 39).to_be_bytes()
 }
 
 /// Each bit adds 0.301 digits, so the estimate is exact or one too small.
