@@ -3,6 +3,7 @@ pub mod DigitPairs
 pub mod NumberLemmas
 pub mod ByteLemmas
 pub mod FieldLemmas
+pub mod LaneLemmas
 pub mod LineLemmas
 pub mod SourceLemmas
 pub mod PlainWords

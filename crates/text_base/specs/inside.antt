@@ -1,4 +1,5 @@
 -- Definitions for private functions and their proofs. Callers do not need them.
 pub mod Filling
+pub mod Lanes
 pub mod Parsing
 pub mod Framing

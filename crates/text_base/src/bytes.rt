@@ -1,8 +1,9 @@
 // Bytes as two hexadecimal digits each.
-ghost use Rattle.std.specs.Prelude.{◌≡◌, ℕ, List, ◌<◌, ◌≤◌, ◌++◌, length, Some, IfSome, IfNone, OnOk};
-ghost use Rattle.text_base.specs.Numbers.{spelled, two_digits, byte_at};
+ghost use Rattle.std.specs.Prelude.{◌≡◌, ℕ, List, [], ◌<◌, ◌≤◌, ◌++◌, length, Some, IfSome, IfNone, OnOk};
+ghost use Rattle.text_base.specs.Numbers.{spelled, two_digits, byte_at, AreBytes};
 ghost use Rattle.text_base.specs.inside.Parsing.{IsBytesFront, IsBytesField};
 
+use crate::lanes::eight_of;
 use crate::numbers::digit_of;
 use crate::pairs::digits_of;
 use crate::sink::Sink;
@@ -32,7 +33,7 @@ pub(crate) fn bytes_front<const N: usize>(text: &[u8], out: &mut ArrayVec<u8, N>
     ensures field { (bytes : List ℕ) (count : ℕ) → length bytes ≤ N → IsBytesField text.now bytes count → result ≡ Some count }
 {
     out.clear();
-    let mut rest = text;
+    let mut rest = eights_front(text, out);
     while let [high, low, tail @ ..] = rest {
         let Some(high) = digit_of(*high) else {
             break;
@@ -47,6 +48,27 @@ pub(crate) fn bytes_front<const N: usize>(text: &[u8], out: &mut ArrayVec<u8, N>
         rest = tail;
     }
     Some(text.len() - rest.len())
+}
+
+/// Decodes sixteen digits at a time from the front of a text into the empty `out`, as long as there are
+/// sixteen and the bytes fit. Returns the rest of the text.
+#[inline(always)]
+fn eights_front<'a, const N: usize>(text: &'a [u8], out: &mut ArrayVec<u8, N>) -> &'a [u8]
+    requires empty { out.old.items ≡ [] }
+    ensures split { text.now ≡ spelled out.new.items ++ result.now }
+    ensures bytes { AreBytes out.new.items }
+{
+    let mut rest = text;
+    while rest.len() >= 16 {
+        let Some(bytes) = eight_of(rest) else {
+            break;
+        };
+        let Ok(()) = out.try_extend_from_slice(&bytes) else {
+            break;
+        };
+        rest = &rest[16..];
+    }
+    rest
 }
 
 /// Appends a byte to `out` as two digits. An error is an allocation failure.

@@ -3,6 +3,7 @@
 ghost use Rattle.std.specs.Prelude.{◌≡◌, ◌+◌, ◌≤◌, ◌<◌, ◌++◌, ◌*◌, decimal, drop, length};
 ghost use Rattle.text_base.specs.Numbers.{two_digits, spelled};
 
+use crate::lanes::eight_pairs;
 use crate::pairs::{decimal_pair, digits_of};
 
 /// The capacity of the buffer.
@@ -103,6 +104,10 @@ pub fn bytes_before(room: &mut [u8; ROOM], at: usize, bytes: &[u8]) -> usize
 {
     let mut start = at;
     let mut left = bytes.len();
+    while left >= 8 {
+        left -= 8;
+        start = text_before(room, start, &eight_pairs(&bytes[left..]));
+    }
     while left > 0 {
         left -= 1;
         start = byte_before(room, start, bytes[left]);

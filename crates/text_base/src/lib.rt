@@ -4,6 +4,7 @@
 mod bytes;
 mod fields;
 mod fronts;
+mod lanes;
 mod numbers;
 mod output;
 mod pairs;

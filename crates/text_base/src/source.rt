@@ -6,6 +6,7 @@ ghost use Rattle.text_base.specs.Buffered.{at_start};
 ghost use Rattle.text_base.specs.Streams.{Finds};
 ghost use Rattle.text_base.specs.inside.Filling.{Refills, Fills, Scans};
 
+use crate::lanes::before_feed;
 use memchr::memchr;
 use std::alloc::{AllocError, Global};
 use std::io::{Read, Write};
@@ -222,10 +223,21 @@ fn refill<R: Read>(
     }
 }
 
-/// The index of the first line feed.
+/// The index of the first line feed. Most lines have fewer than 32 bytes, and are searched without a call.
 #[inline(always)]
 fn feed(text: &[u8]) -> Option<usize>
     ensures { MatchOption result (IsOneLine text.now) (λ k. (k < length text.now) × IsOneLine (take k text.now) × (get_or text.now k 0 ≡ 10)) }
 {
+    if text.len() < 32 {
+        return memchr(b'\n', text);
+    }
+    let near = before_feed(text, 0);
+    if near < 16 {
+        return Some(near);
+    }
+    let next = before_feed(text, 16);
+    if next < 16 {
+        return Some(16 + next);
+    }
     memchr(b'\n', text)
 }
