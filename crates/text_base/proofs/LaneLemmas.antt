@@ -1,10 +1,13 @@
 -- Digits as the lanes of a vector.
-use Rattle.std.proofs.Common.{◌≡◌, ◌≢◌, ℕ, zero, suc, ◌+◌, ◌*◌, ◌-◌, ◌/◌, ◌%◌, ◌<◌, ◌≤◌, Bool, true, false, cond, eqb, eq-eqb, nat_lt, List, [], ◌∷◌, ◌++◌, ◌^◌, length, length-drop, append_assoc, take, drop, map, replicate, subst, Fits, w8, refl, sym, ap, ◌∙◌, arith}
-use Rattle.std.specs.Fmt.{digit_glyph}
+use Rattle.std.proofs.Common.{◌≡◌, ◌≢◌, ℕ, zero, suc, ◌+◌, ◌*◌, ◌-◌, ◌/◌, ◌%◌, ◌<◌, ◌≤◌, Bool, true, false, cond, eqb, eq-eqb, nat_lt, List, [], ◌∷◌, ◌++◌, ◌^◌, length, length-drop, append_assoc, get_or, take, drop, map, replicate, subst, Fits, w8, refl, sym, ap, ◌∙◌, arith}
+use Rattle.std.specs.Fmt.{digits, digit_glyph}
+use Rattle.std.specs.List.{range_with_len}
+use Rattle.std.specs.Int.{from_be_bytes, w32}
+use Rattle.text_base.proofs.NumberLemmas.{SoFar, so_far-start, so_far-more}
 use Rattle.std.specs.Simd.Lanes.{zip2, sel_l, mask_l, top, pick_l, Each1}
 use Rattle.std.proofs.lemmas.Simd.{zip2_splat, zip2_of_maps, splat_is_map, tops_compared, pick_l_whole}
-use Rattle.std.proofs.lemmas.List.{take_all, take-append-drop, drop-drop}
-use Rattle.std.proofs.lemmas.List.Elements.{All-nil, All-cons, All-append}
+use Rattle.std.proofs.lemmas.List.{take_all, take-append-drop, drop-drop, length-take, get_or-take}
+use Rattle.std.proofs.lemmas.List.Elements.{All-nil, All-cons, All-append, All-get_or}
 use Rattle.std.proofs.lemmas.Bool.Decides.{Decides-ltb}
 use Rattle.text_base.specs.Numbers.{spelled, IsByte, AreBytes}
 use Rattle.text_base.specs.inside.Lanes.{lane_value}
@@ -88,7 +91,7 @@ clear v vs e = go (eqb v 255) refl e
     go false is e = ((λ same. let yes = eq-eqb v 255 same in cc), omega arith)
 
 -- the bytes that the digits of a text spell
-pub spelled-pairs : (k : ℕ) (cs : List ℕ) → length cs ≡ k + k → Each1 (Fits w8) cs → none_is_other (map lane_value cs) ≡ 0 →
+pub spelled-pairs : (k : ℕ) (cs : List ℕ) → length cs ≡ k + k → Each1 IsByte cs → none_is_other (map lane_value cs) ≡ 0 →
     (cs ≡ spelled (pairs (map lane_value cs))) × (length (pairs (map lane_value cs)) ≡ k) × AreBytes (pairs (map lane_value cs))
 spelled-pairs k [] long fit e = (refl, omega arith, All-nil IsByte)
 spelled-pairs k (c ∷ []) long fit e = absurd (omega arith)
@@ -96,8 +99,8 @@ spelled-pairs zero (c ∷ d ∷ cs) long fit e = absurd (omega arith)
 spelled-pairs (suc k) (c ∷ d ∷ cs) long fit e =
     let first = clear (lane_value c) (lane_value d ∷ map lane_value cs) e in
     let second = clear (lane_value d) (map lane_value cs) first.1 in
-    let high = lane-digit c (fit.0.fits) first.0 in
-    let low = lane-digit d (fit.1.0.fits) second.0 in
+    let high = lane-digit c fit.0 first.0 in
+    let low = lane-digit d fit.1.0 second.0 in
     let rest = spelled-pairs k cs (omega arith) fit.1.1 second.1 in
     let b : ℕ = (lane_value c * 16 % 256 + lane_value d) % 256 in
     let upper : b / 16 ≡ lane_value c = omega (arith, high.0, low.0) in
@@ -196,3 +199,49 @@ module _ (bytes : List ℕ) (long : length bytes ≡ 8) where
       sel_of_maps (λ v. nat_lt v 10) (λ v. (v + 48) % 256) (λ v. (v + 87) % 256) values _ _ _ test
       (zip2_splat (λ (a b : ℕ). (a + b) % 256) values 16 48 refl) (zip2_splat (λ (a b : ℕ). (a + b) % 256) values 16 87 refl)
       ∙ ap (map glyph) are-halves ∙ glyphs-are bytes fit
+
+-- zeros before bytes are bytes
+pub padded-bytes : (n : ℕ) (cs : List ℕ) → Each1 IsByte cs → Each1 IsByte (replicate n 48 ++ cs)
+padded-bytes zero cs h = h
+padded-bytes (suc n) cs h = (omega arith, padded-bytes n cs h)
+
+-- two digits more of a number, which are those of a byte
+byte-more : (text : List ℕ) (i n b : ℕ) → i + 2 ≤ length text → get_or text 0 0 ≢ 48 → b < 256 → n < 2 ^ 32 → get_or text i 0 ≡ digit_glyph false (b / 16) →
+    get_or text (i + 1) 0 ≡ digit_glyph false (b % 16) → SoFar 16 text i n → SoFar 16 text (i + 2) (n * 256 + b)
+byte-more text i n b within first small bound high low h =
+    let one = so_far-more 16 text i n (b / 16) (omega arith) (omega arith) (omega arith) first (omega arith) (omega arith) high h in
+    let two = so_far-more 16 text (i + 1) (n * 16 + b / 16) (b % 16) (omega arith) (omega arith) (omega arith) first (omega arith) (omega arith) low one in
+    let place : i + 1 + 1 ≡ i + 2 = omega arith in
+    let value : (n * 16 + b / 16) * 16 + b % 16 ≡ n * 256 + b = omega arith in
+    subst (λ (m : ℕ). SoFar 16 text (i + 2) m) value (subst (λ (j : ℕ). SoFar 16 text j ((n * 16 + b / 16) * 16 + b % 16)) place two)
+
+-- the number that eight digits denote
+pub eight-number : (text bytes : List ℕ) (n : ℕ) → 8 ≤ length text → get_or text 0 0 ≢ 48 → replicate 8 48 ++ pick_l 0 (take 8 text) (range_with_len 0 8) ≡ spelled bytes →
+    length bytes ≡ 8 → AreBytes bytes → n ≡ from_be_bytes w32 (get_or bytes 4 0 ∷ get_or bytes 5 0 ∷ get_or bytes 6 0 ∷ get_or bytes 7 0 ∷ []) → take 8 text ≡ digits 16 false n
+eight-number text bytes n fits first padded long all is = subst (λ (m : ℕ). take 8 text ≡ digits 16 false m) value (four.spells (omega arith))
+  where
+    small : (k : ℕ) → k < 8 → get_or bytes k 0 < 256
+    small k less = All-get_or IsByte bytes k 0 (omega (arith, long)) all
+
+    shown : take 8 text ≡ spelled (get_or bytes 4 0 ∷ get_or bytes 5 0 ∷ get_or bytes 6 0 ∷ get_or bytes 7 0 ∷ [])
+    shown = sym (pick_l_whole 0 (take 8 text) 8 (omega (arith, fits, length-take 8 text))) ∙ ap (drop 8) (padded ∙ ap spelled (sym (pick_l_whole 0 bytes 8 long)))
+
+    at : (i : ℕ) → i < 8 → get_or text i 0 ≡ get_or (spelled (get_or bytes 4 0 ∷ get_or bytes 5 0 ∷ get_or bytes 6 0 ∷ get_or bytes 7 0 ∷ [])) i 0
+    at i less = sym (get_or-take 8 text i 0 less) ∙ ap (λ (x : List ℕ). get_or x i 0) shown
+
+    one : SoFar 16 text 2 (0 * 256 + get_or bytes 4 0)
+    one = byte-more text 0 0 (get_or bytes 4 0) (omega (arith, fits)) first (small 4 (omega arith)) (omega arith) (at 0 (omega arith)) (at 1 (omega arith)) (so_far-start 16 text)
+
+    two : SoFar 16 text 4 ((0 * 256 + get_or bytes 4 0) * 256 + get_or bytes 5 0)
+    two = byte-more text 2 _ (get_or bytes 5 0) (omega (arith, fits)) first (small 5 (omega arith)) (let s = small 4 (omega arith) in omega arith) (at 2 (omega arith)) (at 3 (omega arith)) one
+
+    three : SoFar 16 text 6 (((0 * 256 + get_or bytes 4 0) * 256 + get_or bytes 5 0) * 256 + get_or bytes 6 0)
+    three = byte-more text 4 _ (get_or bytes 6 0) (omega (arith, fits)) first (small 6 (omega arith)) (let s = small 4 (omega arith) in let t = small 5 (omega arith) in omega arith)
+        (at 4 (omega arith)) (at 5 (omega arith)) two
+
+    four : SoFar 16 text 8 ((((0 * 256 + get_or bytes 4 0) * 256 + get_or bytes 5 0) * 256 + get_or bytes 6 0) * 256 + get_or bytes 7 0)
+    four = byte-more text 6 _ (get_or bytes 7 0) (omega (arith, fits)) first (small 7 (omega arith))
+        (let s = small 4 (omega arith) in let t = small 5 (omega arith) in let u = small 6 (omega arith) in omega arith) (at 6 (omega arith)) (at 7 (omega arith)) three
+
+    value : (((0 * 256 + get_or bytes 4 0) * 256 + get_or bytes 5 0) * 256 + get_or bytes 6 0) * 256 + get_or bytes 7 0 ≡ n
+    value = omega (arith, is)

@@ -7,6 +7,7 @@ ghost use Rattle.text_base.specs.inside.Parsing.{HasNoSpace, IsFieldEnd, ReadsSh
 ghost use Rattle.text_base.specs.Numbers.{decimal_at, hex_at, byte_at, spelled, AreBytes};
 
 use crate::bytes::{byte_of, bytes_front};
+use crate::lanes::number_of_eight;
 use crate::numbers::{decimal_of, hex_of, short_number};
 use arrayvec::ArrayVec;
 use std::marker::Model;
@@ -153,6 +154,9 @@ impl<'a> Fields<'a> {
         ensures read { ReadsField (hex_at most) result self.old self.new }
         ensures bound { IfSome result (λ n. n ≤ most) }
     {
+        if let Some(n) = self.eight(most) {
+            return Some(n);
+        }
         if let Some(n) = self.short(16, 16, most) {
             return Some(n);
         }
@@ -175,6 +179,27 @@ impl<'a> Fields<'a> {
             return None;
         }
         *self = Fields::past(rest, count)?;
+        Some(n)
+    }
+
+    /// Takes the next field, if it is a hexadecimal number up to `most` with eight digits. Takes nothing
+    /// otherwise.
+    #[inline(always)]
+    fn eight(&mut self, most: u64) -> Option<u64>
+        ensures { ReadsShort 16 most result self.old self.new }
+    {
+        let rest = self.rest?;
+        if rest.len() < 8 {
+            return None;
+        }
+        if rest.len() > 8 && rest[8] != b' ' {
+            return None;
+        }
+        let n = number_of_eight(rest)?;
+        if n > most {
+            return None;
+        }
+        *self = Fields::past(rest, 8)?;
         Some(n)
     }
 

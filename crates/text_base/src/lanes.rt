@@ -1,6 +1,8 @@
 // Bytes of a text as the lanes of a vector: sixteen at once.
 ghost use Rattle.std.specs.Prelude.{◌≡◌, ◌≢◌, ◌+◌, ◌≤◌, ◌<◌, ℕ, length, take, get_or, map, IfSome};
-ghost use Rattle.text_base.specs.Numbers.{spelled, AreBytes};
+ghost use Rattle.std.specs.Simd.Lanes.{Each1};
+ghost use Rattle.text_base.specs.Numbers.{spelled, IsByte, AreBytes};
+ghost use Rattle.text_base.specs.inside.Parsing.{IsFront};
 ghost use Rattle.text_base.specs.inside.Lanes.{lane_value};
 
 use std::simd::prelude::*;
@@ -36,19 +38,48 @@ fn values_of(text: u8x16) -> u8x16
     digits.simd_lt(u8x16::splat(10)).select(digits, others)
 }
 
-/// The eight bytes that the first sixteen bytes of a text spell, if all of these are digits.
+/// The eight bytes that sixteen bytes spell, if all of these are digits.
 #[inline(always)]
-pub(crate) fn eight_of(text: &[u8]) -> Option<[u8; 8]>
-    requires { 16 ≤ length text.now }
-    ensures { IfSome result (λ bytes. (take 16 text.now ≡ spelled bytes) × (length bytes ≡ 8) × AreBytes bytes) }
+fn spelled_by(text: u8x16) -> Option<[u8; 8]>
+    requires { Each1 IsByte text }
+    ensures { IfSome result (λ bytes. (text ≡ spelled bytes) × (length bytes ≡ 8) × AreBytes bytes) }
 {
-    let values = values_of(u8x16::from_slice(text));
+    let values = values_of(text);
     if values.simd_eq(u8x16::splat(255)).to_bitmask() != 0 {
         return None;
     }
     let high: u8x8 = values.swizzle([0, 2, 4, 6, 8, 10, 12, 14]);
     let low: u8x8 = values.swizzle([1, 3, 5, 7, 9, 11, 13, 15]);
     Some((high * u8x8::splat(16) + low).to_array())
+}
+
+/// The eight bytes that the first sixteen bytes of a text spell, if all of these are digits.
+#[inline(always)]
+pub(crate) fn eight_of(text: &[u8]) -> Option<[u8; 8]>
+    requires { 16 ≤ length text.now }
+    ensures { IfSome result (λ bytes. (take 16 text.now ≡ spelled bytes) × (length bytes ≡ 8) × AreBytes bytes) }
+{
+    spelled_by(u8x16::from_slice(text))
+}
+
+/// The number that the first eight bytes of a text denote, if all of these are digits and the first is not
+/// zero. Eight zeros are put before them.
+#[inline(always)]
+pub(crate) fn number_of_eight(text: &[u8]) -> Option<u64>
+    requires { 8 ≤ length text.now }
+    ensures { IfSome result (λ n. IsFront 16 text.now n 8) }
+{
+    if text[0] == b'0' {
+        return None;
+    }
+    let digits = u8x8::from_slice(text);
+    let padded: u8x16 = u8x8::splat(b'0').shuffle(
+        digits,
+        [0, 1, 2, 3, 4, 5, 6, 7, 8, 9, 10, 11, 12, 13, 14, 15],
+    );
+    let bytes = spelled_by(padded)?;
+    let word = u32::from_be_bytes([bytes[4], bytes[5], bytes[6], bytes[7]]);
+    Some(u64::from(word))
 }
 
 /// The two digits of each of the first eight bytes.

@@ -1,0 +1,5 @@
+use Rattle.text_base.proofs.FieldLemmas.{number-no_space}
+use Rattle.text_base.proofs.fields.Fields.eight.Goals as goal
+
+pub past-requires-clause-field : goal.past-requires-clause-field
+past-requires-clause-field c = number-no_space c.in_ok-rest.rest.now 16 c.in_ok-n.n 8 c.in_ok-n.ensures
