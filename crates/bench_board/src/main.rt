@@ -2,16 +2,14 @@
 #![tactic(auto)]
 
 mod events;
-mod faults;
 mod measure;
 mod scene;
 mod tally;
 mod workload;
 
-use crate::faults::Fault;
 use crate::measure::measure;
 use crate::workload::Workload;
-use bench_cli::{Asked, Program};
+use bench_cli::{Asked, Fault, Program};
 use std::process::ExitCode;
 
 const OUTPUT: &str = "\

@@ -1,9 +1,9 @@
 // Running and timing a workload.
 use crate::events::put_off;
-use crate::faults::Fault;
 use crate::scene::Scene;
 use crate::tally::{Digest, Tally, Totals};
 use crate::workload::Workload;
+use bench_cli::Fault;
 use board_terms::{Moment, Notices};
 use std::time::Instant;
 use synic_board::{Board, Event};

@@ -5,8 +5,8 @@ use crate::events::{
     ENABLE, PAGE, assert_vector, clear_flags, empty_slot, open_port, post, store, write,
     write_source, write_timer_config, write_timer_count,
 };
-use crate::faults::Fault;
 use crate::workload::Workload;
+use bench_cli::Fault;
 use board_terms::{Moment, Notices, PortShape};
 use std::alloc::{AllocError, Global};
 use synic_board::msr::{EOI, EOM, SCONTROL, SIEFP, SIMP};

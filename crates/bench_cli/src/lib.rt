@@ -1,8 +1,11 @@
 //! The command line of a benchmark: which workload, and how many operations.
 #![tactic(auto)]
 
+mod faults;
+
 use clap::error::ErrorKind;
 use clap::{Arg, Command, Error};
+pub use faults::Fault;
 use std::alloc::{AllocError, Global};
 use std::process::ExitCode;
 use std::{env, io};

@@ -1,14 +1,12 @@
 //! `bench_live`: measures the cost of an event of a board with live pages, while the guest stores nothing.
 #![tactic(auto)]
 
-mod faults;
 mod measure;
 mod workload;
 
-use crate::faults::Fault;
 use crate::measure::measure;
 use crate::workload::Workload;
-use bench_cli::{Asked, Program};
+use bench_cli::{Asked, Fault, Program};
 use std::process::ExitCode;
 
 const OUTPUT: &str = "\

@@ -1,6 +1,6 @@
 // Running and timing a workload.
-use crate::faults::Fault;
 use crate::workload::{Workload, is_done, setup};
+use bench_cli::Fault;
 use board_terms::Notices;
 use live_board::LiveBoard;
 use std::alloc::AllocError;

@@ -2,15 +2,13 @@
 //! a poll without the lock.
 #![tactic(auto)]
 
-mod faults;
 mod measure;
 mod watched;
 mod worker;
 
-use crate::faults::Fault;
 use crate::measure::{Measured, measure};
 use crate::watched::measure_watched;
-use bench_cli::{Asked, Program};
+use bench_cli::{Asked, Fault, Program};
 use std::process::ExitCode;
 use std::sync::Wait;
 use std::thread::Threads;

@@ -1,8 +1,8 @@
 // Running and timing a workload.
 ghost use Rattle.std.specs.Prelude.{◌≡◌, []};
 
-use crate::faults::Fault;
 use crate::worker::{Worker, perform_calls, two};
+use bench_cli::Fault;
 use board_terms::Notices;
 use ghost_history::Roster;
 use shared_board::{SharedBoard, Sharing};

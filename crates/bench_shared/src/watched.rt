@@ -2,9 +2,9 @@
 ghost use Rattle.std.specs.Prelude.{◌≡◌, []};
 ghost use Rattle.published_words.specs.Words.{words_of, published, no_logs};
 
-use crate::faults::Fault;
 use crate::measure::{Measured, PAGES, PROCESSORS};
 use crate::worker::event_at;
+use bench_cli::Fault;
 use board_terms::{Notices, Vp};
 use ghost_history::Roster;
 use published_words::{PublishedWords, Publisher};

@@ -1,5 +1,5 @@
 // Why a measurement failed.
-use bench_cli::{LineFault, USAGE_FAULT};
+use crate::{LineFault, USAGE_FAULT};
 use std::alloc::AllocError;
 use std::io;
 use synic_board::OpenFault;
@@ -11,7 +11,7 @@ const STREAM_FAULT: u8 = 5;
 
 /// Why a measurement failed or is incomplete.
 #[derive(Clone, Copy, PartialEq, Eq, Debug, Drop, Error)]
-pub(crate) enum Fault {
+pub enum Fault {
     #[error("{0}")]
     Line(LineFault),
     #[error("no board was opened: {0}")]
@@ -20,7 +20,7 @@ pub(crate) enum Fault {
 
 impl Fault {
     /// The exit status.
-    pub(crate) fn status(&self) -> u8 {
+    pub fn status(&self) -> u8 {
         match self {
             Fault::Line(LineFault::NotText) => USAGE_FAULT,
             Fault::Line(LineFault::Memory) | Fault::Opening(_) => NO_MEMORY,
