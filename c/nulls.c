@@ -14,7 +14,7 @@
  *   `page` of a page call  a variable that is not read
  *   a view, or owners      zeros, which are not read
  *   `due` of a tick        a variable that is not read
- *   `handed`               a variable that is not read
+ *   `forwarded`               a variable that is not read
  *   `ticket` of a slot     a variable that is not read
  *
  * A handle to open and a text with a length have no such value. The header defines what their calls
@@ -119,8 +119,8 @@ CALL(bool, synicboard_flag_page, board == NULL || page == NULL, CONST_BOARD(boar
 CALL(bool, synicboard_guest_page, board == NULL || page == NULL, CONST_BOARD(board) PLACE(page),
      (board, number, page), const synicboard *board, uint64_t number, const uint8_t **page)
 
-CALL(synicboard_reply, synicboard_hand_over, board == NULL || handed == NULL, BOARD(board) HANDED(handed),
-     (board, vp, handed), synicboard *board, uint8_t vp, synicboard_handed_over *handed)
+CALL(synicboard_reply, synicboard_forward, board == NULL || forwarded == NULL, BOARD(board) FORWARDED(forwarded),
+     (board, vp, forwarded), synicboard *board, uint8_t vp, synicboard_forwarded *forwarded)
 
 /* ---- Live pages ---- */
 

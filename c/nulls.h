@@ -23,7 +23,7 @@ static const uint8_t too_many[sizeof no_event.bytes + 1] = { 0 };
 #define VIEW(view) OR(view, &(synicboard_view){ 0 })
 #define OWNERS(owners) OR(owners, &(synicboard_owners){ 0 })
 #define DUE(due) OR(due, &(synicboard_due){ 0 })
-#define HANDED(handed) OR(handed, &(synicboard_handed_over){ 0 })
+#define FORWARDED(forwarded) OR(forwarded, &(synicboard_forwarded){ 0 })
 #define TICKET(ticket) OR(ticket, &(uint64_t){ 0 })
 
 #endif

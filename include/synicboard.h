@@ -438,22 +438,22 @@ synicboard_local_apic synicboard_lapic(const synicboard *board, uint8_t vp);
  * next. If another vector is next then and the guest has not cleared the bit, the host clears it. */
 bool synicboard_no_eoi_required(const synicboard *board, uint8_t vp);
 
-/* What a processor hands over to a local APIC outside the board. Bit i of word k is vector 64 * k + i. */
-typedef struct synicboard_handed_over {
+/* What a processor forwards to a local APIC outside the board. Bit i of word k is vector 64 * k + i. */
+typedef struct synicboard_forwarded {
     uint64_t vectors[4];                /* all of them */
     uint64_t auto_eoi[4];               /* those that are auto-EOI on the processor: no EOI ends them */
-} synicboard_handed_over;
+} synicboard_forwarded;
 
-/* For a host whose local APICs are not the board's (KVM's, or the processor's own). Hands the vectors that are
- * requested at a processor over: the board's APIC takes each and ends it at once, so that none is requested or in
+/* For a host whose local APICs are not the board's (KVM's, or the processor's own). Forwards the vectors that are
+ * requested at a processor: the board's APIC takes each and ends it at once, so that none is requested or in
  * service there any more, and the next request of each has its notice REQUESTED. The host requests them in its own
  * APIC. Call it after each event that has this notice for the processor, and after synicboard_resume, since a
- * suspended processor hands nothing over. Such a host passes no EOI, no TPR, and no interrupt of anything else to the
- * board. Stores what is handed over in `*handed`: all 0 if there is nothing, no such processor or no board.
+ * suspended processor forwards nothing. Such a host passes no EOI, no TPR, and no interrupt of anything else to the
+ * board. Stores what is forwarded in `*forwarded`: all 0 if there is nothing, no such processor or no board.
  *
  * Serves a board with live pages, too, and accesses none. Afterwards there are no notices.
  * Replies: DONE, REFUSED. */
-synicboard_reply synicboard_hand_over(synicboard *board, uint8_t vp, synicboard_handed_over *handed);
+synicboard_reply synicboard_forward(synicboard *board, uint8_t vp, synicboard_forwarded *forwarded);
 
 /* A timer, for inspection: its registers, and its deadline, even while its processor is suspended. If `is_due`,
  * it is due at high * 2^64 + low, in units of 100 ns. */
@@ -571,7 +571,7 @@ bool synicboard_guest_page(const synicboard *board, uint64_t number, const uint8
  * the next event, or call of synicboard_observe, that looks at its slot.
  *
  * Of the calls that perform events, only synicboard_act_live, synicboard_absorb_line, synicboard_act_absorb and
- * synicboard_hand_over serve such a board; for the others the fault, or the end of a batch, is SYNICBOARD_IS_LIVE. All queries serve it; those that
+ * synicboard_forward serve such a board; for the others the fault, or the end of a batch, is SYNICBOARD_IS_LIVE. All queries serve it; those that
  * return pages return the board's own, as it knows them. */
 
 /* Gives the board live pages, which have the bytes of its own pages; a processor that is in the guest must not

@@ -217,7 +217,7 @@ void board_suspend(struct vp *vp)
 }
 
 /* Timers whose deadlines passed meanwhile are tried by a later tick, which its thread makes. A suspended processor
- * hands nothing over, so what was requested meanwhile is handed over now. */
+ * forwards nothing, so what was requested meanwhile is forwarded now. */
 void board_resume(struct vp *vp)
 {
     if (vm.has_irqchip)

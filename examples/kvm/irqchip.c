@@ -1,4 +1,4 @@
-/* KVM's own local APICs (--irqchip). The board requests vectors; each processor hands them over, and they are
+/* KVM's own local APICs (--irqchip). The board requests vectors; each processor forwards them, and they are
  * injected as MSIs. Nothing of a local APIC is the board's then, and KVM does the halting, EOI, TPR, the interrupts
  * between processors, INIT and SIPI without an exit. */
 #include <sched.h>
@@ -31,14 +31,14 @@ static bool has(const uint64_t words[4], unsigned vector)
 }
 
 /* In the trace, a local APIC takes each vector, the greatest first, and ends it at once. */
-static void trace_taken(uint8_t vp, const synicboard_handed_over *handed)
+static void trace_taken(uint8_t vp, const synicboard_forwarded *forwarded)
 {
     for (unsigned vector = 255; vector >= 16; vector--) {
-        if (!has(handed->vectors, vector))
+        if (!has(forwarded->vectors, vector))
             continue;
         trace_entry(&(synicboard_event){ .kind = SYNICBOARD_TAKE, .vp = vp },
                     &(synicboard_reply){ .kind = SYNICBOARD_TAKEN, .vector = (uint8_t)vector });
-        if (!has(handed->auto_eoi, vector))
+        if (!has(forwarded->auto_eoi, vector))
             trace_entry(&(synicboard_event){ .kind = SYNICBOARD_WRITE, .vp = vp, .msr = SYNICBOARD_MSR_EOI },
                         &(synicboard_reply){ .kind = SYNICBOARD_DONE });
     }
@@ -46,11 +46,11 @@ static void trace_taken(uint8_t vp, const synicboard_handed_over *handed)
 
 static void collect(uint8_t vp)
 {
-    synicboard_handed_over handed;
-    synicboard_hand_over(board, vp, &handed);
-    trace_taken(vp, &handed);
+    synicboard_forwarded forwarded;
+    synicboard_forward(board, vp, &forwarded);
+    trace_taken(vp, &forwarded);
     for (unsigned word = 0; word < 4; word++)
-        collected[vp].words[word] |= handed.vectors[word];
+        collected[vp].words[word] |= forwarded.vectors[word];
 }
 
 void irqchip_collect(void)

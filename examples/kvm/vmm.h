@@ -133,9 +133,9 @@ void vmbus_transfer(void);
 /* irqchip.c: the local APICs of KVM */
 struct vectors { uint64_t words[4]; };
 void irqchip_open(void);                    /* before the processors are made */
-void irqchip_mark(uint8_t vp);              /* it has requests that it may hand over */
-void irqchip_collect(void);                 /* those that are marked hand over what is requested */
-bool irqchip_take(struct vectors vectors[MOST_VPS]);    /* what they handed over; whether there is anything */
+void irqchip_mark(uint8_t vp);              /* it has requests that it may forward */
+void irqchip_collect(void);                 /* those that are marked forward what is requested */
+bool irqchip_take(struct vectors vectors[MOST_VPS]);    /* what they forwarded; whether there is anything */
 void irqchip_inject(const struct vectors vectors[MOST_VPS]);    /* injects that, without the lock */
 void irqchip_request(uint8_t vp, uint8_t vector);   /* needs no lock */
 void irqchip_wait(void);                    /* until all that was taken is injected */

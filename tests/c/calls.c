@@ -99,55 +99,55 @@ static void test_local_apic(void)
     synicboard_close(&board);
 }
 
-static void check_handed(synicboard *board, uint8_t vp, synicboard_handed_over expected)
+static void check_forwarded(synicboard *board, uint8_t vp, synicboard_forwarded expected)
 {
-    synicboard_handed_over handed;
-    memset(&handed, 0xff, sizeof handed);
-    CHECK_NUMBER(synicboard_hand_over(board, vp, &handed).kind, SYNICBOARD_DONE);
+    synicboard_forwarded forwarded;
+    memset(&forwarded, 0xff, sizeof forwarded);
+    CHECK_NUMBER(synicboard_forward(board, vp, &forwarded).kind, SYNICBOARD_DONE);
     for (int word = 0; word < 4; word++) {
-        CHECK_NUMBER(handed.vectors[word], expected.vectors[word]);
-        CHECK_NUMBER(handed.auto_eoi[word], expected.auto_eoi[word]);
+        CHECK_NUMBER(forwarded.vectors[word], expected.vectors[word]);
+        CHECK_NUMBER(forwarded.auto_eoi[word], expected.auto_eoi[word]);
     }
 }
 
 /* An APIC outside the board gets what is requested, once; what is suspended or blocked stays. */
-static void test_hand_over(void)
+static void test_forward(void)
 {
-    synicboard_handed_over handed = { .vectors = { 1 } };
+    synicboard_forwarded forwarded = { .vectors = { 1 } };
     synicboard board = SYNICBOARD_CLOSED;
-    CHECK_FAULT(synicboard_hand_over(&board, 0, &handed), SYNICBOARD_IS_CLOSED);
-    CHECK_NUMBER(handed.vectors[0], 0);
+    CHECK_FAULT(synicboard_forward(&board, 0, &forwarded), SYNICBOARD_IS_CLOSED);
+    CHECK_NUMBER(forwarded.vectors[0], 0);
     synicboard_open(&board, 2, 1, 0);
-    CHECK_NUMBER(synicboard_hand_over(&board, 2, &handed).refusal, SYNICBOARD_NO_SUCH_PROCESSOR);
-    check_handed(&board, 1, (synicboard_handed_over){ { 0 }, { 0 } });
+    CHECK_NUMBER(synicboard_forward(&board, 2, &forwarded).refusal, SYNICBOARD_NO_SUCH_PROCESSOR);
+    check_forwarded(&board, 1, (synicboard_forwarded){ { 0 }, { 0 } });
     synicboard_write(&board, 1, SYNICBOARD_MSR_SINT0 + 5, 0x20041);     /* auto-EOI */
     for (int turn = 0; turn < 2; turn++) {
         synicboard_assert(&board, 1, 0x10);
         synicboard_assert(&board, 1, 0x41);
         CHECK_NUMBER(synicboard_assert(&board, 1, 0xff).notices, 1);
-        check_handed(&board, 0, (synicboard_handed_over){ { 0 }, { 0 } });
-        check_handed(&board, 1, (synicboard_handed_over){ { 1 << 16, 2, 0, 1ull << 63 }, { 0, 2 } });
+        check_forwarded(&board, 0, (synicboard_forwarded){ { 0 }, { 0 } });
+        check_forwarded(&board, 1, (synicboard_forwarded){ { 1 << 16, 2, 0, 1ull << 63 }, { 0, 2 } });
         CHECK_NUMBER(synicboard_notices(&board, NULL, 0), 0);
         CHECK_NUMBER(synicboard_next(&board, 1), 0);
         check_lapic(&board, 1, (synicboard_local_apic){ 0 });
     }
     synicboard_suspend(&board, 1);
     synicboard_assert(&board, 1, 0x41);
-    check_handed(&board, 1, (synicboard_handed_over){ { 0 }, { 0 } });
+    check_forwarded(&board, 1, (synicboard_forwarded){ { 0 }, { 0 } });
     synicboard_resume(&board, 1);
-    check_handed(&board, 1, (synicboard_handed_over){ { 0, 2 }, { 0, 2 } });
+    check_forwarded(&board, 1, (synicboard_forwarded){ { 0, 2 }, { 0, 2 } });
     synicboard_write(&board, 1, SYNICBOARD_MSR_TPR, 0x40);
     synicboard_assert(&board, 1, 0x41);
     synicboard_assert(&board, 1, 0x50);
-    check_handed(&board, 1, (synicboard_handed_over){ { 0, 1 << 16 }, { 0 } });
+    check_forwarded(&board, 1, (synicboard_forwarded){ { 0, 1 << 16 }, { 0 } });
     check_lapic(&board, 1, (synicboard_local_apic){ .requested = { 0, 2 }, .task_priority = 0x40, .processor_priority = 0x40 });
     synicboard_close(&board);
 }
 
 /* What each processor takes, and ends at once unless it is auto-EOI. */
-static synicboard_handed_over take_and_end(synicboard *board, uint8_t vp)
+static synicboard_forwarded take_and_end(synicboard *board, uint8_t vp)
 {
-    synicboard_handed_over taken = { .vectors = { 0 } };
+    synicboard_forwarded taken = { .vectors = { 0 } };
     for (uint8_t vector; (vector = synicboard_next(board, vp)) != 0;) {
         bool is_auto = synicboard_is_auto(board, vp, vector);
         CHECK_NUMBER(synicboard_take(board, vp).vector, vector);
@@ -160,8 +160,8 @@ static synicboard_handed_over take_and_end(synicboard *board, uint8_t vp)
     return taken;
 }
 
-/* A board whose vectors are handed over after each event is one whose local APICs take and end them at once. */
-static void test_handing_over(void)
+/* A board whose vectors are forwarded after each event is one whose local APICs take and end them at once. */
+static void test_forwarding(void)
 {
     static struct text one_after, other_after;
     synicboard one = SYNICBOARD_CLOSED, other = SYNICBOARD_CLOSED;
@@ -173,7 +173,7 @@ static void test_handing_over(void)
         synicboard_reply reply = synicboard_perform(&one, &event), same = synicboard_perform(&other, &event);
         CHECK(reply.kind == same.kind && reply.notices == same.notices && reply.value == same.value);
         for (uint8_t vp = 0; vp < 2; vp++)
-            check_handed(&one, vp, take_and_end(&other, vp));
+            check_forwarded(&one, vp, take_and_end(&other, vp));
     }
     describe(&one, &one_after);
     describe(&other, &other_after);
@@ -739,8 +739,8 @@ static void test_events_take_no_memory(void)
 
 static const struct test tests[] = {
     { "a local APIC", test_local_apic },
-    { "vectors for an APIC outside the board", test_hand_over },
-    { "an APIC outside the board, by random events", test_handing_over },
+    { "vectors for an APIC outside the board", test_forward },
+    { "an APIC outside the board, by random events", test_forwarding },
     { "timers and slots", test_timers_and_slots },
     { "a tick with the earliest deadline", test_tick_due },
     { "the earliest deadline after a time", test_earliest_after },

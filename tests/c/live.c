@@ -178,9 +178,9 @@ static void test_other_calls(void)
     CHECK_NUMBER(synicboard_raise(&line, 1, 200), SYNICBOARD_FRESH);
     CHECK_NUMBER(synicboard_absorb_line(&board, &line, 1, 3).value, 1u << 8);
     CHECK_NUMBER(synicboard_next(&board, 1), 200);
-    synicboard_handed_over handed;
-    CHECK_NUMBER(synicboard_hand_over(&board, 1, &handed).kind, SYNICBOARD_DONE);
-    CHECK(handed.vectors[3] == 1u << 8 && synicboard_next(&board, 1) == 0);
+    synicboard_forwarded forwarded;
+    CHECK_NUMBER(synicboard_forward(&board, 1, &forwarded).kind, SYNICBOARD_DONE);
+    CHECK(forwarded.vectors[3] == 1u << 8 && synicboard_next(&board, 1) == 0);
     synicboard_close_line(&line);
     synicboard_close(&board);
 }

@@ -120,7 +120,7 @@ static void test_null_board_looks(void)
     CHECK(overlay.owner.kind == SYNICBOARD_OWNER_NOTHING && overlay.owner.vp == 0 && overlay.page == 0);
     CHECK_NUMBER(synicboard_tick_due(NULL, 5, NULL).fault, SYNICBOARD_IS_CLOSED);
     CHECK(!synicboard_no_eoi_required(NULL, 0));
-    CHECK_NUMBER(synicboard_hand_over(NULL, 0, NULL).fault, SYNICBOARD_IS_CLOSED);
+    CHECK_NUMBER(synicboard_forward(NULL, 0, NULL).fault, SYNICBOARD_IS_CLOSED);
     synicboard_local_apic lapic = synicboard_lapic(NULL, 0);
     CHECK(lapic.requested[0] == 0 && lapic.in_service[3] == 0 && lapic.processor_priority == 0 && !lapic.is_suspended);
     uint64_t ticket = 9;

@@ -84,9 +84,9 @@ pub struct LocalApic {
     pub is_suspended: bool,
 }
 
-/// What a processor hands over to a local APIC outside the board. Bit i of word k is vector 64 * k + i.
+/// What a processor forwards to a local APIC outside the board. Bit i of word k is vector 64 * k + i.
 #[derive(Clone, Copy, PartialEq, Eq, Debug, Default)]
-pub struct HandedOver {
+pub struct Forwarded {
     /// All of them.
     pub vectors: [u64; 4],
     /// Those that are auto-EOI on the processor: no EOI ends them.
@@ -452,10 +452,10 @@ impl Board {
         Reply::of(ask!(self, synicboard_take, vp))
     }
 
-    /// Hands the vectors that are requested at processor `vp` over to a local APIC outside the board (KVM's, say):
+    /// Forwards the vectors that are requested at processor `vp` to a local APIC outside the board (KVM's, say):
     /// each is taken and ended at once, and requested there by the caller. Call this after each event that has a
     /// [`Requested`](crate::Notice::Requested) notice for the processor, and after it resumes, since a suspended
-    /// processor hands nothing over. Nothing if `vp` is not on the board. Afterwards there are no notices.
+    /// processor forwards nothing. Nothing if `vp` is not on the board. Afterwards there are no notices.
     ///
     /// ```
     /// use synicboard::{Board, Vector};
@@ -464,13 +464,13 @@ impl Board {
     /// for vector in [0x41, 0x90] {
     ///     board.assert(0, Vector::new(vector).unwrap());
     /// }
-    /// assert_eq!(board.hand_over(0).vectors, [0, 1 << 1, 1 << 16, 0]);
+    /// assert_eq!(board.forward(0).vectors, [0, 1 << 1, 1 << 16, 0]);
     /// assert_eq!(board.next(0), None);
     /// ```
-    pub fn hand_over(&mut self, vp: u8) -> HandedOver {
-        let mut handed = sys::synicboard_handed_over { vectors: [0; 4], auto_eoi: [0; 4] };
-        ask!(self, synicboard_hand_over, vp, &mut handed);
-        HandedOver { vectors: handed.vectors, auto_eoi: handed.auto_eoi }
+    pub fn forward(&mut self, vp: u8) -> Forwarded {
+        let mut forwarded = sys::synicboard_forwarded { vectors: [0; 4], auto_eoi: [0; 4] };
+        ask!(self, synicboard_forward, vp, &mut forwarded);
+        Forwarded { vectors: forwarded.vectors, auto_eoi: forwarded.auto_eoi }
     }
 
     /// Suspends processor `vp`: it takes no interrupt, and its timers are not tried, until it

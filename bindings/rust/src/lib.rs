@@ -36,7 +36,7 @@ mod text;
 mod tsc;
 mod view;
 
-pub use board::{Board, HandedOver, LocalApic, OpenFault, RestoreFault, Timer, PAGE_BYTES};
+pub use board::{Board, Forwarded, LocalApic, OpenFault, RestoreFault, Timer, PAGE_BYTES};
 pub use event::{Bytes, Bytes8, Event, PayloadBytes, PortShape};
 pub use line::{Line, Raised, SplitFault};
 pub use live::{LiveBoard, LiveReply};

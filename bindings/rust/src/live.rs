@@ -2,7 +2,7 @@
 
 use crate::board::ask;
 use crate::notice::{Room, ROOM};
-use crate::{beyond_the_header, sys, Board, Event, HandedOver, Line, Notices, Reply, Vp};
+use crate::{beyond_the_header, sys, Board, Event, Forwarded, Line, Notices, Reply, Vp};
 use core::fmt;
 use core::ptr;
 
@@ -88,9 +88,9 @@ impl LiveBoard {
         Reply::of(ask!(self.board, synicboard_absorb_line, &mut line.handle, vp, part))
     }
 
-    /// [`Board::hand_over`], which accesses no live page.
-    pub fn hand_over(&mut self, vp: u8) -> HandedOver {
-        self.board.hand_over(vp)
+    /// [`Board::forward`], which accesses no live page.
+    pub fn forward(&mut self, vp: u8) -> Forwarded {
+        self.board.forward(vp)
     }
 
     /// Looks at the message slots of a processor, if the guest sees its message page: the notices are those of

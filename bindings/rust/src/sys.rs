@@ -342,10 +342,10 @@ pub struct synicboard_local_apic {
     pub is_suspended: bool,
 }
 
-/// What a processor hands over to a local APIC outside the board. Bit i of word k is vector 64 * k + i.
+/// What a processor forwards to a local APIC outside the board. Bit i of word k is vector 64 * k + i.
 #[repr(C)]
 #[derive(Clone, Copy, PartialEq, Eq, Debug)]
-pub struct synicboard_handed_over {
+pub struct synicboard_forwarded {
     /// All of them.
     pub vectors: [u64; 4],
     /// Those that are auto-EOI on the processor.
@@ -617,11 +617,11 @@ extern "C" {
     pub fn synicboard_lapic(board: *const synicboard, vp: u8) -> synicboard_local_apic;
     /// Whether no EOI is required of a processor: a vector is in service, and none is requested.
     pub fn synicboard_no_eoi_required(board: *const synicboard, vp: u8) -> bool;
-    /// Hands the requested vectors of a processor over to a local APIC outside the board.
-    pub fn synicboard_hand_over(
+    /// Forwards the requested vectors of a processor to a local APIC outside the board.
+    pub fn synicboard_forward(
         board: *mut synicboard,
         vp: u8,
-        handed: *mut synicboard_handed_over,
+        forwarded: *mut synicboard_forwarded,
     ) -> synicboard_reply;
     /// The timer of a processor; all 0 if there is no such timer.
     pub fn synicboard_timer(board: *const synicboard, vp: u8, timer: u8) -> synicboard_timer_state;

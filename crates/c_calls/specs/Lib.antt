@@ -2,7 +2,7 @@ pub mod Performing
 pub mod Batched
 pub mod Looks
 pub mod Inspected
-pub mod Handed
+pub mod Forwarded
 pub mod Views
 pub mod Opened
 pub mod Texts

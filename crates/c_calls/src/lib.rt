@@ -4,7 +4,7 @@
 
 mod batches;
 mod events;
-mod handing;
+mod forwarding;
 mod inspect;
 mod inspect_parts;
 mod lines;

@@ -1,4 +1,4 @@
--- What a local APIC hands over, vector after vector.
+-- What a local APIC forwards, vector after vector.
 use Rattle.std.proofs.Common.{◌≡◌, ℕ, ◌<◌, ◌≤◌, zero, suc, Bool, true, false, ◌&&◌, ◌||◌, nat_lt, Option, None, Some, refl, sym, ap, subst, ◌∙◌, arith}
 use Rattle.std.specs.Prelude.{not, if◌then◌else◌}
 use Rattle.std.specs.Option.{option_map_or}
@@ -11,8 +11,8 @@ use Rattle.lapic_core.specs.Vectors.{Vectors, greatest}
 use Rattle.lapic_core.specs.Apic.{Apic, class, in_service_class, priority, deliverable, awaited, next, take_vector, end_vector, after_end}
 use Rattle.lapic_core.proofs.Members.{Tells, greatest_tells}
 use Rattle.lapic_core.proofs.Priority.{highest_taken}
-use Rattle.c_handles.specs.Handing.{handed_over, without}
-use Rattle.c_handles.specs.inside.HandingOne.{without_one}
+use Rattle.c_handles.specs.Forwarding.{to_forward, without}
+use Rattle.c_handles.specs.inside.ForwardingOne.{without_one}
 
 same : (s t : Vectors) → ((v : ℕ) → set.contains s v ≡ set.contains t v) → s ≡ t
 same = set.same_set nat_cmp_total set.nat_cmp-IsAntisymmetric
@@ -95,9 +95,9 @@ one-more a vs v = ap (λ s. record { requested = s; in_service = a.in_service; t
     by true false z = refl
     by false y z = refl
 
--- those that have left are among those to hand over
+-- those that have left are among those to forward
 pub AreAmong : Vectors → Apic → Type 0
-AreAmong vs a = (v : ℕ) → set.contains vs v ≡ true → set.contains (handed_over a) v ≡ true
+AreAmong vs a = (v : ℕ) → set.contains vs v ≡ true → set.contains (to_forward a) v ≡ true
 
 still-deliverable : (a : Apic) (vs : Vectors) (v : ℕ) → set.contains (deliverable (without a vs)) v ≡ (set.contains (deliverable a) v && not (set.contains vs v))
 still-deliverable a vs v =
@@ -114,12 +114,12 @@ still-deliverable a vs v =
 pub among-insert : (a : Apic) (vs : Vectors) (v : ℕ) → AreAmong vs a → next (without a vs) ≡ Some v → AreAmong (set.insert vs v) a
 unfolding AreAmong
 among-insert a vs v among e w h =
-    elim (eq_by_cmp nat_cmp w v) as (λ b. eq_by_cmp nat_cmp w v ≡ b → set.contains (handed_over a) w ≡ true) [
-      | true ↦ λ k. let is : w ≡ v = grind (arith, nat_tests) in ap (set.contains (handed_over a)) is ∙ of-next
+    elim (eq_by_cmp nat_cmp w v) as (λ b. eq_by_cmp nat_cmp w v ≡ b → set.contains (to_forward a) w ≡ true) [
+      | true ↦ λ k. let is : w ≡ v = grind (arith, nat_tests) in ap (set.contains (to_forward a)) is ∙ of-next
       | false ↦ λ k. let g = set.contains-insert nat_cmp_total vs v w in among w (grind (arith, nat_tests))
     ] refl
   where
-    of-next : set.contains (handed_over a) v ≡ true
+    of-next : set.contains (to_forward a) v ≡ true
     of-next =
         let f = still-deliverable a vs v in
         let g = is-deliverable (without a vs) v (next-awaited (without a vs) v e) in
@@ -127,7 +127,7 @@ among-insert a vs v among e w h =
         ap (λ b. set.contains (if b then set.empty else deliverable a) v) (not-suspended (without a vs) v e) ∙ d
 
 -- when there is no next vector, all have left
-pub all-left : (a : Apic) (vs : Vectors) → AreAmong vs a → next (without a vs) ≡ None → vs ≡ handed_over a
+pub all-left : (a : Apic) (vs : Vectors) → AreAmong vs a → next (without a vs) ≡ None → vs ≡ to_forward a
 unfolding AreAmong
 all-left a vs among e = by a.suspended among e
   where

@@ -6,4 +6,4 @@ pub mod OfLine
 pub mod OfHistory
 pub mod Sent
 mod Leaving
-mod Handed
+mod Taken

@@ -1,5 +1,5 @@
 pub mod Kinds
-pub mod Handing
+pub mod Forwarding
 pub mod Lines
 pub mod Histories
 pub mod Recorded

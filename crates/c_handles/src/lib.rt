@@ -5,7 +5,7 @@
 mod any_board;
 mod board;
 mod board_handle;
-mod handing;
+mod forwarding;
 mod history;
 mod history_handle;
 mod line;
@@ -16,7 +16,7 @@ mod recorded_handle;
 pub use any_board::AnyBoard;
 pub use board::BoardWithNotices;
 pub use board_handle::BoardHandle;
-pub use handing::HandedOver;
+pub use forwarding::Forwarded;
 pub use history::History;
 pub use history_handle::HistoryHandle;
 pub use line::{OwnedLine, SplitFault};

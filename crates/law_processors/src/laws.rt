@@ -21,7 +21,7 @@ pub fn own_events_of_two_processors_commute()
 /// What an event does apart from the local APICs does not depend on them: two boards that differ in what is
 /// requested, in service or masked by TPR alone reply alike, emit the same notices except Requested, and
 /// stay such boards. Only the reply to `take` and that to a read of TPR is the local APIC's. So a board whose
-/// local APICs are elsewhere, to which requested vectors are handed over, is the whole board in all else.
+/// local APICs are elsewhere, to which requested vectors are forwarded, is the whole board in all else.
 pub fn boards_that_differ_in_local_apics_answer_alike()
     ensures { (s t : State) (event : Event) → idle s ≡ idle t → AnswerAlike s t event }
 {}

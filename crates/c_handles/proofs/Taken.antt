@@ -1,4 +1,4 @@
--- The states and the run of what is handed over.
+-- The states and the run of what is forwarded.
 use Rattle.std.proofs.Common.{◌≡◌, ℕ, ◌<◌, Bool, true, false, nat_lt, List, [], ◌∷◌, ◌++◌, Option, None, Some, refl, sym, ap, subst, ◌∙◌, arith, append-nil}
 use Rattle.std.specs.Prelude.{if◌then◌else◌}
 use Rattle.std.specs.Option.{option_map_or}
@@ -21,9 +21,9 @@ use Rattle.synic_board.specs.Registers.{written}
 use Rattle.synic_board.specs.Run.{Run, run_of}
 use Rattle.synic_board.specs.Step.{step}
 use Rattle.live_board.proofs.Joined.{joined, run-append}
-use Rattle.c_handles.specs.declared.handing.HandedOver.{HandedOver}
-use Rattle.c_handles.specs.Handing.{without, takes_and_ends, AreTakenAndEnded, IsHandedOver}
-use Rattle.c_handles.specs.inside.HandingOne.{without_one, is_auto, HandsOver}
+use Rattle.c_handles.specs.declared.forwarding.Forwarded.{Forwarded}
+use Rattle.c_handles.specs.Forwarding.{without, takes_and_ends, AreTakenAndEnded, IsForwarded}
+use Rattle.c_handles.specs.inside.ForwardingOne.{without_one, is_auto, Forwards}
 use Rattle.c_handles.proofs.Leaving.{AreAmong, not-serving, serving, taken-ended, next-awaited, one-more, among-insert, all-left, auto-insert, fewer, none-left, among-none, auto-none}
 
 eoi : ℕ
@@ -97,12 +97,12 @@ module _ (s : State) (p v : ℕ) (on : p < processors s) (is : next (apic_of s p
   run-quiet true = append-nil (step s (Take p)).2 ∙ take-quiet
   run-quiet false = ap (λ (ns : List Notice). (step s (Take p)).2 ++ (ns ++ [])) end-quiet ∙ ap (λ (ns : List Notice). ns ++ []) take-quiet
 
-  module _ (before after : HandedOver) (vectors : after.vectors ≡ members.insert before.vectors v) where
-    pub hands-ended : (mid now : State) → mid ≡ (step s (Take p)).0 → members.contains (apic_of mid p).in_service v ≡ true → now ≡ (step mid (Write p (number_of_register Eoi) 0)).0
-        → after.auto_eoi ≡ before.auto_eoi → HandsOver s p v now before after
-    hands-ended mid now from held to auto = by (is_auto s p v) refl
+  module _ (before after : Forwarded) (vectors : after.vectors ≡ members.insert before.vectors v) where
+    pub forwards-ended : (mid now : State) → mid ≡ (step s (Take p)).0 → members.contains (apic_of mid p).in_service v ≡ true → now ≡ (step mid (Write p (number_of_register Eoi) 0)).0
+        → after.auto_eoi ≡ before.auto_eoi → Forwards s p v now before after
+    forwards-ended mid now from held to auto = by (is_auto s p v) refl
       where
-        by : (b : Bool) → is_auto s p v ≡ b → HandsOver s p v now before after
+        by : (b : Bool) → is_auto s p v ≡ b → Forwards s p v now before after
         by true e =
             let none = not-serving a v (next-awaited a v is) in
             let found = sym held ∙ ap (λ (t : State). members.contains (apic_of t p).in_service v) from ∙ ap (λ (x : Apic). members.contains x.in_service v) (apic-taken true e) ∙ none in
@@ -117,11 +117,11 @@ module _ (s : State) (p v : ℕ) (on : p < processors s) (is : next (apic_of s p
               quiet = run-quiet (is_auto s p v);
             }
 
-    pub hands-auto : (now : State) → now ≡ (step s (Take p)).0 → members.contains (apic_of now p).in_service v ≡ false
-        → after.auto_eoi ≡ members.insert before.auto_eoi v → HandsOver s p v now before after
-    hands-auto now from none auto = by (is_auto s p v) refl
+    pub forwards-auto : (now : State) → now ≡ (step s (Take p)).0 → members.contains (apic_of now p).in_service v ≡ false
+        → after.auto_eoi ≡ members.insert before.auto_eoi v → Forwards s p v now before after
+    forwards-auto now from none auto = by (is_auto s p v) refl
       where
-        by : (b : Bool) → is_auto s p v ≡ b → HandsOver s p v now before after
+        by : (b : Bool) → is_auto s p v ≡ b → Forwards s p v now before after
         by false e =
             let found = sym none ∙ ap (λ (t : State). members.contains (apic_of t p).in_service v) from ∙ ap (λ (x : Apic). members.contains x.in_service v) (apic-taken false e) ∙ serving a v in
             absurd (cc)
@@ -134,16 +134,16 @@ module _ (s : State) (p v : ℕ) (on : p < processors s) (is : next (apic_of s p
           quiet = run-quiet (is_auto s p v);
         }
 
--- what has been handed over so far
-pub record Handing (s : State) (p : ℕ) (now : State) (handed : HandedOver) : Type 0 where
-  pub among : AreAmong handed.vectors (apic_of s p)
-  pub auto : handed.auto_eoi ≡ members.intersection handed.vectors (auto_vectors (regs_of s p))
-  pub state : now ≡ with_apic s p (without (apic_of s p) handed.vectors)
+-- what has been forwarded so far
+pub record Forwarding (s : State) (p : ℕ) (now : State) (forwarded : Forwarded) : Type 0 where
+  pub among : AreAmong forwarded.vectors (apic_of s p)
+  pub auto : forwarded.auto_eoi ≡ members.intersection forwarded.vectors (auto_vectors (regs_of s p))
+  pub state : now ≡ with_apic s p (without (apic_of s p) forwarded.vectors)
   pub run : AreTakenAndEnded p s now
 
-pub handing-none : (s : State) (p : ℕ) (handed : HandedOver) → handed.vectors ≡ members.empty → handed.auto_eoi ≡ members.empty → Handing s p s handed
+pub forwarding-none : (s : State) (p : ℕ) (forwarded : Forwarded) → forwarded.vectors ≡ members.empty → forwarded.auto_eoi ≡ members.empty → Forwarding s p s forwarded
 unfolding run_of
-handing-none s p handed vectors auto = record {
+forwarding-none s p forwarded vectors auto = record {
   among = subst (λ vs. AreAmong vs (apic_of s p)) (sym vectors) (among-none (apic_of s p));
   auto = auto ∙ sym (auto-none (auto_vectors (regs_of s p))) ∙ ap (λ vs. members.intersection vs (auto_vectors (regs_of s p))) (sym vectors);
   state = ap (λ (x : List Apic). record s { apics = x }) (sym (set-get_or s.apics p empty_apic)) ∙ ap (with_apic s p) (sym (none-left (apic_of s p)) ∙ ap (without (apic_of s p)) (sym vectors));
@@ -164,7 +164,7 @@ run-more s mid now p b (autos, to, quiet) rest still =
     ap (run_of s) (takes-append p autos (b ∷ [])) ∙ run-append s es fs ∙ ap (λ (t : State). joined (run_of s es) (run_of t fs)) to in
     (autos ++ b ∷ [], ap (λ (r : Run). r.0) all ∙ rest, ap (λ (r : Run). r.2) all ∙ (λ i. quiet i ++ still i))
 
-module _ (s mid now : State) (p v : ℕ) (on : p < processors s) (before after : HandedOver) (h : Handing s p mid before) (one : HandsOver mid p v now before after) where
+module _ (s mid now : State) (p v : ℕ) (on : p < processors s) (before after : Forwarded) (h : Forwarding s p mid before) (one : Forwards mid p v now before after) where
   apic-mid : apic_of mid p ≡ without (apic_of s p) before.vectors
   apic-mid = ap (λ (t : State). apic_of t p) h.state ∙ apic-set s p (without (apic_of s p) before.vectors) on
 
@@ -174,8 +174,8 @@ module _ (s mid now : State) (p v : ℕ) (on : p < processors s) (before after :
   was-next : next (without (apic_of s p) before.vectors) ≡ Some v
   was-next = ap next (sym apic-mid) ∙ one.was_next
 
-  pub handing-one : Handing s p now after
-  handing-one = record {
+  pub forwarding-one : Forwarding s p now after
+  forwarding-one = record {
     among = subst (λ vs. AreAmong vs (apic_of s p)) (sym one.vectors) (among-insert (apic_of s p) before.vectors v h.among was-next);
     auto = one.auto_eoi ∙ ap (λ (r : Regs). if members.contains (auto_vectors r) v then members.insert before.auto_eoi v else before.auto_eoi) regs-mid
         ∙ ap (λ vs. if members.contains (auto_vectors (regs_of s p)) v then members.insert vs v else vs) h.auto
@@ -185,20 +185,20 @@ module _ (s mid now : State) (p v : ℕ) (on : p < processors s) (before after :
     run = run-more s mid now p (is_auto mid p v) h.run one.run one.quiet;
   }
 
-pub handing-all : (s now : State) (p : ℕ) (handed : HandedOver) → p < processors s → Handing s p now handed → next (apic_of now p) ≡ None → IsHandedOver s p now handed
-handing-all s now p handed on h none =
-    let apic : apic_of now p ≡ without (apic_of s p) handed.vectors = ap (λ (t : State). apic_of t p) h.state ∙ apic-set s p (without (apic_of s p) handed.vectors) on in record {
-      vectors = all-left (apic_of s p) handed.vectors h.among (ap next (sym apic) ∙ none);
+pub forwarding-all : (s now : State) (p : ℕ) (forwarded : Forwarded) → p < processors s → Forwarding s p now forwarded → next (apic_of now p) ≡ None → IsForwarded s p now forwarded
+forwarding-all s now p forwarded on h none =
+    let apic : apic_of now p ≡ without (apic_of s p) forwarded.vectors = ap (λ (t : State). apic_of t p) h.state ∙ apic-set s p (without (apic_of s p) forwarded.vectors) on in record {
+      vectors = all-left (apic_of s p) forwarded.vectors h.among (ap next (sym apic) ∙ none);
       auto_eoi = h.auto;
       state = h.state;
       run = h.run;
     }
 
-pub stays-on : (s now : State) (p : ℕ) (handed : HandedOver) → Handing s p now handed → p < processors s → p < processors now
-stays-on s now p handed h on = subst (λ n. p < n) (sym (ap processors h.state ∙ count-set s p (without (apic_of s p) handed.vectors))) on
+pub stays-on : (s now : State) (p : ℕ) (forwarded : Forwarded) → Forwarding s p now forwarded → p < processors s → p < processors now
+stays-on s now p forwarded h on = subst (λ n. p < n) (sym (ap processors h.state ∙ count-set s p (without (apic_of s p) forwarded.vectors))) on
 
 -- each turn leaves fewer requests
-pub fewer-requests : (mid now : State) (p v : ℕ) (before after : HandedOver) → p < processors mid → HandsOver mid p v now before after
+pub fewer-requests : (mid now : State) (p v : ℕ) (before after : Forwarded) → p < processors mid → Forwards mid p v now before after
     → members.len (apic_of now p).requested < members.len (apic_of mid p).requested
 fewer-requests mid now p v before after on one =
     let apic : apic_of now p ≡ without_one (apic_of mid p) v = ap (λ (t : State). apic_of t p) one.state ∙ apic-set mid p (without_one (apic_of mid p) v) on in

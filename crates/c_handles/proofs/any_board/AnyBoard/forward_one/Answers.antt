@@ -4,8 +4,8 @@ use Rattle.lapic_core.specs.Apic.{Apic}
 use Rattle.synic_board.specs.State.{State, BoardModel, processors, apic_of}
 use Rattle.synic_board.specs.Effects.{Outcome}
 use Rattle.c_handles.specs.Kinds.{state_in}
-use Rattle.c_handles.proofs.Handed.{was-asked, still-on, take-quiet, end-quiet-of, hands-ended, hands-auto}
-use Rattle.c_handles.proofs.any_board.AnyBoard.hand_one_over.Goals as goal
+use Rattle.c_handles.proofs.Taken.{was-asked, still-on, take-quiet, end-quiet-of, forwards-ended, forwards-auto}
+use Rattle.c_handles.proofs.any_board.AnyBoard.forward_one.Goals as goal
 
 pub lapic-requires-2 : goal.lapic-requires-2
 lapic-requires-2 c =
@@ -21,7 +21,7 @@ returns-then-contains-clause-one c =
     ∙ ap (λ (a : Apic). set.contains a.in_service c.in-Some.vector) (sym c.lapic-2.ensures) ∙ ap (λ vs. set.contains vs c.in-Some.vector) (sym c.in_service.ensures)
     ∙ sym c.contains.ensures ∙ c.if-contains.true in (
       c.in-Some.vector,
-      hands-ended (state_in c.args.self.now) c.args.vp c.in-Some.vector c.requires.on is c.args.handed.now _ c.insert.ensures
+      forwards-ended (state_in c.args.self.now) c.args.vp c.in-Some.vector c.requires.on is c.args.forwarded.now _ c.insert.ensures
           (state_in c.take.new.self) (state_in c.end.new.self) mid held (ap (λ (o : Outcome). o.0) c.end.ensures.performs.step) refl,
     )
 
@@ -39,7 +39,7 @@ returns-else-contains-clause-one c =
     ∙ ap (λ (a : Apic). set.contains a.in_service c.in-Some.vector) (sym c.lapic-2.ensures) ∙ ap (λ vs. set.contains vs c.in-Some.vector) (sym c.in_service.ensures)
     ∙ sym c.contains.ensures ∙ c.if-contains.false in (
       c.in-Some.vector,
-      hands-auto (state_in c.args.self.now) c.args.vp c.in-Some.vector c.requires.on is c.args.handed.now _ c.insert.ensures
+      forwards-auto (state_in c.args.self.now) c.args.vp c.in-Some.vector c.requires.on is c.args.forwarded.now _ c.insert.ensures
           (state_in c.take.new.self) mid none c.insert-else-contains.ensures,
     )
 

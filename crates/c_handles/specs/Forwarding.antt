@@ -11,11 +11,11 @@ use Rattle.synic_board.specs.declared.event.Event.{Event}
 use Rattle.synic_board.specs.declared.event.Event.TheVariants.{Take, Write}
 use Rattle.synic_board.specs.State.{State, apic_of, regs_of, with_apic}
 use Rattle.synic_board.specs.Run.{run_of}
-use Rattle.c_handles.specs.declared.handing.HandedOver.{HandedOver}
+use Rattle.c_handles.specs.declared.forwarding.Forwarded.{Forwarded}
 
--- the vectors that a processor hands over: those that its priority does not block, and none while it is suspended
-abbrev pub handed_over : Apic → Vectors
-handed_over a = if a.suspended then set.empty else deliverable a
+-- the vectors that a processor forwards: those that its priority does not block, and none while it is suspended
+abbrev pub to_forward : Apic → Vectors
+to_forward a = if a.suspended then set.empty else deliverable a
 
 -- vectors leave the requests, and do not enter service
 abbrev pub without : Apic → Vectors → Apic
@@ -31,9 +31,9 @@ takes_and_ends p (false ∷ autos) = Take p ∷ Write p (number_of_register Eoi)
 abbrev pub AreTakenAndEnded : Processor → State → State → Type 0
 AreTakenAndEnded p s now = (autos : List Bool) × ((run_of s (takes_and_ends p autos)).0 ≡ now) × ((run_of s (takes_and_ends p autos)).2 ≡ [])
 
--- a processor hands its vectors over; nothing else changes
-pub record IsHandedOver (s : State) (p : Processor) (now : State) (handed : HandedOver) : Type 0 where
-  pub vectors : handed.vectors ≡ handed_over (apic_of s p)
-  pub auto_eoi : handed.auto_eoi ≡ set.intersection handed.vectors (auto_vectors (regs_of s p))
-  pub state : now ≡ with_apic s p (without (apic_of s p) handed.vectors)
+-- a processor forwards its vectors; nothing else changes
+pub record IsForwarded (s : State) (p : Processor) (now : State) (forwarded : Forwarded) : Type 0 where
+  pub vectors : forwarded.vectors ≡ to_forward (apic_of s p)
+  pub auto_eoi : forwarded.auto_eoi ≡ set.intersection forwarded.vectors (auto_vectors (regs_of s p))
+  pub state : now ≡ with_apic s p (without (apic_of s p) forwarded.vectors)
   pub run : AreTakenAndEnded p s now

@@ -1,4 +1,4 @@
-// Handing requested vectors over to a local APIC outside the board.
+// Forwarding requested vectors to a local APIC outside the board.
 ghost use Rattle.std.specs.Prelude.{◌≡◌, ◌<◌, []};
 ghost use Rattle.std.specs.FinSet as set;
 ghost use Rattle.synic_board.specs.State.{processors};
@@ -6,9 +6,9 @@ ghost use Rattle.synic_board.specs.Performing.{Performs};
 ghost use Rattle.synic_board.specs.declared.event.Event.TheVariants.{Take, Write};
 ghost use Rattle.synic_regs.specs.Registers.{number_of_register};
 ghost use Rattle.synic_regs.specs.declared.register.Register.TheVariants.{Eoi};
-ghost use Rattle.c_handles.specs.Handing.{IsHandedOver};
+ghost use Rattle.c_handles.specs.Forwarding.{IsForwarded};
 ghost use Rattle.c_handles.specs.Kinds.{board_in, state_in, notices_in, late_in, pages_in};
-ghost use Rattle.c_handles.specs.inside.HandingOne.{HandsOneOver};
+ghost use Rattle.c_handles.specs.inside.ForwardingOne.{ForwardsOne};
 
 use crate::AnyBoard;
 use board_terms::Vp;
@@ -16,21 +16,21 @@ use lapic_core::VectorSet;
 use synic_board::{Event, Reply};
 use synic_regs::msr;
 
-/// The vectors that a processor hands over to a local APIC outside the board.
+/// The vectors that a processor forwards to a local APIC outside the board.
 #[derive(Drop)]
-pub struct HandedOver {
+pub struct Forwarded {
     /// All of them.
     pub vectors: VectorSet,
     /// Those that are auto-EOI on the processor: no EOI ends them.
     pub auto_eoi: VectorSet,
 }
 
-impl HandedOver {
-    fn none() -> HandedOver
+impl Forwarded {
+    fn none() -> Forwarded
         ensures vectors { result.vectors ≡ set.empty }
         ensures auto_eoi { result.auto_eoi ≡ set.empty }
     {
-        HandedOver {
+        Forwarded {
             vectors: VectorSet::new(),
             auto_eoi: VectorSet::new(),
         }
@@ -38,28 +38,28 @@ impl HandedOver {
 }
 
 impl AnyBoard {
-    /// Hands the requested vectors of a processor over to a local APIC outside the board, as one that
+    /// Forwards the requested vectors of a processor to a local APIC outside the board, as one that
     /// takes each by `Event::Take` and ends it at once; they are requested on the board no longer. None
     /// while the processor is suspended. Leaves no notices. Requires that the processor is on the board.
-    pub fn hand_over(&mut self, vp: Vp) -> HandedOver
+    pub fn forward(&mut self, vp: Vp) -> Forwarded
         requires { vp < processors (state_in self.old) }
-        ensures handed { IsHandedOver (state_in self.old) vp (state_in self.new) result }
+        ensures forwarded { IsForwarded (state_in self.old) vp (state_in self.new) result }
         ensures notices { notices_in self.new ≡ [] }
         ensures pages { pages_in self.new ≡ pages_in self.old }
         ensures late { late_in self.new ≡ [] }
     {
-        let mut handed = HandedOver::none();
+        let mut forwarded = Forwarded::none();
         self.clear_notices();
-        while self.hand_one_over(vp, &mut handed) {}
-        handed
+        while self.forward_one(vp, &mut forwarded) {}
+        forwarded
     }
 
-    /// Hands the next vector of a processor over, if it has one.
-    fn hand_one_over(&mut self, vp: Vp, handed: &mut HandedOver) -> bool
+    /// Forwards the next vector of a processor, if it has one.
+    fn forward_one(&mut self, vp: Vp, forwarded: &mut Forwarded) -> bool
         requires on { vp < processors (state_in self.old) }
         requires notices { notices_in self.old ≡ [] }
         requires late { late_in self.old ≡ [] }
-        ensures one { HandsOneOver (state_in self.old) vp (state_in self.new) handed.old handed.new result }
+        ensures one { ForwardsOne (state_in self.old) vp (state_in self.new) forwarded.old forwarded.new result }
         ensures notices { notices_in self.new ≡ [] }
         ensures pages { pages_in self.new ≡ pages_in self.old }
         ensures late { late_in self.new ≡ [] }
@@ -68,12 +68,12 @@ impl AnyBoard {
             return false;
         };
         let _ = self.take(vp);
-        handed.vectors.insert(vector);
+        forwarded.vectors.insert(vector);
         // an auto-EOI vector does not enter service
         if self.board().lapic(vp).in_service().contains(vector) {
             let _ = self.end(vp);
         } else {
-            handed.auto_eoi.insert(vector);
+            forwarded.auto_eoi.insert(vector);
         }
         true
     }
