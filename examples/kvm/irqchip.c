@@ -1,6 +1,7 @@
 /* KVM's own local APICs (--irqchip). The board requests vectors; each processor forwards them, and they are
  * injected as MSIs. Nothing of a local APIC is the board's then, and KVM does the halting, EOI, TPR, the interrupts
  * between processors, INIT and SIPI without an exit. */
+#include <errno.h>
 #include <sched.h>
 #include <sys/ioctl.h>
 
@@ -61,11 +62,12 @@ void irqchip_collect(void)
     marked = 0;
 }
 
-/* A fixed, edge-triggered interrupt to the processor with this APIC ID (SDM, "Message Address Register Format"). */
+/* A fixed, edge-triggered interrupt to the processor with this APIC ID (SDM, "Message Address Register Format"). A
+ * local APIC that is disabled drops it: KVM answers -1 then, which is EPERM. */
 void irqchip_request(uint8_t vp, uint8_t vector)
 {
     struct kvm_msi msi = { .address_lo = APIC_BASE | (uint32_t)vp << 12, .data = vector };
-    if (ioctl(vm.fd, KVM_SIGNAL_MSI, &msi) < 0)
+    if (ioctl(vm.fd, KVM_SIGNAL_MSI, &msi) < 0 && errno != EPERM)
         fail("KVM_SIGNAL_MSI");
 }
 
