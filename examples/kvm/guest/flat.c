@@ -292,10 +292,10 @@ static void check_priorities(void)
     __asm__ volatile("sti; nop; nop" : : : "memory");
     check(self->seen[HIGH_VECTOR] == 0, "TPR holds back a vector of its class");
     write_tpr(0x5f);
-    check(self->seen[HIGH_VECTOR] == 1, "a lower TPR releases it");
+    check(SPIN_UNTIL(self->seen[HIGH_VECTOR] == 1), "a lower TPR releases it");
     check(self->seen[LOW_VECTOR] == 0, "TPR still holds back a vector of a lower class");
     write_tpr(0);
-    check(self->seen[LOW_VECTOR] == 1 && self->nested == 0, "which did not interrupt the handler of the higher one");
+    check(SPIN_UNTIL(self->seen[LOW_VECTOR] == 1) && self->nested == 0, "which did not interrupt the handler of the higher one");
     __asm__ volatile("mov %0, %%cr8" : : "r"(0x7UL));
     check(read_tpr() == 0x70, "TPR reads what is written to CR8");
     write_tpr(0x20);

@@ -125,6 +125,12 @@ static inline void wait_for_interrupt(void)
     enable_interrupts();                                                                        \
     (bool)(condition); })
 
+/* The same without a timer, with interrupts enabled: a local APIC that KVM emulates may deliver an interrupt late. */
+#define SPIN_UNTIL(condition) ({                                                                \
+    for (unsigned turn_ = 0; turn_ < 1000000 && !(condition); turn_++)                          \
+        __asm__ volatile("pause");                                                              \
+    (bool)(condition); })
+
 /* flat.c */
 extern bool has_apic_registers;             /* of Hyper-V: EOI, ICR, TPR and the assist page; otherwise the APIC's page is used */
 void write_eoi(void);

@@ -271,6 +271,7 @@ void check_load(void)
     print_number("posts that found no buffer:", mailbox.refused, "");
     print_number("signals:", mailbox.signals * LOAD_VPS, "");
     check(has_all(first) && has_all(second), "after the last signal of each flag the processor has seen its counter");
-    check(in(FRESH_PORT) == raises && in(ABSORBED_PORT) == raises, "each raise was fresh, and was absorbed once");
+    if (has_apic_registers)         /* otherwise the board sees no raise */
+        check(in(FRESH_PORT) == raises && in(ABSORBED_PORT) == raises, "each raise was fresh, and was absorbed once");
     check(first->seen[DIRECT_VECTOR] > 0 && second->seen[DIRECT_VECTOR] > 0, "the timers of both ran meanwhile");
 }
