@@ -19,7 +19,7 @@ class Scene:
 
     def __init__(self, processors, pages, ticket=0):
         self.processors = processors
-        self.lines = ["board %d %d %d" % (processors, pages, ticket)]
+        self.lines = ["board %d %s %d" % (processors, pages, ticket)]
         self.output = []
 
     def ask(self, event, reply, *notices):

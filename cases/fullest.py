@@ -1,11 +1,14 @@
-"""The fullest board: each of its parts as many times as there can be, and each field as wide as it can
-be. Its image is written here by docs/FORMATS.md alone."""
+"""The fullest boards, one that holds guest pages and a sparse one: each of their parts as many times as there
+can be, and each field as wide as it can be. Their images are written here by docs/FORMATS.md alone."""
 
 import os
 import subprocess
 import tempfile
 
-PROCESSORS, PAGES, SOURCES, PORTS, BUFFERS = 8, 64, 16, 16, 16
+SOURCES, PORTS, BUFFERS = 16, 16, 16
+
+# the processors and the guest pages of each
+BOARDS = (8, 64), (64, 0)
 
 BLOCKS = range(0, 4096, 256)
 
@@ -14,28 +17,30 @@ PAYLOAD = "5a" * 240
 
 MOST = (1 << 64) - 1
 
-# the first ticket, if the last one is the greatest that was given: those of all queued messages and slots
-FIRST = MOST - PORTS * BUFFERS - PROCESSORS * (4 + SOURCES)
-
 # the source to which a port, and each timer of a processor, sends
 FIRST_SINT, TIMER_SINT = 10, 15
 
 SECONDS = 120
 
 
-def target(port):
-    """The processor and the source of a port: two ports for each processor."""
-    return port % PROCESSORS, FIRST_SINT + port // PROCESSORS
+def first_ticket(processors):
+    """The first ticket, if the last one is the greatest that was given: those of all queued messages and slots."""
+    return MOST - PORTS * BUFFERS - processors * (4 + SOURCES)
+
+
+def target(port, processors):
+    """The processor and the source of a port: two ports for each of eight processors, or one for each of more."""
+    return port % processors, FIRST_SINT + port // processors
 
 
 def words(first):
     return " ".join(["%x" % first] + ["f" * 16] * 3)
 
 
-def queued(vp, sint, tickets):
+def queued(vp, sint, tickets, processors):
     """The messages of a source: those of its port, or those of all timers of its processor."""
     for port in range(PORTS):
-        if target(port) == (vp, sint):
+        if target(port, processors) == (vp, sint):
             for _ in range(BUFFERS):
                 yield "message %d %d %d port %d 7fffffff %s" % (vp, sint, next(tickets), port, PAYLOAD)
     if sint == TIMER_SINT:
@@ -43,45 +48,46 @@ def queued(vp, sint, tickets):
             yield "message %d %d %d timer %d %d %d" % (vp, sint, next(tickets), vp, timer, MOST)
 
 
-def lines():
-    tickets = iter(range(FIRST, MOST))
+def lines(processors, pages):
+    tickets = iter(range(first_ticket(processors), MOST))
     yield "image 1"
-    yield "board %d %d %d" % (PROCESSORS, PAGES, MOST)
+    yield "board %d %d %d" % (processors, pages, MOST)
     yield "moment %d" % MOST
-    for vp in range(PROCESSORS):
+    for vp in range(processors):
         yield "lapic %d %s %s ff suspended" % (vp, words(MOST - 0xffff), words(MOST - 0xffff))
-    for vp in range(PROCESSORS):
+    for vp in range(processors):
         for name in ["scontrol", "siefp", "simp"] + ["sint%d" % sint for sint in range(SOURCES)]:
             yield "register %d %s %x" % (vp, name, MOST)
-    for page in range(PAGES):
+    for page in range(pages):
         for offset in BLOCKS:
             yield "page %d %x %s" % (page, offset, "a5" * 256)
-    for vp in range(PROCESSORS):
+    for vp in range(processors):
         for kind in ["sim", "sief"]:
             for offset in BLOCKS:
                 yield "own %d %s %x %s" % (vp, kind, offset, "c3" * 256)
     for port in range(PORTS):
-        yield "open %d message %d %d %d" % (port, *target(port), BUFFERS)
-    for vp in range(PROCESSORS):
+        yield "open %d message %d %d %d" % (port, *target(port, processors), BUFFERS)
+    for vp in range(processors):
         for timer in range(4):
             yield "timer %d %d f1fff %x due 1 %x" % (vp, timer, MOST, MOST - 1)
-    for vp in range(PROCESSORS):
+    for vp in range(processors):
         for sint in range(SOURCES):
-            yield from queued(vp, sint, tickets)
-    for vp in range(PROCESSORS):
+            yield from queued(vp, sint, tickets, processors)
+    for vp in range(processors):
         for sint in range(SOURCES):
             yield "slot %d %d %d" % (vp, sint, next(tickets))
     yield "end"
 
 
-def image():
-    return "".join(line + "\n" for line in lines())
+def image(processors, pages):
+    return "".join(line + "\n" for line in lines(processors, pages))
 
 
-def script_and_output():
+def script_and_output(processors):
     """Events on that board: port 0 has no buffer left, and closing it withdraws its messages."""
-    vp, sint = target(0)
-    withdrawn = "".join(". withdrawn %d %d %d\n" % (FIRST + k, vp, sint) for k in range(BUFFERS))
+    vp, sint = target(0, processors)
+    first = first_ticket(processors)
+    withdrawn = "".join(". withdrawn %d %d %d\n" % (first + k, vp, sint) for k in range(BUFFERS))
     return ("post 0 1 -\nclose 0\npost 0 1 -\n",
             "= refused 8\n= done\n%s= refused 1\n" % withdrawn)
 
@@ -91,11 +97,11 @@ def ran(binary, arguments, text):
                           stderr=subprocess.PIPE, timeout=SECONDS)
 
 
-def complaints(binary):
+def complaints_of(binary, processors, pages):
     """It is restored, performs events, and is the start of a crew and of a trace, whose image is the
     same text."""
-    text = image()
-    script, output = script_and_output()
+    text = image(processors, pages)
+    script, output = script_and_output(processors)
     with tempfile.TemporaryDirectory() as folder:
         path = os.path.join(folder, "image")
         with open(path, "w") as file:
@@ -108,7 +114,13 @@ def complaints(binary):
         if crew.returncode != 0 or not trace.startswith("trace 3\n%s1 post 0 1 -\n= refused 8\n" % text):
             yield "crew: %r" % ((crew.returncode, trace[:100], crew.stderr),)
         # the post, and the last absorbs: one for each part of each processor
-        entries = 1 + 4 * PROCESSORS
+        entries = 1 + 4 * processors
         checked = ran(binary, ["check"], trace)
         if (checked.returncode, checked.stdout) != (0, b"legal %d\n" % entries):
             yield "check: %r" % ((checked.returncode, checked.stdout, checked.stderr),)
+
+
+def complaints(binary):
+    for processors, pages in BOARDS:
+        for complaint in complaints_of(binary, processors, pages):
+            yield "%d processors: %s" % (processors, complaint)

@@ -1,8 +1,8 @@
 /* synicboard.h: the interrupt side of a Hyper-V-like partition, as a library for C.
  *
  * A board has 1 to 8 virtual processors, each with a local APIC, a SynIC and four synthetic timers,
- * and 1 to 64 guest pages of 4096 bytes; a sparse board leaves all guest pages to the caller, and its
- * guest may have any number of them. It starts no thread, reads no clock and calls nothing back:
+ * and 1 to 64 guest pages of 4096 bytes. A sparse board has 1 to 64 processors and leaves all guest pages to
+ * the caller, and its guest may have any number of them. A board starts no thread, reads no clock and calls nothing back:
  * the host performs events on it. Each event returns a reply and emits notices. docs/MACHINE.md
  * specifies both; docs/EMBEDDING.md shows the run loop of a host.
  *
@@ -61,7 +61,7 @@ typedef struct synicboard {
  * it returns. */
 enum {
     SYNICBOARD_OK = 0,
-    SYNICBOARD_BAD_SIZE = 1,            /* not 1 to 8 processors, or not 1 to 64 pages */
+    SYNICBOARD_BAD_SIZE = 1,            /* not 1 to 8 processors, or not 1 to 64 pages; sparse: not 1 to 64 processors */
     SYNICBOARD_NO_MEMORY = 2,           /* an allocation failed */
     SYNICBOARD_IS_OPEN = 3,             /* the handle to open is already open */
     SYNICBOARD_IS_CLOSED = 4,           /* the handle is closed */
@@ -91,7 +91,7 @@ uint8_t synicboard_open(synicboard *board, uint8_t processors, uint8_t pages, ui
  * guest sees them. A load or a store of any other page is refused as SYNICBOARD_ELSEWHERE: the caller performs
  * it in the guest's memory. Everything else is as on a board with that many pages.
  *
- * Returns what synicboard_open returns; SYNICBOARD_BAD_SIZE unless `processors` is 1 to 8. */
+ * Returns what synicboard_open returns; SYNICBOARD_BAD_SIZE unless `processors` is 1 to 64. */
 uint8_t synicboard_open_sparse(synicboard *board, uint8_t processors, uint64_t first_ticket);
 
 /* Frees the board and closes its handle. Does nothing if the handle is closed. Pointers to pages of the
@@ -370,7 +370,7 @@ typedef struct synicboard_line {
 /* Opens words for that many processors, with no vector raised, and their first line.
  *
  * Returns SYNICBOARD_OK; SYNICBOARD_NO_HANDLE if `line` is null; SYNICBOARD_IS_OPEN if it is open,
- * which is checked before the size; SYNICBOARD_BAD_SIZE unless `processors` is 1 to 8; or
+ * which is checked before the size; SYNICBOARD_BAD_SIZE unless `processors` is 1 to 64; or
  * SYNICBOARD_NO_MEMORY if an allocation fails. */
 uint8_t synicboard_open_line(synicboard_line *line, uint8_t processors);
 
@@ -518,11 +518,14 @@ synicboard_due synicboard_earliest(const synicboard *board);
  * a host arms its timer for the earliest deadline after the present, and ticks again after a guest's events. */
 synicboard_due synicboard_earliest_after(const synicboard *board, uint64_t moment);
 
-/* synicboard_tick, and the earliest timer afterwards in `*due`: arm the host's timer for it. */
+/* synicboard_tick, and the earliest timer afterwards in `*due`: arm the host's timer for it. At most 32 timers
+ * expire in one tick, the earliest first. If more were due, as only a board of more than eight processors can
+ * have, the next of them is in `*due`, and expires in a tick at a later moment. */
 synicboard_reply synicboard_tick_due(synicboard *board, uint64_t moment, synicboard_due *due);
 
 /* What a run loop acts on: the next vector of each processor, 0 if it has none, and the earliest
- * deadline. For a closed handle all is 0, and so is `next` for a processor that is not on the board. */
+ * deadline. For a closed handle all is 0, and so is `next` for a processor that is not on the board. A view
+ * has processors 0 to 7; synicboard_next answers for any. */
 typedef struct synicboard_view {
     uint8_t next[8];
     synicboard_due earliest;
@@ -580,8 +583,8 @@ bool synicboard_guest_page(const synicboard *board, uint64_t number, const uint8
  * bytes at a multiple of 4096, and stays valid until the board is closed. Allocates all memory that events need.
  *
  * Returns SYNICBOARD_OK; SYNICBOARD_NO_HANDLE if `pages` is null; SYNICBOARD_IS_CLOSED if the board is closed;
- * SYNICBOARD_IS_LIVE if it has live pages; or SYNICBOARD_NO_MEMORY if an allocation fails. Unless it returns
- * SYNICBOARD_OK, nothing changes. */
+ * SYNICBOARD_IS_LIVE if it has live pages; SYNICBOARD_BAD_SIZE if it has more than eight processors; or
+ * SYNICBOARD_NO_MEMORY if an allocation fails. Unless it returns SYNICBOARD_OK, nothing changes. */
 uint8_t synicboard_make_live(synicboard *board, uint8_t **pages);
 
 /* Whether the board has live pages. */

@@ -135,7 +135,7 @@ def explain(text, number, fault):
     said = {
         "form": of_form,
         "first": of_first,
-        "size": lambda _: "a board has 1 to 8 processors and 1 to 64 pages, or `sparse` in their place",
+        "size": lambda _: "a board has 1 to 8 processors and 1 to 64 pages, or 1 to 64 processors and `sparse` in place of pages",
         "long": lambda _: "a line has at most 640 bytes",
         "cut": lambda _: "the text ends in the middle of this line: the last line needs a line feed too",
     }.get(fault)

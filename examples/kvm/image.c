@@ -9,7 +9,7 @@
 
 #include "vmm.h"
 
-enum { MOST_LENGTH = 1 << 20 };         /* docs/EMBEDDING.md: the largest image has some 823,000 bytes */
+enum { MOST_LENGTH = 1 << 20 };         /* of a board of eight processors at most; docs/EMBEDDING.md has the largest */
 
 static uint8_t *image;
 static size_t length, room, longest;

@@ -9,7 +9,7 @@
 
 #include "synicboard.h"
 
-enum { PAGE = 4096, SOURCES = 16, PROCESSORS = 8, PAGES = 64 };
+enum { PAGE = 4096, SOURCES = 16, PROCESSORS = 8, MOST_PROCESSORS = 64 /* of a sparse board */, PAGES = 64 };
 
 /* The first register of each group. */
 enum {

@@ -81,7 +81,7 @@ static void test_sizes(void)
 {
     for (unsigned processors = 0; processors < 256; processors++) {
         synicboard_line line = SYNICBOARD_LINE_CLOSED;
-        bool fits = processors >= 1 && processors <= PROCESSORS;
+        bool fits = processors >= 1 && processors <= MOST_PROCESSORS;
         CHECK_NUMBER(synicboard_open_line(&line, (uint8_t)processors), fits ? SYNICBOARD_OK : SYNICBOARD_BAD_SIZE);
         CHECK_NUMBER(line.is_open, fits);
         for (unsigned vp = 0; vp < 256; vp++)

@@ -421,7 +421,7 @@ static void print_queue(synicboard *board, uint8_t vp, uint8_t sint)
 
 /* ---- A sparse board ---- */
 
-enum { PAGE = 4096, MOST_PAGES = 64 };
+enum { PAGE = 4096, MOST_PAGES = 64, MOST_PROCESSORS = 8 };
 
 /* The guest's memory. */
 static uint8_t memory[MOST_PAGES * PAGE];
@@ -536,7 +536,8 @@ static uint8_t open_sized(struct script *script, uint64_t ticket)
 {
     if (script->perform != perform_sparse)
         return synicboard_open(&script->board, script->processors, script->pages, ticket);
-    if (script->pages < 1 || script->pages > MOST_PAGES)
+    /* the sizes of the board that the script opens */
+    if (script->processors > MOST_PROCESSORS || script->pages < 1 || script->pages > MOST_PAGES)
         return SYNICBOARD_BAD_SIZE;
     memory_pages = script->pages;
     return synicboard_open_sparse(&script->board, script->processors, ticket);

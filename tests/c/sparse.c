@@ -14,17 +14,17 @@ static uint64_t at_page(uint64_t page)
 
 static void test_opening(void)
 {
-    static const uint8_t wrong[] = { 0, 9, 255 };
+    static const uint8_t wrong[] = { 0, 65, 255 };
     synicboard board = SYNICBOARD_CLOSED;
     for (size_t at = 0; at < sizeof wrong; at++)
         CHECK_NUMBER(synicboard_open_sparse(&board, wrong[at], 0), SYNICBOARD_BAD_SIZE);
     CHECK_NUMBER(synicboard_next_overlay(&board, 0).owner.kind, SYNICBOARD_OWNER_NOTHING);
-    CHECK_NUMBER(synicboard_open_sparse(&board, 8, 7), SYNICBOARD_OK);
-    CHECK_NUMBER(synicboard_open_sparse(&board, 8, 7), SYNICBOARD_IS_OPEN);
+    CHECK_NUMBER(synicboard_open_sparse(&board, 64, 7), SYNICBOARD_OK);
+    CHECK_NUMBER(synicboard_open_sparse(&board, 64, 7), SYNICBOARD_IS_OPEN);
     CHECK_NUMBER(synicboard_open(&board, 1, 1, 0), SYNICBOARD_IS_OPEN);
     CHECK_NUMBER(synicboard_next_ticket(&board), 7);
-    CHECK_REPLY(synicboard_take(&board, 7), SYNICBOARD_NONE_TAKEN);
-    CHECK_REFUSAL(synicboard_take(&board, 8), SYNICBOARD_NO_SUCH_PROCESSOR);
+    CHECK_REPLY(synicboard_take(&board, 63), SYNICBOARD_NONE_TAKEN);
+    CHECK_REFUSAL(synicboard_take(&board, 64), SYNICBOARD_NO_SUCH_PROCESSOR);
     synicboard_close(&board);
 }
 
@@ -134,12 +134,40 @@ static void test_messages(void)
     synicboard_close(&board);
 }
 
+/* 256 timers are due at 10: each tick expires 32, and says which is next. */
+static void test_many_processors(void)
+{
+    enum { VECTOR = 0x40, ONE_SHOT = 0x1401, AT_ONCE = 32 };
+    synicboard board = SYNICBOARD_CLOSED;
+    synicboard_due due;
+    uint8_t *pages[2 * MOST_PROCESSORS];
+    CHECK_NUMBER(synicboard_open_sparse(&board, MOST_PROCESSORS, 0), SYNICBOARD_OK);
+    CHECK_NUMBER(synicboard_make_live(&board, pages), SYNICBOARD_BAD_SIZE);
+    for (uint8_t vp = 0; vp < MOST_PROCESSORS; vp++)
+        for (uint32_t timer = 0; timer < 4; timer++) {
+            CHECK_REPLY(synicboard_write(&board, vp, STIMER0_COUNT + 2 * timer, 10), SYNICBOARD_DONE);
+            CHECK_REPLY(synicboard_write(&board, vp, STIMER0_CONFIG + 2 * timer, ONE_SHOT), SYNICBOARD_DONE);
+        }
+    for (uint8_t turn = 0; turn < 8; turn++) {
+        CHECK_REPLY(synicboard_tick_due(&board, 10 + turn, &due), SYNICBOARD_DONE);
+        /* a processor's vector is requested once */
+        CHECK_NUMBER(synicboard_notices(&board, NULL, 0), AT_ONCE + AT_ONCE / 4);
+        CHECK(turn == 7 ? !due.is_due : due.is_due && due.vp == 8 * (turn + 1) && due.timer == 0 && due.low == 10);
+        CHECK_NUMBER(synicboard_next(&board, (uint8_t)(8 * turn + 7)), VECTOR);
+        CHECK_NUMBER(synicboard_next(&board, (uint8_t)(8 * turn + 8)), 0);
+    }
+    CHECK_REPLY(synicboard_send(&board, 0x50, UINT64_C(1) << 63 | 1), SYNICBOARD_DONE);
+    CHECK(synicboard_next(&board, 0) == 0x50 && synicboard_next(&board, 63) == 0x50 && synicboard_next(&board, 62) == VECTOR);
+    synicboard_close(&board);
+}
+
 static const struct test tests[] = {
     { "opening", test_opening },
     { "refused memory of an opening", test_refused_memory },
     { "memory of the caller", test_elsewhere },
     { "overlays in order", test_overlays_in_order },
     { "messages at any page", test_messages },
+    { "many processors", test_many_processors },
 };
 
 int main(void)

@@ -16,7 +16,7 @@ pub const PAGE_BYTES: usize = 4096;
 /// Why a board or a line was not opened.
 #[derive(Clone, Copy, PartialEq, Eq, Hash, Debug)]
 pub enum OpenFault {
-    /// Not 1 to 8 processors, or not 1 to 64 pages.
+    /// Not 1 to 8 processors, or not 1 to 64 pages; on a sparse board, not 1 to 64 processors.
     BadSize,
     /// An allocation failed.
     Memory,
@@ -104,7 +104,7 @@ pub struct Timer {
     pub due: Option<u128>,
 }
 
-/// The interrupt side of a partition with 1 to 8 processors and 1 to 64 guest pages, or, if it is sparse,
+/// The interrupt side of a partition with 1 to 8 processors and 1 to 64 guest pages, or, if it is sparse, with 1 to 64 processors and
 /// with 2^52 guest pages that the caller holds.
 ///
 /// Each method with `&mut self` performs an event and returns a [`Reply`]; then
@@ -229,7 +229,7 @@ impl Board {
         Ok(board)
     }
 
-    /// Opens a sparse board of 1 to 8 processors at time 0, for a guest with memory of any size: its page
+    /// Opens a sparse board of 1 to 64 processors at time 0, for a guest with memory of any size: its page
     /// numbers are 0 to 2^52 - 1, and the caller has the pages. The board holds only the message and event
     /// flags pages, and decides where a guest sees them ([`next_overlay`](Board::next_overlay)). A load or a
     /// store of any other page is refused with [`Elsewhere`](crate::Refusal::Elsewhere): the caller performs
@@ -284,7 +284,7 @@ impl Board {
             sys::SYNICBOARD_TOO_LONG => return Err(RestoreFault::TooLong),
             _ => beyond_the_header(&end.kind),
         }
-        board.processors = (0..8).take_while(|&vp| board.message_page(vp).is_some()).count() as u8;
+        board.processors = (0..64).take_while(|&vp| board.message_page(vp).is_some()).count() as u8;
         board.pages = (0..64).take_while(|&page| board.guest_page(page).is_some()).count() as u8;
         Ok(board)
     }
@@ -517,7 +517,7 @@ impl Board {
         unsafe { self.room.first(count) }
     }
 
-    /// How many processors are on the board, 1 to 8.
+    /// How many processors are on the board, 1 to 64.
     pub fn processors(&self) -> u8 {
         self.processors
     }

@@ -36,7 +36,7 @@ pub enum Raised {
 /// One thread's access to posted words: it raises vectors without the lock of a board, and absorbs
 /// them under the lock.
 ///
-/// Posted words have one bit for each vector of 1 to 8 processors, set from a raise to the next absorb.
+/// Posted words have one bit for each vector of 1 to 64 processors, set from a raise to the next absorb.
 /// [`open`](Line::open) opens words and their first line; [`split`](Line::split) returns other lines of
 /// the same words, for other threads. The words are freed with the last of their lines; bits that are
 /// still set then are lost.
@@ -118,7 +118,7 @@ macro_rules! ask {
 }
 
 impl Line {
-    /// Opens words for 1 to 8 processors, with no vector raised, and their first line.
+    /// Opens words for 1 to 64 processors, with no vector raised, and their first line.
     ///
     /// # Errors
     ///

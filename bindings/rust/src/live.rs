@@ -62,14 +62,14 @@ impl Board {
     ///
     /// # Errors
     ///
-    /// The board itself, if an allocation fails.
+    /// The board itself, if it has more than eight processors or an allocation fails.
     // The board is the error, so that it is not lost.
     #[allow(clippy::result_large_err)]
     pub fn into_live(self) -> Result<LiveBoard, Board> {
         let mut pages = [ptr::null_mut(); MOST_PAGES];
         match ask!(self, synicboard_make_live, pages.as_mut_ptr()) {
             sys::SYNICBOARD_OK => Ok(LiveBoard { board: self, pages, late: Room::new() }),
-            sys::SYNICBOARD_NO_MEMORY => Err(self),
+            sys::SYNICBOARD_NO_MEMORY | sys::SYNICBOARD_BAD_SIZE => Err(self),
             answer => beyond_the_header(&answer),
         }
     }

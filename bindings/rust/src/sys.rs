@@ -30,7 +30,7 @@ pub const SYNICBOARD_CLOSED: synicboard = synicboard { at: ptr::null_mut(), is_o
 
 /// Outcome: all is well.
 pub const SYNICBOARD_OK: u8 = 0;
-/// Outcome: not 1 to 8 processors, or not 1 to 64 pages.
+/// Outcome: not 1 to 8 processors, or not 1 to 64 pages; on a sparse board, not 1 to 64 processors.
 pub const SYNICBOARD_BAD_SIZE: u8 = 1;
 /// Outcome: an allocation failed.
 pub const SYNICBOARD_NO_MEMORY: u8 = 2;

@@ -8,21 +8,21 @@ pub type Moment = u64;
 /// The ticket of an accepted message. No ticket is given twice. The greatest is 2^64 - 2.
 pub type Ticket = u64;
 
-/// A virtual processor, 0 to 7.
+/// A virtual processor, 0 to 63.
 #[derive(Clone, Copy, PartialEq, Eq, PartialOrd, Ord, Hash, Debug, Default)]
 pub struct Vp(u8);
 
 impl Vp {
-    /// The processor with this number; `None` above 7.
+    /// The processor with this number; `None` above 63.
     pub const fn new(number: u8) -> Option<Vp> {
-        if number < 8 {
+        if number < 64 {
             Some(Vp(number))
         } else {
             None
         }
     }
 
-    /// Its number, 0 to 7.
+    /// Its number, 0 to 63.
     pub const fn number(self) -> u8 {
         self.0
     }

@@ -42,25 +42,25 @@ fn a_board_has_1_to_8_processors_and_1_to_64_pages() {
 }
 
 #[test]
-fn a_sparse_board_has_1_to_8_processors_and_no_page() {
-    for processors in [0, 9, 255] {
+fn a_sparse_board_has_1_to_64_processors_and_no_page() {
+    for processors in [0, 65, 255] {
         assert_eq!(Board::open_sparse(processors, 0).unwrap_err(), OpenFault::BadSize);
     }
-    let mut board = Board::open_sparse(8, 7).unwrap();
-    assert_eq!((board.processors(), board.pages(), board.next_ticket()), (8, 0, 7));
+    let mut board = Board::open_sparse(64, 7).unwrap();
+    assert_eq!((board.processors(), board.pages(), board.next_ticket()), (64, 0, 7));
     assert_eq!(board.next_overlay(0), None);
     let last = (1 << 52) - 1;
-    assert_eq!(board.write(7, SIEFP, last << 12 | 1), Reply::Done);
+    assert_eq!(board.write(63, SIEFP, last << 12 | 1), Reply::Done);
     assert_eq!(board.write(0, SIMP, 0x5001), Reply::Done);
     assert_eq!(board.next_overlay(0), Some((5, Owner::Sim(Vp::new(0).unwrap()))));
-    assert_eq!(board.next_overlay(6), Some((last, Owner::Sief(Vp::new(7).unwrap()))));
+    assert_eq!(board.next_overlay(6), Some((last, Owner::Sief(Vp::new(63).unwrap()))));
     assert_eq!(board.next_overlay(last + 1), None);
     assert_eq!((board.owner(6), board.owner(last + 1)), (Owner::Guest, Owner::Nothing));
     assert!(board.guest_page(0).is_none());
-    let mut room = [0; 2048];
+    let mut room = [0; 16384];
     let length = board.save(&mut room).unwrap();
     let restored = Board::restore(&room[..length]).unwrap();
-    assert_eq!((restored.processors(), restored.pages(), restored.next_overlay(6)), (8, 0, board.next_overlay(6)));
+    assert_eq!((restored.processors(), restored.pages(), restored.next_overlay(6)), (64, 0, board.next_overlay(6)));
 }
 
 #[test]
@@ -77,7 +77,7 @@ fn the_earliest_after_a_time_is_later() {
 #[test]
 fn a_number_outside_its_range_is_none() {
     for number in 0..=u8::MAX {
-        assert_eq!(Vp::new(number).map(Vp::number), (number < 8).then_some(number));
+        assert_eq!(Vp::new(number).map(Vp::number), (number < 64).then_some(number));
         assert_eq!(Sint::new(number).map(Sint::number), (number < 16).then_some(number));
         assert_eq!(Vector::new(number).map(Vector::number), (number >= 16).then_some(number));
         let index = TimerId::new(VP, number).map(TimerId::index);

@@ -40,10 +40,10 @@ fn takes(board: &mut Board, vp: u8, vector: Vector) {
 }
 
 #[test]
-fn words_are_for_1_to_8_processors() {
+fn words_are_for_1_to_64_processors() {
     for processors in 0..=u8::MAX {
         let opened = Line::open(processors).map(|line| line.processors());
-        let expected = if (1..=8).contains(&processors) { Ok(processors) } else { Err(OpenFault::BadSize) };
+        let expected = if (1..=64).contains(&processors) { Ok(processors) } else { Err(OpenFault::BadSize) };
         assert_eq!(opened, expected);
     }
     assert_eq!(format!("{:?}", Line::open(2).unwrap()), "Line { processors: 2, .. }");
@@ -51,7 +51,7 @@ fn words_are_for_1_to_8_processors() {
 
 #[test]
 fn a_processor_that_the_words_are_not_for_is_not_raised() {
-    for processors in 1..=8 {
+    for processors in 1..=64 {
         let mut line = Line::open(processors).unwrap();
         let mut other = line.split().unwrap();
         assert_eq!(other.processors(), processors);

@@ -230,7 +230,7 @@ fn a_line_is_opened_once_and_closed_as_often_as_one_likes() {
         synicboard_close_line(&mut line.0);
         synicboard_close_line(&mut line.0);
         assert!(line.is_blank());
-        assert_eq!(synicboard_open_line(&mut line.0, 9), SYNICBOARD_BAD_SIZE);
+        assert_eq!(synicboard_open_line(&mut line.0, 65), SYNICBOARD_BAD_SIZE);
         assert!(line.is_blank());
         assert_eq!(synicboard_split_line(&mut other.0, &mut line.0), SYNICBOARD_OK);
         assert_eq!(synicboard_split_line(&mut line.0, &mut other.0), SYNICBOARD_IS_OPEN);

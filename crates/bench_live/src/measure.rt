@@ -78,8 +78,7 @@ fn timed(
 fn perform_all(live: &mut LiveBoard, lists: &mut Lists, workload: Workload, events: u32) -> u64 {
     let mut done = 0u64;
     for turn in 0..events {
-        let event = workload.event_at(turn);
-        let (reply, _) = live.perform(&event, &mut lists.notices, &mut lists.late);
+        let reply = workload.perform(turn, live, &mut lists.notices, &mut lists.late);
         if is_done(reply) {
             done = done.wrapping_add(1);
         }

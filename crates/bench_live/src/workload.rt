@@ -1,5 +1,6 @@
 // The events of the workloads.
-use board_terms::PortShape;
+use board_terms::{Notices, PortShape};
+use live_board::LiveBoard;
 use synic_board::msr::{EOM, SCONTROL, SIEFP, SIMP, SINT0, STIMER0_CONFIG, STIMER0_COUNT};
 use synic_board::{Event, Reply};
 
@@ -63,23 +64,41 @@ impl Workload {
         }
     }
 
-    /// The event of a turn.
-    pub(crate) fn event_at(self, turn: u32) -> Event {
+    /// Performs the event of a turn. Each event is made where the board performs it, so that it is not
+    /// in memory.
+    #[inline(always)]
+    pub(crate) fn perform(
+        self,
+        turn: u32,
+        live: &mut LiveBoard,
+        notices: &mut Notices,
+        late: &mut Notices,
+    ) -> Reply {
         match self {
-            Workload::Signals => Event::Signal {
-                port: PORT,
-                flag: (turn % u32::from(FLAGS)) as u16,
-            },
-            Workload::Eoms => write(EOM, 0),
-            Workload::Counts => write(SHOT_COUNT, FAR + u64::from(turn % 1024)),
-            Workload::Ticks => Event::Tick {
-                moment: u64::from(turn) + 1,
-            },
+            Workload::Signals => {
+                let event = Event::Signal {
+                    port: PORT,
+                    flag: (turn % u32::from(FLAGS)) as u16,
+                };
+                live.perform(&event, notices, late).0
+            }
+            Workload::Eoms => live.perform(&write(EOM, 0), notices, late).0,
+            Workload::Counts => {
+                let event = write(SHOT_COUNT, FAR + u64::from(turn % 1024));
+                live.perform(&event, notices, late).0
+            }
+            Workload::Ticks => {
+                let event = Event::Tick {
+                    moment: u64::from(turn) + 1,
+                };
+                live.perform(&event, notices, late).0
+            }
         }
     }
 }
 
 /// A write of a register of processor 0.
+#[inline(always)]
 fn write(register: u32, value: u64) -> Event {
     Event::Write {
         vp: 0,

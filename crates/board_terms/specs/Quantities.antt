@@ -1,7 +1,7 @@
 -- Names for the numbers in the definitions, so that a signature says what it takes.
 use Rattle.std.specs.Prelude.{ℕ}
 
--- a virtual processor, 0 to 7
+-- a virtual processor, 0 to 63
 abbrev pub Processor : Type 0
 Processor = ℕ
 

@@ -11,7 +11,7 @@ AreBytes bytes = All (λ b. b < 256) bytes
 abbrev pub IsVector : ℕ → Type 0
 IsVector v = (16 ≤ v) × (v < 256)
 
--- the payload has at most 240 bytes, and a timer is one of four of one of eight processors
+-- the payload has at most 240 bytes, and a timer is one of four of one of 64 processors
 abbrev pub HasMessageRanges : Message → Type 0
 HasMessageRanges (FromPort ticket port kind payload) = (ticket < 2 ^ 64) × (port < 256) × (kind < 2 ^ 32) × AreBytes payload.items × (length payload.items ≤ 240)
-HasMessageRanges (FromTimer ticket timer expiration) = (ticket < 2 ^ 64) × (timer.0 < 8) × (timer.1 < 4) × (expiration < 2 ^ 64)
+HasMessageRanges (FromTimer ticket timer expiration) = (ticket < 2 ^ 64) × (timer.0 < 64) × (timer.1 < 4) × (expiration < 2 ^ 64)

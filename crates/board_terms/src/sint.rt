@@ -45,11 +45,11 @@ impl Sint {
     }
 }
 
-/// The number of a source among those of all processors, 0 to 127: 16 * processor + source.
+/// The number of a source among those of all processors, 0 to 1023: 16 * processor + source.
 #[inline]
 pub fn source_number(vp: Vp, sint: Sint) -> usize
     ensures value { result ≡ source_number vp sint }
-    ensures range { result < 128 }
+    ensures range { result < 1024 }
 {
     16 * vp.number() as usize + sint.number() as usize
 }

@@ -19,10 +19,10 @@ impl Model for TimerId {
 
     ghost view = { λ a. timer_of a.number };
 
-    ghost invariant = { λ a. a.number < 32 };
+    ghost invariant = { λ a. a.number < 256 };
 
     // of a pair that is no timer, it is a number out of range
-    ghost inverse = { λ t. record { number = number_of t + 32 * (t.1 / 4) } };
+    ghost inverse = { λ t. record { number = number_of t + 256 * (t.1 / 4) } };
 }
 
 impl TimerId {
@@ -40,16 +40,12 @@ impl TimerId {
         }
     }
 
-    /// The timer with this number, 4 * processor + index; `None` above 31.
+    /// The timer with this number, 4 * processor + index. Each number up to 255 has one.
     pub fn from_number(number: u8) -> Option<TimerId>
-        ensures valid { IsSome result ↔ (number < 32) }
+        ensures valid { IsSome result ↔ (number < 256) }
         ensures value { IfSome result (λ t. t ≡ timer_of number) }
     {
-        if number < 32 {
-            Some(TimerId { number })
-        } else {
-            None
-        }
+        Some(TimerId { number })
     }
 
     /// Its processor.
@@ -67,10 +63,10 @@ impl TimerId {
         self.number % 4
     }
 
-    /// Its number among all timers, 0 to 31: 4 * processor + index.
+    /// Its number among all timers, 0 to 255: 4 * processor + index.
     pub fn number(self) -> u8
         ensures value { result ≡ number_of self }
-        ensures range { result < 32 }
+        ensures range { result < 256 }
     {
         self.number
     }

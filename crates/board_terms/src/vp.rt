@@ -3,7 +3,7 @@ ghost use Rattle.std.specs.Prelude.{◌≡◌, ◌<◌, ◌↔◌, IsSome, IfSom
 
 use std::marker::Model;
 
-/// A virtual processor, 0 to 7.
+/// A virtual processor, 0 to 63.
 #[derive(Clone, Copy, PartialEq, Eq, PartialOrd, Ord, Debug, Default)]
 pub struct Vp {
     number: u8,
@@ -16,18 +16,18 @@ impl Model for Vp {
 
     ghost view = { λ a. a.number };
 
-    ghost invariant = { λ a. a.number < 8 };
+    ghost invariant = { λ a. a.number < 64 };
 
     ghost inverse = { λ n. record { number = n } };
 }
 
 impl Vp {
-    /// The processor with this number; `None` above 7.
+    /// The processor with this number; `None` above 63.
     pub fn new(number: u8) -> Option<Vp>
-        ensures valid { IsSome result ↔ (number < 8) }
+        ensures valid { IsSome result ↔ (number < 64) }
         ensures value { IfSome result (λ v. v ≡ number) }
     {
-        if number < 8 {
+        if number < 64 {
             Some(Vp { number })
         } else {
             None
@@ -37,16 +37,16 @@ impl Vp {
     /// The processor of a number that is in range.
     #[inline]
     pub(crate) fn known(number: u8) -> Vp
-        requires { number < 8 }
+        requires { number < 64 }
         ensures { result ≡ number }
     {
         Vp { number }
     }
 
-    /// Its number, 0 to 7.
+    /// Its number, 0 to 63.
     pub fn number(self) -> u8
         ensures value { result ≡ self }
-        ensures range { result < 8 }
+        ensures range { result < 64 }
     {
         self.number
     }

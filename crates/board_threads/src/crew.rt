@@ -119,7 +119,7 @@ fn run_judged<S: Origin, R: Threads + Wait + Sync, G: Gate + Sync>(
 ) -> Result<CrewEnd, WorkFault>
     requires start { board.state ≡ S.start }
     requires size { IsSizedOn (processors board.state) setup.now scripts.now }
-    requires bound { setup.now.processors ≤ 8 }
+    requires bound { setup.now.processors ≤ 64 }
     requires step { has_bad_step setup.now scripts.now ≡ false }
     ensures { IfOk result (IsCrewEnd S.start setup.now scripts.now) }
 {

@@ -12,7 +12,7 @@ use std::alloc::{AllocError, Global};
 pub(crate) fn are_word_sizes(processors: u8, actors: u8, lines: u8) -> bool
     ensures { IsTrue result ↔ AreWordSizes processors actors lines }
 {
-    1 <= processors && processors <= 8 && 1 <= actors && actors <= 16 && lines <= 16
+    1 <= processors && processors <= 64 && 1 <= actors && actors <= 16 && lines <= 16
 }
 
 /// An actor for each sweeper, numbered from 0.

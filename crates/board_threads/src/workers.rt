@@ -41,13 +41,13 @@ pub(crate) fn absorb_all<S: Origin, R: Wait>(
     mut actor: Actor,
 ) -> Result<Actor, CallFault>
     requires own { actor.of ≡ board.now.name }
-    requires bound { board.now.processors ≤ 8 }
+    requires bound { board.now.processors ≤ 64 }
     ensures of { IfOk result (λ a. a.of ≡ actor.of) }
     ensures number { IfOk result (λ a. a.number ≡ actor.number) }
     ensures calls { IfOk result (λ a. (more : List Call) × (a.calls ≡ actor.calls ++ more) × AreSteps (last_steps board.now.processors) more) }
 {
-    for place in 0..4 * board.processors() {
-        board.absorb(rt, &mut actor, place / 4, place % 4)?;
+    for place in 0..4 * u16::from(board.processors()) {
+        board.absorb(rt, &mut actor, (place / 4) as u8, (place % 4) as u8)?;
     }
     Ok(actor)
 }

@@ -45,7 +45,7 @@ pub(crate) fn work<S: Origin, R: Threads + Wait + Sync, G: Gate + Sync>(
     lines: Vec<Line>,
 ) -> Result<Worked, WorkFault>
     requires size { AreScriptSizes setup.now scripts.now }
-    requires bound { setup.now.processors ≤ 8 }
+    requires bound { setup.now.processors ≤ 64 }
     requires step { has_bad_step setup.now scripts.now ≡ false }
     requires board { board.now.processors ≡ setup.now.processors }
     requires actors { actors.items ≡ map (new_actor board.now.name) (range_with_len 0 (vec_len scripts.now.actors + 1)) }

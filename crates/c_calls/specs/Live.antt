@@ -28,6 +28,12 @@ is_live (Some (Live board)) = true
 is_live (Some (Plain board)) = false
 is_live None = false
 
+-- a board without live pages that has more processors than a board with them may have
+abbrev pub IsTooLarge : Option AnyBoard → Type 0
+IsTooLarge (Some (Plain board)) = 8 < processors board.board.state
+IsTooLarge (Some (Live board)) = ⊥
+IsTooLarge None = ⊥
+
 -- the board of a handle got live pages
 abbrev pub GotPages : Option AnyBoard → Option AnyBoard → Type 0
 GotPages (Some board) (Some after) = IsMadeLive board after

@@ -35,11 +35,11 @@ vector_or_0 next = option_map_or (λ vector. vector) next 0
 
 -- the next vector of a processor
 abbrev pub next_vector_of : Option AnyBoard → ℕ → ℕ
-next_vector_of board vp = if nat_lt vp 8 then summary_or 0 (λ values. vector_or_0 (slice_index_or values.nexts vp None)) board else 0
+next_vector_of board vp = if nat_lt vp 64 then summary_or 0 (λ values. vector_or_0 (slice_index_or values.nexts vp None)) board else 0
 
 -- whether a vector is auto-EOI
 abbrev pub is_auto_eoi_of : Option AnyBoard → ℕ → ℕ → Bool
-is_auto_eoi_of board vp vector = if nat_lt vp 8 && not (nat_lt vector 16) then summary_or false (λ values. set.contains (slice_index_or values.autos vp set.empty) vector) board else false
+is_auto_eoi_of board vp vector = if nat_lt vp 64 && not (nat_lt vector 16) then summary_or false (λ values. set.contains (slice_index_or values.autos vp set.empty) vector) board else false
 
 -- which page a guest sees
 abbrev pub owner_to_c : Owner → COwner
@@ -63,7 +63,7 @@ IsNextOverlayOf (Some board) from overlay = (next : Option (ℕ × Owner)) × Is
 
 -- how many messages are queued for a source
 abbrev pub queue_length_of : Option AnyBoard → ℕ → ℕ → ℕ
-queue_length_of board vp sint = if nat_lt vp 8 && nat_lt sint 16 then summary_or 0 (λ values. slice_index_or values.queued (source_number vp sint) 0) board else 0
+queue_length_of board vp sint = if nat_lt vp 64 && nat_lt sint 16 then summary_or 0 (λ values. slice_index_or values.queued (source_number vp sint) 0) board else 0
 
 -- the earliest timer, with its deadline in two halves
 abbrev pub deadline_to_c : Option (ℕ × (ℕ × ℕ)) → CDeadline
@@ -89,7 +89,7 @@ next_ticket_of (Some board) = (state_in board).next_ticket
 -- whether a processor has an own page of a kind, and whether there is a guest page
 abbrev pub has_own_page : Option AnyBoard → ℕ → Kind → Bool
 has_own_page None vp kind = false
-has_own_page (Some board) vp kind = nat_lt vp 8 && is_some (slice_get (state_in board).own (overlay_of vp kind))
+has_own_page (Some board) vp kind = nat_lt vp 64 && is_some (slice_get (state_in board).own (overlay_of vp kind))
 
 abbrev pub has_guest_page : Option AnyBoard → ℕ → Bool
 has_guest_page None number = false

@@ -9,7 +9,7 @@ use posted_words::{PostedFault, Raised};
 use std::alloc::Global;
 
 /// Opens words for that many processors, with all bits clear, and their first line, in a closed
-/// handle. Returns 0; or 1 unless there are 1 to 8 processors, 2 if an allocation fails, 3 if the
+/// handle. Returns 0; or 1 unless there are 1 to 64 processors, 2 if an allocation fails, 3 if the
 /// handle is open.
 #[unsafe(no_mangle)]
 pub extern "C" fn synicboard_open_line(alloc: Global, line: &mut LineHandle, processors: u8) -> u8

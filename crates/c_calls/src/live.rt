@@ -1,18 +1,19 @@
 // Boards whose message and event flags pages a running guest loads and stores.
-ghost use Rattle.std.specs.Prelude.{◌≡◌, ◌≢◌, ◌↔◌, ◌<◌, ◌≤◌, ℕ, true, false, [], ◌∷◌, length, None, Some, IfSome, IfNone};
+ghost use Rattle.std.specs.Prelude.{◌≡◌, ◌≢◌, ◌↔◌, ◌<◌, ◌≤◌, ℕ, true, false, [], ◌∷◌, length, None, Some, IfSome, IfNone, IsTrue};
 ghost use Rattle.c_handles.specs.Kinds.{IsMadeLive};
 ghost use Rattle.c_terms.specs.Events.{event_from_c};
 ghost use Rattle.c_terms.specs.Rooms.{Fronts};
 ghost use Rattle.live_board.specs.Live.{IsObserved};
 ghost use Rattle.live_board.specs.Settling.{IsSettled};
 ghost use Rattle.synic_board.specs.State.{processors};
-ghost use Rattle.c_calls.specs.Live.{is_live, GotPages, alone, MarksOwed, IsActedLive, IsActedOn, IsLookedAt, late_notices_of};
+ghost use Rattle.c_calls.specs.Live.{is_live, IsTooLarge, GotPages, alone, MarksOwed, IsActedLive, IsActedOn, IsLookedAt, late_notices_of};
 ghost use Rattle.c_calls.specs.Outcomes.{is_among};
 
 use crate::views::with_bit;
 use board_terms::{Refusal, Vp};
 use c_handles::{AnyBoard, BoardHandle, LiveWithNotices};
 use c_terms::{CEvent, CNotice, CReply, Fault, event_of, fault_to_c, put_plain, reply_to_c};
+use live_board::MOST_PROCESSORS;
 use std::alloc::Global;
 use synic_board::{Event, Reply};
 
@@ -29,12 +30,14 @@ pub struct CLiveReply {
 }
 
 /// Gives the board of a handle live pages, which have the bytes of its message and event flags pages.
-/// Returns 0; or 2 if an allocation fails, 4 if the handle is closed, 14 if the board has live pages.
+/// Returns 0; or 1 if the board has more than eight processors, 2 if an allocation fails, 4 if the handle
+/// is closed, 14 if the board has live pages.
 /// Allocates all memory that events need.
 #[unsafe(no_mangle)]
 pub extern "C" fn synicboard_make_live(alloc: Global, handle: &mut BoardHandle) -> u8
-    ensures answers { is_among (0 ∷ 2 ∷ 4 ∷ 14 ∷ []) result ≡ true }
+    ensures answers { is_among (0 ∷ 1 ∷ 2 ∷ 4 ∷ 14 ∷ []) result ≡ true }
     ensures closed { (result ≡ 4) ↔ (handle.old.board ≡ None) }
+    ensures size { (result ≡ 1) ↔ IsTooLarge handle.old.board }
     ensures live { (result ≡ 14) ↔ (is_live handle.old.board ≡ true) }
     ensures made { result ≡ 0 → GotPages handle.old.board handle.new.board }
     ensures kept { result ≢ 0 → handle.new.board ≡ handle.old.board }
@@ -47,17 +50,32 @@ pub extern "C" fn synicboard_make_live(alloc: Global, handle: &mut BoardHandle) 
 
 /// Gives a board live pages, if it has none.
 fn make_live(alloc: Global, board: &mut AnyBoard) -> u8
-    ensures answers { is_among (0 ∷ 2 ∷ 14 ∷ []) result ≡ true }
+    ensures answers { is_among (0 ∷ 1 ∷ 2 ∷ 14 ∷ []) result ≡ true }
+    ensures size { (result ≡ 1) ↔ IsTooLarge (Some board.old) }
     ensures live { (result ≡ 14) ↔ (is_live (Some board.old) ≡ true) }
     ensures made { result ≡ 0 → IsMadeLive board.old board.new }
     ensures kept { result ≢ 0 → board.new ≡ board.old }
 {
+    if is_too_large(board) {
+        return 1;
+    }
     if is_live(board) {
         return 14;
     }
     match board.make_live(alloc) {
         Ok(()) => 0,
         Err(_) => 2,
+    }
+}
+
+/// Whether a board without live pages has more processors than a board with them may have.
+fn is_too_large(board: &AnyBoard) -> bool
+    ensures large { IsTrue result ↔ IsTooLarge (Some board.now) }
+    ensures plain { IsTrue result → is_live (Some board.now) ≡ false }
+{
+    match board {
+        AnyBoard::Plain(held) => held.board.processors() > MOST_PROCESSORS,
+        AnyBoard::Live(_) => false,
     }
 }
 

@@ -42,7 +42,7 @@ pub extern "C" fn synicboard_open(
 
 /// Opens a sparse board of that many processors at time 0, in a closed handle: its guest's pages are in
 /// the caller's memory. The first message that it accepts gets the ticket `first_ticket`. Returns 0; or 1
-/// unless there are 1 to 8 processors, 2 if an allocation fails, 3 if the handle is open. Allocates all
+/// unless there are 1 to 64 processors, 2 if an allocation fails, 3 if the handle is open. Allocates all
 /// memory that events need.
 #[unsafe(no_mangle)]
 pub extern "C" fn synicboard_open_sparse(

@@ -40,7 +40,7 @@ impl BoardWithNotices {
     }
 
     /// Opens a sparse board of that many processors at time 0, without notices. `BadSize` unless there
-    /// are 1 to 8 processors.
+    /// are 1 to 64 processors.
     pub fn open_sparse(
         alloc: Global,
         processors: u8,

@@ -45,7 +45,7 @@ impl Model for OwnedLine {
 
 impl OwnedLine {
     /// The first line of new words for that many processors, with all bits clear. It has no steps
-    /// and may split off 31 lines. `BadSize` unless there are 1 to 8 processors, which is checked
+    /// and may split off 31 lines. `BadSize` unless there are 1 to 64 processors, which is checked
     /// first; `Memory` if an allocation fails.
     pub fn open(alloc: Global, processors: u8) -> Result<OwnedLine, PostedFault>
         ensures size { IsErrOf result PostedFault.BadSize ↔ (¬ AreWordSizes processors 16 16) }

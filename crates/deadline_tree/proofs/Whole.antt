@@ -56,9 +56,6 @@ module _ (t : Tree) (sound : IsSound t) where
     pub root-number : node t 1 % 256 ≡ first
     root-number = ap (λ w. w % 256) leaf.1.1 ∙ (sound.tree.leaves first leaf.1.0).number low-word
 
-    pub root-below : node t 1 % 256 < 32
-    root-below = let low = leaf.1.0 in omega (arith, root-number, low, sound.tree.bound)
-
     -- another timer with a deadline
     before : (k e : ℕ) → k < count t → due_at t k ≡ Some e → (node t 1 / 256 ≤ e) × (e ≡ node t 1 / 256 → first ≤ k)
     before k e low is =
@@ -77,10 +74,6 @@ module _ (t : Tree) (sound : IsSound t) where
             | inr none ↦ absurd (none-some e (sym (due-never (word_of t k) (late_due t k) (omega (arith, more, none))) ∙ is))
           ]
         ]
-
-    -- also without its upper bits
-    pub root-short : node t 1 % 32 ≡ node t 1 % 256
-    root-short = omega (arith, root-below)
 
     pub root-least : least (dues t) ≡ Some (node t 1 / 256, timer_of (node t 1 % 256))
     root-least =
@@ -121,7 +114,7 @@ module _ (t : Tree) (sound : IsSound t) where
         get_or-map (if_later 0) (dues t) k None None (omega (arith, low, length-dues t)) ∙ ap (if_later 0) (dues_at t k low) ∙ late-each k low))
 
 -- a table without deadlines
-module _ (t : Tree) (k : ℕ) (some : 1 ≤ k) (bound : k ≤ 8) (nodes : t.nodes ≡ replicate (2 * (4 * k)) never) (lates : t.lates ≡ replicate (4 * k) 0) where
+module _ (t : Tree) (k : ℕ) (some : 1 ≤ k) (bound : k ≤ 64) (nodes : t.nodes ≡ replicate (2 * (4 * k)) never) (lates : t.lates ≡ replicate (4 * k) 0) where
   many : count t ≡ 4 * k
   many = ap length lates ∙ length-replicate (4 * k) 0
 

@@ -1,5 +1,5 @@
 // The deadlines of the timers, and a tree of the timers that come first.
-ghost use Rattle.std.specs.Prelude.{◌≡◌, ◌≢◌, ◌+◌, ◌*◌, ◌/◌, ◌<◌, ◌≤◌, IsTrue, None, Some, IfOk, IfSome, length, min, nat_lt, slice_index_or, slice_set};
+ghost use Rattle.std.specs.Prelude.{◌≡◌, ◌≢◌, ◌+◌, ◌*◌, ◌/◌, ◌<◌, ◌≤◌, IsTrue, None, Some, IfOk, length, min, nat_lt, slice_index_or, slice_set};
 ghost use Rattle.std.specs.Option.{option_map, option_map_or};
 ghost use Rattle.board_terms.specs.Dues.{timer_of, least, earlier, if_later, later_than};
 ghost use Rattle.deadline_tree.specs.Deadlines.{no_dues, levels};
@@ -66,7 +66,7 @@ impl Table {
     /// A table without deadlines.
     pub(crate) fn open(alloc: Global, processors: u8) -> Result<Table, AllocError>
         requires some { 1 ≤ processors }
-        requires bound { processors ≤ 8 }
+        requires bound { processors ≤ 64 }
         ensures sound { IfOk result (λ table. IsSound (tree_in table)) }
         ensures dues { IfOk result (λ table. dues (tree_in table) ≡ no_dues processors) }
     {
@@ -225,8 +225,7 @@ impl Table {
     {
         let word = self.nodes[1];
         if word < LATE_WORD {
-            // No timer has a greater number, so this tests nothing.
-            let timer = TimerId::from_number((word % 32) as u8).unwrap();
+            let timer = TimerId::from_number((word % 256) as u8).unwrap();
             return Some(((word / 256) as u128, timer));
         }
         match self.first_late() {
@@ -245,8 +244,7 @@ impl Table {
     fn first_late(&self) -> Option<u8>
         requires sound { IsSound (tree_in self.now) }
         requires late { late_word ≤ node (tree_in self.now) 1 }
-        ensures low { IfSome result (λ n. n < 32) }
-        ensures least { least (dues (tree_in self.now)) ≡ option_map_or (λ n. option_map (λ d. (d, timer_of n)) (slice_index_or (dues (tree_in self.now)) n None)) result None }
+        ensures { least (dues (tree_in self.now)) ≡ option_map_or (λ n. option_map (λ d. (d, timer_of n)) (slice_index_or (dues (tree_in self.now)) n None)) result None }
     {
         if self.nodes[1] == NEVER {
             return None;
@@ -264,7 +262,9 @@ impl Table {
         ensures { result ≡ least (later_than moment (dues (tree_in self.now))) }
     {
         let mut first = None;
-        for number in 0..self.count() as u8 {
+        // 256 timers are more than a u8 counts
+        for at in 0..self.count() {
+            let number = at as u8;
             if let Some(due) = self.later(number, moment) {
                 first = Some(earlier(first, due, number));
             }

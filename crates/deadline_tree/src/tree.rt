@@ -37,11 +37,11 @@ impl Model for DeadlineTree {
 }
 
 impl DeadlineTree {
-    /// A tree for the timers of that many processors, 1 to 8, without deadlines. The only call here that
+    /// A tree for the timers of that many processors, 1 to 64, without deadlines. The only call here that
     /// allocates.
     pub fn open(alloc: Global, processors: u8) -> Result<DeadlineTree, AllocError>
         requires some { 1 ≤ processors }
-        requires bound { processors ≤ 8 }
+        requires bound { processors ≤ 64 }
         ensures dues { IfOk result (λ tree. tree.dues ≡ no_dues processors) }
         ensures compared { IfOk result (λ tree. tree.compared ≡ 0) }
     {

@@ -50,10 +50,10 @@ fn fits(shape: PortShape) -> bool
 }
 
 impl Ports {
-    /// All ports closed, on a board with that many processors, 1 to 8.
+    /// All ports closed, on a board with that many processors, 1 to 64.
     pub fn new(processors: u8) -> Ports
         requires some { 1 ≤ processors }
-        requires bound { processors ≤ 8 }
+        requires bound { processors ≤ 64 }
         ensures { result ≡ no_ports processors }
     {
         Ports {

@@ -6,7 +6,8 @@ ghost use Rattle.gpa_space.specs.inside.OverlaysAt.{IsLowest, Marks, IsLeastPage
 use crate::overlay::OverlayWord;
 use std::alloc::{AllocError, Global};
 
-/// A word for each guest page: bit i is set iff overlay i is mapped at the page.
+/// A word for each guest page: bit i is set iff overlay i is mapped at the page. Where there are
+/// words, there are at most 16 overlays.
 #[derive(Drop)]
 pub(crate) struct OverlaysAt {
     words: Vec<u16>,
@@ -36,7 +37,7 @@ impl OverlaysAt {
 
     /// Records that an overlay is mapped at a page or no longer is, if the page is in the space.
     pub(crate) fn mark(&mut self, page: u64, overlay: usize, is_mapped: bool)
-        requires { overlay < 16 }
+        requires { length self.old.words.items ≢ 0 → overlay < 16 }
         ensures { Marks self.old.words.items self.new.words.items page overlay is_mapped }
     {
         if page < self.words.len() as u64 {

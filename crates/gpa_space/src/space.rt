@@ -1,5 +1,5 @@
 // Guest pages, and the overlay pages that may obscure them.
-ghost use Rattle.std.specs.Prelude.{[], ◌≡◌, ◌+◌, ◌<◌, ◌≤◌, ◌*◌, ◌/◌, length, slice_index_or, not, IfOk, IfErr, OnOk, IfSome, None, Some, Ok, Err, replicate, slice_get};
+ghost use Rattle.std.specs.Prelude.{[], ◌≡◌, ◌≢◌, ◌+◌, ◌<◌, ◌≤◌, ◌*◌, ◌/◌, length, slice_index_or, not, IfOk, IfErr, OnOk, IfSome, None, Some, Ok, Err, replicate, slice_get};
 ghost use Rattle.std.specs.List.{All};
 ghost use Rattle.std.specs.Option.{option_copied, option_map_or};
 ghost use Rattle.board_terms.specs.declared.pages.Kind.TheVariants as kind;
@@ -49,12 +49,13 @@ impl Model for Space {
 }
 
 impl Space {
-    /// A space for 1 to 8 processors with 1 to 64 guest pages, or with 0: then it is sparse. All
-    /// bytes are zero and all overlays are disabled. The only call here that allocates.
+    /// A space for 1 to 8 processors with 1 to 64 guest pages, or for 1 to 64 with 0: then it is
+    /// sparse. All bytes are zero and all overlays are disabled. The only call here that allocates.
     pub fn open(alloc: Global, processors: u8, pages: u8) -> Result<Space, AllocError>
         requires some_processor { 1 ≤ processors }
-        requires processor_bound { processors ≤ 8 }
+        requires processor_bound { processors ≤ 64 }
         requires page_bound { pages ≤ 64 }
+        requires dense { pages ≢ 0 → processors ≤ 8 }
         ensures { IfOk result (λ space. space ≡ opened processors pages) }
     {
         let overlays = 2 * processors as usize;
@@ -118,7 +119,7 @@ impl Space {
     #[inline(never)]
     fn search(&self, page: u64) -> Option<usize>
         ensures value { result ≡ visible self.now page }
-        ensures bound { IfSome result (λ overlay. overlay < 16) }
+        ensures bound { IfSome result (λ overlay. overlay < 128) }
     {
         self.registers
             .iter()
@@ -395,7 +396,7 @@ fn overlay_of(vp: Vp, kind: Kind) -> usize
 
 /// The owner of an overlay page, by its number in the order of visibility.
 fn overlay_owner(overlay: usize) -> Owner
-    requires { overlay < 16 }
+    requires { overlay < 128 }
     ensures { result ≡ overlay_owner overlay }
 {
     let vp = Vp::new((overlay / 2) as u8).unwrap();

@@ -14,3 +14,4 @@ mod Periods
 pub mod Replies
 pub mod Saved
 pub mod Needed
+mod Ticking

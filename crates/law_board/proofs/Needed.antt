@@ -11,7 +11,7 @@ use Rattle.board_terms.specs.declared.messages.Message.{Message}
 use Rattle.board_terms.specs.declared.messages.Message.TheVariants.{FromPort, FromTimer}
 use Rattle.board_terms.specs.Messages.{ticket_of}
 use Rattle.board_terms.specs.Sources.{source_number}
-use Rattle.message_queues.specs.Queues.{is_from_port, is_from_timer, timer_used, queue_of, HasBuffer}
+use Rattle.message_queues.specs.Queues.{is_from_port, is_from_timer, timer_used, queue_of, processors_of, HasBuffer}
 use Rattle.synic_board.specs.State.{State, processors}
 use Rattle.synic_board.specs.Locations.{times, locations}
 use Rattle.synic_board.specs.Sound.{IsMessage, IsSound}
@@ -77,7 +77,8 @@ may-join s p i m below under before sound buffers = record {
     room (FromTimer ticket t expiration) is at =
         let found : is_from_timer t m ≡ true = ap (is_from_timer t) is ∙ (λ k. itself t.0 k && itself t.1 k) in
         let none : timer_used s.queues t ≡ 0 = omega (arith, buffers.one_each t, more (is_from_timer t) found) in
-        ap (λ n. n == 0) none
+        let there : t.0 < processors_of s.queues = omega (arith, before.whole.queues, below, at.0) in
+        (there, ap (λ n. n == 0) none)
 
     share : (x : Message) → m ≡ x → IsWithinShare s x
     share (FromPort ticket port kind payload) is = λ k e. omega (arith, buffers.within port k e, more (is_from_port port) (ap (is_from_port port) is ∙ itself port))

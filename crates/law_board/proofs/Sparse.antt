@@ -44,7 +44,7 @@ use Rattle.synic_board.proofs.keeping.Requests.{either}
 use Rattle.synic_board.specs.Absorbing.{is_posted, absorbed_bit, absorbed_below, absorbed}
 use Rattle.synic_board.specs.Sending.{sent_to, sent_below, sent}
 use Rattle.synic_board.specs.Delivery.{delivers, is_slot_empty, placed_head, placed, marked, tried, tried_below, accepted, delivered}
-use Rattle.synic_board.specs.Timers.{is_ready, mode_at, delivery_by, signalled_by, expired_state, expiry_at, expiry_notices, fired, attempted, attempted_all, at_moment, ticked}
+use Rattle.synic_board.specs.Timers.{is_ready, mode_at, delivery_by, signalled_by, expired_state, expiry_at, expiry_notices, fired, attempted, attempted_until, most_expiries, at_moment, ticked}
 use Rattle.board_terms.specs.Quantities.{TimerId}
 use Rattle.law_board.specs.Sparse.{Memory, AreAllPages, holding, is_callers_access, with_memory, completed, completed_run}
 
@@ -133,10 +133,13 @@ blind-attempted : (t : TimerId) → Blind (λ s. attempted s t)
 unfolding attempted
 blind-attempted t s m = blind-either s m (is_ready s t) (λ x. fired x t (mode_at x t)) nothing (blind-fired t (mode_at s t) s m) refl
 
-blind-attempted_all : (ts : List TimerId) → Blind (λ s. attempted_all s ts)
-unfolding attempted_all
-blind-attempted_all [] s m = refl
-blind-attempted_all (t ∷ ts) s m = blind-after (λ x. attempted x t) (λ x. attempted_all x ts) (blind-attempted t) (blind-attempted_all ts) s m
+blind-attempted_until : (n : ℕ) (ts : List TimerId) → Blind (λ s. attempted_until n s ts)
+unfolding attempted_until
+blind-attempted_until zero ts s m = refl
+blind-attempted_until (suc n) [] s m = refl
+blind-attempted_until (suc n) (t ∷ ts) s m =
+    let left = if is_ready s t then n else suc n in
+    blind-after (λ x. attempted x t) (λ x. attempted_until left x ts) (blind-attempted t) (blind-attempted_until left ts) s m
 
 -- an outcome, with other guest pages
 abbrev HO : Memory → Outcome → Outcome
@@ -200,9 +203,9 @@ blind-signalled_at port flag s m = by (flag_place_of (ports_of s) port flag)
 
 blind-ticked : (moment : ℕ) → IsBlind (λ s. ticked s moment)
 blind-ticked moment s m = blind-cases s m (nat_lt moment s.moment) (λ x. refused x ClockBack)
-    (λ x. if moment == x.moment then unchanged x Done else answered Done (attempted_all (at_moment x moment) (due_list (dues (bank_of x)) moment))) refl
-    (blind-cases s m (moment == s.moment) (λ x. unchanged x Done) (λ x. answered Done (attempted_all (at_moment x moment) (due_list (dues (bank_of x)) moment))) refl
-    (ap (answered Done) (blind-attempted_all (due_list (dues (bank_of s)) moment) (at_moment s moment) m)))
+    (λ x. if moment == x.moment then unchanged x Done else answered Done (attempted_until most_expiries (at_moment x moment) (due_list (dues (bank_of x)) moment))) refl
+    (blind-cases s m (moment == s.moment) (λ x. unchanged x Done) (λ x. answered Done (attempted_until most_expiries (at_moment x moment) (due_list (dues (bank_of x)) moment))) refl
+    (ap (answered Done) (blind-attempted_until most_expiries (due_list (dues (bank_of s)) moment) (at_moment s moment) m)))
 
 blind-written : (p number value : ℕ) → IsBlind (λ s. written s p number value)
 blind-written p number value s m = by (register_of number)

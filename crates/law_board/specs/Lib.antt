@@ -11,3 +11,4 @@ pub mod Sparse
 pub mod Leaving
 pub mod Sends
 pub mod Saved
+pub mod Ticks

@@ -39,6 +39,8 @@ ghost use Rattle.synic_board.specs.Delivery.{delivers, is_slot_empty};
 ghost use Rattle.law_board.specs.Seen.{IsSeen};
 ghost use Rattle.law_board.specs.Refusals.{LeavesNoTrace, AnswersAlike};
 ghost use Rattle.law_board.specs.Sends.{asserts_below, SendsAlike};
+ghost use Rattle.synic_board.specs.Timers.{ticked};
+ghost use Rattle.law_board.specs.Ticks.{ticked_all};
 
 /// For any events from an opened board: each accepted message got the next ticket, and is in one
 /// queue or slot, or was consumed or withdrawn once; no other message appears. Together with `run`,
@@ -54,16 +56,21 @@ pub fn each_state_is_sound()
     ensures { (processors pages first : ℕ) (events : List Event) → All PayloadFits events → IsSound (run_of (opened processors pages first) events).0 }
 {}
 
-/// After any events from an opened board, which has at most eight processors: a reset emits at most 276
-/// notices, and any other event at most 192.
+/// After any events from an opened board, with any number of processors: a reset emits at most 276 notices,
+/// and any other event at most 192.
 pub fn each_event_emits_a_bounded_number_of_notices()
-    ensures { (processors pages first : ℕ) (events : List Event) (event : Event) → processors ≤ 8 → length (step (run_of (opened processors pages first) events).0 event).2 ≤ most_notices event }
+    ensures { (processors pages first : ℕ) (events : List Event) (event : Event) → length (step (run_of (opened processors pages first) events).0 event).2 ≤ most_notices event }
+{}
+
+/// In any state with at most 32 timers, those of eight processors, a tick tries each timer that is due.
+pub fn a_tick_tries_each_of_32_timers()
+    ensures { (s : State) (moment : ℕ) → length s.timers ≤ 32 → ticked s moment ≡ ticked_all s moment }
 {}
 
 /// For any events from an opened board: the timers of a processor are suspended iff its local APIC is. So
 /// the two suspension flags of a processor always agree.
 pub fn a_processor_has_one_suspension()
-    ensures { (processors pages first : ℕ) (events : List Event) → processors ≤ 8 → HasOneSuspension (run_of (opened processors pages first) events).0 }
+    ensures { (processors pages first : ℕ) (events : List Event) → processors ≤ 64 → HasOneSuspension (run_of (opened processors pages first) events).0 }
 {}
 
 /// No reply has more than 8 bytes, the most that a guest may load at once.

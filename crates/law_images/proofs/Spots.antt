@@ -136,7 +136,7 @@ few Timers = omega arith
 few Queues = omega arith
 few Slots = omega arith
 
-first-few : (n m : ℕ) → n ≤ 8 → m ≤ 64 → (σ : Section) → first_size n m σ ≤ 64
+first-few : (n m : ℕ) → n ≤ 64 → m ≤ 64 → (σ : Section) → first_size n m σ ≤ 64
 first-few n m processors pages Time = omega arith
 first-few n m processors pages Guests = pages
 first-few n m processors pages Ports = omega arith
@@ -175,7 +175,7 @@ record IsLow (n m : ℕ) (σ : Section) (a b c : ℕ) : Type 0 where
   second : b < 19
   third : c < 16
 
-low : (n m : ℕ) → n ≤ 8 → m ≤ 64 → (σ : Section) (a b c : ℕ) → IsSpot n m σ a b c → IsLow n m σ a b c
+low : (n m : ℕ) → n ≤ 64 → m ≤ 64 → (σ : Section) (a b c : ℕ) → IsSpot n m σ a b c → IsLow n m σ a b c
 low n m processors pages σ a b c h = record {
   first = omega (arith, h.0, first-few n m processors pages σ);
   second = omega (arith, h.1, second-few σ);
@@ -183,11 +183,11 @@ low n m processors pages σ a b c h = record {
 }
 
 -- all spots are before the end
-pub before-end : (n m : ℕ) → n ≤ 8 → m ≤ 64 → (σ : Section) (a b c : ℕ) → IsSpot n m σ a b c → place_at σ a b c < place 10 0 0 0
+pub before-end : (n m : ℕ) → n ≤ 64 → m ≤ 64 → (σ : Section) (a b c : ℕ) → IsSpot n m σ a b c → place_at σ a b c < place 10 0 0 0
 before-end n m processors pages σ a b c spot = let l = low n m processors pages σ a b c spot in omega (arith, l.first, l.second, l.third, few σ)
 
 -- All lines get that line at their end.
-module _ (n m : ℕ) (processors : n ≤ 8) (pages : m ≤ 64) (old new : Layout) (at : ℕ) (x : List (List ℕ)) (h : AddsLine n m old new at x) where
+module _ (n m : ℕ) (processors : n ≤ 64) (pages : m ≤ 64) (old new : Layout) (at : ℕ) (x : List (List ℕ)) (h : AddsLine n m old new at x) where
   here : IsLow n m h.section h.a h.b h.c
   here = low n m processors pages h.section h.a h.b h.c h.spot
 

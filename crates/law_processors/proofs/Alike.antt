@@ -34,10 +34,10 @@ use Rattle.synic_board.specs.Registers.{stored, written_register, written, read_
 use Rattle.synic_board.specs.Suspending.{is_suspended, with_suspension, suspended, resumed}
 use Rattle.synic_board.specs.Resetting.{emptied, cleared, reset}
 use Rattle.synic_board.specs.Stores.{consumed_in, with_bytes, stored_bytes, read_bytes}
-use Rattle.synic_board.specs.Timers.{attempted, attempted_all, at_moment, ticked}
+use Rattle.synic_board.specs.Timers.{attempted, attempted_until, most_expiries, at_moment, ticked}
 use Rattle.synic_board.specs.Step.{step}
 use Rattle.law_processors.specs.Elsewhere.{idle_apic, idle, others, is_priority, asks_apic, is_apics_register, is_apics_own, AnswerAlike}
-use Rattle.law_processors.proofs.Elsewhere.{B, idle-idle, same-apic, blind-requested, blind-raised, blind-after, blind-absorbed, blind-sent_below, blind-tried_below, blind-delivered, blind-attempted, blind-attempted_all, blind-reset, blind-suspension, mark-idle, blind-consumed_in, kept}
+use Rattle.law_processors.proofs.Elsewhere.{B, idle-idle, same-apic, blind-requested, blind-raised, blind-after, blind-absorbed, blind-sent_below, blind-tried_below, blind-delivered, blind-attempted, blind-attempted_until, blind-reset, blind-suspension, mark-idle, blind-consumed_in, kept}
 
 -- an outcome, apart from the local APICs
 abbrev O : Outcome → Outcome
@@ -110,9 +110,9 @@ blind-signalled_at port flag s = ap (λ (ports : Ports). O (signalled_at (idle s
 
 blind-ticked : (moment : ℕ) → IsBlind (λ s. ticked s moment)
 blind-ticked moment s = cases s (nat_lt moment s.moment) (λ x. refused x ClockBack)
-    (λ x. if moment == x.moment then unchanged x Done else answered Done (attempted_all (at_moment x moment) (due_list (dues (bank_of x)) moment))) (blind-unchanged s _)
-    (cases s (moment == s.moment) (λ x. unchanged x Done) (λ x. answered Done (attempted_all (at_moment x moment) (due_list (dues (bank_of x)) moment))) (blind-unchanged s _)
-    (same-answer Done (at_moment s moment) (λ x. attempted_all x (due_list (dues (bank_of s)) moment)) (blind-attempted_all (due_list (dues (bank_of s)) moment) (at_moment s moment))))
+    (λ x. if moment == x.moment then unchanged x Done else answered Done (attempted_until most_expiries (at_moment x moment) (due_list (dues (bank_of x)) moment))) (blind-unchanged s _)
+    (cases s (moment == s.moment) (λ x. unchanged x Done) (λ x. answered Done (attempted_until most_expiries (at_moment x moment) (due_list (dues (bank_of x)) moment))) (blind-unchanged s _)
+    (same-answer Done (at_moment s moment) (λ x. attempted_until most_expiries x (due_list (dues (bank_of s)) moment)) (blind-attempted_until most_expiries (due_list (dues (bank_of s)) moment) (at_moment s moment))))
 
 -- the local APIC of a processor is written
 own-apic : (s : State) (p : ℕ) (a b : Apic) → a.suspended ≡ (apic_of s p).suspended → b.suspended ≡ (apic_of (idle s) p).suspended → (reply : Reply)

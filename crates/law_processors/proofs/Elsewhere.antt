@@ -24,7 +24,7 @@ use Rattle.synic_board.specs.Resetting.{withdrawn_ticket, slot_emptied, queue_em
 use Rattle.synic_board.specs.Stores.{consumed_ticket, consumed, consumed_below, consumed_in}
 use Rattle.synic_board.specs.Absorbing.{is_posted, absorbed_bit, absorbed_below}
 use Rattle.synic_board.specs.Sending.{sent_to, sent_below}
-use Rattle.synic_board.specs.Timers.{is_ready, mode_at, delivery_by, signalled_by, expired_state, expiry_at, expiry_notices, fired, attempted, attempted_all}
+use Rattle.synic_board.specs.Timers.{is_ready, mode_at, delivery_by, signalled_by, expired_state, expiry_at, expiry_notices, fired, attempted, attempted_until}
 use Rattle.synic_regs.specs.Regs.{raised_by}
 use Rattle.law_processors.specs.Elsewhere.{idle_apic, idle, is_request, others}
 
@@ -145,10 +145,13 @@ pub blind-attempted : (t : TimerId) → Blind (λ s. attempted s t)
 unfolding attempted
 blind-attempted t s = blind-either s (is_ready s t) (λ x. fired x t (mode_at x t)) nothing (blind-fired t (mode_at s t) s) (blind-nothing s)
 
-pub blind-attempted_all : (ts : List TimerId) → Blind (λ s. attempted_all s ts)
-unfolding attempted_all
-blind-attempted_all [] s = blind-nothing s
-blind-attempted_all (t ∷ ts) s = blind-after (λ x. attempted x t) (λ x. attempted_all x ts) (blind-attempted t) (blind-attempted_all ts) s
+pub blind-attempted_until : (n : ℕ) (ts : List TimerId) → Blind (λ s. attempted_until n s ts)
+unfolding attempted_until
+blind-attempted_until zero ts s = blind-nothing s
+blind-attempted_until (suc n) [] s = blind-nothing s
+blind-attempted_until (suc n) (t ∷ ts) s =
+    let left = if is_ready s t then n else suc n in
+    blind-after (λ x. attempted x t) (λ x. attempted_until left x ts) (blind-attempted t) (blind-attempted_until left ts) s
 
 -- resetting
 blind-slot : (p i : ℕ) → Blind (λ s. slot_emptied s p i)

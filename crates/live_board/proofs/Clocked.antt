@@ -105,6 +105,7 @@ pub ticked-shadows : (s now : State) (pages pages-now : List (List Access)) (m :
     → IsTickFrom s 0 m pages event now pages-now reply owed before after late → Shadows now pages-now
 ticked-shadows s now pages pages-now m event reply owed before after late count shape h t = record {
   count = t.size ∙ h.count ∙ sym t.count;
+  few = omega (arith, t.size, h.few);
   words = λ j w low small. by j w (omega (arith, low, t.count)) small (cases_eq (j % 2) 0);
 }
   where

@@ -69,7 +69,7 @@ direct-count c count = by (count == 0) (enables_itself c)
 own-written : (s : State) (t : ℕ × ℕ) (x : Timer) → number_of t < length s.timers → is_direct x.config ≡ true → (written_timer s (with_timer (bank_of s) t x) t).0.own ≡ s.own
 own-written s t x low direct = own-attempted (with_bank s (with_timer (bank_of s) t x)) t (ap (λ (y : Timer). is_direct y.config) (get_or-set_same s.timers (number_of t) x idle_timer low) ∙ direct)
 
-own-register : (s : State) (p number value : ℕ) (o : Option Register) → register_of number ≡ o → is_direct_by s p value o ≡ true → p < processors s → processors s ≤ 8 → HasShape s → (option_map_or (λ r. (written_register s p r value).0.own) o s.own) ≡ s.own
+own-register : (s : State) (p number value : ℕ) (o : Option Register) → register_of number ≡ o → is_direct_by s p value o ≡ true → p < processors s → processors s ≤ 64 → HasShape s → (option_map_or (λ r. (written_register s p r value).0.own) o s.own) ≡ s.own
 own-register s p number value (Some (register.TimerConfig n)) is direct on few shape =
     let exists = (have_their_numbers number (register.TimerConfig n)).0 is in
     own-written s (p, n) (after_config (timer_in (bank_of s) (p, n)) value s.moment) (omega (arith, exists, on, few, shape.timers)) (direct-normalized (bit_and value 0xf1fff) ∙ direct)
@@ -78,7 +78,7 @@ own-register s p number value (Some (register.TimerCount n)) is direct on few sh
     own-written s (p, n) (after_count (timer_in (bank_of s) (p, n)) value s.moment) (omega (arith, exists, on, few, shape.timers)) (direct-count (timer_in (bank_of s) (p, n)).config value ∙ direct)
 own-register s p number value o is direct on few shape = absurd (cc)
 
-pub own-direct : (s now : State) (p : ℕ) (event : Event) (reply : Reply) (notices : List Notice) → IsTimerOf s p event → is_direct_write s event ≡ true → (now, reply, notices) ≡ step s event → processors s ≤ 8 → HasShape s → now.own ≡ s.own
+pub own-direct : (s now : State) (p : ℕ) (event : Event) (reply : Reply) (notices : List Notice) → IsTimerOf s p event → is_direct_write s event ≡ true → (now, reply, notices) ≡ step s event → processors s ≤ 64 → HasShape s → now.own ≡ s.own
 unfolding step
 own-direct s now p (Write q number value) reply notices (on, same, timer) direct is few shape = ap (λ (o : Outcome). o.0.own) is ∙ state ∙ own-register s p number value (register_of number) refl (sym (ap (λ k. is_direct_by s k value (register_of number)) same) ∙ direct) on few shape
   where

@@ -1,5 +1,5 @@
 -- A tick leaves the message page of a processor whose due timers are all in direct mode.
-use Rattle.std.proofs.Common.{◌≡◌, ◌≢◌, ◌⊎◌, inl, inr, ℕ, suc, ◌*◌, ◌<◌, Bool, true, false, nat_lt, List, [], ◌∷◌, length, map, get_or, Option, None, Some, refl, sym, ap, ◌∙◌, subst, arith}
+use Rattle.std.proofs.Common.{◌≡◌, ◌≢◌, ◌⊎◌, inl, inr, ℕ, suc, ◌*◌, ◌<◌, Bool, true, false, nat_lt, List, [], ◌∷◌, length, map, get_or, Option, None, Some, refl, sym, ap, ◌∙◌, subst, arith, zero}
 use Rattle.std.specs.Prelude.{◌==◌, if◌then◌else◌}
 use Rattle.std.specs.Option.{option_map_or}
 use Rattle.std.proofs.lemmas.Bool.{cases_eq}
@@ -28,7 +28,7 @@ use Rattle.synic_board.specs.Interrupts.{requested, raised}
 use Rattle.synic_board.specs.Delivery.{is_slot_empty, placed_head, tried, accepted}
 use Rattle.synic_board.specs.Sound.{IsSound}
 use Rattle.synic_board.specs.Step.{step}
-use Rattle.synic_board.specs.Timers.{mode_at, is_ready, signalled_by, expired_state, expiry_at, attempted, attempted_all, at_moment, ticked}
+use Rattle.synic_board.specs.Timers.{mode_at, is_ready, signalled_by, expired_state, expiry_at, attempted, attempted_until, most_expiries, at_moment, ticked}
 use Rattle.synic_board.proofs.keeping.Changes.{kept-moment}
 use Rattle.synic_board.proofs.keeping.Clocks.{keeps-attempted}
 use Rattle.synic_board.proofs.keeping.Requests.{either}
@@ -88,12 +88,13 @@ modes-attempted s t =
 abbrev DirectIf : List Bool → ℕ → ℕ × ℕ → Type 0
 DirectIf ms p t = t.0 ≡ p → get_or ms (number_of t) false ≡ true
 
-own-all : (n : ℕ) (s : State) (p : ℕ) (ts : List (ℕ × ℕ)) → IsIntact n s → Each (DirectIf (modes s) p) ts → get_or (attempted_all s ts).0.own (2 * p) [] ≡ get_or s.own (2 * p) []
-unfolding attempted_all
-own-all n s p [] h each = refl
-own-all n s p (t ∷ ts) h each =
+own-all : (n few : ℕ) (s : State) (p : ℕ) (ts : List (ℕ × ℕ)) → IsIntact n s → Each (DirectIf (modes s) p) ts → get_or (attempted_until few s ts).0.own (2 * p) [] ≡ get_or s.own (2 * p) []
+unfolding attempted_until
+own-all n zero s p ts h each = refl
+own-all n (suc few) s p [] h each = refl
+own-all n (suc few) s p (t ∷ ts) h each =
     let now : State = (attempted s t).0 in
-    own-all n now p ts (keeps-attempted n s t h).kept (subst (λ ms. Each (DirectIf ms p) ts) (sym (modes-attempted s t)) each.1) ∙ one (cases_eq t.0 p)
+    own-all n (if is_ready s t then few else suc few) now p ts (keeps-attempted n s t h).kept (subst (λ ms. Each (DirectIf ms p) ts) (sym (modes-attempted s t)) each.1) ∙ one (cases_eq t.0 p)
   where
     one : (t.0 ≡ p) ⊎ (t.0 ≢ p) → get_or (attempted s t).0.own (2 * p) [] ≡ get_or s.own (2 * p) []
     one (inl same) = ap (λ l. get_or l (2 * p) []) (own-attempted s t (sym (mode-here s t) ∙ each.0 same))
@@ -110,7 +111,7 @@ own-ticked n s p moment h direct =
     (λ _. refl)
     (λ _. either (λ (o : Outcome). get_or o.0.own (2 * p) [] ≡ get_or s.own (2 * p) []) (moment == s.moment) _ _
     (λ _. refl)
-    (λ _. own-all n (at_moment s moment) p ts (kept-moment n s moment h) (each-from (DirectIf (modes s) p) ts listed)))
+    (λ _. own-all n most_expiries (at_moment s moment) p ts (kept-moment n s moment h) (each-from (DirectIf (modes s) p) ts listed)))
   where
     ts : List (ℕ × ℕ)
     ts = due_list (dues (bank_of s)) moment

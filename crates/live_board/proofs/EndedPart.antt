@@ -8,6 +8,8 @@ use Rattle.board_terms.specs.declared.messages.Message.{Message}
 use Rattle.board_terms.specs.declared.notices.Notice.{Notice}
 use Rattle.board_terms.specs.declared.pages.Kind.TheVariants.{Sim}
 use Rattle.message_queues.specs.Image.{slot_type}
+use Rattle.synic_regs.specs.declared.register.Register.TheVariants.{Eom}
+use Rattle.synic_regs.proofs.Numbers.{have_their_numbers}
 use Rattle.synic_board.specs.declared.event.Event.{Event}
 use Rattle.synic_board.specs.declared.event.Event.TheVariants.{Write}
 use Rattle.synic_board.specs.declared.event.Reply.{Reply}
@@ -144,3 +146,17 @@ eom-fits s p event other = absurd other
 
 pub eom-stays : (s now : State) (p : ℕ) (event : Event) (reply : Reply) (notices : List Notice) → IsEomOf s p event → IsSound s → (now, reply, notices) ≡ step s event → p < processors now
 eom-stays s now p event reply notices eom sound is = subst (λ n. p < n) (sym (stays s now event reply notices (eom-fits s p event eom) sound is)) (eom-on s p event eom)
+
+-- an EOM by its register
+pub eom-is : (s : State) (p a n v : ℕ) (event : Event) → IsEomOf s p event → ((q number value : ℕ) → event ≡ Write q number value → event ≡ Write a n v) → event ≡ Write a 0x40000084 v
+eom-is s p a n v (Write q number value) (on, same, eom) by =
+    let register : 0x40000084 ≡ number = ((have_their_numbers number Eom).0 eom).1 in
+    let is : Write q number value ≡ Write a n v = by q number value refl in
+    let number-is : number ≡ n = cc in
+    is ∙ ap (λ k. Write a k v) (sym (register ∙ number-is))
+eom-is s p a n v event other by = absurd other
+
+-- and by all that it writes
+pub eom-as : (s : State) (p a n v : ℕ) (event : Event) → IsEomOf s p event → ((q number value : ℕ) → event ≡ Write q number value → event ≡ Write a n v) → event ≡ Write a n v
+eom-as s p a n v (Write q number value) eom by = by q number value refl
+eom-as s p a n v event other by = absurd other

@@ -1,6 +1,6 @@
 -- What writes of timers and ticks leave behind: a source has the same messages, or its slot is occupied and has MessagePending.
-use Rattle.std.proofs.Common.{◌≡◌, ◌≢◌, ◌⊎◌, inl, inr, ℕ, ◌+◌, ◌*◌, ◌<◌, true, ◌&&◌, nat_lt, List, [], ◌∷◌, ◌++◌, length, get_or, Option, None, Some, refl, sym, ap, ◌∙◌, subst, arith}
-use Rattle.std.specs.Prelude.{◌==◌}
+use Rattle.std.proofs.Common.{◌≡◌, ◌≢◌, ◌⊎◌, inl, inr, ℕ, ◌+◌, ◌*◌, ◌<◌, true, ◌&&◌, nat_lt, List, [], ◌∷◌, ◌++◌, length, get_or, Option, None, Some, refl, sym, ap, ◌∙◌, subst, arith, zero, suc}
+use Rattle.std.specs.Prelude.{◌==◌, if◌then◌else◌}
 use Rattle.std.specs.Int.{bit_at}
 use Rattle.std.specs.FinSet.{contains}
 use Rattle.std.proofs.lemmas.Bool.{cases_eq, and_parts}
@@ -21,7 +21,7 @@ use Rattle.synic_board.specs.Interrupts.{requested, raised}
 use Rattle.synic_board.specs.Delivery.{delivers, is_slot_empty, placed_head, tried, accepted, delivered}
 use Rattle.synic_board.specs.Slots.{slot_byte}
 use Rattle.synic_board.specs.Sound.{IsMessage}
-use Rattle.synic_board.specs.Timers.{mode_at, is_ready_for, is_ready, delivery_by, signalled_by, expired_state, expiry_at, fired, attempted, attempted_all, written_timer, at_moment, ticked}
+use Rattle.synic_board.specs.Timers.{mode_at, is_ready_for, is_ready, delivery_by, signalled_by, expired_state, expiry_at, fired, attempted, attempted_until, most_expiries, written_timer, at_moment, ticked}
 use Rattle.synic_board.proofs.keeping.Changes.{kept-timer, kept-moment}
 use Rattle.synic_board.proofs.keeping.Clocks.{Names, mode-names, keeps-attempted}
 use Rattle.synic_board.proofs.keeping.Placements.{page-long}
@@ -155,12 +155,14 @@ goes-attempted n s t p i h under =
     (λ ready. goes-fired n s t (mode_at s t) p i h (due-on n s t h (and_parts (is_due_in (bank_of s) t s.moment) (is_ready_for s t (mode_at s t)) ready).0) under (mode-names (timer_in (bank_of s) t).config))
     (λ _. inl (refl, λ x. x))
 
-pub goes-attempted_all : (n : ℕ) (s : State) (ts : List (ℕ × ℕ)) (p i : ℕ) → IsIntact n s → i < 16 → Goes s p i (attempted_all s ts).0
-unfolding attempted_all
-goes-attempted_all n s [] p i h under = inl (refl, λ x. x)
-goes-attempted_all n s (t ∷ ts) p i h under =
+pub goes-attempted_until : (n few : ℕ) (s : State) (ts : List (ℕ × ℕ)) (p i : ℕ) → IsIntact n s → i < 16 → Goes s p i (attempted_until few s ts).0
+unfolding attempted_until
+goes-attempted_until n zero s ts p i h under = inl (refl, λ x. x)
+goes-attempted_until n (suc few) s [] p i h under = inl (refl, λ x. x)
+goes-attempted_until n (suc few) s (t ∷ ts) p i h under =
     let now : State = (attempted s t).0 in
-    goes-trans s now (attempted_all now ts).0 p i (goes-attempted n s t p i h under) (goes-attempted_all n now ts p i (keeps-attempted n s t h).kept under)
+    let left = if is_ready s t then few else suc few in
+    goes-trans s now (attempted_until left now ts).0 p i (goes-attempted n s t p i h under) (goes-attempted_until n left now ts p i (keeps-attempted n s t h).kept under)
 
 -- a write of a timer
 pub goes-written : (n : ℕ) (s : State) (t : ℕ × ℕ) (x : Timer) (p i : ℕ) → IsIntact n s → i < 16 → Goes s p i (written_timer s (with_timer (bank_of s) t x) t).0
@@ -176,4 +178,4 @@ goes-ticked n s moment p i h under =
     (λ _. inl (refl, λ x. x))
     (λ _. either (λ (o : Outcome). Goes s p i o.0) (moment == s.moment) _ _
     (λ _. inl (refl, λ x. x))
-    (λ _. goes-trans s now _ p i (goes-bank s now p i refl refl refl) (goes-attempted_all n now (due_list (dues (bank_of s)) moment) p i (kept-moment n s moment h) under)))
+    (λ _. goes-trans s now _ p i (goes-bank s now p i refl refl refl) (goes-attempted_until n most_expiries now (due_list (dues (bank_of s)) moment) p i (kept-moment n s moment h) under)))

@@ -1,6 +1,6 @@
 -- What writes of timers and ticks change: in an occupied slot at most MessagePending, which they set.
-use Rattle.std.proofs.Common.{◌≡◌, ◌≢◌, ◌⊎◌, inl, inr, ℕ, ◌+◌, ◌*◌, ◌^◌, ◌<◌, true, false, nat_lt, List, [], ◌∷◌, length, get_or, set, Option, None, Some, refl, sym, ap, ◌∙◌, subst, arith}
-use Rattle.std.specs.Prelude.{◌==◌, bit_or}
+use Rattle.std.proofs.Common.{◌≡◌, ◌≢◌, ◌⊎◌, inl, inr, ℕ, ◌+◌, ◌*◌, ◌^◌, ◌<◌, true, false, nat_lt, List, [], ◌∷◌, length, get_or, set, Option, None, Some, refl, sym, ap, ◌∙◌, subst, arith, zero, suc}
+use Rattle.std.specs.Prelude.{◌==◌, bit_or, if◌then◌else◌}
 use Rattle.std.proofs.lemmas.Bool.{cases_eq, and_parts}
 use Rattle.std.proofs.lemmas.List.{get_or-set_same, get_or-set_other}
 use Rattle.board_terms.specs.Dues.{number_of}
@@ -17,7 +17,7 @@ use Rattle.synic_board.specs.State.{State, bank_of, with_bank}
 use Rattle.synic_board.specs.Effects.{Effect, Outcome}
 use Rattle.synic_board.specs.Interrupts.{requested}
 use Rattle.synic_board.specs.Delivery.{is_slot_empty, tried, accepted, delivered}
-use Rattle.synic_board.specs.Timers.{mode_at, is_ready_for, is_ready, delivery_by, signalled_by, expired_state, expiry_at, fired, attempted, attempted_all, written_timer, at_moment, ticked}
+use Rattle.synic_board.specs.Timers.{mode_at, is_ready_for, is_ready, delivery_by, signalled_by, expired_state, expiry_at, fired, attempted, attempted_until, most_expiries, written_timer, at_moment, ticked}
 use Rattle.synic_board.specs.Slots.{slot_byte}
 use Rattle.synic_board.specs.Sound.{IsWhole, IsMessage}
 use Rattle.synic_board.proofs.keeping.Changes.{kept-timer, kept-moment}
@@ -185,12 +185,14 @@ grows-attempted n s t h =
 abbrev pub Any : ℕ → Type 0
 Any j = (p : ℕ) × (j ≡ 2 * p)
 
-grows-attempted_all : (n : ℕ) (s : State) (ts : List (ℕ × ℕ)) → IsIntact n s → Grows n Any s (attempted_all s ts).0
-unfolding attempted_all
-grows-attempted_all n s [] h = grows-same n Any s s refl refl refl
-grows-attempted_all n s (t ∷ ts) h =
+grows-attempted_until : (n few : ℕ) (s : State) (ts : List (ℕ × ℕ)) → IsIntact n s → Grows n Any s (attempted_until few s ts).0
+unfolding attempted_until
+grows-attempted_until n zero s ts h = grows-same n Any s s refl refl refl
+grows-attempted_until n (suc few) s [] h = grows-same n Any s s refl refl refl
+grows-attempted_until n (suc few) s (t ∷ ts) h =
     let now : State = (attempted s t).0 in
-    grows-trans n Any s now (attempted_all now ts).0 (grows-more n (Only t.0) Any s now (λ j e. (t.0, e)) (grows-attempted n s t h)) (grows-attempted_all n now ts (keeps-attempted n s t h).kept)
+    let left = if is_ready s t then few else suc few in
+    grows-trans n Any s now (attempted_until left now ts).0 (grows-more n (Only t.0) Any s now (λ j e. (t.0, e)) (grows-attempted n s t h)) (grows-attempted_until n left now ts (keeps-attempted n s t h).kept)
 
 -- a write of a timer, and a tick
 pub grows-written : (n : ℕ) (s : State) (t : ℕ × ℕ) (x : Timer) → IsIntact n s → Grows n (Only t.0) s (written_timer s (with_timer (bank_of s) t x) t).0
@@ -205,4 +207,4 @@ grows-ticked n s moment h =
     (λ _. grows-same n Any s s refl refl refl)
     (λ _. either (λ (o : Outcome). Grows n Any s o.0) (moment == s.moment) _ _
     (λ _. grows-same n Any s s refl refl refl)
-    (λ _. grows-trans n Any s now _ (grows-same n Any s now refl refl refl) (grows-attempted_all n now (due_list (dues (bank_of s)) moment) (kept-moment n s moment h))))
+    (λ _. grows-trans n Any s now _ (grows-same n Any s now refl refl refl) (grows-attempted_until n most_expiries now (due_list (dues (bank_of s)) moment) (kept-moment n s moment h))))

@@ -23,12 +23,16 @@ use Rattle.synic_board.proofs.keeping.Slots.{overwritten-other}
 use Rattle.live_board.specs.Live.{IsShown, owner_at, store_of, all_done}
 use Rattle.live_board.specs.inside.Parts.{IsPassed}
 use Rattle.live_board.specs.Words.{word_of}
-use Rattle.live_board.specs.inside.Parts.{HasWord}
+use Rattle.live_board.specs.inside.Parts.{HasWord, IsPassedOn}
 use Rattle.live_board.proofs.Bytes.{word-written, word-elsewhere}
-use Rattle.live_board.proofs.Shown.{with_word, stored-word, still-in}
+use Rattle.live_board.proofs.Shown.{with_word, stored-word, still-in, passed-same}
 
 same-has : (s : State) (o w value : ℕ) → value ≡ word_of s o w → HasWord s o w value s
 same-has s o w value is = record { rest = refl; count = refl; here = sym is; others = λ j x _. refl; same = λ j _. refl }
+
+-- a word that the board has
+pub passed-equal : (s : State) (p : ℕ) (k : Kind) (w value : ℕ) (before : List Notice) → value ≡ word_of s (overlay_of p k) w → IsPassedOn s p k w value s before before
+passed-equal s p k w value before is = record { emitted = []; notices = sym (append-nil before); few = omega arith; passed = passed-same s p k w value [] is refl; word = same-has s (overlay_of p k) w value is }
 
 stored-has : (s now : State) (o w value : ℕ) → o < length s.own → length (get_or s.own o []) ≡ 4096 → w < 512 → value < 2 ^ 64 → now ≡ record (with_word s o w value) { slots = now.slots } → HasWord s o w value now
 stored-has s now o w value inside long low small is = record {

@@ -31,6 +31,7 @@ live board pages = record { board = board; pages = pages }
 pub page-shadows : (s now : State) (pages : List (List Access)) (o : ℕ) (log-now : List Access) → o < length s.own → Shadows s pages → length now.own ≡ length s.own → LeavesOthers s o now → IsShadow now o log-now → Shadows now (set pages o log-now)
 page-shadows s now pages o log-now inside h count others shadow = record {
   count = length-set pages o log-now ∙ h.count ∙ sym count;
+  few = omega (arith, length-set pages o log-now, h.few);
   words = λ j w low small. by j w (omega (arith, low, count)) small (cases_eq j o);
 }
   where
@@ -97,6 +98,7 @@ quiet-live old now event reply notices quiet = subst (λ pages. IsLive old event
 pub same-shadows : (s now : State) (pages : List (List Access)) → now.own ≡ s.own → Shadows s pages → Shadows now pages
 same-shadows s now pages own h = record {
   count = h.count ∙ sym (ap length own);
+  few = h.few;
   words = λ k w low small. h.words k w (omega (arith, low, ap length own)) small ∙ ap (λ l. word_of (record s { own = l }) k w) (sym own);
 }
 
@@ -176,6 +178,7 @@ pub reset-shadows : (s now : State) (pages : List (List Access)) (p i j : ℕ) (
 reset-shadows s now pages p i j page1 page2 log1 log2 event reply notices a b inside h part c =
     subst (λ n. Shadows now (set (set pages n log1) j log2)) (sym a) (subst (λ n. Shadows now (set (set pages (2 * p) log1) n log2)) (sym b) (record {
       count = length-set pages1 (2 * p + 1) log2 ∙ length-set pages (2 * p) log1 ∙ h.count ∙ sym part.count;
+      few = omega (arith, length-set pages1 (2 * p + 1) log2, length-set pages (2 * p) log1, h.few);
       words = λ k w low small. by k w (omega (arith, low, part.count)) small (cases_eq k (2 * p)) (cases_eq k (2 * p + 1));
     }))
   where

@@ -50,6 +50,11 @@ pub timer-on : (s : State) (p : ℕ) (event : Event) → IsTimerOf s p event →
 timer-on s p (Write q number value) (on, same, timer) = on
 timer-on s p event other = absurd other
 
+-- a write of a timer by what it writes
+pub timer-as : (s : State) (p a n v : ℕ) (event : Event) → IsTimerOf s p event → ((q number value : ℕ) → event ≡ Write q number value → event ≡ Write a n v) → event ≡ Write a n v
+timer-as s p a n v (Write q number value) timer by = by q number value refl
+timer-as s p a n v event other by = absurd other
+
 timer-fits : (s : State) (p : ℕ) (event : Event) → IsTimerOf s p event → PayloadFits event
 timer-fits s p (Write q number value) timer = tt
 timer-fits s p event other = absurd other

@@ -1,5 +1,5 @@
 -- A board with live pages, and what it makes of the words that it finds there.
-use Rattle.std.specs.Prelude.{◌≡◌, ◌≢◌, ◌⊎◌, ℕ, zero, suc, ◌+◌, ◌*◌, ◌/◌, ◌<◌, ◌==◌, ◌&&◌, ◌||◌, Bool, true, false, nat_lt, nat_le, bit_or, List, [], ◌∷◌, ◌++◌, map, length, slice_index_or, slice_set, if◌then◌else◌}
+use Rattle.std.specs.Prelude.{◌≡◌, ◌≢◌, ◌⊎◌, ℕ, zero, suc, ◌+◌, ◌*◌, ◌/◌, ◌<◌, ◌≤◌, ◌==◌, ◌&&◌, ◌||◌, Bool, true, false, nat_lt, nat_le, bit_or, List, [], ◌∷◌, ◌++◌, map, length, slice_index_or, slice_set, if◌then◌else◌}
 use Rattle.std.specs.Int.{to_le_bytes, w64}
 use Rattle.std.specs.Option.{option_map_or}
 use Rattle.board_terms.specs.Dues.{least}
@@ -34,6 +34,8 @@ pub record LiveModel : Type 0 where
 -- each word of the reference model's own pages is what the host last found or wrote in the live page
 pub record Shadows (s : State) (pages : List (List Access)) : Type 0 where
   pub count : length pages ≡ length s.own
+  -- two pages of each of at most eight processors
+  pub few : length pages ≤ 16
   pub words : (k w : ℕ) → k < length s.own → w < 512 → known (slice_index_or pages k []) w ≡ word_of s k w
 
 -- the page number in the register of an overlay, and who owns that page if the overlay is visible there

@@ -2,14 +2,17 @@
 ghost use Rattle.std.specs.Prelude.{◌≡◌, ◌/◌, nat_lt, true, false, Some, IfSome, IfNone};
 ghost use Rattle.gpa_space.specs.Space.{is_covered};
 ghost use Rattle.synic_regs.specs.Registers.{register_of};
+ghost use Rattle.synic_board.specs.declared.event.Event.TheVariants.{Write};
 ghost use Rattle.synic_board.specs.State.{processors, space_of};
+ghost use Rattle.synic_board.specs.Step.{step};
 ghost use Rattle.live_board.specs.Acting.{Acts, IsAccess, IsRegisterWrite, IsTimedWrite};
-ghost use Rattle.live_board.specs.inside.Kinds.{IsWriteTo, IsTimerWriteBy, accessed_at};
+ghost use Rattle.live_board.specs.Live.{IsQuietly};
+ghost use Rattle.live_board.specs.inside.Kinds.{IsTimerWriteBy, accessed_at};
 
 use crate::live::LiveBoard;
 use board_terms::{Notices, Owner, Refusal, Vp};
 use synic_board::{Event, Reply};
-use synic_regs::{Register, decode};
+use synic_regs::{Register, decode, msr};
 
 /// No processor is owed an EOM.
 const NONE_OWED: [bool; 8] = [false; 8];
@@ -23,6 +26,9 @@ impl LiveBoard {
     /// `Post`, `Signal`, `Tick`, `Reset`, an EOM and a write of a timer are as `post`, `signal`, `tick`,
     /// `reset` and `write_timer` describe. A load or a store at a page where the guest sees a live page is
     /// refused as `Elsewhere`: the caller makes it in the live page. No other event accesses a live page.
+    /// Inlined, so that a caller that constructs one kind of event has the code of that kind only, and the
+    /// event is not in memory.
+    #[inline(always)]
     pub fn perform(
         &mut self,
         event: &Event,
@@ -42,7 +48,11 @@ impl LiveBoard {
                 NONE_OWED,
             ),
             Event::Signal { port, flag } => (self.signal(*port, *flag, notices), NONE_OWED),
-            Event::Write { vp, register, .. } => self.write(*vp, *register, event, notices),
+            Event::Write {
+                vp,
+                register,
+                value,
+            } => self.write(*vp, *register, *value, notices),
             Event::Store { address, .. } | Event::Load { address, .. } => {
                 (self.access(*address, event, notices), NONE_OWED)
             }
@@ -55,31 +65,62 @@ impl LiveBoard {
         }
     }
 
-    /// Performs a write of a register.
+    /// Performs a write of a register. Out of line, with numbers in place of the event: it has a frame of
+    /// its own, and no event in memory.
+    #[inline(never)]
     fn write(
         &mut self,
         vp: u8,
         register: u32,
-        event: &Event,
+        value: u64,
         notices: &mut Notices,
     ) -> (Reply, [bool; 8])
-        requires { IsWriteTo vp register event.now }
-        ensures { IsRegisterWrite (register_of register) vp self.old event.now self.new result.0 result.1 notices.new }
+        ensures { IsRegisterWrite (register_of register) vp self.old (Write vp register value) self.new result.0 result.1 notices.new }
     {
         match decode(register) {
-            Some(Register::Eom) => (self.end_message(event, notices), NONE_OWED),
-            Some(Register::TimerConfig(_) | Register::TimerCount(_)) => {
-                self.write_timer_of(vp, event, notices)
+            Some(Register::Eom) => {
+                let register = msr::EOM;
+                let event = Event::Write {
+                    vp,
+                    register,
+                    value,
+                };
+                (self.end_message(&event, notices), NONE_OWED)
             }
-            _ => (self.perform_apart(event, notices), NONE_OWED),
+            Some(Register::TimerConfig(_) | Register::TimerCount(_)) => {
+                let event = Event::Write {
+                    vp,
+                    register,
+                    value,
+                };
+                self.write_timer_of(vp, &event, notices)
+            }
+            _ => (self.write_apart(vp, register, value, notices), NONE_OWED),
         }
     }
 
+    /// Performs a write of a register that changes no own page.
+    #[inline(never)]
+    fn write_apart(&mut self, vp: u8, register: u32, value: u64, notices: &mut Notices) -> Reply
+        requires { (step self.old.board.state (Write vp register value)).0.own ≡ self.old.board.state.own }
+        ensures { IsQuietly self.old (Write vp register value) self.new result notices.new }
+    {
+        let event = Event::Write {
+            vp,
+            register,
+            value,
+        };
+        self.perform_apart(&event, notices)
+    }
+
     /// Performs a write of a timer of a processor.
+    #[inline(always)]
     fn write_timer_of(&mut self, vp: u8, event: &Event, notices: &mut Notices) -> (Reply, [bool; 8])
         requires { IsTimerWriteBy vp event.now }
         ensures { IsTimedWrite (nat_lt vp (processors self.old.board.state)) vp self.old event.now self.new result.0 result.1 notices.new }
     {
+        self.facts();
+        self.board().facts();
         let target = self.on_board(vp);
         let (reply, is_owed) = self.write_timer(event, notices);
         let mut owed = NONE_OWED;

@@ -28,4 +28,4 @@ pub use laws::{
     a_tick_conserves_messages, a_timer_write_conserves_messages, a_waiting_message_is_marked,
     an_event_conserves_messages, an_event_without_accesses_is_live,
 };
-pub use live::LiveBoard;
+pub use live::{LiveBoard, MOST_PROCESSORS};

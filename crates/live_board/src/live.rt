@@ -28,6 +28,9 @@ use std::alloc::{AllocError, Global};
 use std::marker::Model;
 use synic_board::{Board, Event, Reply};
 
+/// The greatest number of processors of a live board.
+pub const MOST_PROCESSORS: u8 = 8;
+
 /// A board whose message and event flags pages a running guest loads and stores. Its contract shows
 /// the board, and the accesses of the host to each of these pages.
 #[derive(Drop)]
@@ -79,6 +82,7 @@ fn copy_page(alloc: Global, board: &Board, vp: Vp, kind: Kind) -> Result<LivePag
 
 /// The live pages of a board, in the order of visibility.
 fn copy_pages(alloc: Global, board: &Board) -> Result<Vec<LivePage>, AllocError>
+    requires { processors board.now.state ≤ 8 }
     ensures { IfOk result (λ pages. Shadows board.now.state pages.items) }
 {
     board.facts();
@@ -96,11 +100,16 @@ fn copy_pages(alloc: Global, board: &Board) -> Result<Vec<LivePage>, AllocError>
 impl LiveBoard {
     /// A live board around a board of any kind, with live pages that have the words of the board's own
     /// pages: two blocks of 4096 bytes for each processor, in the order of visibility, the message
-    /// page first. Allocates all memory that events need. If an allocation fails, returns the board.
+    /// page first. Allocates all memory that events need. If the board has more than eight processors,
+    /// or an allocation fails, returns the board.
     pub fn open(alloc: Global, board: Board) -> Result<LiveBoard, Board>
         ensures live { IfOk result (λ live. live.board ≡ board) }
+        ensures few { IfOk result (λ live. processors live.board.state ≤ 8) }
         ensures kept { IfErr result (λ back. back ≡ board) }
     {
+        if board.processors() > MOST_PROCESSORS {
+            return Err(board);
+        }
         let (Ok(scratch), Ok(pages)) = (Notices::open(alloc), copy_pages(alloc, &board)) else {
             return Err(board);
         };
@@ -156,7 +165,9 @@ impl LiveBoard {
         signal_to(board, page, &target, port, flag, scratch, notices)
     }
 
-    /// Performs an event that changes no own page, without an access to a live page.
+    /// Performs an event that changes no own page, without an access to a live page. Out of line: it has
+    /// the code of all kinds, and its callers are inlined.
+    #[inline(never)]
     pub(crate) fn perform_apart(&mut self, event: &Event, notices: &mut Notices) -> Reply
         requires { (step self.old.board.state event.now).0.own ≡ self.old.board.state.own }
         ensures { IsQuietly self.old event.now self.new result notices.new }
@@ -170,6 +181,7 @@ impl LiveBoard {
     /// not marked, the host sets MessagePending by an atomic or, and what that found decides. After it,
     /// the host stores the messages that the board placed, each header last. Replaces `notices` by those
     /// of the guest's stores that were found, and then those of the event.
+    #[inline(always)]
     pub(crate) fn end_message(&mut self, event: &Event, notices: &mut Notices) -> Reply
         requires { IsTrue (is_eom event.now) }
         ensures live { IsLive self.old event.now self.new result notices.new }
@@ -198,6 +210,7 @@ impl LiveBoard {
     /// not see MessagePending: then the second answer is true, and the caller performs an EOM of the
     /// processor, which places the message. Replaces `notices` by those of the guest's stores that the
     /// looks found, of the event, and of the stores that the or found.
+    #[inline(always)]
     pub fn write_timer(&mut self, event: &Event, notices: &mut Notices) -> (Reply, bool)
         requires { IsTrue (is_timer_write event.now) }
         ensures timed { (p : ℕ) → timer_of self.old.board.state event.now ≡ Some p → IsTimed p self.old event.now self.new result.0 result.1 notices.new }
@@ -241,11 +254,10 @@ impl LiveBoard {
         board.facts();
         notices.clear();
         late.clear();
-        let event = Event::Tick { moment };
         if !is_any_due(board, moment) {
-            return (board.perform(&event, notices), [false; 8]);
+            return (board.perform(&Event::Tick { moment }, notices), [false; 8]);
         }
-        tick_from(board, pages, 0, &event, scratch, notices, late)
+        tick_from(board, pages, 0, moment, scratch, notices, late)
     }
 
     /// Resets a processor on the board. The host looks at the header of each slot first, so that what

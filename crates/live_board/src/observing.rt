@@ -1,11 +1,12 @@
 // Looks at the message slots of a live page.
-ghost use Rattle.std.specs.Prelude.{◌≡◌, ◌<◌, ◌*◌, []};
+ghost use Rattle.std.specs.Prelude.{◌≡◌, ◌<◌, ◌*◌, [], IfNone, IfSome};
 ghost use Rattle.board_terms.specs.declared.pages.Kind.TheVariants.{Sim};
 ghost use Rattle.synic_board.specs.State.{processors};
 ghost use Rattle.live_board.specs.Live.{IsShown};
-ghost use Rattle.live_board.specs.inside.Parts.{IsShadow, IsLooks, IsViewed};
+ghost use Rattle.live_board.specs.inside.Parts.{IsShadow, IsLooks, IsOther, IsViewed};
 
-use crate::passing::{is_shown, look};
+use crate::passing::{is_shown, look, pass};
+use crate::words::word_at;
 use board_terms::{Kind, Notices, Vp};
 use live_pages::LivePage;
 use synic_board::Board;
@@ -13,7 +14,31 @@ use synic_board::Board;
 /// The number of message slots of a page.
 const SLOTS: usize = 16;
 
+/// Looks at the header of each slot of a message page that the guest sees, until one is not what the
+/// board has. Returns the slot and the header of that one.
+#[inline(always)]
+fn look_until_other(board: &Board, page: &mut LivePage, vp: Vp) -> Option<(usize, u64)>
+    requires on { vp < processors board.now.state }
+    requires shown { IsShown board.now.state vp Sim }
+    requires shadow { IsShadow board.now.state (2 * vp) page.old }
+    ensures same { IfNone result (IsLooks board.now.state vp page.old board.now.state page.new [] 16) }
+    ensures other { IfSome result (λ r. IsOther board.now.state vp r.0 r.1 page.old page.new) }
+{
+    board.facts();
+    let Some(own) = board.own_page(vp, Kind::Sim) else {
+        unreachable!()
+    };
+    for slot in 0..SLOTS {
+        let found = page.load(32 * slot);
+        if found != word_at(own, 8 * (32 * slot)) {
+            return Some((slot, found));
+        }
+    }
+    None
+}
+
 /// Looks at the header of each slot of a message page that the guest sees.
+#[inline(always)]
 pub(crate) fn look_at_slots(
     board: &mut Board,
     page: &mut LivePage,
@@ -27,12 +52,17 @@ pub(crate) fn look_at_slots(
     requires empty { notices.old ≡ [] }
     ensures { IsLooks board.old.state vp page.old board.new.state page.new notices.new 16 }
 {
-    for slot in 0..SLOTS {
+    let Some((other, found)) = look_until_other(board, page, vp) else {
+        return;
+    };
+    pass(board, vp, Kind::Sim, 32 * other, found, scratch, notices);
+    for slot in other + 1..SLOTS {
         look(board, page, vp, Kind::Sim, 32 * slot, scratch, notices);
     }
 }
 
 /// Looks at the header of each slot of a message page, if the guest sees it.
+#[inline(always)]
 pub(crate) fn view_slots(
     board: &mut Board,
     page: &mut LivePage,

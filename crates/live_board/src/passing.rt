@@ -1,10 +1,9 @@
 // Passes words that the host found to the board, as stores of the guest.
-ghost use Rattle.std.specs.Prelude.{◌≡◌, ◌<◌, ◌↔◌, ◌^◌, IsTrue, length};
+ghost use Rattle.std.specs.Prelude.{◌≡◌, ◌≢◌, ◌<◌, ◌↔◌, ◌^◌, IsTrue, length};
 ghost use Rattle.gpa_space.specs.Space.{overlay_of};
 ghost use Rattle.synic_board.specs.State.{processors};
 ghost use Rattle.live_pages.specs.Slot.{known};
 ghost use Rattle.live_board.specs.Live.{number_at, IsShown};
-ghost use Rattle.live_board.specs.inside.Parts.{IsPassed};
 ghost use Rattle.live_board.specs.Words.{word_of};
 ghost use Rattle.live_board.specs.inside.Parts.{IsPassedOn, IsLook, IsMark};
 
@@ -15,6 +14,7 @@ use synic_board::Board;
 use synic_regs::Register;
 
 /// The page number in the register of an overlay.
+#[inline(always)]
 fn number(board: &Board, vp: Vp, kind: Kind) -> u64
     requires { vp < processors board.now.state }
     ensures value { result ≡ number_at board.now.state vp kind }
@@ -28,6 +28,7 @@ fn number(board: &Board, vp: Vp, kind: Kind) -> u64
 }
 
 /// Whether a guest sees an overlay at the page number in its register.
+#[inline(always)]
 pub(crate) fn is_shown(board: &Board, vp: Vp, kind: Kind) -> bool
     requires { vp < processors board.now.state }
     ensures { IsTrue result ↔ IsShown board.now.state vp kind }
@@ -40,6 +41,7 @@ pub(crate) fn is_shown(board: &Board, vp: Vp, kind: Kind) -> bool
 }
 
 /// A word, 0 to 511, of an own page of the board.
+#[inline(always)]
 pub(crate) fn own_word(board: &Board, vp: Vp, kind: Kind, word: usize) -> u64
     requires on { vp < processors board.now.state }
     requires word { word < 512 }
@@ -52,31 +54,38 @@ pub(crate) fn own_word(board: &Board, vp: Vp, kind: Kind, word: usize) -> u64
     word_at(page, 8 * word)
 }
 
-/// Passes a word, 0 to 511, of an own page to the board as a store of the guest, if the board has
-/// another value there. Replaces `notices` by those of the store.
+/// Passes a word, 0 to 511, of an own page to the board as a store of the guest, where the board has
+/// another value. Appends the notices of the store to those that are there, with the help of a second
+/// list. Out of line: most words are what the board has.
+#[cold]
+#[inline(never)]
 fn store_found(
     board: &mut Board,
     vp: Vp,
     kind: Kind,
     word: usize,
     value: u64,
+    scratch: &mut Notices,
     notices: &mut Notices,
 )
     requires on { vp < processors board.old.state }
     requires word { word < 512 }
     requires shown { IsShown board.old.state vp kind }
-    ensures passed { IsPassed board.old.state vp kind word value board.new.state notices.new }
+    requires other { value ≢ word_of board.old.state (overlay_of vp kind) word }
+    requires capacity { length notices.old < 320 }
+    ensures { IsPassedOn board.old.state vp kind word value board.new.state notices.old notices.new }
 {
-    notices.clear();
-    if own_word(board, vp, kind, word) != value {
-        let address = number(board, vp, kind) * 4096 + 8 * word as u64;
-        let bytes = value.to_le_bytes();
-        board.store(address, &bytes, notices);
+    board.facts();
+    let address = number(board, vp, kind) * 4096 + 8 * word as u64;
+    let bytes = value.to_le_bytes();
+    board.store(address, &bytes, scratch);
+    if let Some(notice) = scratch.as_slice().first() {
+        notices.push(*notice);
     }
 }
 
-/// The same, and appends the notices of the store to those that are there, with the help of a
-/// second list.
+/// The same, if the board has another value there.
+#[inline(always)]
 pub(crate) fn pass(
     board: &mut Board,
     vp: Vp,
@@ -92,14 +101,13 @@ pub(crate) fn pass(
     requires capacity { length notices.old < 320 }
     ensures { IsPassedOn board.old.state vp kind word value board.new.state notices.old notices.new }
 {
-    board.facts();
-    store_found(board, vp, kind, word, value, scratch);
-    if let Some(notice) = scratch.as_slice().first() {
-        notices.push(*notice);
+    if own_word(board, vp, kind, word) != value {
+        store_found(board, vp, kind, word, value, scratch, notices);
     }
 }
 
 /// Loads a word, 0 to 511, of a live page that the guest sees, and passes it to the board.
+#[inline(always)]
 pub(crate) fn look(
     board: &mut Board,
     page: &mut LivePage,
@@ -123,6 +131,7 @@ pub(crate) fn look(
 
 /// Sets the bits of a mask in a word, 0 to 511, of a live page that the guest sees, and passes the
 /// word that was there to the board.
+#[inline(always)]
 pub(crate) fn mark(
     board: &mut Board,
     page: &mut LivePage,

@@ -1,15 +1,15 @@
 // A signal to a port whose target is a source of a live page.
-ghost use Rattle.std.specs.Prelude.{◌≡◌, ◌<◌, ◌≤◌, ◌+◌, ◌*◌, [], length, Some, IfSome};
+ghost use Rattle.std.specs.Prelude.{◌≡◌, ◌<◌, ◌+◌, ◌*◌, [], Some, IfSome};
 ghost use Rattle.board_terms.specs.declared.pages.Kind.TheVariants.{Sief};
 ghost use Rattle.event_ports.specs.Ports.{port_at};
 ghost use Rattle.synic_board.specs.declared.event.Event.TheVariants.{Signal};
 ghost use Rattle.synic_board.specs.State.{processors, ports_of};
 ghost use Rattle.live_board.specs.Live.{IsShown};
-ghost use Rattle.live_board.specs.inside.Parts.{IsShadow, IsPart, IsStep, signalled_flag};
+ghost use Rattle.live_board.specs.inside.Parts.{IsShadow, IsPart, signalled_flag};
 
 use crate::attempt::ENABLE;
 use crate::passing::{is_shown, mark, own_word};
-use crate::performing::perform_after;
+use crate::performing::perform_signal;
 use board_terms::{Kind, Notices, PortShape};
 use event_ports::Port;
 use live_pages::LivePage;
@@ -17,6 +17,7 @@ use synic_board::{Board, Event, Reply};
 use synic_regs::Register;
 
 /// The event flag that a signal sets, 0 to 2047, if the board accepts the signal.
+#[inline(always)]
 fn flag_of(board: &Board, number: u8, flag: u16, port: &Port) -> Option<u16>
     requires { port_at (ports_of board.now.state) number ≡ Some port.now }
     ensures value { result ≡ signalled_flag board.now.state flag port.now }
@@ -38,27 +39,9 @@ fn flag_of(board: &Board, number: u8, flag: u16, port: &Port) -> Option<u16>
     Some(base + flag)
 }
 
-/// Performs a signal, and appends its notices to those that are there, at most two.
-fn perform_signal(
-    board: &mut Board,
-    number: u8,
-    flag: u16,
-    scratch: &mut Notices,
-    notices: &mut Notices,
-) -> Reply
-    requires { length notices.old ≤ 2 }
-    ensures { IsStep board.old.state (Signal number flag) board.new.state result notices.old notices.new }
-{
-    perform_after(
-        board,
-        &Event::Signal { port: number, flag },
-        scratch,
-        notices,
-    )
-}
-
 /// Performs a signal of an event flag, 0 to 2047, that the board accepts, where the guest sees the
 /// event flags page. The flag is set in the live page first, and the board learns what was there.
+#[inline(always)]
 fn signal_shown(
     board: &mut Board,
     page: &mut LivePage,
@@ -96,6 +79,7 @@ fn signal_shown(
 }
 
 /// The same where the guest does not see the page: the word that the board has is stored.
+#[inline(never)]
 fn signal_hidden(
     board: &mut Board,
     page: &mut LivePage,
@@ -124,6 +108,7 @@ fn signal_hidden(
 }
 
 /// Performs a signal of a port, and brings the event flags page of its processor up to date.
+#[inline(always)]
 pub(crate) fn signal_to(
     board: &mut Board,
     page: &mut LivePage,

@@ -2,20 +2,21 @@
 ghost use Rattle.std.specs.Prelude.{◌≡◌, ℕ, ◌<◌, ◌≤◌, ◌+◌, ◌-◌, ◌*◌, ◌&&◌, not, true, false, [], length, slice_index, slice_index_or};
 ghost use Rattle.stimer_bank.specs.Bank.{timer_in};
 ghost use Rattle.stimer_bank.specs.Timer.{is_due, is_direct};
+ghost use Rattle.synic_board.specs.declared.event.Event.TheVariants.{Tick};
 ghost use Rattle.synic_board.specs.State.{processors, bank_of};
 ghost use Rattle.live_pages.specs.Slot.{known};
-ghost use Rattle.live_board.specs.Live.{is_any_due};
-ghost use Rattle.live_board.specs.inside.Parts.{IsShadow, IsFirst, IsFinished, IsTick, AreDirectAt, IsTickFrom, WordsGrow, AreKept};
+ghost use Rattle.live_board.specs.Live.{is_any_due, AreDueDirect};
+ghost use Rattle.live_board.specs.inside.Parts.{IsShadow, IsFirst, IsFinished, IsTickFrom, WordsGrow, AreKept};
 
 use crate::marking::mark_slots;
 use crate::observing::view_slots;
 use crate::passing::is_shown;
-use crate::performing::{append, perform_after};
+use crate::performing::{append, perform_tick};
 use crate::publishing::{page_words, publish};
 use crate::timing::is_direct_config;
 use board_terms::{Kind, Moment, Notices, TimerId, Vp};
 use live_pages::{LivePage, WORDS};
-use synic_board::{Board, Event, Reply};
+use synic_board::{Board, Reply};
 
 /// The timers of a processor.
 const TIMERS: u8 = 4;
@@ -45,16 +46,13 @@ fn is_due_posted(board: &Board, vp: Vp, index: u8, moment: Moment) -> bool
     due <= u128::from(moment) && !is_direct_config(config)
 }
 
-/// Whether an event is a tick at which the due timers of a processor are in direct mode.
-fn are_due_direct(board: &Board, vp: Vp, event: &Event) -> bool
-    ensures all { result ≡ true → AreDirectAt board.now.state vp event.now }
-    ensures some { result ≡ false → AreDirectAt board.now.state vp event.now → ⊥ }
+/// Whether the timers of a processor that are due at a time are in direct mode.
+fn are_due_direct(board: &Board, vp: Vp, moment: Moment) -> bool
+    ensures all { result ≡ true → AreDueDirect board.now.state vp moment }
+    ensures some { result ≡ false → AreDueDirect board.now.state vp moment → ⊥ }
 {
-    let Event::Tick { moment } = event else {
-        return false;
-    };
     for index in 0..TIMERS {
-        if is_due_posted(board, vp, index, *moment) {
+        if is_due_posted(board, vp, index, moment) {
             return false;
         }
     }
@@ -115,32 +113,32 @@ pub(crate) fn tick_from(
     board: &mut Board,
     pages: &mut Vec<LivePage>,
     number: u8,
-    event: &Event,
+    moment: Moment,
     scratch: &mut Notices,
     notices: &mut Notices,
     late: &mut Notices,
 ) -> (Reply, [bool; 8])
-    requires tick { IsTick event.now }
+    requires few { processors board.old.state ≤ 8 }
     requires on { number ≤ processors board.old.state }
     requires count { length pages.old.items ≡ 2 * processors board.old.state }
     requires shadow { (p : ℕ) → number ≤ p → p < processors board.old.state → IsShadow board.old.state (2 * p) (slice_index_or pages.old.items (2 * p) []) }
     requires capacity { length notices.old + 16 * (processors board.old.state - number) + 192 ≤ 320 }
     requires empty { late.old ≡ [] }
-    ensures { IsTickFrom board.old.state number (processors board.old.state - number) pages.old.items event.now board.new.state pages.new.items result.0 result.1 notices.old notices.new late.new }
+    ensures { IsTickFrom board.old.state number (processors board.old.state - number) pages.old.items (Tick moment) board.new.state pages.new.items result.0 result.1 notices.old notices.new late.new }
 {
     board.facts();
     if number >= board.processors() {
-        return (perform_after(board, event, scratch, notices), [false; 8]);
+        return (perform_tick(board, moment, scratch, notices), [false; 8]);
     }
     let Some(vp) = Vp::new(number) else {
         unreachable!()
     };
-    if !are_due_direct(board, vp, event) {
-        return tick_posted(board, pages, vp, event, scratch, notices, late);
+    if !are_due_direct(board, vp, moment) {
+        return tick_posted(board, pages, vp, moment, scratch, notices, late);
     }
     let page = &mut pages[2 * usize::from(number)];
     look_first(board, page, vp, scratch, notices, late);
-    let (reply, mut owed) = tick_from(board, pages, number + 1, event, scratch, notices, late);
+    let (reply, mut owed) = tick_from(board, pages, number + 1, moment, scratch, notices, late);
     owed[usize::from(number)] = false;
     (reply, owed)
 }
@@ -153,19 +151,19 @@ fn tick_posted(
     board: &mut Board,
     pages: &mut Vec<LivePage>,
     vp: Vp,
-    event: &Event,
+    moment: Moment,
     scratch: &mut Notices,
     notices: &mut Notices,
     late: &mut Notices,
 ) -> (Reply, [bool; 8])
-    requires tick { IsTick event.now }
-    requires posted { AreDirectAt board.old.state vp event.now → ⊥ }
+    requires few { processors board.old.state ≤ 8 }
+    requires posted { AreDueDirect board.old.state vp moment → ⊥ }
     requires on { vp < processors board.old.state }
     requires count { length pages.old.items ≡ 2 * processors board.old.state }
     requires shadow { (p : ℕ) → vp ≤ p → p < processors board.old.state → IsShadow board.old.state (2 * p) (slice_index_or pages.old.items (2 * p) []) }
     requires capacity { length notices.old + 16 * (processors board.old.state - vp) + 192 ≤ 320 }
     requires empty { late.old ≡ [] }
-    ensures { IsTickFrom board.old.state vp (processors board.old.state - vp) pages.old.items event.now board.new.state pages.new.items result.0 result.1 notices.old notices.new late.new }
+    ensures { IsTickFrom board.old.state vp (processors board.old.state - vp) pages.old.items (Tick moment) board.new.state pages.new.items result.0 result.1 notices.old notices.new late.new }
 {
     board.facts();
     let number = vp.number();
@@ -174,7 +172,7 @@ fn tick_posted(
     look_first(board, first, vp, scratch, notices, late);
     board.facts();
     let words = page_words(board, vp);
-    let (reply, mut owed) = tick_from(board, pages, number + 1, event, scratch, notices, late);
+    let (reply, mut owed) = tick_from(board, pages, number + 1, moment, scratch, notices, late);
     board.facts();
     let last = &mut pages[index];
     owed[usize::from(number)] = finish(board, last, vp, &words, scratch, late);

@@ -3,6 +3,7 @@ ghost use Rattle.std.specs.Prelude.{◌≡◌, ◌<◌, ◌*◌, [], true, false
 ghost use Rattle.board_terms.specs.declared.pages.Kind.TheVariants.{Sim};
 ghost use Rattle.stimer_bank.specs.Bank.{timer_in};
 ghost use Rattle.stimer_bank.specs.Timer.{is_direct};
+ghost use Rattle.synic_board.specs.declared.event.Event.TheVariants.{Write};
 ghost use Rattle.synic_board.specs.State.{processors, bank_of};
 ghost use Rattle.live_board.specs.Live.{IsShown};
 ghost use Rattle.live_board.specs.Timers.{timer_of, is_direct_write};
@@ -11,7 +12,7 @@ ghost use Rattle.live_board.specs.inside.Parts.{IsShadow, IsTimedPart, IsTimerOf
 use crate::marking::mark_slots;
 use crate::observing::{look_at_slots, view_slots};
 use crate::passing::is_shown;
-use crate::performing::perform_after;
+use crate::performing::{perform_after, perform_write, written};
 use crate::publishing::{page_words, publish};
 use board_terms::{Kind, Notices, TimerId, Vp};
 use live_pages::LivePage;
@@ -22,6 +23,7 @@ use synic_regs::{Register, decode};
 const STORED: u64 = 0xf_1fff;
 
 /// The processor whose timer an event writes, if it is on the board.
+#[inline(always)]
 pub(crate) fn timed_by(board: &Board, event: &Event) -> Option<Vp>
     ensures value { result ≡ timer_of board.now.state event.now }
     ensures timer { IfSome result (λ p. IsTimerOf board.now.state p event.now) }
@@ -92,6 +94,7 @@ fn time_hidden(
 }
 
 /// Whether an event writes a timer of a processor that is in direct mode then.
+#[inline(always)]
 fn is_direct(board: &Board, vp: Vp, event: &Event) -> bool
     requires { IsTimerOf board.now.state vp event.now }
     ensures { result ≡ is_direct_write board.now.state event.now }
@@ -130,6 +133,7 @@ fn config_of(board: &Board, vp: Vp, index: u8) -> u64
 }
 
 /// Performs a write of a timer in direct mode, which changes no own page.
+#[inline(always)]
 fn time_direct(
     board: &mut Board,
     page: &mut LivePage,
@@ -146,11 +150,43 @@ fn time_direct(
 {
     view_slots(board, page, vp, scratch, notices);
     board.facts();
-    perform_after(board, event, scratch, notices)
+    let (number, register, value) = written(event);
+    perform_write(board, number, register, value, scratch, notices)
+}
+
+/// Performs a write of a timer in message mode. Makes the event, which is not in memory otherwise.
+#[inline(never)]
+fn time_posted(
+    board: &mut Board,
+    page: &mut LivePage,
+    vp: Vp,
+    number: u8,
+    register: u32,
+    value: u64,
+    scratch: &mut Notices,
+    notices: &mut Notices,
+) -> (Reply, bool)
+    requires timer { IsTimerOf board.old.state vp (Write number register value) }
+    requires posted { is_direct_write board.old.state (Write number register value) ≡ false }
+    requires shadow { IsShadow board.old.state (2 * vp) page.old }
+    requires empty { notices.old ≡ [] }
+    ensures { IsTimedPart board.old.state vp page.old (Write number register value) board.new.state page.new result.0 result.1 notices.new }
+{
+    let event = Event::Write {
+        vp: number,
+        register,
+        value,
+    };
+    if is_shown(board, vp, Kind::Sim) {
+        time_shown(board, page, vp, &event, scratch, notices)
+    } else {
+        time_hidden(board, page, vp, &event, scratch, notices)
+    }
 }
 
 /// Performs a write of a timer of a processor, and brings its message page up to date. Returns
 /// whether the processor is owed an EOM.
+#[inline(always)]
 pub(crate) fn time_on(
     board: &mut Board,
     page: &mut LivePage,
@@ -167,9 +203,6 @@ pub(crate) fn time_on(
     if is_direct(board, vp, event) {
         return (time_direct(board, page, vp, event, scratch, notices), false);
     }
-    if is_shown(board, vp, Kind::Sim) {
-        time_shown(board, page, vp, event, scratch, notices)
-    } else {
-        time_hidden(board, page, vp, event, scratch, notices)
-    }
+    let (number, register, value) = written(event);
+    time_posted(board, page, vp, number, register, value, scratch, notices)
 }

@@ -3,6 +3,7 @@ ghost use Rattle.std.specs.Prelude.{◌≡◌, ◌≤◌, ◌+◌, length};
 ghost use Rattle.live_board.specs.Words.{word_at};
 
 /// Eight bytes of a page as a word.
+#[inline(always)]
 pub(crate) fn word_at(page: &[u8], at: usize) -> u64
     requires { at + 8 ≤ length page.now }
     ensures { result ≡ word_at page.now at }

@@ -1,5 +1,5 @@
 -- How many buffers each owner has in use, and that there is capacity for the message of an owner with a free buffer.
-use Rattle.std.proofs.Common.{◌≡◌, ◌≢◌, ◌⊎◌, inl, inr, ℕ, zero, suc, ◌+◌, ◌-◌, ◌<◌, ◌≤◌, List, [], ◌∷◌, ◌++◌, length, refl, sym, ap, ◌∙◌, arith, cond, nat_eq, Bool, true, false, ne_eqb, eq-eqb, ◌&&◌}
+use Rattle.std.proofs.Common.{◌≡◌, ◌≢◌, ◌⊎◌, inl, inr, ℕ, zero, suc, ◌+◌, ◌*◌, ◌-◌, ◌<◌, ◌≤◌, List, [], ◌∷◌, ◌++◌, length, refl, sym, ap, ◌∙◌, arith, cond, nat_eq, Bool, true, false, ne_eqb, eq-eqb, ◌&&◌}
 use Rattle.std.specs.List.{All}
 use Rattle.std.specs.Prelude.{◌==◌, slice_index_or, slice_set, sum_by, count_by}
 use Rattle.std.proofs.lemmas.Bool.Decides.{eqb_tells, nat_tests}
@@ -8,7 +8,7 @@ use Rattle.std.proofs.lemmas.List.Sums.{sum_by-cons, sum_by_push, sum_by-set, ge
 use Rattle.board_terms.specs.declared.messages.Message.{Message}
 use Rattle.board_terms.specs.declared.messages.Message.TheVariants.{FromPort, FromTimer}
 use Rattle.message_queues.specs.Queues.{Queues, is_from_port, is_from_timer, port_used, timer_used, HasBuffer}
-use Rattle.message_queues.specs.inside.Owners.{owner_of_timer, owner_of, HasOwner, used_by, share, IsCounted}
+use Rattle.message_queues.specs.inside.Owners.{owner_of_timer, owner_of, owners, HasOwner, used_by, share, IsCounted}
 
 -- f 0 + .. + f (n - 1)
 sum_below : ℕ → (ℕ → ℕ) → ℕ
@@ -68,30 +68,44 @@ sum_below-lt (suc n) x f limit h k l = go (λ j. sum_below-lt n x f limit (λ o 
     go before (inl t) = let more = sum_below-le n f limit (λ o k. h o (omega arith)) in let fx = ap f t.1 in let cx = ap limit t.1 in omega arith
     go before (inr t) = let more = before (omega (arith, t.1)) in let here = h n (omega arith) in omega arith
 
--- 16 of each of the 16 ports, and one of each of the 32 timers
-shares : sum_below 48 share ≡ 288
+share-port : (o : ℕ) → o < 16 → share o ≡ 16
+share-port o h = grind (arith, nat_tests)
+
+share-timer : (o : ℕ) → 16 ≤ o → share o ≡ 1
+share-timer o h = grind (arith, nat_tests)
+
+pub share-le : (o : ℕ) → share o ≤ 16
+share-le o = grind (arith, nat_tests)
+
+-- 16 of each of the 16 ports, and one of each timer
+shares-timers : (timers o : ℕ) → o ≡ 16 + timers → sum_below o share ≡ 256 + timers
 unfolding sum_below
-shares = refl
+shares-timers zero o e = rw e refl
+shares-timers (suc n) zero e = absurd (omega arith)
+shares-timers (suc n) (suc o) e = omega (arith, shares-timers n o (omega arith), share-timer o (omega arith))
 
-abbrev pub AllOwned : List Message → Type 0
-AllOwned [] = Unit {0}
-AllOwned (m ∷ ms) = HasOwner m × AllOwned ms
+shares : (n : ℕ) → sum_below (owners n) share ≡ 256 + 4 * n
+shares n = shares-timers (4 * n) (owners n) refl
 
-abbrev pub EachOwned : Queues → Type 0
-EachOwned [] = Unit {0}
-EachOwned (q ∷ qs) = AllOwned q × EachOwned qs
+abbrev pub AllOwned : ℕ → List Message → Type 0
+AllOwned n [] = Unit {0}
+AllOwned n (m ∷ ms) = HasOwner n m × AllOwned n ms
 
-all-owned : (ms : List Message) → All HasOwner ms → AllOwned ms
-all-owned [] h = tt
-all-owned (m ∷ ms) h = (h 0 m (omega arith), all-owned ms (λ k d below. h (suc k) d (omega arith)))
+abbrev pub EachOwned : ℕ → Queues → Type 0
+EachOwned n [] = Unit {0}
+EachOwned n (q ∷ qs) = AllOwned n q × EachOwned n qs
 
-pub each-owned : (qs : Queues) → All (λ (q : List Message). All HasOwner q) qs → EachOwned qs
-each-owned [] h = tt
-each-owned (q ∷ qs) h = (all-owned q (h 0 [] (omega arith)), each-owned qs (λ k d below. h (suc k) d (omega arith)))
+all-owned : (n : ℕ) (ms : List Message) → All (HasOwner n) ms → AllOwned n ms
+all-owned n [] h = tt
+all-owned n (m ∷ ms) h = (h 0 m (omega arith), all-owned n ms (λ k d below. h (suc k) d (omega arith)))
 
-pub owner-below : (m : Message) → HasOwner m → owner_of m < 48
-owner-below (FromPort ticket port kind payload) h = omega arith
-owner-below (FromTimer ticket timer expiration) h = omega arith
+pub each-owned : (n : ℕ) (qs : Queues) → All (λ (q : List Message). All (HasOwner n) q) qs → EachOwned n qs
+each-owned n [] h = tt
+each-owned n (q ∷ qs) h = (all-owned n q (h 0 [] (omega arith)), each-owned n qs (λ k d below. h (suc k) d (omega arith)))
+
+pub owner-below : (n : ℕ) (m : Message) → HasOwner n m → owner_of m < owners n
+owner-below n (FromPort ticket port kind payload) h = omega arith
+owner-below n (FromTimer ticket timer expiration) h = omega arith
 
 abbrev pub count_of : ℕ → List Message → ℕ
 count_of o ms = count_by (λ m. owner_of m == o) ms
@@ -100,34 +114,34 @@ pub count_of-cons : (o : ℕ) (m : Message) (ms : List Message) → count_of o (
 count_of-cons o m ms = sum_by-cons (λ x. cond (owner_of x == o) 1 0) m ms
 
 -- all messages of a queue are counted, each under its owner
-queue-counts : (n : ℕ) (ms : List Message) → ((m : Message) → HasOwner m → owner_of m < n) → AllOwned ms → length ms ≡ sum_below n (λ o. count_of o ms)
-queue-counts n [] below h = sym (sum_below-zero n)
-queue-counts n (m ∷ ms) below h =
-    let more = queue-counts n ms below h.1 in
-    let one = sum_below-one n (owner_of m) (below m h.0) in
-    let add = sum_below-add n (at_place (owner_of m)) (λ o. count_of o ms) in
-    let same = sum_below-same n (λ o. count_of o (m ∷ ms)) (λ o. at_place (owner_of m) o + count_of o ms) (λ o. count_of-cons o m ms) in
+queue-counts : (n : ℕ) (ms : List Message) → AllOwned n ms → length ms ≡ sum_below (owners n) (λ o. count_of o ms)
+queue-counts n [] h = sym (sum_below-zero (owners n))
+queue-counts n (m ∷ ms) h =
+    let more = queue-counts n ms h.1 in
+    let one = sum_below-one (owners n) (owner_of m) (owner-below n m h.0) in
+    let add = sum_below-add (owners n) (at_place (owner_of m)) (λ o. count_of o ms) in
+    let same = sum_below-same (owners n) (λ o. count_of o (m ∷ ms)) (λ o. at_place (owner_of m) o + count_of o ms) (λ o. count_of-cons o m ms) in
     omega (arith, more, one, add, same)
 
-all-counts : (n : ℕ) (qs : Queues) → ((m : Message) → HasOwner m → owner_of m < n) → EachOwned qs → sum_by (length {A = Message}) qs ≡ sum_below n (λ o. used_by o qs)
-all-counts n [] below h = sym (sum_below-zero n)
-all-counts n (q ∷ qs) below h =
-    let more = all-counts n qs below h.1 in
-    let here = queue-counts n q below h.0 in
-    let add = sum_below-add n (λ o. count_of o q) (λ o. used_by o qs) in
-    let same = sum_below-same n (λ o. used_by o (q ∷ qs)) (λ o. count_of o q + used_by o qs) (λ o. sum_by-cons (count_of o) q qs) in
+all-counts : (n : ℕ) (qs : Queues) → EachOwned n qs → sum_by (length {A = Message}) qs ≡ sum_below (owners n) (λ o. used_by o qs)
+all-counts n [] h = sym (sum_below-zero (owners n))
+all-counts n (q ∷ qs) h =
+    let more = all-counts n qs h.1 in
+    let here = queue-counts n q h.0 in
+    let add = sum_below-add (owners n) (λ o. count_of o q) (λ o. used_by o qs) in
+    let same = sum_below-same (owners n) (λ o. used_by o (q ∷ qs)) (λ o. count_of o q + used_by o qs) (λ o. sum_by-cons (count_of o) q qs) in
     omega (arith, more, here, add, same, sum_by-cons (length {A = Message}) q qs)
 
 -- if an owner has a free buffer, the slab has a free entry
-pub has_room : (qs : Queues) (in_use : List ℕ) (o : ℕ) → EachOwned qs → IsCounted qs in_use → o < 48 → used_by o qs < share o → sum_by (length {A = Message}) qs < 288
-has_room qs in_use o owned counts below left =
-    let total = all-counts 48 qs owner-below owned in
-    let less = sum_below-lt 48 o (λ x. used_by x qs) share counts.within below left in
-    omega (arith, total, less, shares)
+pub has_room : (n : ℕ) (qs : Queues) (in_use : List ℕ) (o : ℕ) → EachOwned n qs → IsCounted n qs in_use → o < owners n → used_by o qs < share o → sum_by (length {A = Message}) qs < 256 + 4 * n
+has_room n qs in_use o owned counts below left =
+    let total = all-counts n qs owned in
+    let less = sum_below-lt (owners n) o (λ x. used_by x qs) share counts.within below left in
+    omega (arith, total, less, shares n)
 
 -- no owner exceeds its share, so there are no more messages than buffers
-pub all-within : (qs : Queues) (in_use : List ℕ) → EachOwned qs → IsCounted qs in_use → sum_by (length {A = Message}) qs ≤ 288
-all-within qs in_use owned counts = omega (arith, all-counts 48 qs owner-below owned, sum_below-le 48 (λ x. used_by x qs) share counts.within, shares)
+pub all-within : (n : ℕ) (qs : Queues) (in_use : List ℕ) → EachOwned n qs → IsCounted n qs in_use → sum_by (length {A = Message}) qs ≤ 256 + 4 * n
+all-within n qs in_use owned counts = omega (arith, all-counts n qs owned, sum_below-le (owners n) (λ x. used_by x qs) share counts.within, shares n)
 
 pub sum_by-same : {X : Type 0} (f g : X → ℕ) (xs : List X) → ((x : X) → f x ≡ g x) → sum_by f xs ≡ sum_by g xs
 sum_by-same f g [] h = refl
@@ -143,9 +157,9 @@ port_used-owner qs port h =
     sum_by-same (count_by (is_from_port port)) (count_of port) qs
     (λ q. sum_by-same (λ m. cond (is_from_port port m) 1 0) (λ m. cond (owner_of m == port) 1 0) q (λ m. ap (λ (b : Bool). cond b 1 0) (is_from_port-owner port m h)))
 
-is_from_timer-owner : (timer : ℕ × ℕ) (m : Message) → timer.1 < 4 → HasOwner m → is_from_timer timer m ≡ (owner_of m == owner_of_timer timer)
-is_from_timer-owner timer (FromPort ticket n kind payload) h k = sym (ne_eqb n (owner_of_timer timer) (λ e. omega (arith, e)))
-is_from_timer-owner timer (FromTimer ticket t expiration) h k = go (eqb_tells t.0 timer.0) (eqb_tells t.1 timer.1)
+is_from_timer-owner : (n : ℕ) (timer : ℕ × ℕ) (m : Message) → timer.1 < 4 → HasOwner n m → is_from_timer timer m ≡ (owner_of m == owner_of_timer timer)
+is_from_timer-owner n timer (FromPort ticket port kind payload) h k = sym (ne_eqb port (owner_of_timer timer) (λ e. omega (arith, e)))
+is_from_timer-owner n timer (FromTimer ticket t expiration) h k = go (eqb_tells t.0 timer.0) (eqb_tells t.1 timer.1)
   where
     go : ((nat_eq t.0 timer.0 ≡ true) × (t.0 ≡ timer.0)) ⊎ ((nat_eq t.0 timer.0 ≡ false) × (t.0 ≢ timer.0)) →
         ((nat_eq t.1 timer.1 ≡ true) × (t.1 ≡ timer.1)) ⊎ ((nat_eq t.1 timer.1 ≡ false) × (t.1 ≢ timer.1))
@@ -154,60 +168,72 @@ is_from_timer-owner timer (FromTimer ticket t expiration) h k = go (eqb_tells t.
     go (inl a) (inr b) = rw (a.0, b.0) (sym (ne_eqb (owner_of_timer t) (owner_of_timer timer) (λ e. b.1 (omega (arith, a.1, e)))))
     go (inr a) b = rw a.0 (sym (ne_eqb (owner_of_timer t) (owner_of_timer timer) (λ e. a.1 (omega (arith, k, h, e)))))
 
-queue-timer : (q : List Message) (timer : ℕ × ℕ) → timer.1 < 4 → AllOwned q → count_by (is_from_timer timer) q ≡ count_of (owner_of_timer timer) q
-queue-timer [] timer h k = refl
-queue-timer (m ∷ ms) timer h k =
-    let more = queue-timer ms timer h k.1 in
-    let here : cond (is_from_timer timer m) 1 0 ≡ at_place (owner_of m) (owner_of_timer timer) = ap (λ (b : Bool). cond b 1 0) (is_from_timer-owner timer m h k.0) in
+queue-timer : (n : ℕ) (q : List Message) (timer : ℕ × ℕ) → timer.1 < 4 → AllOwned n q → count_by (is_from_timer timer) q ≡ count_of (owner_of_timer timer) q
+queue-timer n [] timer h k = refl
+queue-timer n (m ∷ ms) timer h k =
+    let more = queue-timer n ms timer h k.1 in
+    let here : cond (is_from_timer timer m) 1 0 ≡ at_place (owner_of m) (owner_of_timer timer) = ap (λ (b : Bool). cond b 1 0) (is_from_timer-owner n timer m h k.0) in
     omega (arith, more, here, sum_by-cons (λ x. cond (is_from_timer timer x) 1 0) m ms, count_of-cons (owner_of_timer timer) m ms)
 
 -- the one buffer of a timer is that of its owner
-pub timer_used-owner : (qs : Queues) (timer : ℕ × ℕ) → timer.1 < 4 → EachOwned qs → timer_used qs timer ≡ used_by (owner_of_timer timer) qs
-timer_used-owner [] timer h k = refl
-timer_used-owner (q ∷ qs) timer h k =
-    let more = timer_used-owner qs timer h k.1 in
-    let here = queue-timer q timer h k.0 in
+pub timer_used-owner : (n : ℕ) (qs : Queues) (timer : ℕ × ℕ) → timer.1 < 4 → EachOwned n qs → timer_used qs timer ≡ used_by (owner_of_timer timer) qs
+timer_used-owner n [] timer h k = refl
+timer_used-owner n (q ∷ qs) timer h k =
+    let more = timer_used-owner n qs timer h k.1 in
+    let here = queue-timer n q timer h k.0 in
     omega (arith, more, here, sum_by-cons (count_by (is_from_timer timer)) q qs, sum_by-cons (count_of (owner_of_timer timer)) q qs)
 
-queue-past : (q : List Message) (port : ℕ) → 16 ≤ port → AllOwned q → count_by (is_from_port port) q ≡ 0
-queue-past [] port h k = refl
-queue-past (FromPort ticket n kind payload ∷ ms) port h k =
-    let more = queue-past ms port h k.1 in
-    let here : at_place n port ≡ 0 = at_place-other n port (λ e. omega (arith, k.0, e)) in
-    omega (arith, more, here, sum_by-cons (λ x. cond (is_from_port port x) 1 0) (FromPort ticket n kind payload) ms)
-queue-past (FromTimer ticket timer expiration ∷ ms) port h k =
-    let more = queue-past ms port h k.1 in
+queue-past : (n : ℕ) (q : List Message) (port : ℕ) → 16 ≤ port → AllOwned n q → count_by (is_from_port port) q ≡ 0
+queue-past n [] port h k = refl
+queue-past n (FromPort ticket from kind payload ∷ ms) port h k =
+    let more = queue-past n ms port h k.1 in
+    let here : at_place from port ≡ 0 = at_place-other from port (λ e. omega (arith, k.0, e)) in
+    omega (arith, more, here, sum_by-cons (λ x. cond (is_from_port port x) 1 0) (FromPort ticket from kind payload) ms)
+queue-past n (FromTimer ticket timer expiration ∷ ms) port h k =
+    let more = queue-past n ms port h k.1 in
     omega (arith, more, sum_by-cons (λ x. cond (is_from_port port x) 1 0) (FromTimer ticket timer expiration) ms)
 
 -- a port above 15 has no message
-pub port_used-past : (qs : Queues) (port : ℕ) → 16 ≤ port → EachOwned qs → port_used qs port ≡ 0
-port_used-past [] port h k = refl
-port_used-past (q ∷ qs) port h k =
-    let more = port_used-past qs port h k.1 in
-    let here = queue-past q port h k.0 in
+pub port_used-past : (n : ℕ) (qs : Queues) (port : ℕ) → 16 ≤ port → EachOwned n qs → port_used qs port ≡ 0
+port_used-past n [] port h k = refl
+port_used-past n (q ∷ qs) port h k =
+    let more = port_used-past n qs port h k.1 in
+    let here = queue-past n q port h k.0 in
     omega (arith, more, here, sum_by-cons (count_by (is_from_port port)) q qs)
 
-share-port : (o : ℕ) → o < 16 → share o ≡ 16
-share-port o h = grind (arith, nat_tests)
+queue-absent : (n : ℕ) (q : List Message) (timer : ℕ × ℕ) → n ≤ timer.0 → AllOwned n q → count_by (is_from_timer timer) q ≡ 0
+queue-absent n [] timer h k = refl
+queue-absent n (FromPort ticket port kind payload ∷ ms) timer h k =
+    let more = queue-absent n ms timer h k.1 in
+    omega (arith, more, sum_by-cons (λ x. cond (is_from_timer timer x) 1 0) (FromPort ticket port kind payload) ms)
+queue-absent n (FromTimer ticket t expiration ∷ ms) timer h k =
+    let more = queue-absent n ms timer h k.1 in
+    let here : ◌≡◌ {A = ℕ} (cond (is_from_timer timer (FromTimer ticket t expiration)) 1 0) 0 = rw (ne_eqb t.0 timer.0 (λ e. omega (arith, k.0, e))) refl in
+    omega (arith, more, here, sum_by-cons (λ x. cond (is_from_timer timer x) 1 0) (FromTimer ticket t expiration) ms)
 
-share-timer : (o : ℕ) → 16 ≤ o → share o ≡ 1
-share-timer o h = grind (arith, nat_tests)
-
-pub share-le : (o : ℕ) → share o ≤ 16
-share-le o = grind (arith, nat_tests)
+-- a timer of a processor that has no queues has no message
+pub timer_used-absent : (n : ℕ) (qs : Queues) (timer : ℕ × ℕ) → n ≤ timer.0 → EachOwned n qs → timer_used qs timer ≡ 0
+timer_used-absent n [] timer h k = refl
+timer_used-absent n (q ∷ qs) timer h k =
+    let more = timer_used-absent n qs timer h k.1 in
+    let here = queue-absent n q timer h k.0 in
+    omega (arith, more, here, sum_by-cons (count_by (is_from_timer timer)) q qs)
 
 -- the owner of a message that has a buffer has a free one
-pub buffer-left : (qs : Queues) (m : Message) → EachOwned qs → HasOwner m → HasBuffer qs m → used_by (owner_of m) qs < share (owner_of m)
-buffer-left qs (FromPort ticket port kind payload) owned h b = omega (arith, b.1, port_used-owner qs port b.0, share-port port b.0)
-buffer-left qs (FromTimer ticket timer expiration) owned h b =
-    let none : timer_used qs timer ≡ 0 = grind (arith, nat_tests) in
-    omega (arith, none, timer_used-owner qs timer h.1 owned, share-timer (owner_of_timer timer) (omega arith))
+pub buffer-left : (n : ℕ) (qs : Queues) (m : Message) → EachOwned n qs → HasOwner n m → HasBuffer qs m → used_by (owner_of m) qs < share (owner_of m)
+buffer-left n qs (FromPort ticket port kind payload) owned h b = omega (arith, b.1, port_used-owner qs port b.0, share-port port b.0)
+buffer-left n qs (FromTimer ticket timer expiration) owned h b =
+    let none : timer_used qs timer ≡ 0 = is_zero (timer_used qs timer) b.1 in
+    omega (arith, none, timer_used-owner n qs timer h.1 owned, share-timer (owner_of_timer timer) (omega arith))
+  where
+    is_zero : (used : ℕ) → (used == 0) ≡ true → used ≡ 0
+    is_zero used h = grind (arith, nat_tests)
 
 -- one queue is replaced, and one owner has more or fewer messages
-pub counted-set : (qs : Queues) (in_use : List ℕ) (q : ℕ) (r : List Message) (o v : ℕ) → IsCounted qs in_use → q < length qs → o < 48 →
+pub counted-set : (n : ℕ) (qs : Queues) (in_use : List ℕ) (q : ℕ) (r : List Message) (o v : ℕ) → IsCounted n qs in_use → q < length qs → o < owners n →
     ((x : ℕ) → x ≢ o → count_of x r ≡ count_of x (slice_index_or qs q [])) → v + count_of o (slice_index_or qs q []) ≡ used_by o qs + count_of o r → v ≤ share o →
-    IsCounted (slice_set qs q r) (slice_set in_use o v)
-counted-set qs in_use q r o v counts at below same now bound = record {
+    IsCounted n (slice_set qs q r) (slice_set in_use o v)
+counted-set n qs in_use q r o v counts at below same now bound = record {
   size = length-set in_use o v ∙ counts.size;
   counted = λ x k. counted x k (eqb_tells x o);
   within = λ x k. within x k (eqb_tells x o);
@@ -216,20 +242,21 @@ counted-set qs in_use q r o v counts at below same now bound = record {
     sum : (x : ℕ) → used_by x (slice_set qs q r) + count_of x (slice_index_or qs q []) ≡ used_by x qs + count_of x r
     sum x = sum_by-set (count_of x) qs q r [] at
 
-    counted : (x : ℕ) → x < 48 → ((nat_eq x o ≡ true) × (x ≡ o)) ⊎ ((nat_eq x o ≡ false) × (x ≢ o)) → slice_index_or (slice_set in_use o v) x 0 ≡ used_by x (slice_set qs q r)
+    counted : (x : ℕ) → x < owners n → ((nat_eq x o ≡ true) × (x ≡ o)) ⊎ ((nat_eq x o ≡ false) × (x ≢ o)) → slice_index_or (slice_set in_use o v) x 0 ≡ used_by x (slice_set qs q r)
     counted x k (inl t) = rw t.1 (get_or-set_same in_use o v 0 (omega (arith, counts.size)) ∙ omega (arith, sum o, now))
     counted x k (inr t) = get_or-set_other in_use o x v 0 t.1 ∙ counts.counted x k ∙ omega (arith, sum x, same x t.1)
 
-    within : (x : ℕ) → x < 48 → ((nat_eq x o ≡ true) × (x ≡ o)) ⊎ ((nat_eq x o ≡ false) × (x ≢ o)) → used_by x (slice_set qs q r) ≤ share x
+    within : (x : ℕ) → x < owners n → ((nat_eq x o ≡ true) × (x ≡ o)) ⊎ ((nat_eq x o ≡ false) × (x ≢ o)) → used_by x (slice_set qs q r) ≤ share x
     within x k (inl t) = rw t.1 (omega (arith, sum o, now, bound))
     within x k (inr t) = omega (arith, sum x, same x t.1, counts.within x k)
 
 -- a message joins the end of a queue
-pub counted-append : (qs : Queues) (in_use : List ℕ) (q : ℕ) (m : Message) → IsCounted qs in_use → q < length qs → owner_of m < 48 → used_by (owner_of m) qs < share (owner_of m) →
-    IsCounted (slice_set qs q (slice_index_or qs q [] ++ m ∷ [])) (slice_set in_use (owner_of m) (slice_index_or in_use (owner_of m) 0 + 1))
-counted-append qs in_use q m counts at below left =
+pub counted-append : (n : ℕ) (qs : Queues) (in_use : List ℕ) (q : ℕ) (m : Message) → IsCounted n qs in_use → q < length qs → owner_of m < owners n →
+    used_by (owner_of m) qs < share (owner_of m) →
+    IsCounted n (slice_set qs q (slice_index_or qs q [] ++ m ∷ [])) (slice_set in_use (owner_of m) (slice_index_or in_use (owner_of m) 0 + 1))
+counted-append n qs in_use q m counts at below left =
     let before = counts.counted (owner_of m) below in
-    counted-set qs in_use q (slice_index_or qs q [] ++ m ∷ []) (owner_of m) (slice_index_or in_use (owner_of m) 0 + 1) counts at below
+    counted-set n qs in_use q (slice_index_or qs q [] ++ m ∷ []) (owner_of m) (slice_index_or in_use (owner_of m) 0 + 1) counts at below
     (λ x ne. let push = pushed x in let no = at_place-other (owner_of m) x (λ e. ne (sym e)) in omega (arith, push, no))
     (let push = pushed (owner_of m) in let yes = at_place-same (owner_of m) (owner_of m) refl in omega (arith, push, yes, before))
     (omega (arith, before, left))
@@ -242,21 +269,22 @@ pub count-le-used : (qs : Queues) (q o : ℕ) → q < length qs → count_of o (
 count-le-used qs q o at = get_or-le-sum_by (count_of o) qs q [] at
 
 -- the head leaves a queue
-pub head-used : (qs : Queues) (in_use : List ℕ) (q : ℕ) (m : Message) (rest : List Message) → IsCounted qs in_use → q < length qs → owner_of m < 48 →
+pub head-used : (n : ℕ) (qs : Queues) (in_use : List ℕ) (q : ℕ) (m : Message) (rest : List Message) → IsCounted n qs in_use → q < length qs → owner_of m < owners n →
     slice_index_or qs q [] ≡ m ∷ rest → 1 ≤ slice_index_or in_use (owner_of m) 0
-head-used qs in_use q m rest counts at below is =
+head-used n qs in_use q m rest counts at below is =
     let here = ap (count_of (owner_of m)) is ∙ count_of-cons (owner_of m) m rest in
     let yes = at_place-same (owner_of m) (owner_of m) refl in
     omega (arith, here, yes, count-le-used qs q (owner_of m) at, counts.counted (owner_of m) below)
 
-pub counted-place : (qs : Queues) (in_use : List ℕ) (q : ℕ) (m : Message) (rest : List Message) → IsCounted qs in_use → q < length qs → owner_of m < 48 → slice_index_or qs q [] ≡ m ∷ rest →
-    IsCounted (slice_set qs q rest) (slice_set in_use (owner_of m) (slice_index_or in_use (owner_of m) 0 - 1))
-counted-place qs in_use q m rest counts at below is =
+pub counted-place : (n : ℕ) (qs : Queues) (in_use : List ℕ) (q : ℕ) (m : Message) (rest : List Message) → IsCounted n qs in_use → q < length qs → owner_of m < owners n →
+    slice_index_or qs q [] ≡ m ∷ rest →
+    IsCounted n (slice_set qs q rest) (slice_set in_use (owner_of m) (slice_index_or in_use (owner_of m) 0 - 1))
+counted-place n qs in_use q m rest counts at below is =
     let before = counts.counted (owner_of m) below in
     let within = counts.within (owner_of m) below in
-    counted-set qs in_use q rest (owner_of m) (slice_index_or in_use (owner_of m) 0 - 1) counts at below
+    counted-set n qs in_use q rest (owner_of m) (slice_index_or in_use (owner_of m) 0 - 1) counts at below
     (λ x ne. let took = taken x in let no = at_place-other (owner_of m) x (λ e. ne (sym e)) in omega (arith, took, no))
-    (let took = taken (owner_of m) in let yes = at_place-same (owner_of m) (owner_of m) refl in omega (arith, took, yes, before, head-used qs in_use q m rest counts at below is))
+    (let took = taken (owner_of m) in let yes = at_place-same (owner_of m) (owner_of m) refl in omega (arith, took, yes, before, head-used n qs in_use q m rest counts at below is))
     (omega (arith, before, within))
   where
     taken : (x : ℕ) → count_of x (slice_index_or qs q []) ≡ at_place (owner_of m) x + count_of x rest

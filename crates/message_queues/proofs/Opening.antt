@@ -1,5 +1,5 @@
 -- The fields of new queues.
-use Rattle.std.proofs.Common.{nat_eq, ◌≡◌, ℕ, zero, suc, ◌≤◌, List, [], ◌∷◌, length, replicate, Some, None, refl, sym, ap, ◌∙◌, arith}
+use Rattle.std.proofs.Common.{nat_eq, ◌≡◌, ℕ, zero, suc, ◌+◌, ◌*◌, ◌≤◌, List, [], ◌∷◌, length, replicate, Some, None, refl, sym, ap, ◌∙◌, arith}
 use Rattle.std.specs.List.{All, slice_get}
 use Rattle.std.specs.Prelude.{count_by, is_some}
 use Rattle.std.proofs.lemmas.List.{get_or-replicate, length-replicate}
@@ -10,7 +10,7 @@ use Rattle.message_queues.specs.inside.Buffers.{buffer_at}
 use Rattle.board_terms.specs.declared.messages.Message.{Message}
 use Rattle.message_queues.specs.declared.chains.Chain.{Chain}
 use Rattle.message_queues.specs.Queues.{Queues}
-use Rattle.message_queues.specs.inside.Owners.{owner_of, HasOwner, used_by}
+use Rattle.message_queues.specs.inside.Owners.{owner_of, owners, HasOwner, used_by}
 use Rattle.message_queues.specs.inside.Chains.{queues_at, IsChain, AreChains}
 use Rattle.message_queues.specs.inside.View.{total_of}
 use Rattle.message_queues.proofs.ChainLemmas.{both-ways}
@@ -32,8 +32,8 @@ none_used : (n o : ℕ) → used_by o (replicate n []) ≡ 0
 none_used zero o = refl
 none_used (suc n) o = let more = none_used n o in omega (arith, more, sum_by-cons (count_by (λ (m : Message). nat_eq (owner_of m) o)) [] (replicate n []))
 
-none_owned : (n : ℕ) → All (λ (queue : List Message). All HasOwner queue) (replicate n [])
-none_owned n k d below i e inside =
+none_owned : (processors n : ℕ) → All (λ (queue : List Message). All (HasOwner processors) queue) (replicate n [])
+none_owned processors n k d below i e inside =
     let empty : List Message = [] in
     let none = get_or-replicate n k empty d (omega (arith, below, length-replicate n empty)) in
     absurd (omega (arith, inside, ap length none))
@@ -42,20 +42,21 @@ pub opened-queues : (new : Slab Neighbours) (messages : List Message) (n : ℕ) 
 opened-queues new messages zero = refl
 opened-queues new messages (suc n) = ap (λ (x : Queues). [] ∷ x) (opened-queues new messages n)
 
-pub opened : (new : Slab Neighbours) (messages : List Message) (n : ℕ) → new.slots ≡ [] → 288 ≤ new.capacity → length messages ≡ new.capacity →
-    Step new messages (replicate n empty_chain) (replicate 48 0) (replicate n [])
-opened new messages n empty room size = record {
+pub opened : (new : Slab Neighbours) (messages : List Message) (in_use : List ℕ) (processors n : ℕ) → in_use ≡ replicate (owners processors) 0 → n ≡ 16 * processors → new.slots ≡ [] → 256 + 4 * processors ≤ new.capacity →
+    length messages ≡ new.capacity → Step new messages (replicate n empty_chain) processors in_use (replicate n [])
+opened new messages in_use processors n unused queues empty room size = record {
   linked = linked;
   both_ways = both-ways (buffer_at new messages) (replicate n empty_chain) linked;
   held = ap (count_by is_some) empty ∙ sym (no_keys n);
   room = room;
   size = size;
-  owned = rw (opened-queues new messages n) (none_owned n);
-  counts = rw (opened-queues new messages n) (record {
-    size = refl;
-    counted = λ o below. get_or-replicate 48 o 0 0 below ∙ sym (none_used n o);
+  owned = rw (opened-queues new messages n) (none_owned processors n);
+  counts = rw (opened-queues new messages n, unused) (record {
+    size = length-replicate (owners processors) 0;
+    counted = λ o below. get_or-replicate (owners processors) o 0 0 below ∙ sym (none_used n o);
     within = λ o below. rw (none_used n o) (omega arith);
   });
+  each = length-replicate n empty_chain ∙ queues;
   view_is = opened-queues new messages n;
 }
   where

@@ -1,21 +1,22 @@
 -- The fields after an append, a place and a withdrawal.
-use Rattle.std.proofs.Common.{◌≡◌, ◌≢◌, ◌⊎◌, inl, inr, ℕ, ◌+◌, ◌-◌, ◌<◌, ◌≤◌, List, [], ◌∷◌, ◌++◌, length, zero, suc, drop, map, Some, None, refl, sym, ap, subst, ◌∙◌, cond, nat_eq, Bool, true, false, not, arith, get_or}
+use Rattle.std.proofs.Common.{◌≡◌, ◌≢◌, ◌⊎◌, inl, inr, ℕ, ◌+◌, ◌*◌, ◌-◌, ◌<◌, ◌≤◌, List, [], ◌∷◌, ◌++◌, length, zero, suc, drop, map, Some, None, refl, sym, ap, subst, ◌∙◌, cond, nat_eq, Bool, true, false, not, arith, get_or}
 use Rattle.std.specs.List.{All, filter, slice_get}
 use Rattle.std.specs.Prelude.{◌==◌, slice_index_or, slice_set, count_by}
 use Rattle.std.proofs.lemmas.Bool.{cases_lt}
 use Rattle.std.proofs.lemmas.Bool.Decides.{eqb_tells}
-use Rattle.std.proofs.lemmas.List.{length-map, length-set, set-get_or}
+use Rattle.std.proofs.lemmas.List.{length-map, length-set, set-get_or, get_or_default}
 use Rattle.std.proofs.lemmas.List.Elements.{All-append, All-drop, All-filter, All-get_or, All-set}
 use Rattle.std.proofs.lemmas.List.Sums.{sum_by-cons, get_or-le-sum_by, length-filter}
 use Rattle.slab.specs.Slab.{Slab, get, slab_len}
 use Rattle.message_queues.specs.declared.chains.Neighbours.{Neighbours}
 use Rattle.board_terms.specs.Messages.{ticket_of}
 use Rattle.board_terms.specs.declared.messages.Message.{Message}
+use Rattle.board_terms.specs.declared.messages.Message.TheVariants.{FromTimer}
 use Rattle.message_queues.specs.inside.Buffers.{Buffer, message_in, buffer_of, buffer_at}
 use Rattle.message_queues.specs.declared.chains.Chain.{Chain}
 use Rattle.message_queues.specs.declared.queues.Queues.TheInside.{Inside}
-use Rattle.message_queues.specs.Queues.{Queues, HasBuffer, is_from_port, port_used, withdrawn_of, left_of}
-use Rattle.message_queues.specs.inside.Owners.{owner_of, HasOwner, used_by, share, IsCounted}
+use Rattle.message_queues.specs.Queues.{Queues, processors_of, HasBuffer, is_from_port, port_used, withdrawn_of, left_of}
+use Rattle.message_queues.specs.inside.Owners.{owner_of, owners, HasOwner, used_by, share, IsCounted}
 use Rattle.message_queues.specs.inside.Chains.{queue_at, queues_at, ReadsBothWays, AreChains}
 use Rattle.message_queues.specs.inside.Moves.{Linked, Freed, Withdrawn}
 use Rattle.message_queues.specs.inside.View.{buffers_of, queues_of, total_of, QueuesInvariant}
@@ -25,32 +26,35 @@ use Rattle.message_queues.proofs.ChainLemmas.{those, push-moved, unlink-moved, f
 use Rattle.message_queues.proofs.Walks.{withdrawn-moved}
 
 -- the fields satisfy the invariant, and their view is these queues
-pub record Step (neighbours : Slab Neighbours) (messages : List Message) (chains : List Chain) (in_use : List ℕ) (view : Queues) : Type 0 where
+pub record Step (neighbours : Slab Neighbours) (messages : List Message) (chains : List Chain) (processors : ℕ) (in_use : List ℕ) (view : Queues) : Type 0 where
   pub linked : AreChains (buffer_at neighbours messages) chains
   pub held : slab_len neighbours ≡ total_of chains
   pub both_ways : (queue : ℕ) (chain : Chain) → slice_get chains queue ≡ Some chain → ReadsBothWays (buffer_at neighbours messages) chain
-  pub room : 288 ≤ neighbours.capacity
+  pub room : 256 + 4 * processors ≤ neighbours.capacity
   pub size : length messages ≡ neighbours.capacity
-  pub owned : All (λ (queue : List Message). All HasOwner queue) (queues_at (buffer_at neighbours messages) chains)
-  pub counts : IsCounted (queues_at (buffer_at neighbours messages) chains) in_use
+  pub owned : All (λ (queue : List Message). All (HasOwner processors) queue) (queues_at (buffer_at neighbours messages) chains)
+  pub counts : IsCounted processors (queues_at (buffer_at neighbours messages) chains) in_use
+  pub each : length chains ≡ 16 * processors
   pub view_is : queues_at (buffer_at neighbours messages) chains ≡ view
 
 -- What an append relies on: its owner has a free buffer, and the slab and each chain have capacity.
 pub record Room (a : Inside) (owner : ℕ) : Type 0 where
   pub left : used_by owner (queues_of a) < share owner
-  pub fits : slice_index_or a.in_use owner 0 < 16
-  pub total : total_of a.chains.items < 288
+  pub below : owner < owners a.processors
+  pub fits : slice_index_or a.in_use.items owner 0 < 16
+  pub total : total_of a.chains.items < 256 + 4 * a.processors
 
-pub room-for : (a : Inside) (qs : Queues) (message : Message) (o : ℕ) → QueuesInvariant a → queues_of a ≡ qs → HasOwner message → HasBuffer qs message → o ≡ owner_of message → Room a o
+pub room-for : (a : Inside) (qs : Queues) (message : Message) (o : ℕ) → QueuesInvariant a → queues_of a ≡ qs → HasOwner a.processors message → HasBuffer qs message → o ≡ owner_of message → Room a o
 room-for a qs message o k shown own has is =
-    let owned = each-owned (queues_of a) k.owned in
-    let below = owner-below message own in
+    let owned = each-owned a.processors (queues_of a) k.owned in
+    let below = owner-below a.processors message own in
     let has' : HasBuffer (queues_of a) message = subst (λ (x : Queues). HasBuffer x message) (sym shown) has in
-    let left = buffer-left (queues_of a) message owned own has' in
-    let bound = has_room (queues_of a) a.in_use (owner_of message) owned k.counts below left in
+    let left = buffer-left a.processors (queues_of a) message owned own has' in
+    let bound = has_room a.processors (queues_of a) a.in_use.items (owner_of message) owned k.counts below left in
     let total = total-queues (buffers_of a) a.chains.items k.linked in
     rw is (record {
       left = left;
+      below = below;
       fits = omega (arith, left, share-le (owner_of message), k.counts.counted (owner_of message) below);
       total = omega (arith, bound, total);
     })
@@ -62,14 +66,28 @@ pub record Here (a : Inside) (qs : Queues) (q : ℕ) (c : Chain) : Type 0 where
   pub shown_row : slice_index_or qs q [] ≡ queue_at (buffers_of a) c
   pub within : q < length (queues_of a)
   pub len : length (queue_at (buffers_of a) c) ≡ c.len
-  pub bound : c.len ≤ 288
+  pub bound : c.len ≤ 256 + 4 * a.processors
+  pub each : length qs ≡ 16 * a.processors
+
+-- each processor has 16 queues
+pub queues-each : (a : Inside) (qs : Queues) → QueuesInvariant a → queues_of a ≡ qs → length qs ≡ 16 * a.processors
+queues-each a qs k shown = sym (ap length shown) ∙ length-map a.chains.items (queue_at (buffers_of a)) ∙ k.each
+
+-- a count that was read is that of its owner
+pub used-at : (a : Inside) (o used : ℕ) → QueuesInvariant a → o < owners a.processors → used ≡ get_or a.in_use.items o used → used ≡ slice_index_or a.in_use.items o 0
+used-at a o used k below read = read ∙ get_or_default a.in_use.items o used 0 (omega (arith, below, k.counts.size))
+
+-- a timer of a processor that has queues has an owner
+pub timer-owned : (a : Inside) (qs : Queues) (ticket expiration : ℕ) (timer : ℕ × ℕ) → QueuesInvariant a → queues_of a ≡ qs → timer.0 < processors_of qs → timer.1 < 4 →
+    HasOwner a.processors (FromTimer ticket timer expiration)
+timer-owned a qs ticket expiration timer k shown on index = (omega (arith, on, queues-each a qs k shown), index)
 
 pub here : (a : Inside) (qs : Queues) (q : ℕ) (c : Chain) → QueuesInvariant a → queues_of a ≡ qs → q < length qs → c ≡ get_or a.chains.items q c → Here a qs q c
 here a qs q c k shown within read =
     let at = chain_at (buffers_of a) a.chains.items qs q c shown within read in
     let row = queue-is (buffers_of a) a.chains.items q c at in
     let total = total-queues (buffers_of a) a.chains.items k.linked in
-    let all = all-within (queues_of a) a.in_use (each-owned (queues_of a) k.owned) k.counts in
+    let all = all-within a.processors (queues_of a) a.in_use.items (each-owned a.processors (queues_of a) k.owned) k.counts in
     record {
       at = at;
       row = row;
@@ -77,26 +95,29 @@ here a qs q c k shown within read =
       within = omega (arith, within, ap length shown);
       len = length-chain (buffers_of a) k.linked.owner k.linked.rank q c (k.linked.each q c at);
       bound = omega (arith, total, all, len-le-total a.chains.items q c at);
+      each = queues-each a qs k shown;
     }
 
-owned-at : (a : Inside) (q : ℕ) → QueuesInvariant a → q < length (queues_of a) → All HasOwner (slice_index_or (queues_of a) q [])
-owned-at a q k within = All-get_or (λ (queue : List Message). All HasOwner queue) (queues_of a) q [] within k.owned
+owned-at : (a : Inside) (q : ℕ) → QueuesInvariant a → q < length (queues_of a) → All (HasOwner a.processors) (slice_index_or (queues_of a) q [])
+owned-at a q k within = All-get_or (λ (queue : List Message). All (HasOwner a.processors) queue) (queues_of a) q [] within k.owned
 
-owned-set : (a : Inside) (q : ℕ) (r : List Message) → QueuesInvariant a → All HasOwner r → All (λ (queue : List Message). All HasOwner queue) (slice_set (queues_of a) q r)
-owned-set a q r k own = All-set (λ (queue : List Message). All HasOwner queue) (queues_of a) q r own k.owned
+owned-set : (a : Inside) (q : ℕ) (r : List Message) → QueuesInvariant a → All (HasOwner a.processors) r →
+    All (λ (queue : List Message). All (HasOwner a.processors) queue) (slice_set (queues_of a) q r)
+owned-set a q r k own = All-set (λ (queue : List Message). All (HasOwner a.processors) queue) (queues_of a) q r own k.owned
 
-one-owned : (m : Message) → HasOwner m → All HasOwner (m ∷ [])
-one-owned m own = by
+one-owned : (n : ℕ) (m : Message) → HasOwner n m → All (HasOwner n) (m ∷ [])
+one-owned n m own = by
   where
-    by : All HasOwner (m ∷ [])
+    by : All (HasOwner n) (m ∷ [])
     by zero d below = own
     by (suc k) d below = absurd (omega arith)
 
-pub append-step : (a : Inside) (qs : Queues) (q : ℕ) (c d : Chain) (key : ℕ) (message : Message) (o : ℕ) (new : Slab Neighbours) → QueuesInvariant a → queues_of a ≡ qs →
-    q < length qs → c ≡ get_or a.chains.items q c → HasOwner message → HasBuffer qs message → o ≡ owner_of message →
+pub append-step : (a : Inside) (qs : Queues) (q : ℕ) (c d : Chain) (key : ℕ) (message : Message) (o used : ℕ) (new : Slab Neighbours) → QueuesInvariant a → queues_of a ≡ qs →
+    q < length qs → c ≡ get_or a.chains.items q c → HasOwner a.processors message → HasBuffer qs message → o ≡ owner_of message → used ≡ slice_index_or a.in_use.items o 0 →
     Linked (get a.neighbours) (get new) c d key → slab_len new ≡ slab_len a.neighbours + 1 → new.capacity ≡ a.neighbours.capacity → key < a.neighbours.capacity →
-    Step new (slice_set a.messages.items key message) (slice_set a.chains.items q d) (slice_set a.in_use o (slice_index_or a.in_use o 0 + 1)) (slice_set qs q (slice_index_or qs q [] ++ message ∷ []))
-append-step a qs q c d key message o new k shown within read own has is move len capacity range =
+    Step new (slice_set a.messages.items key message) (slice_set a.chains.items q d) a.processors (slice_set a.in_use.items o (used + 1))
+    (slice_set qs q (slice_index_or qs q [] ++ message ∷ []))
+append-step a qs q c d key message o used new k shown within read own has is count move len capacity range =
     let messages : List Message = slice_set a.messages.items key message in
     let push = pushed a.neighbours new a.messages.items c d key message move (omega (arith, range, k.size)) in
     let h = here a qs q c k shown within read in
@@ -111,8 +132,9 @@ append-step a qs q c d key message o new k shown within read own has is move len
       room = omega (arith, k.room, capacity);
       size = length-set a.messages.items key message ∙ k.size ∙ sym capacity;
       owned = rw view (owned-set a q (slice_index_or (queues_of a) q [] ++ message ∷ []) k
-          (All-append HasOwner (slice_index_or (queues_of a) q []) (message ∷ []) (owned-at a q k h.within) (one-owned message own)));
-      counts = rw (view, is) (counted-append (queues_of a) a.in_use q message k.counts h.within (owner-below message own) left);
+          (All-append (HasOwner a.processors) (slice_index_or (queues_of a) q []) (message ∷ []) (owned-at a q k h.within) (one-owned a.processors message own)));
+      counts = rw (view, count, is) (counted-append a.processors (queues_of a) a.in_use.items q message k.counts h.within (owner-below a.processors message own) left);
+      each = length-set a.chains.items q d ∙ k.each;
       view_is = view ∙ ap (λ (x : Queues). slice_set x q (slice_index_or x q [] ++ message ∷ [])) shown;
     }
 
@@ -124,8 +146,8 @@ pub record Head (a : Inside) (qs : Queues) (q : ℕ) (c : Chain) (key : ℕ) : T
   pub first : b.before ≡ None
   pub some : 1 ≤ c.len
   pub row : slice_index_or qs q [] ≡ b.message ∷ rest
-  pub own : HasOwner b.message
-  pub used : 1 ≤ slice_index_or a.in_use (owner_of b.message) 0
+  pub own : HasOwner a.processors b.message
+  pub used : 1 ≤ slice_index_or a.in_use.items (owner_of b.message) 0
 
 pub head-at : (a : Inside) (qs : Queues) (q : ℕ) (c : Chain) (key : ℕ) → QueuesInvariant a → queues_of a ≡ qs → q < length qs → c ≡ get_or a.chains.items q c → c.first ≡ Some key → Head a qs q c key
 head-at a qs q c key k shown within read first =
@@ -137,7 +159,7 @@ head-at a qs q c key k shown within read first =
     let there : buffers_of a key ≡ Some links.0 = links.4 in
     let one : those (buffers_of a) (key ∷ split.0) ≡ links.0.message ∷ rest = rw there refl in
     let row = h.row ∙ row-chain (buffers_of a) k.linked.owner k.linked.rank q c chain ∙ ap (those (buffers_of a)) split.1 ∙ one in
-    let own : HasOwner links.0.message = rw row at (owned-at a q k h.within) 0 links.0.message (omega (arith, ap length row)) in
+    let own : HasOwner a.processors links.0.message = rw row at (owned-at a q k h.within) 0 links.0.message (omega (arith, ap length row)) in
     record {
       b = links.0;
       rest = rest;
@@ -146,12 +168,21 @@ head-at a qs q c key k shown within read first =
       some = omega (arith, chain.len, ap length split.1);
       row = ap (λ (x : Queues). slice_index_or x q []) (sym shown) ∙ row;
       own = own;
-      used = head-used (queues_of a) a.in_use q links.0.message rest k.counts h.within (owner-below links.0.message own) row;
+      used = head-used a.processors (queues_of a) a.in_use.items q links.0.message rest k.counts h.within (owner-below a.processors links.0.message own) row;
     }
 
 -- the message at the first key
 pub head-message : (a : Inside) (qs : Queues) (q : ℕ) (c : Chain) (key : ℕ) (h : Head a qs q c key) → message_in a.messages.items key ≡ h.b.message
 head-message a qs q c key h = message-there a.neighbours a.messages.items key h.b h.there
+
+-- its owner, which has a count of at least one
+pub record HeadOwner (a : Inside) (o : ℕ) : Type 0 where
+  pub below : o < owners a.processors
+  pub used : 1 ≤ slice_index_or a.in_use.items o 0
+
+pub head-owner : (a : Inside) (qs : Queues) (q : ℕ) (c : Chain) (key : ℕ) (message : Message) (o : ℕ) (h : Head a qs q c key) → message ≡ message_in a.messages.items key → o ≡ owner_of message → HeadOwner a o
+head-owner a qs q c key message o h read is =
+    rw (is ∙ ap owner_of (read ∙ head-message a qs q c key h)) (record { below = owner-below a.processors h.b.message h.own; used = h.used })
 
 -- nothing is before the first key
 pub head-first : (a : Inside) (qs : Queues) (q : ℕ) (c : Chain) (key : ℕ) (n : Neighbours) (h : Head a qs q c key) → get a.neighbours key ≡ Some n → n.before ≡ None
@@ -160,11 +191,12 @@ head-first a qs q c key n h there =
     let same : buffer_of (message_in a.messages.items key) n ≡ h.b = cc in
     ap (λ (x : Buffer). x.before) same ∙ h.first
 
-pub place-step : (a : Inside) (qs : Queues) (q : ℕ) (c d : Chain) (key : ℕ) (n : Neighbours) (o : ℕ) (new : Slab Neighbours) → QueuesInvariant a →
-    queues_of a ≡ qs → q < length qs → c ≡ get_or a.chains.items q c → c.first ≡ Some key → o ≡ owner_of (message_in a.messages.items key) →
+pub place-step : (a : Inside) (qs : Queues) (q : ℕ) (c d : Chain) (key : ℕ) (n : Neighbours) (o used : ℕ) (new : Slab Neighbours) → QueuesInvariant a →
+    queues_of a ≡ qs → q < length qs → c ≡ get_or a.chains.items q c → c.first ≡ Some key → o ≡ owner_of (message_in a.messages.items key) → used ≡ slice_index_or a.in_use.items o 0 →
     Freed (get a.neighbours) (get new) c d key n → slab_len new + 1 ≡ slab_len a.neighbours → new.capacity ≡ a.neighbours.capacity →
-    Step new a.messages.items (slice_set a.chains.items q d) (slice_set a.in_use o (slice_index_or a.in_use o 0 - 1)) (slice_set qs q (drop 1 (slice_index_or qs q [])))
-place-step a qs q c d key n o new k shown within read first is move len capacity =
+    Step new a.messages.items (slice_set a.chains.items q d) a.processors (slice_set a.in_use.items o (used - 1))
+    (slice_set qs q (drop 1 (slice_index_or qs q [])))
+place-step a qs q c d key n o used new k shown within read first is count move len capacity =
     let messages = a.messages.items in
     let message = message_in messages key in
     let b = buffer_of message n in
@@ -177,15 +209,16 @@ place-step a qs q c d key n o new k shown within read first is move len capacity
     let row : slice_index_or (queues_of a) q [] ≡ message ∷ rest = h.row ∙ m.1 in
     let left : drop 1 (slice_index_or (queues_of a) q []) ≡ rest = ap (λ (x : List Message). drop 1 x) row in
     let view = m.0.view ∙ ap (λ (x : List Message). slice_set (queues_of a) q x) (sym left) in
-    let own : HasOwner message = rw row at (owned-at a q k h.within) 0 message (omega (arith, ap length row)) in
+    let own : HasOwner a.processors message = rw row at (owned-at a q k h.within) 0 message (omega (arith, ap length row)) in
     record {
       linked = m.0.kept;
       both_ways = both-ways (buffer_at new messages) (slice_set a.chains.items q d) m.0.kept;
       held = omega (arith, total-set a.chains.items q c d h.at, k.held, len, gone.len);
       room = omega (arith, k.room, capacity);
       size = k.size ∙ sym capacity;
-      owned = rw view (owned-set a q (drop 1 (slice_index_or (queues_of a) q [])) k (All-drop HasOwner 1 (slice_index_or (queues_of a) q []) (owned-at a q k h.within)));
-      counts = rw (m.0.view, is) (counted-place (queues_of a) a.in_use q message rest k.counts h.within (owner-below message own) row);
+      owned = rw view (owned-set a q (drop 1 (slice_index_or (queues_of a) q [])) k (All-drop (HasOwner a.processors) 1 (slice_index_or (queues_of a) q []) (owned-at a q k h.within)));
+      counts = rw (m.0.view, count, is) (counted-place a.processors (queues_of a) a.in_use.items q message rest k.counts h.within (owner-below a.processors message own) row);
+      each = length-set a.chains.items q d ∙ k.each;
       view_is = view ∙ ap (λ (x : Queues). slice_set x q (drop 1 (slice_index_or x q []))) shown;
     }
 
@@ -228,12 +261,12 @@ port-below a qs port k shown some = go (cases_lt port 16)
   where
     go : (port < 16) ⊎ (16 ≤ port) → port < 16
     go (inl below) = below
-    go (inr above) = absurd (some (ap (λ (x : Queues). port_used x port) (sym shown) ∙ port_used-past (queues_of a) port above (each-owned (queues_of a) k.owned)))
+    go (inr above) = absurd (some (ap (λ (x : Queues). port_used x port) (sym shown) ∙ port_used-past a.processors (queues_of a) port above (each-owned a.processors (queues_of a) k.owned)))
 
 -- What a withdrawal relies on: the port's messages in the queue are among its buffers in use.
 pub record Found (a : Inside) (c : Chain) (port : ℕ) : Type 0 where
-  pub bound : length (withdrawn_of port (queue_at (buffers_of a) c)) ≤ slice_index_or a.in_use port 0
-  pub in_use : slice_index_or a.in_use port 0 ≤ 16
+  pub bound : length (withdrawn_of port (queue_at (buffers_of a) c)) ≤ slice_index_or a.in_use.items port 0
+  pub in_use : slice_index_or a.in_use.items port 0 ≤ 16
 
 pub found : (a : Inside) (qs : Queues) (q : ℕ) (c : Chain) (port : ℕ) → QueuesInvariant a → queues_of a ≡ qs → q < length qs → c ≡ get_or a.chains.items q c → port < 16 → Found a c port
 found a qs q c port k shown within read below =
@@ -246,12 +279,13 @@ found a qs q c port k shown within read below =
       in_use = omega (arith, count, k.counts.within port (omega arith), share-le port);
     }
 
-pub withdrawn-step : (a : Inside) (qs : Queues) (q : ℕ) (c d : Chain) (port n : ℕ) (tickets : List ℕ) (new : Slab Neighbours) (k : QueuesInvariant a) → queues_of a ≡ qs →
+pub withdrawn-step : (a : Inside) (qs : Queues) (q : ℕ) (c d : Chain) (port used n : ℕ) (tickets : List ℕ) (new : Slab Neighbours) (k : QueuesInvariant a) → queues_of a ≡ qs →
     q < length qs → c ≡ get_or a.chains.items q c → port < 16 →
     Withdrawn (buffers_of a) (buffer_at new a.messages.items) k.linked.owner k.linked.rank q c d port tickets → slab_len new + length tickets ≡ slab_len a.neighbours →
-    new.capacity ≡ a.neighbours.capacity → n ≡ length tickets →
-    Step new a.messages.items (slice_set a.chains.items q d) (slice_set a.in_use port (slice_index_or a.in_use port 0 - n)) (slice_set qs q (left_of port (slice_index_or qs q [])))
-withdrawn-step a qs q c d port n tickets new k shown within read below w len capacity is =
+    new.capacity ≡ a.neighbours.capacity → used ≡ slice_index_or a.in_use.items port 0 → n ≡ length tickets →
+    Step new a.messages.items (slice_set a.chains.items q d) a.processors (slice_set a.in_use.items port (used - n))
+    (slice_set qs q (left_of port (slice_index_or qs q [])))
+withdrawn-step a qs q c d port used n tickets new k shown within read below w len capacity stored is =
     let h = here a qs q c k shown within read in
     let m = withdrawn-moved (buffers_of a) (buffer_at new a.messages.items) a.chains.items q c d port tickets k.linked h.at w in
     let row = slice_index_or (queues_of a) q [] in
@@ -267,11 +301,12 @@ withdrawn-step a qs q c d port n tickets new k shown within read below w len cap
       held = omega (arith, total-set a.chains.items q c d h.at, k.held, len, w.len);
       room = omega (arith, k.room, capacity);
       size = k.size ∙ sym capacity;
-      owned = rw view (owned-set a q (left_of port row) k (All-filter (λ x. not (is_from_port port x)) HasOwner row (owned-at a q k h.within)));
-      counts = rw view (counted-set (queues_of a) a.in_use q (left_of port row) port (slice_index_or a.in_use port 0 - n) k.counts h.within (omega arith)
+      owned = rw view (owned-set a q (left_of port row) k (All-filter (λ x. not (is_from_port port x)) (HasOwner a.processors) row (owned-at a q k h.within)));
+      counts = rw (view, stored) (counted-set a.processors (queues_of a) a.in_use.items q (left_of port row) port (slice_index_or a.in_use.items port 0 - n) k.counts h.within (omega arith)
           (λ x ne. left-count port x row below ne)
           (omega (arith, left-none port row below, f.bound, is, taken, count, gone, same))
           (omega (arith, count, k.counts.within port (omega arith))));
+      each = length-set a.chains.items q d ∙ k.each;
       view_is = view ∙ ap (λ (x : Queues). slice_set x q (left_of port (slice_index_or x q []))) shown;
     }
 

@@ -1,5 +1,5 @@
 -- The message queues: one for each source of each processor (TLFS, "Messages").
-use Rattle.std.specs.Prelude.{◌≡◌, ℕ, ◌*◌, ◌<◌, ◌==◌, ◌&&◌, Bool, true, false, not, List, [], ◌∷◌, ◌++◌, map, filter, drop, replicate, slice_index_or, slice_set, sum_by, count_by}
+use Rattle.std.specs.Prelude.{◌≡◌, ℕ, ◌+◌, ◌*◌, ◌/◌, ◌<◌, ◌==◌, ◌&&◌, Bool, true, false, not, List, [], ◌∷◌, ◌++◌, length, map, filter, drop, replicate, slice_index_or, slice_set, sum_by, count_by}
 use Rattle.board_terms.specs.Quantities.{Processor, Source, PortNumber, Ticket}
 use Rattle.board_terms.specs.declared.messages.Message.{Message}
 use Rattle.board_terms.specs.declared.messages.Message.TheVariants.{FromPort, FromTimer}
@@ -12,6 +12,14 @@ Queues = List (List Message)
 
 abbrev pub no_messages : ℕ → Queues
 no_messages processors = replicate (16 * processors) []
+
+-- the number of processors: each has 16 queues
+abbrev pub processors_of : Queues → ℕ
+processors_of qs = length qs / 16
+
+-- the greatest number of messages in all queues together: 16 of each of the 16 ports, and one of each timer, of which there are a quarter as many as queues
+abbrev pub most_messages : Queues → ℕ
+most_messages qs = 256 + length qs / 4
 
 abbrev pub queue_of : Queues → Processor → Source → List Message
 queue_of qs p i = slice_index_or qs (source_number p i) []
@@ -39,10 +47,10 @@ timer_used qs timer = sum_by (count_by (is_from_timer timer)) qs
 abbrev pub is_timer_free : Queues → ℕ × ℕ → Bool
 is_timer_free qs timer = timer_used qs timer == 0
 
--- there is a free buffer for the message: a port below 16 has 16 of them, a timer has one
+-- there is a free buffer for the message: a port below 16 has 16 of them, a timer of a processor that has queues has one
 abbrev pub HasBuffer : Queues → Message → Type 0
 HasBuffer qs (FromPort ticket port kind payload) = (port < 16) × (port_used qs port < 16)
-HasBuffer qs (FromTimer ticket timer expiration) = is_timer_free qs timer ≡ true
+HasBuffer qs (FromTimer ticket timer expiration) = (timer.0 < processors_of qs) × (is_timer_free qs timer ≡ true)
 
 -- a message joins the end of a queue
 abbrev pub appended : Queues → Processor → Source → Message → Queues

@@ -6,19 +6,19 @@ ghost use Rattle.board_terms.specs.Messages.{ticket_of};
 ghost use Rattle.board_terms.specs.declared.messages.Message.TheVariants.{FromPort, FromTimer};
 ghost use Rattle.board_terms.specs.Sources.{source_number};
 ghost use Rattle.board_terms.specs.Ranges.{HasMessageRanges};
-ghost use Rattle.message_queues.specs.Queues.{no_messages, queue_of, with_queue, appended, after_place, after_withdrawal, withdrawn_of, port_used, is_timer_free, HasBuffer};
+ghost use Rattle.message_queues.specs.Queues.{no_messages, queue_of, with_queue, appended, after_place, after_withdrawal, withdrawn_of, processors_of, most_messages, port_used, is_timer_free, HasBuffer};
 
 use crate::chains::{Chain, Neighbours, drop_first, link, message_at, message_in, withdraw};
 use crate::messages::{copied, no_message, write_expiry, write_post};
-use crate::owners::{OWNERS, PORTS, owner_of, owner_of_timer};
+use crate::owners::{PORTS, owner_of, owner_of_timer};
 use arrayvec::ArrayVec;
 use board_terms::{Message, Moment, Sint, Ticket, TimerId, Vp, source_number};
 use slab::Slab;
 use std::alloc::{AllocError, Global};
 use std::marker::Model;
 
-/// The greatest number of queued messages: 16 of each port, one of each timer.
-const BUFFERS: usize = 288;
+/// The buffers of all ports: 16 of each.
+const PORT_BUFFERS: usize = 256;
 
 /// The message queues of a board: one for each source of each processor.
 #[derive(Drop)]
@@ -33,7 +33,8 @@ pub struct Queues {
     chains: Vec<Chain>,
     /// How many messages of each owner are queued. `append` increments it, `drop_head`
     /// and `withdraw_port` decrement it.
-    in_use: [u8; OWNERS],
+    in_use: Vec<u8>,
+    processors: u8,
 }
 
 impl Model for Queues {
@@ -50,16 +51,18 @@ impl Model for Queues {
 }
 
 impl Queues {
-    /// Empty queues for that many processors, 1 to 8, with capacity for 288 messages. The only call
-    /// here that allocates.
+    /// Empty queues for that many processors, 1 to 64, with capacity for 256 messages of ports and one
+    /// of each timer. The only call here that allocates.
     pub fn open(alloc: Global, processors: u8) -> Result<Queues, AllocError>
         requires some { 1 ≤ processors }
-        requires bound { processors ≤ 8 }
+        requires bound { processors ≤ 64 }
         ensures { IfOk result (λ q. q ≡ no_messages processors) }
     {
+        let timers = 4 * processors as usize;
         let queues = 16 * processors as usize;
-        let neighbours = Slab::with_capacity(alloc, BUFFERS)?;
+        let neighbours = Slab::with_capacity(alloc, PORT_BUFFERS + timers)?;
         let messages = unused(alloc, neighbours.capacity())?;
+        let in_use = vec![in alloc; 0; PORTS + timers]?;
         let mut chains = Vec::with_capacity(alloc, queues)?;
         for _ in 0..queues {
             chains.push_reserved(Chain {
@@ -72,12 +75,13 @@ impl Queues {
             neighbours,
             messages,
             chains,
-            in_use: [0; OWNERS],
+            in_use,
+            processors,
         })
     }
 
     /// Appends a message to a queue. Never allocates. Requires that the processor has queues here,
-    /// and that the message has a free buffer (`port_used`, `timer_buffer_free`).
+    /// and that the message has a free buffer (`has_buffer`).
     pub fn append(&mut self, vp: Vp, sint: Sint, message: Message)
         requires on_the_board { source_number vp sint < length self.old }
         requires buffer { HasBuffer self.old message }
@@ -123,8 +127,8 @@ impl Queues {
         write_post(&mut self.messages[key], ticket, port, kind, payload);
     }
 
-    /// Appends the message of a timer to a queue. Never allocates. Requires that the buffer of the
-    /// timer is free (`timer_buffer_free`).
+    /// Appends the message of a timer to a queue. Never allocates. Requires that the timer's processor
+    /// has queues here, and that its buffer is free (`timer_buffer_free`).
     #[inline]
     pub fn append_expiry(
         &mut self,
@@ -210,13 +214,13 @@ impl Queues {
     }
 
     /// Removes all messages from a queue, and returns their tickets, front first. Never allocates.
-    /// All queues together have at most 288 messages.
-    pub fn withdraw_all(&mut self, vp: Vp, sint: Sint) -> ArrayVec<Ticket, 288>
+    /// All queues together have at most 256 messages of ports and one of each timer.
+    pub fn withdraw_all(&mut self, vp: Vp, sint: Sint) -> ArrayVec<Ticket, 512>
         requires { source_number vp sint < length self.old }
         ensures tickets { result.items ≡ map ticket_of (queue_of self.old vp sint) }
         ensures rest { self.new ≡ with_queue self.old vp sint [] }
         ensures as_many { length self.new ≡ length self.old }
-        ensures in_all { sum_by length self.old ≤ 288 }
+        ensures in_all { sum_by length self.old ≤ most_messages self.old }
     {
         let count = self.count(vp, sint);
         let mut tickets = ArrayVec::new();
@@ -227,13 +231,15 @@ impl Queues {
         tickets
     }
 
-    /// How many messages are in a queue, at most 288, the bound for all queues together.
+    /// How many messages are in a queue. The bound, at most 512, is that for all queues together: 256
+    /// messages of ports and one of each timer.
     #[inline]
     pub fn count(&self, vp: Vp, sint: Sint) -> u16
         requires { source_number vp sint < length self.now }
         ensures value { result ≡ length (queue_of self.now vp sint) }
-        ensures bound { result ≤ 288 }
-        ensures in_all { sum_by length self.now ≤ 288 }
+        ensures bound { result ≤ most_messages self.now }
+        ensures in_all { sum_by length self.now ≤ most_messages self.now }
+        ensures most { most_messages self.now ≤ 512 }
     {
         self.chains[source_number(vp, sint)].len
     }
@@ -252,12 +258,21 @@ impl Queues {
         in_use[port as usize]
     }
 
-    /// Whether the one buffer of a timer is free: no message of it is queued.
+    /// Whether the one buffer of a timer is free: no message of it is queued. A timer of a processor
+    /// that has no queues has no message here.
     #[inline]
     pub fn timer_buffer_free(&self, timer: TimerId) -> bool
         ensures { result ≡ is_timer_free self.now timer }
     {
-        self.in_use[owner_of_timer(timer)] == 0
+        !self.has_timer(timer) || self.in_use[owner_of_timer(timer)] == 0
+    }
+
+    /// Whether the processor of a timer has queues here.
+    #[inline]
+    fn has_timer(&self, timer: TimerId) -> bool
+        ensures { IsTrue result ↔ (timer.0 < processors_of self.now) }
+    {
+        timer.vp().number() < self.processors
     }
 
     /// Whether there is a free buffer for a message.
@@ -266,7 +281,9 @@ impl Queues {
     {
         match message {
             Message::FromPort { port, .. } => *port < 16 && self.port_used(*port) < 16,
-            Message::FromTimer { timer, .. } => self.timer_buffer_free(*timer),
+            Message::FromTimer { timer, .. } => {
+                self.has_timer(*timer) && self.timer_buffer_free(*timer)
+            }
         }
     }
 

@@ -17,7 +17,7 @@ shared_words name processors sweepers lines = record { name = name; processors =
 -- the valid sizes of words
 pub record AreWordSizes (processors sweepers lines : ℕ) : Type 0 where
   pub some_processor : 1 ≤ processors
-  pub processor_bound : processors ≤ 8
+  pub processor_bound : processors ≤ 64
   pub some_sweeper : 1 ≤ sweepers
   pub few_sweepers : sweepers ≤ 16
   pub few_lines : lines ≤ 16

@@ -119,7 +119,7 @@ fn read(alloc: Global, closed: &Closed<(), Global>) -> Result<Vec<u64>, AllocErr
 
 impl PostedWords {
     /// Words of that many processors, all zero, with a sweeper for each actor and a line for each
-    /// device, all without steps. `BadSize` unless there are 1 to 8 processors, 1 to 16 sweepers
+    /// device, all without steps. `BadSize` unless there are 1 to 64 processors, 1 to 16 sweepers
     /// and at most 16 lines, which is checked first; `Memory` if an allocation fails.
     pub fn open(
         alloc: Global,
@@ -133,7 +133,7 @@ impl PostedWords {
         ensures sweepers { IfOk result (λ r. r.1.items ≡ replicate sweepers (token r.0.name [])) }
         ensures lines { IfOk result (λ r. r.2.items ≡ replicate lines (token r.0.name [])) }
     {
-        if processors < 1 || processors > 8 || sweepers < 1 || sweepers > 16 || lines > 16 {
+        if processors < 1 || processors > 64 || sweepers < 1 || sweepers > 16 || lines > 16 {
             return Err(PostedFault::BadSize);
         }
         match PostedWords::open_sized(alloc, processors, sweepers, lines) {
@@ -172,10 +172,10 @@ impl PostedWords {
         Ok((words, given_sweepers, given_lines))
     }
 
-    /// The number of processors of the words, at most 8.
+    /// The number of processors of the words, at most 64.
     pub fn processors(&self) -> u8
         ensures count { result ≡ self.now.processors }
-        ensures bound { result ≤ 8 }
+        ensures bound { result ≤ 64 }
     {
         self.processors
     }

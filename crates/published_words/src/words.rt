@@ -41,7 +41,7 @@ impl Model for PublishedWords {
 
     ghost view = { λ w. words_of w.table.shared.table_id w.table.shared.key.value.state };
 
-    ghost invariant = { λ w. (w.count ≡ processors w.table.shared.key.value.state) × (w.count ≤ 8) × (w.table.shared.table_id.words ≡ 8 * word_count w.table.shared.key.value.state) };
+    ghost invariant = { λ w. (w.count ≡ processors w.table.shared.key.value.state) × (w.count ≤ 64) × (w.table.shared.table_id.words ≡ 8 * word_count w.table.shared.key.value.state) };
 }
 
 /// The word for a next vector.
@@ -82,7 +82,7 @@ fn values_of(alloc: Global, board: &Board) -> Result<Vec<u64>, AllocError>
 
 /// The values, each in a cache line of its own.
 fn spread(alloc: Global, values: &[u64]) -> Result<Vec<u64>, AllocError>
-    requires { length values.now ≤ 9 }
+    requires { length values.now ≤ 65 }
     ensures { IfOk result (λ w. AreSpread values.now w.items) }
 {
     let mut words = Vec::from_elem(alloc, 0, LINE * values.len())?;
@@ -108,10 +108,10 @@ impl PublishedWords {
         Ok((words, Publisher { seat, values }))
     }
 
-    /// The number of processors of the board, at most 8.
+    /// The number of processors of the board, at most 64.
     pub fn processors(&self) -> u8
         ensures count { result ≡ processors self.now.start }
-        ensures bound { result ≤ 8 }
+        ensures bound { result ≤ 64 }
     {
         self.count
     }

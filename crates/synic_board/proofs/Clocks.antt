@@ -18,8 +18,9 @@ use Rattle.synic_board.specs.declared.event.Reply.TheVariants.{Done}
 use Rattle.synic_board.specs.State.{State, bank_of}
 use Rattle.synic_board.specs.Effects.{answered, unchanged, refused}
 use Rattle.synic_board.specs.Summaries.{Values}
-use Rattle.synic_board.specs.Timers.{at_moment, attempted_all, ticked}
+use Rattle.synic_board.specs.Timers.{at_moment, attempted_until, most_expiries, ticked}
 use Rattle.synic_board.specs.inside.Steps.{is_any_due}
+use Rattle.synic_board.proofs.Folds.{until-none}
 
 -- a bank keeps its timers
 pub many-written : (b now : Bank) (t : ℕ × ℕ) (x : Timer) → now ≡ with_timer b t x → length now.timers ≡ length b.timers
@@ -82,21 +83,17 @@ unfolding least
 listed_due m moment k d h e le = some_due (least_below m (length m)) d moment (by_due m (length m) k d h e) le
 
 -- no timer is listed before the earliest deadline
-none_listed : (m : Dues) (moment : ℕ) → is_any_due (least m) moment ≡ false → due_list m moment ≡ []
+pub none_listed : (m : Dues) (moment : ℕ) → is_any_due (least m) moment ≡ false → due_list m moment ≡ []
 none_listed m moment none = empty (due_list m moment) (sorted m moment).each
   where
     empty : (ts : List (ℕ × ℕ)) → Each (IsDueBy m moment (length m)) ts → ts ≡ []
     empty [] h = refl
     empty (t ∷ ts) h = let some = listed_due m moment (number_of t) h.0.due h.0.low h.0.is h.0.by in absurd (cc)
 
-nothing_tried : (s : State) → attempted_all s [] ≡ (s, [])
-unfolding attempted_all
-nothing_tried s = refl
-
 -- a tick before the earliest deadline changes only the time
 pub ticked_before : (s : State) (moment : ℕ) → s.moment ≤ moment → moment ≢ s.moment → is_any_due (least (dues (bank_of s))) moment ≡ false → ticked s moment ≡ (at_moment s moment, Done, [])
 ticked_before s moment on other none =
     let back : nat_lt moment s.moment ≡ false = grind (arith, nat_tests) in
     let same : (moment == s.moment) ≡ false = grind (arith, nat_tests) in
-    let tried = ap (attempted_all (at_moment s moment)) (none_listed (dues (bank_of s)) moment none) ∙ nothing_tried (at_moment s moment) in
+    let tried = ap (attempted_until most_expiries (at_moment s moment)) (none_listed (dues (bank_of s)) moment none) ∙ until-none most_expiries (at_moment s moment) in
     λ i. if back i then refused s ClockBack else if same i then unchanged s Done else answered Done (tried i)

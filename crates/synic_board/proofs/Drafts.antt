@@ -66,10 +66,10 @@ draft-still s now tickets intact same ports timed settled h = record {
   listed = λ t. omega (arith, h.listed t, times-locations t s, times-locations t now, ap (in_queues t) same.queues, ap (in_slots t) same.slots);
 }
 
-pub draft-opened : (n pages ticket : ℕ) → n ≤ 8 → IsDraft (opened n pages ticket) []
+pub draft-opened : (n pages ticket : ℕ) → n ≤ 64 → IsDraft (opened n pages ticket) []
 draft-opened n pages ticket bound = record {
   sound = sound-opened n pages ticket;
-  buffers = buffers-opened n pages ticket bound;
+  buffers = buffers-opened n pages ticket;
   settled = settled-opened n pages ticket bound;
   listed = λ t. sym (no-locations n pages ticket t);
 }
@@ -238,7 +238,7 @@ has-free s port p i buffers used at is vp sint shape same = (
 fits-of : (s : State) (p i : ℕ) (m : Message) → i < 16 → IsHome s.ports p i m → HasBuffer s.queues m → IsWithinShare s m → Fits s p i m
 fits-of s p i (FromPort ticket port kind payload) under home buffer share =
     port-fits s p i ticket port kind payload under home.0 home.1 buffer.1 (share (record { vp = p; sint = i; shape = Messages home.1.0 }) home.1.1)
-fits-of s p i (FromTimer ticket t expiration) under home buffer share = subst (λ q. Fits s q i (FromTimer ticket t expiration)) home.0 (timer-fits s t i ticket expiration under home.1 buffer)
+fits-of s p i (FromTimer ticket t expiration) under home buffer share = subst (λ q. Fits s q i (FromTimer ticket t expiration)) home.0 (timer-fits s t i ticket expiration under home.1 buffer.1)
 
 pub draft-message : (s : State) (p i : ℕ) (m : Message) (tickets : List ℕ) → p < processors s → i < 16 → MayJoin s p i m → IsDraft s tickets →
     IsDraft (with_message s p i m) (tickets ++ ticket_of m ∷ [])

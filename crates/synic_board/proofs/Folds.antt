@@ -5,10 +5,11 @@ use Rattle.board_terms.specs.declared.notices.Notice.{Notice}
 use Rattle.synic_board.specs.State.{State}
 use Rattle.synic_board.specs.Effects.{Effect, nothing, after}
 use Rattle.synic_board.specs.inside.Effected.{preceded}
+use Rattle.std.specs.Prelude.{if◌then◌else◌}
 use Rattle.message_queues.specs.Queues.{queue_of}
 use Rattle.synic_board.specs.Delivery.{delivers, tried, tried_below}
 use Rattle.synic_board.specs.Stores.{consumed, consumed_below}
-use Rattle.synic_board.specs.Timers.{attempted, attempted_all}
+use Rattle.synic_board.specs.Timers.{is_ready, attempted, attempted_until}
 
 -- a fold over the numbers below n: nothing, then one step after those below
 pub record IsFold (below : State → ℕ → Effect) (one : State → ℕ → Effect) : Type 0 where
@@ -93,26 +94,17 @@ pub tried_whole : (s now : State) (p from : ℕ) (before emitted : List Notice) 
 tried_whole s now p from before emitted le none so_far = tried_skip s now p from 16 before emitted le none so_far
 
 -- timers one after another
-pub attempted_all-push : (s : State) (ts : List (ℕ × ℕ)) (t : ℕ × ℕ) → attempted_all s (ts ++ t ∷ []) ≡ after (attempted_all s ts) (attempted (attempted_all s ts).0 t)
-unfolding attempted_all
-attempted_all-push s [] t = ap (λ ns. ((attempted s t).0, ns)) (append-nil (attempted s t).1)
-attempted_all-push s (u ∷ ts) t =
-    ap (after (attempted s u)) (attempted_all-push (attempted s u).0 ts t)
-    ∙ ap (λ ns. ((attempted (attempted_all (attempted s u).0 ts).0 t).0, ns))
-    (sym (append_assoc (attempted s u).1 (attempted_all (attempted s u).0 ts).1 (attempted (attempted_all (attempted s u).0 ts).0 t).1))
+pub until-none : (n : ℕ) (s : State) → attempted_until n s [] ≡ nothing s
+unfolding attempted_until
+until-none zero s = refl
+until-none (suc n) s = refl
 
-pub attempted_none : (s : State) (ts : List (ℕ × ℕ)) (before : List Notice) → (s, before) ≡ preceded before (attempted_all s (take 0 ts))
-unfolding attempted_all
-attempted_none s ts before = ap (λ ns. (s, ns)) (sym (append-nil before))
+-- what is still to come after the first of two effects
+pub to-come : (next : State) (emitted more : List Notice) (e : Effect) (f : State → Effect) → (next, more) ≡ preceded emitted e → preceded emitted (after e (f e.0)) ≡ preceded more (f next)
+to-come next emitted more e f h = ap (λ ns. ((f e.0).0, ns)) (sym (append_assoc emitted e.1 (f e.0).1)) ∙ ap (λ (x : Effect). preceded x.1 (f x.0)) (sym h)
 
-pub attempted_more : (s now next : State) (ts : List (ℕ × ℕ)) (i : ℕ) (t : ℕ × ℕ) (before emitted more : List Notice) → i < length ts → t ≡ get_or ts i t →
-    (now, emitted) ≡ preceded before (attempted_all s (take i ts)) → (next, more) ≡ preceded emitted (attempted now t) →
-    (next, more) ≡ preceded before (attempted_all s (take (i + 1) ts))
-attempted_more s now next ts i t before emitted more within at so_far step =
-    chained now next before emitted more (attempted_all s (take i ts)) (λ u. attempted u t) so_far step
-    ∙ ap (preceded before) (sym (attempted_all-push s (take i ts) t))
-    ∙ ap (λ xs. preceded before (attempted_all s xs)) (ap (λ x. take i ts ++ x ∷ []) at ∙ sym (take_more ts i t within))
-
-pub attempted_whole : (s now : State) (ts : List (ℕ × ℕ)) (i : ℕ) (before emitted : List Notice) → length ts ≤ i →
-    (now, emitted) ≡ preceded before (attempted_all s (take i ts)) → (now, emitted) ≡ preceded before (attempted_all s ts)
-attempted_whole s now ts i before emitted h so_far = so_far ∙ ap (λ xs. preceded before (attempted_all s xs)) (take_all i ts h)
+-- what is still to come after an attempt
+pub until-next : (n : ℕ) (s next : State) (t : ℕ × ℕ) (ts : List (ℕ × ℕ)) (emitted more : List Notice) → (next, more) ≡ preceded emitted (attempted s t) →
+    preceded emitted (attempted_until (suc n) s (t ∷ ts)) ≡ preceded more (attempted_until (if is_ready s t then n else suc n) next ts)
+unfolding attempted_until
+until-next n s next t ts emitted more h = to-come next emitted more (attempted s t) (λ x. attempted_until (if is_ready s t then n else suc n) x ts) h

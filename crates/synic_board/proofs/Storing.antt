@@ -87,6 +87,7 @@ kept-stored b t address bytes h is =
     record {
       some_processor = h.some_processor;
       processor_bound = h.processor_bound;
+      dense_bound = h.dense_bound;
       registers = h.registers;
       page_count = h.page_count ∙ sym pages;
       page_bound = h.page_bound;

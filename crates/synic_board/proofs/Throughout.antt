@@ -1,6 +1,6 @@
 -- Induction over the machine: a property of each part of the effects holds for every effect, and a property of each kind of outcome holds for every event.
 use Rattle.std.proofs.Common.{◌≡◌, ℕ, zero, suc, ◌+◌, ◌*◌, ◌/◌, ◌%◌, ◌^◌, ◌<◌, ◌&&◌, List, [], ◌∷◌, length, refl, sym, ap, ◌∙◌, nat_lt, nat_le, not, Bool, true, false, cond, Result, Ok, Err}
-use Rattle.std.specs.Prelude.{Option, None, Some, ◌==◌}
+use Rattle.std.specs.Prelude.{Option, None, Some, ◌==◌, if◌then◌else◌}
 use Rattle.std.specs.Option.{option_map_or}
 use Rattle.std.specs.FinSet as set
 use Rattle.std.specs.Int.{bit_at}
@@ -43,7 +43,7 @@ use Rattle.synic_board.specs.Delivery.{delivers, is_slot_empty, placed_state, pl
 use Rattle.synic_board.specs.Posts.{with_port, without_port, withdrawn, closed_at, post_refusal, posted_at, with_flag, flagged, signalled_place, signalled_at}
 use Rattle.synic_board.specs.Registers.{stored, written_register, written, read}
 use Rattle.synic_board.specs.Stores.{consumed_ticket, consumed, consumed_below, consumed_in, with_bytes, read_bytes}
-use Rattle.synic_board.specs.Timers.{mode_at, is_ready_for, is_ready, expiry_notices, signalled_by, expired_state, expiry_at, fired, attempted, attempted_all, at_moment, ticked}
+use Rattle.synic_board.specs.Timers.{mode_at, is_ready_for, is_ready, expiry_notices, signalled_by, expired_state, expiry_at, fired, attempted, attempted_until, most_expiries, at_moment, ticked}
 use Rattle.synic_board.specs.Suspending.{is_suspended, with_suspension, suspended, resumed}
 use Rattle.synic_board.specs.Resetting.{withdrawn_ticket, slot_emptied, queue_emptied, source_emptied, emptied_below, emptied, reset}
 use Rattle.synic_board.specs.Sending.{sent_to, sent_below}
@@ -181,10 +181,14 @@ of-attempted P h s t = either (P s) (is_ready s t) (fired s t (mode_at s t)) (no
     (of-signalled P h (expired_state s t) t (mode_at s t) (expiry_at s t).signal))
     (λ _. h.stays s)
 
-of-attempted_all : (P : State → Effect → Type 0) → OfEffects P → (s : State) (ts : List (ℕ × ℕ)) → P s (attempted_all s ts)
-unfolding attempted_all
-of-attempted_all P h s [] = h.stays s
-of-attempted_all P h s (t ∷ ts) = let e : Effect = attempted s t in h.joins s e (attempted_all e.0 ts) (of-attempted P h s t) (of-attempted_all P h e.0 ts)
+of-attempted_until : (P : State → Effect → Type 0) → OfEffects P → (n : ℕ) (s : State) (ts : List (ℕ × ℕ)) → P s (attempted_until n s ts)
+unfolding attempted_until
+of-attempted_until P h zero s ts = h.stays s
+of-attempted_until P h (suc n) s [] = h.stays s
+of-attempted_until P h (suc n) s (t ∷ ts) =
+    let e : Effect = attempted s t in
+    let left = if is_ready s t then n else suc n in
+    h.joins s e (attempted_until left e.0 ts) (of-attempted P h s t) (of-attempted_until P h left e.0 ts)
 
 of-slot_emptied : (P : State → Effect → Type 0) → OfEffects P → (s : State) (p i : ℕ) → P s (slot_emptied s p i)
 of-slot_emptied P h s p i = elim (slot_of s p i) as (λ o. P s (option_map_or (withdrawn_ticket s p i) o (nothing s))) [ None ↦ h.stays s | Some t ↦ h.frees s p i t ]
@@ -321,11 +325,11 @@ of-taken P Q h k s p = elim (next (apic_of s p)) as (λ o. Q s (Take p) (option_
 of-ticked : (P : State → Effect → Type 0) (Q : State → Event → Outcome → Type 0) → OfEffects P → OfAnswers P Q → (s : State) (moment : ℕ) → Q s (Tick moment) (ticked s moment)
 of-ticked P Q h k s moment =
     let later : State = at_moment s moment in
-    let all : Effect = attempted_all later (due_list (dues (bank_of s)) moment) in
+    let all : Effect = attempted_until most_expiries later (due_list (dues (bank_of s)) moment) in
     let rest : Outcome = unchanged s replies.Done in
     either (Q s (Tick moment)) (nat_lt moment s.moment) (refused s ClockBack) (cond (moment == s.moment) rest (answered replies.Done all)) (λ _. k.refuses s _ ClockBack)
     (λ _. either (Q s (Tick moment)) (moment == s.moment) rest (answered replies.Done all) (λ _. of-effect P Q k s (Tick moment) replies.Done (nothing s) (λ never. never, tt, tt) (h.stays s))
-    (λ _. k.acts s (Tick moment) replies.Done moment s.ports s.regs all (λ never. never, tt, tt) (of-attempted_all P h later (due_list (dues (bank_of s)) moment))))
+    (λ _. k.acts s (Tick moment) replies.Done moment s.ports s.regs all (λ never. never, tt, tt) (of-attempted_until P h most_expiries later (due_list (dues (bank_of s)) moment))))
 
 -- it holds of every event
 pub throughout : (P : State → Effect → Type 0) (Q : State → Event → Outcome → Type 0) → OfEffects P → OfAnswers P Q → (s : State) (event : Event) → Q s event (step s event)

@@ -1,8 +1,8 @@
 -- A tick tries the due timers one after another, each as the earliest of all.
-use Rattle.std.proofs.Common.{◌≡◌, ◌≢◌, ℕ, ◌+◌, ◌-◌, ◌*◌, ◌^◌, ◌<◌, ◌≤◌, Bool, true, false, ◌&&◌, nat_lt, nat_le, cond, take, List, [], ◌∷◌, ◌++◌, length, get_or, refl, sym, ap, ◌∙◌, arith, subst, append_assoc, append-nil, length-append}
+use Rattle.std.proofs.Common.{◌≡◌, ◌≢◌, ℕ, zero, suc, ◌+◌, ◌-◌, ◌*◌, ◌^◌, ◌<◌, ◌≤◌, Bool, true, false, ◌&&◌, nat_lt, nat_le, cond, take, List, [], ◌∷◌, ◌++◌, length, get_or, refl, sym, ap, ◌∙◌, arith, subst, append_assoc, append-nil, length-append}
 use Rattle.std.specs.Prelude.{Option, None, Some, filter, if◌then◌else◌}
-use Rattle.std.specs.Int.{bit_at}
 use Rattle.std.specs.Option.{option_map_or}
+use mir.Val.{bool_byte}
 use Rattle.std.specs.FinSet as set
 use Rattle.std.proofs.lemmas.Bool.Decides.{nat_tests}
 use Rattle.std.proofs.lemmas.List.{length-set}
@@ -20,17 +20,17 @@ use Rattle.stimer_bank.specs.declared.timer.Mode.TheVariants.{Direct, Posted}
 use Rattle.stimer_bank.specs.Timer.{after_expiry}
 use Rattle.stimer_bank.specs.Bank.{Bank, timer_in, is_due_in, dues, due_list}
 use Rattle.stimer_bank.proofs.Shown.{dues-timer-other, length-dues}
-use Rattle.stimer_bank.proofs.Rest.{IsRest, all-rest, first-rest, rest-empty, rest-next, rest-same, filtered-rest, earliest-least, bound-due}
-use Rattle.synic_board.specs.State.{BoardModel, State, apic_of, regs_of, bank_of}
+use Rattle.stimer_bank.proofs.Rest.{first-listed, rest-filtered, rest-whole, earliest-least}
+use Rattle.synic_board.specs.State.{BoardModel, State, processors, apic_of, regs_of, bank_of}
 use Rattle.synic_board.specs.Effects.{Effect, nothing, after}
 use Rattle.synic_board.specs.Interrupts.{requested, raised}
 use Rattle.synic_board.specs.Delivery.{delivers, is_slot_empty, placed_head, placed, marked, tried, accepted, delivered}
-use Rattle.synic_board.specs.Timers.{mode_at, is_ready, delivery_by, signalled_by, expired_state, expiry_at, fired, attempted, attempted_all}
+use Rattle.synic_board.specs.Timers.{mode_at, is_ready, delivery_by, signalled_by, expired_state, expiry_at, fired, attempted, attempted_until, most_expiries}
 use Rattle.synic_board.specs.inside.Effected.{preceded, Effected}
-use Rattle.synic_board.specs.inside.Steps.{first_due, is_any_due, is_in_set}
-use Rattle.synic_board.proofs.Clocks.{listed_due}
-use Rattle.synic_board.proofs.Folds.{chained, attempted_all-push}
-use Rattle.synic_board.proofs.keeping.Bounds.{within-attempted_all, told_within}
+use Rattle.synic_board.specs.inside.Steps.{first_due, is_any_due, is_other}
+use Rattle.synic_board.proofs.Clocks.{none_listed}
+use Rattle.synic_board.proofs.Folds.{until-none, until-next}
+use Rattle.synic_board.proofs.keeping.Bounds.{IsWithin, within-nothing, within-attempted, told_within, same_within}
 use Rattle.synic_board.proofs.keeping.Requests.{either}
 
 -- an effect that leaves the timers and the clock as they are
@@ -96,42 +96,14 @@ leaves-attempted : (s : State) (t : ℕ × ℕ) → LeavesOthers t s (attempted 
 unfolding attempted
 leaves-attempted s t = either (LeavesOthers t s) (is_ready s t) _ _ (λ _. leaves-fired s t (mode_at s t)) (λ _. record { others = λ k n. refl; moment = refl; count = refl })
 
-attempted_all-append : (s : State) (ts us : List (ℕ × ℕ)) → attempted_all s (ts ++ us) ≡ after (attempted_all s ts) (attempted_all (attempted_all s ts).0 us)
-unfolding attempted_all
-attempted_all-append s [] us = refl
-attempted_all-append s (t ∷ ts) us =
-    ap (after (attempted s t)) (attempted_all-append (attempted s t).0 ts us)
-    ∙ ap (λ ns. ((attempted_all (attempted_all (attempted s t).0 ts).0 us).0, ns))
-    (sym (append_assoc (attempted s t).1 (attempted_all (attempted s t).0 ts).1 (attempted_all (attempted_all (attempted s t).0 ts).0 us).1))
+-- a timer that is not ready is unchanged
+unready : (s : State) (t : ℕ × ℕ) → is_ready s t ≡ false → IsWithin 0 s (attempted s t)
+unfolding attempted
+unready s t never = subst (λ b. IsWithin 0 s (if b then fired s t (mode_at s t) else nothing s)) (sym never) (within-nothing 0 s)
 
-pub attempted_all-none : (s : State) (before : List Notice) → (s, before) ≡ preceded before (attempted_all s [])
-unfolding attempted_all
-attempted_all-none s before = ap (λ ns. (s, ns)) (sym (append-nil before))
-
--- those of some timers that pass a test are tried in order
-module _ (q : ℕ × ℕ → Bool) (xs : List (ℕ × ℕ)) (i : ℕ) (x : ℕ × ℕ) (inside : i < length xs) (is : x ≡ get_or xs i x) where
-  more : filter q (take (i + 1) xs) ≡ filter q (take i xs) ++ cond (q x) (x ∷ []) []
-  more = filter_more q xs i x inside ∙ ap (λ y. filter q (take i xs) ++ cond (q y) (y ∷ []) []) (sym is)
-
-  pub passing-more : q x ≡ true → filter q (take (i + 1) xs) ≡ filter q (take i xs) ++ x ∷ []
-  passing-more e = more ∙ ap (λ b. filter q (take i xs) ++ cond b (x ∷ []) []) e
-
-  pub passing-same : q x ≡ false → filter q (take (i + 1) xs) ≡ filter q (take i xs)
-  passing-same e = more ∙ ap (λ b. filter q (take i xs) ++ cond b (x ∷ []) []) e ∙ append-nil (filter q (take i xs))
-
-  pub passing-fit : q x ≡ true → length (filter q (take i xs)) + 1 ≤ length (filter q xs)
-  passing-fit e =
-      let now = ap length (passing-more e) in
-      let all = length-filter q xs in
-      let part = length-filter q (take (i + 1) xs) in
-      let less = sum_by-take-le (λ y. cond (q y) 1 0) xs (i + 1) in
-      omega (arith, now, all, part, less, length-append (filter q (take i xs)) (x ∷ []))
-
-  pub tried-more : (s now next : State) (before emitted said : List Notice) → q x ≡ true → (now, emitted) ≡ preceded before (attempted_all s (filter q (take i xs))) →
-      (next, said) ≡ preceded emitted (attempted now x) → (next, said) ≡ preceded before (attempted_all s (filter q (take (i + 1) xs)))
-  tried-more s now next before emitted said e so_far step =
-      chained now next before emitted said (attempted_all s (filter q (take i xs))) (λ u. attempted u x) so_far step
-      ∙ ap (preceded before) (sym (attempted_all-push s (filter q (take i xs)) x) ∙ ap (attempted_all s) (sym (passing-more e)))
+stays : (s : State) (t : ℕ × ℕ) → is_ready s t ≡ false → (attempted s t).0 ≡ s
+unfolding attempted
+stays s t never = ap (λ b. (if b then fired s t (mode_at s t) else nothing s).0) never
 
 -- the timer that is due first, by the cached earliest one
 pub due-first : (o : Option (ℕ × (ℕ × ℕ))) (moment : ℕ) (t : ℕ × ℕ) → first_due o moment ≡ Some t → (d : ℕ) × (o ≡ Some (d, t)) × (d ≤ moment)
@@ -150,113 +122,135 @@ due-none (Some r) moment h = elim (nat_le r.0 moment) as (λ b. (if b then Some 
 pub least-on : (b : Bank) (n d : ℕ) (t : ℕ × ℕ) → length b.timers ≡ 4 * n → t.1 < 4 → least (dues b) ≡ Some (d, t) → t.0 < n
 least-on b n d t many i h = let low = (earliest-least (dues b) d t i h).low in omega (arith, low, length-dues b, many)
 
--- the timers before `rest` were tried, and `rest` are left
-pub record IsTrying (before : BoardModel) (emitted : List Notice) (now : BoardModel) (emitted_now : List Notice) (word : ℕ) : Type 0 where
-  pub done : List (ℕ × ℕ)
-  pub rest : List (ℕ × ℕ)
-  pub whole : done ++ rest ≡ due_list (dues (bank_of before.state)) before.state.moment
-  pub so_far : Effected before emitted now emitted_now (attempted_all before.state done)
-  pub moment : now.state.moment ≡ before.state.moment
-  pub few : length before.state.timers ≤ 32
-  pub count : length now.state.timers ≡ length before.state.timers
-  pub left : IsRest (dues (bank_of now.state)) before.state.moment word rest
+abbrev pub due_now : State → List (ℕ × ℕ)
+due_now s = due_list (dues (bank_of s)) s.moment
 
-pub starts-trying : (before : BoardModel) (emitted : List Notice) → length before.state.timers ≤ 32 → IsTrying before emitted before emitted (2 ^ 32 - 1)
-starts-trying before emitted few = record {
-  done = [];
-  rest = due_list (dues (bank_of before.state)) before.state.moment;
-  whole = refl;
-  so_far = record { effect = attempted_all-none before.state emitted; writes_monotone = omega arith; bound = omega arith };
-  moment = refl;
-  few = few;
-  count = refl;
-  left = all-rest (dues (bank_of before.state)) before.state.moment (omega (arith, few, length-dues (bank_of before.state)));
-}
+-- of the attempts of `ts` until `left` have expired, those of `rest` until `more` have expired are still to come
+pub record IsTrying (before : BoardModel) (emitted : List Notice) (left : ℕ) (ts : List (ℕ × ℕ)) (now : BoardModel) (emitted_now : List Notice) (more : ℕ) (rest : List (ℕ × ℕ)) : Type 0 where
+  pub to_come : preceded emitted (attempted_until left before.state ts) ≡ preceded emitted_now (attempted_until more now.state rest)
+  pub writes_monotone : before.writes ≤ now.writes
+  pub bound : now.writes + length emitted ≤ before.writes + length emitted_now
+  pub room : length emitted_now + 6 * more ≤ length emitted + 6 * left
+  pub same : processors now.state ≡ processors before.state
 
-module _ (before now : BoardModel) (emitted emitted_now : List Notice) (word : ℕ) (h : IsTrying before emitted now emitted_now word) where
+pub starts-trying : (before : BoardModel) (emitted : List Notice) (left : ℕ) (ts : List (ℕ × ℕ)) → IsTrying before emitted left ts before emitted left ts
+starts-trying before emitted left ts = record { to_come = refl; writes_monotone = omega arith; bound = omega arith; room = omega arith; same = refl }
+
+until-zero : (s : State) (ts : List (ℕ × ℕ)) → attempted_until 0 s ts ≡ nothing s
+unfolding attempted_until
+until-zero s ts = refl
+
+module _ (before : BoardModel) (emitted : List Notice) (left : ℕ) (ts : List (ℕ × ℕ)) (now : BoardModel) (emitted_now : List Notice) where
+  ends : (more : ℕ) (rest : List (ℕ × ℕ)) → IsTrying before emitted left ts now emitted_now more rest → attempted_until more now.state rest ≡ nothing now.state →
+      Effected before emitted now emitted_now (attempted_until left before.state ts)
+  ends more rest h none = record {
+    effect = ap (λ ns. (now.state, ns)) (sym (append-nil emitted_now)) ∙ ap (preceded emitted_now) (sym none) ∙ sym h.to_come;
+    writes_monotone = h.writes_monotone;
+    bound = h.bound;
+  }
+
+  -- none is left
+  pub tried-all : (more : ℕ) (rest : List (ℕ × ℕ)) → IsTrying before emitted left ts now emitted_now more rest → rest ≡ [] → Effected before emitted now emitted_now (attempted_until left before.state ts)
+  tried-all more rest h none = ends more rest h (ap (attempted_until more now.state) none ∙ until-none more now.state)
+
+  -- so many have expired
+  pub tried-most : (more : ℕ) (rest : List (ℕ × ℕ)) → IsTrying before emitted left ts now emitted_now more rest → more ≡ 0 → Effected before emitted now emitted_now (attempted_until left before.state ts)
+  tried-most more rest h none = ends more rest h (ap (λ n. attempted_until n now.state rest) none ∙ until-zero now.state rest)
+
+  -- the others are tried by a call
+  pub tried-rest : (more : ℕ) (rest : List (ℕ × ℕ)) → IsTrying before emitted left ts now emitted_now more rest → (next : BoardModel) (said : List Notice) →
+      Effected now emitted_now next said (attempted_until more now.state rest) → Effected before emitted next said (attempted_until left before.state ts)
+  tried-rest more rest h next said f = record {
+    effect = f.effect ∙ sym h.to_come;
+    writes_monotone = omega (arith, h.writes_monotone, f.writes_monotone);
+    bound = omega (arith, h.bound, f.bound);
+  }
+
+  -- the first is tried
+  tries : (n : ℕ) (t : ℕ × ℕ) (rest : List (ℕ × ℕ)) → IsTrying before emitted left ts now emitted_now (suc n) (t ∷ rest) → (next : BoardModel) (said : List Notice) →
+      Effected now emitted_now next said (attempted now.state t) → IsTrying before emitted left ts next said (if is_ready now.state t then n else suc n) rest
+  tries n t rest h next said e = record {
+    to_come = h.to_come ∙ until-next n now.state next.state t rest emitted_now said e.effect;
+    writes_monotone = omega (arith, h.writes_monotone, e.writes_monotone);
+    bound = omega (arith, h.bound, e.bound);
+    room = expires (is_ready now.state t) refl;
+    same = same_within 6 (within-attempted now.state t) e ∙ h.same;
+  }
+    where
+      expires : (b : Bool) → is_ready now.state t ≡ b → length said + 6 * (if b then n else suc n) ≤ length emitted + 6 * left
+      expires true ready = omega (arith, h.room, told_within 6 (within-attempted now.state t) e)
+      expires false ready = omega (arith, h.room, told_within 0 (unready now.state t ready) e)
+
+  pub tries-first : (more : ℕ) (t : ℕ × ℕ) (rest : List (ℕ × ℕ)) → IsTrying before emitted left ts now emitted_now more (t ∷ rest) → 0 < more → (next : BoardModel) (said : List Notice) →
+      Effected now emitted_now next said (attempted now.state t) → (expired : Bool) → expired ≡ is_ready now.state t → IsTrying before emitted left ts next said (more - bool_byte expired) rest
+  tries-first zero t rest h some next said e expired is = absurd (omega (arith, some))
+  tries-first (suc n) t rest h some next said e expired is =
+      subst (λ k. IsTrying before emitted left ts next said k rest) (same expired) (subst (λ b. IsTrying before emitted left ts next said (if b then n else suc n) rest) (sym is) (tries n t rest h next said e))
+    where
+      same : (b : Bool) → (if b then n else suc n) ≡ suc n - bool_byte b
+      same true = omega arith
+      same false = omega arith
+
+-- the timer that is due first
+module _ (now : BoardModel) (t : ℕ × ℕ) (i : t.1 < 4) (first : first_due (least (dues (bank_of now.state))) now.state.moment ≡ Some t) where
   abbrev m : Dues
   m = dues (bank_of now.state)
 
-  bound-done : length h.done + length h.rest ≤ 32
-  bound-done = omega (arith, length-append h.done h.rest, ap length h.whole, bound-due (dues (bank_of before.state)) before.state.moment, length-dues (bank_of before.state), h.few)
+  earliest : (d : ℕ) × (least m ≡ Some (d, t)) × (d ≤ now.state.moment)
+  earliest = due-first (least m) now.state.moment t first
 
-  said : length emitted_now ≤ length emitted + 6 * length h.done
-  said = told_within (6 * length h.done) (within-attempted_all before.state h.done) h.so_far
+  is-least : IsLeast m earliest.0 (number_of t)
+  is-least = earliest-least m earliest.0 t i earliest.1
 
-  -- no timer is due
-  pub tried-all : first_due (least m) now.state.moment ≡ None → Effected before emitted now emitted_now (attempted_all before.state (due_list (dues (bank_of before.state)) before.state.moment))
-  tried-all none =
-      let late = due-none (least m) now.state.moment none in
-      let empty : h.rest ≡ [] = rest-empty m before.state.moment word h.rest h.left (λ k d low e by. let some = listed_due m now.state.moment k d low e (omega (arith, by, h.moment)) in absurd (cc)) in
-      let all : h.done ≡ due_list (dues (bank_of before.state)) before.state.moment = sym (append-nil h.done) ∙ ap (λ ts. h.done ++ ts) (sym empty) ∙ h.whole in
-      subst (λ (ts : List (ℕ × ℕ)). Effected before emitted now emitted_now (attempted_all before.state ts)) all h.so_far
+  pub first-is_due : is_due_in (bank_of now.state) t now.state.moment ≡ true
+  first-is_due = ap (λ o. option_map_or (λ d. nat_le d now.state.moment) o false) is-least.due ∙ le earliest.0 now.state.moment earliest.2
+    where
+      le : (a b : ℕ) → a ≤ b → nat_le a b ≡ true
+      le a b h = grind (arith, nat_tests)
 
-  -- a timer that is due first is one that was tried: the others are tried in order
-  pub tried-rest : (next : BoardModel) (more : List Notice) →
-      Effected now emitted_now next more (attempted_all now.state (filter (is_in_set word) (due_list m now.state.moment))) →
-      Effected before emitted next more (attempted_all before.state (due_list (dues (bank_of before.state)) before.state.moment))
-  tried-rest next more e =
-      let same : filter (is_in_set word) (due_list m now.state.moment) ≡ h.rest = ap (λ x. filter (is_in_set word) (due_list m x)) h.moment
-      ∙ rest-same m before.state.moment word _ _ (filtered-rest m before.state.moment word) h.left in
-      let step = e.effect ∙ ap (λ ts. preceded emitted_now (attempted_all now.state ts)) same in
-      record {
-        effect = chained now.state next.state emitted emitted_now more (attempted_all before.state h.done) (λ s. attempted_all s h.rest) h.so_far.effect step
-            ∙ ap (preceded emitted) (sym (attempted_all-append before.state h.done h.rest) ∙ ap (attempted_all before.state) h.whole);
-        writes_monotone = omega (arith, h.so_far.writes_monotone, e.writes_monotone);
-        bound = omega (arith, h.so_far.bound, e.bound);
-      }
+  pub others : (us : List (ℕ × ℕ)) × (due_now now.state ≡ t ∷ us)
+  others = first-listed m now.state.moment t earliest.0 i is-least earliest.2
 
-  pub rest-room : length emitted ≡ 0 → length emitted_now + 6 * length (filter (is_in_set word) (due_list m now.state.moment)) ≤ 320
-  rest-room none =
-      let same : filter (is_in_set word) (due_list m now.state.moment) ≡ h.rest = ap (λ x. filter (is_in_set word) (due_list m x)) h.moment
-      ∙ rest-same m before.state.moment word _ _ (filtered-rest m before.state.moment word) h.left in
-      omega (arith, ap length same, bound-done, said, none)
+  pub tries-due : (before : BoardModel) (emitted : List Notice) (left : ℕ) (ts : List (ℕ × ℕ)) (emitted_now : List Notice) (more : ℕ) → IsTrying before emitted left ts now emitted_now more (due_now now.state) →
+      0 < more → (next : BoardModel) (said : List Notice) → Effected now emitted_now next said (attempted now.state t) → (expired : Bool) → expired ≡ is_ready now.state t →
+      IsTrying before emitted left ts next said (more - bool_byte expired) others.0
+  tries-due before emitted left ts emitted_now more h = tries-first before emitted left ts now emitted_now more t others.0 (subst (IsTrying before emitted left ts now emitted_now more) others.1 h)
 
-  module _ (t : ℕ × ℕ) (i : t.1 < 4) (first : first_due (least m) now.state.moment ≡ Some t) where
-    earliest : (d : ℕ) × (least m ≡ Some (d, t)) × (d ≤ now.state.moment)
-    earliest = due-first (least m) now.state.moment t first
+  -- after it was tried
+  module _ (next : BoardModel) (emitted said : List Notice) (e : Effected now emitted next said (attempted now.state t)) where
+    moved : next.state ≡ (attempted now.state t).0
+    moved = ap (λ (x : Effect). x.0) e.effect
 
-    is-least : IsLeast m earliest.0 (number_of t)
-    is-least = earliest-least m earliest.0 t i earliest.1
+    leaves : LeavesOthers t now.state (attempted now.state t)
+    leaves = leaves-attempted now.state t
 
-    by : earliest.0 ≤ now.state.moment
-    by = earliest.2
+    moment' : next.state.moment ≡ now.state.moment
+    moment' = ap (λ (s : State). s.moment) moved ∙ leaves.moment
 
-    pub first-is_due : is_due_in (bank_of now.state) t now.state.moment ≡ true
-    first-is_due = ap (λ o. option_map_or (λ d. nat_le d now.state.moment) o false) is-least.due ∙ le earliest.0 now.state.moment by
+    as-many : length (dues (bank_of next.state)) ≡ length m
+    as-many = length-dues (bank_of next.state) ∙ ap (λ (s : State). length s.timers) moved ∙ leaves.count ∙ sym (length-dues (bank_of now.state))
+
+    rest : (k : ℕ) → k ≢ number_of t → get_or (dues (bank_of next.state)) k None ≡ get_or m k None
+    rest k a = ap (λ (s : State). get_or (dues (bank_of s)) k None) moved ∙ leaves.others k a
+
+    -- if it is not due any more, it expired
+    pub expired : is_due_in (bank_of next.state) t next.state.moment ≡ false → is_ready now.state t ≡ true
+    expired never = by (is_ready now.state t) refl
       where
-        le : (a b : ℕ) → a ≤ b → nat_le a b ≡ true
-        le a b h = grind (arith, nat_tests)
+        by : (b : Bool) → is_ready now.state t ≡ b → is_ready now.state t ≡ true
+        by true ready = ready
+        by false ready = absurd (let same = moved ∙ stays now.state t ready in let still = ap (λ (s : State). is_due_in (bank_of s) t s.moment) same ∙ first-is_due in let f : false ≡ true = sym never ∙ still in cc)
 
-    module _ (untried : bit_at word (number_of t) ≡ 1) where
-      next : (us : List (ℕ × ℕ)) × (h.rest ≡ t ∷ us)
-      next = first-rest m before.state.moment word h.rest t earliest.0 h.left i is-least (omega (arith, by, h.moment)) untried
+    -- if it is not due any more, those that are due are the others
+    pub due-others : is_due_in (bank_of next.state) t next.state.moment ≡ false → others.0 ≡ due_now next.state
+    due-others never = sym (ap (due_list (dues (bank_of next.state))) moment'
+        ∙ rest-whole m (dues (bank_of next.state)) now.state.moment t others.0 others.1 as-many rest (ap (is_due_in (bank_of next.state) t) (sym moment') ∙ never))
 
-      pub first-room : length emitted ≡ 0 → length emitted_now + 6 ≤ 320
-      first-room none = omega (arith, ap length next.1, bound-done, said, none)
+    -- else they are the others among them
+    pub without-first : others.0 ≡ filter (is_other t) (due_now next.state)
+    without-first = sym (ap (λ x. filter (is_other t) (due_list (dues (bank_of next.state)) x)) moment'
+        ∙ rest-filtered m (dues (bank_of next.state)) now.state.moment t others.0 others.1 as-many rest)
 
-      pub tries-next : (now' : BoardModel) (emitted_now' : List Notice) (left : ℕ) → Effected now emitted_now now' emitted_now' (attempted now.state t) →
-          bit_at left (number_of t) ≡ 0 → ((k : ℕ) → k < 32 → k ≢ number_of t → bit_at left k ≡ bit_at word k) → IsTrying before emitted now' emitted_now' left
-      tries-next now' emitted_now' left e cleared kept =
-          let us = next.0 in
-          let state : now'.state ≡ (attempted now.state t).0 = ap (λ (x : Effect). x.0) e.effect in
-          let leaves = leaves-attempted now.state t in
-          record {
-            done = h.done ++ t ∷ [];
-            rest = us;
-            whole = append_assoc h.done (t ∷ []) us ∙ ap (λ ts. h.done ++ ts) (sym next.1) ∙ h.whole;
-            so_far = record {
-              effect = chained now.state now'.state emitted emitted_now emitted_now' (attempted_all before.state h.done) (λ s. attempted s t) h.so_far.effect e.effect
-                  ∙ ap (preceded emitted) (sym (attempted_all-push before.state h.done t));
-              writes_monotone = omega (arith, h.so_far.writes_monotone, e.writes_monotone);
-              bound = omega (arith, h.so_far.bound, e.bound);
-            };
-            moment = ap (λ (s : State). s.moment) state ∙ leaves.moment ∙ h.moment;
-            few = h.few;
-            count = ap (λ (s : State). length s.timers) state ∙ leaves.count ∙ h.count;
-            left = rest-next m (dues (bank_of now'.state)) before.state.moment word left t us
-                (subst (λ (ts : List (ℕ × ℕ)). IsRest m before.state.moment word ts) next.1 h.left)
-                (length-dues (bank_of now'.state) ∙ ap (λ (s : State). length s.timers) state ∙ leaves.count ∙ sym (length-dues (bank_of now.state)))
-                (λ k n. ap (λ (s : State). get_or (dues (bank_of s)) k None) state ∙ leaves.others k n) cleared
-                (λ k low. kept k (omega (arith, low, length-dues (bank_of now.state), h.count, h.few)));
-          }
+-- no timer is due
+pub none-due : (s : State) → first_due (least (dues (bank_of s))) s.moment ≡ None → due_now s ≡ []
+none-due s none = none_listed (dues (bank_of s)) s.moment (due-none (least (dues (bank_of s))) s.moment none)

@@ -10,8 +10,8 @@ abbrev pub HasOneSuspension : State → Type 0
 HasOneSuspension s = (p : ℕ) → are_timers_suspended (bank_of s) p ≡ is_suspended s p
 
 pub record HasPairedTimers (s : State) : Type 0 where
-  -- at most eight processors are on the board, each with four timers and a mark of them
-  pub bound : processors s ≤ 8
+  -- at most 64 processors are on the board, each with four timers and a mark of them
+  pub bound : processors s ≤ 64
   pub timers : length s.timers ≡ 4 * processors s
   pub marks : length s.suspended ≡ processors s
   pub suspended : HasOneSuspension s

@@ -1,5 +1,5 @@
 -- The state of the reference model: one list for each part, indexed by processor.
-use Rattle.std.specs.Prelude.{ℕ, Bool, ◌≤◌, ◌*◌, List, [], ◌∷◌, Option, None, slice_index_or, slice_set, replicate, length}
+use Rattle.std.specs.Prelude.{◌≢◌, ℕ, Bool, ◌≤◌, ◌*◌, List, [], ◌∷◌, Option, None, slice_index_or, slice_set, replicate, length}
 use Rattle.board_terms.specs.Quantities.{Processor, Source, Moment, Ticket}
 use Rattle.lapic_core.specs.Apic.{Apic, empty_apic}
 use Rattle.synic_regs.specs.Regs.{Regs, reset_regs}
@@ -83,10 +83,10 @@ slot_of s p i = slice_index_or s.slots (source_number p i) None
 abbrev pub with_slot_ticket : State → Processor → Source → Option Ticket → State
 with_slot_ticket s p i ticket = record s { slots = slice_set s.slots (source_number p i) ticket }
 
--- the number of processors that a board may have
+-- the number of processors that a sparse board may have
 pub record IsCount (processors : ℕ) : Type 0 where
   pub some : 1 ≤ processors
-  pub bound : processors ≤ 8
+  pub bound : processors ≤ 64
 
 -- the valid sizes of a board that holds its guest pages
 pub record AreSizes (processors pages : ℕ) : Type 0 where
@@ -95,10 +95,11 @@ pub record AreSizes (processors pages : ℕ) : Type 0 where
   pub some_page : 1 ≤ pages
   pub page_bound : pages ≤ 64
 
--- the sizes of any board, of which a sparse one holds no pages
+-- the sizes of any board: at most 64 processors, and at most eight on one that is not sparse and so holds its guest pages
 pub record IsWithinLimits (processors pages : ℕ) : Type 0 where
   pub some_processor : 1 ≤ processors
-  pub processor_bound : processors ≤ 8
+  pub processor_bound : processors ≤ 64
+  pub dense_bound : pages ≢ 0 → processors ≤ 8
   pub page_bound : pages ≤ 64
 
 -- the state of a newly opened board; with no pages it is sparse

@@ -1,5 +1,5 @@
 -- The invariant of what a board queues and counts down: queues are in the order of tickets, and no timer is further ahead than its period.
-use Rattle.std.specs.Prelude.{◌≡◌, ◌≤◌, ◌<◌, ◌+◌, ◌%◌, ℕ, true, List, [], ◌∷◌, length, Some, slice_index_or}
+use Rattle.std.specs.Prelude.{◌≡◌, ◌≤◌, ◌<◌, ◌+◌, ◌%◌, ℕ, true, List, [], ◌∷◌, Some, slice_index_or}
 use Rattle.std.specs.List.{All}
 use Rattle.board_terms.specs.Messages.{ticket_of}
 use Rattle.board_terms.specs.declared.messages.Message.{Message}
@@ -27,7 +27,5 @@ IsNear moment x = (d : ℕ) → x.due ≡ Some d → is_periodic x.config ≡ tr
 pub record IsTimed (s : State) : Type 0 where
   pub order : (k : ℕ) → Ascends s.next_ticket (slice_index_or s.queues k [])
   pub timely : (k : ℕ) → All (HasExpired s.moment (k % 16)) (slice_index_or s.queues k [])
-  -- no board has more timers
-  pub few : length s.timers ≤ 32
   pub sound : (n : ℕ) → IsSoundTimer (slice_index_or s.timers n idle_timer)
   pub near : (n : ℕ) → IsNear s.moment (slice_index_or s.timers n idle_timer)

@@ -1,5 +1,5 @@
 -- Writing and trying timers, and the clock (TLFS, "Synthetic Timers"; the rules for late and lazy timers are choices of this profile).
-use Rattle.std.specs.Prelude.{ℕ, Bool, true, ◌==◌, ◌&&◌, nat_lt, List, [], ◌∷◌, ◌++◌, Option, if◌then◌else◌}
+use Rattle.std.specs.Prelude.{ℕ, zero, suc, Bool, true, ◌==◌, ◌&&◌, nat_lt, List, [], ◌∷◌, ◌++◌, Option, if◌then◌else◌}
 use Rattle.std.specs.Option.{option_map_or}
 use Rattle.board_terms.specs.Quantities.{TimerId, Moment}
 use Rattle.board_terms.specs.declared.messages.Message.TheVariants.{FromTimer}
@@ -69,14 +69,19 @@ fired s t mode =
 unfoldable pub attempted : State → TimerId → Effect
 attempted s t = if is_ready s t then fired s t (mode_at s t) else nothing s
 
--- attempts of several timers in order; readiness is evaluated at each
-unfoldable pub attempted_all : State → List TimerId → Effect
-attempted_all s [] = nothing s
-attempted_all s (t ∷ ts) = after (attempted s t) (attempted_all (attempted s t).0 ts)
+-- attempts of several timers in order, until so many have expired; readiness is evaluated at each
+unfoldable pub attempted_until : ℕ → State → List TimerId → Effect
+attempted_until zero s ts = nothing s
+attempted_until (suc n) s [] = nothing s
+attempted_until (suc n) s (t ∷ ts) = after (attempted s t) (attempted_until (if is_ready s t then n else suc n) (attempted s t).0 ts)
 
 -- a timer that is written is tried once, if it is due then
 abbrev pub written_timer : State → Bank → TimerId → Outcome
 written_timer s b t = answered Done (attempted (with_bank s b) t)
+
+-- the greatest number of timers that expire in one tick; those that are left stay due
+abbrev pub most_expiries : ℕ
+most_expiries = 32
 
 -- the clock moves, and the timers that are due then are tried in the order of (deadline, processor, index)
 abbrev pub at_moment : State → Moment → State
@@ -86,4 +91,4 @@ abbrev pub ticked : State → Moment → Outcome
 ticked s moment =
     if nat_lt moment s.moment then refused s ClockBack
     else if moment == s.moment then unchanged s Done
-    else answered Done (attempted_all (at_moment s moment) (due_list (dues (bank_of s)) moment))
+    else answered Done (attempted_until most_expiries (at_moment s moment) (due_list (dues (bank_of s)) moment))

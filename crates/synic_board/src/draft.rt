@@ -1,5 +1,5 @@
 // A board that is being restored.
-ghost use Rattle.std.specs.Prelude.{◌≡◌, ◌↔◌, ◌<◌, ◌≤◌, ◌+◌, IsTrue, IfOk, OnErr, IsErrOf, Some, [], length, if◌then◌else◌};
+ghost use Rattle.std.specs.Prelude.{◌≡◌, ◌≢◌, ◌↔◌, ◌<◌, ◌≤◌, ◌+◌, IsTrue, IfOk, OnErr, IsErrOf, Some, [], length, if◌then◌else◌};
 ghost use Rattle.std.specs.List.{All};
 ghost use Rattle.board_terms.specs.Messages.{ticket_of};
 ghost use Rattle.message_queues.specs.Queues.{queue_of};
@@ -54,7 +54,8 @@ impl Model for Draft {
 
 impl Draft {
     /// A newly opened board whose next accepted message gets the ticket `next_ticket`; with 0 pages it is
-    /// sparse. `BadSize` unless there are 1 to 8 processors and at most 64 pages.
+    /// sparse. `BadSize` unless there are 1 to 8 processors and at most 64 pages, or 1 to 64 processors
+    /// and no page.
     pub fn open(
         alloc: Global,
         processors: u8,
@@ -64,7 +65,8 @@ impl Draft {
         ensures size { IsErrOf result OpenFault.BadSize ↔ (¬ IsWithinLimits processors pages) }
         ensures opened { IfOk result (λ d. d ≡ opened processors pages next_ticket) }
     {
-        if processors < 1 || processors > 8 || pages > 64 {
+        let most_processors = if pages == 0 { 64 } else { 8 };
+        if processors < 1 || processors > most_processors || pages > 64 {
             return Err(OpenFault::BadSize);
         }
         match Machine::open(alloc, processors, pages, next_ticket) {
@@ -76,10 +78,11 @@ impl Draft {
         }
     }
 
-    /// The number of processors on the board.
+    /// The number of processors on the board: at most 64, and at most 8 if it is not sparse.
     pub fn processors(&self) -> u8
         ensures count { result ≡ processors self.now }
-        ensures bound { result ≤ 8 }
+        ensures bound { result ≤ 64 }
+        ensures dense { length self.now.pages ≢ 0 → result ≤ 8 }
     {
         self.machine.processors()
     }

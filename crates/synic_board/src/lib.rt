@@ -10,7 +10,6 @@ mod machine;
 mod processors;
 mod runs;
 mod summary;
-mod timer_set;
 
 pub use board::{Board, OpenFault};
 pub use draft::Draft;

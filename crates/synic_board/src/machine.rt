@@ -1,10 +1,11 @@
 // The parts of a board, which together implement the reference model.
-ghost use Rattle.std.specs.Prelude.{◌≡◌, ◌<◌, ◌≤◌, ◌+◌, ◌↔◌, length, replicate, None, IfOk, IsSome, IfSome};
+ghost use Rattle.std.specs.Prelude.{◌≡◌, ◌≢◌, ◌<◌, ◌≤◌, ◌+◌, ◌↔◌, length, replicate, None, IfOk, IsSome, IfSome};
 ghost use Rattle.synic_board.specs.declared.event.Event.TheVariants.{Post, Store};
 ghost use Rattle.synic_board.specs.State.{opened, processors};
 ghost use Rattle.synic_board.specs.Summaries.{summary_of, stored_summary, HasSizes};
 ghost use Rattle.synic_board.specs.Step.{step};
 ghost use Rattle.synic_board.specs.Sound.{IsSound, PayloadFits};
+ghost use Rattle.synic_board.specs.Buffers.{HasBuffers};
 
 mod absorbing;
 mod delivery;
@@ -77,7 +78,8 @@ impl Machine {
         first_ticket: Ticket,
     ) -> Result<Machine, AllocError>
         requires some_processor { 1 ≤ processors }
-        requires processor_bound { processors ≤ 8 }
+        requires processor_bound { processors ≤ 64 }
+        requires dense { pages ≢ 0 → processors ≤ 8 }
         requires page_bound { pages ≤ 64 }
         ensures opened { IfOk result (λ m. m.state ≡ opened processors pages first_ticket) }
         ensures writes { IfOk result (λ m. m.writes ≡ 0) }
@@ -116,7 +118,8 @@ impl Machine {
     /// The number of processors on the board.
     pub(crate) fn processors(&self) -> u8
         ensures count { result ≡ processors self.now.state }
-        ensures bound { result ≤ 8 }
+        ensures bound { result ≤ 64 }
+        ensures dense { length self.now.state.pages ≢ 0 → result ≤ 8 }
     {
         self.lapics.len() as u8
     }
@@ -147,7 +150,8 @@ impl Machine {
     #[tactic(auto, unfolding(crate::specs::Step::step))]
     #[inline(always)]
     pub(crate) fn perform(&mut self, event: &Event, notices: &mut Notices) -> Reply
-        requires { IsSound self.old.state }
+        requires sound { IsSound self.old.state }
+        requires buffers { HasBuffers self.old.state }
         ensures step { (self.new.state, result, notices.new) ≡ step self.old.state event.now }
         ensures fits { PayloadFits event.now }
         ensures writes_monotone { self.old.writes ≤ self.new.writes }
@@ -257,8 +261,8 @@ impl Machine {
         ensures value { IfSome result (λ vp. vp ≡ number) }
     {
         if number < self.processors() {
-            // At most 8 are, so the remainder is the number, and `new` tests nothing.
-            Vp::new(number % 8)
+            // At most 64 are, so the remainder is the number, and `new` tests nothing.
+            Vp::new(number % 64)
         } else {
             None
         }

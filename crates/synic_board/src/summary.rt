@@ -42,7 +42,7 @@ pub struct Summary {
     queued: Vec<u16>,
     // for each processor a word whose bit i is set iff source i has a queued message, so that EOM
     // visits no other source; `write` updates it with the count
-    waiting: [u16; 8],
+    waiting: [u16; 64],
     // the earliest timer, if any has a deadline, and that deadline
     earliest: Option<TimerId>,
     due: u128,
@@ -72,6 +72,13 @@ impl Model for Summary {
     ghost invariant = { λ a. AreWaiting a.queued.items a.waiting };
 }
 
+/// The words of processors without queued messages.
+fn nothing_waits() -> [u16; 64]
+    ensures { result ≡ replicate 64 0 }
+{
+    [0; 64]
+}
+
 impl Summary {
     ghost use Rattle.synic_board.specs.inside.Entries.{HasEntry, with_entry};
 
@@ -88,12 +95,13 @@ impl Summary {
         let owners = vec![in alloc; Owner::Guest; pages as usize]?;
         let queued = vec![in alloc; 0; 16 * processors as usize]?;
         let autos = vec_per_processor(alloc, processors, VectorSet::new)?;
+        let waiting = nothing_waits();
         Ok(Summary {
             nexts,
             autos,
             owners,
             queued,
-            waiting: [0; 8],
+            waiting,
             earliest: None,
             due: 0,
             writes: Count::zero(),

@@ -1,4 +1,4 @@
-// A tree of deadlines with a few timers, with all 32, and for three processors.
+// A tree of deadlines with a few timers, with all 256, and for three processors.
 ghost use Rattle.std.specs.Prelude.{◌≤◌};
 
 use crate::steps::{Other, Part, first_other};
@@ -30,7 +30,7 @@ use Call::{Clear, ClearProcessor, DueOf, Least, Set, SetAll};
 
 /// Sets each timer to ten times its number, the last timer first, so that each moves to the front.
 fn set_all(tree: &mut DeadlineTree) {
-    for timer in (0..32u8).rev().filter_map(TimerId::from_number) {
+    for timer in (0..=u8::MAX).rev().filter_map(TimerId::from_number) {
         tree.set(timer, 10 * timer.number() as u128);
     }
 }
@@ -75,18 +75,18 @@ impl Part for DeadlineTree {
 /// A single entry, the last timer with a deadline beyond 64 bits.
 const AN_ENTRY_ALONE: [(Call, Answer); 13] = [
     (Least, Never),
-    (Clear(31), Done),
-    (ClearProcessor(7), Done),
-    (Set(31, 7), Done),
-    (Set(31, 36893488147419103230), Done),
-    (DueOf(31), Due(36893488147419103230)),
-    (Least, First(36893488147419103230, 31)),
-    (Set(31, 5), Done),
-    (Least, First(5, 31)),
-    (ClearProcessor(6), Done),
-    (Clear(31), Done),
+    (Clear(255), Done),
+    (ClearProcessor(63), Done),
+    (Set(255, 7), Done),
+    (Set(255, 36893488147419103230), Done),
+    (DueOf(255), Due(36893488147419103230)),
+    (Least, First(36893488147419103230, 255)),
+    (Set(255, 5), Done),
+    (Least, First(5, 255)),
+    (ClearProcessor(62), Done),
+    (Clear(255), Done),
     (Least, Never),
-    (DueOf(31), Never),
+    (DueOf(255), Never),
 ];
 
 /// Of equal deadlines the least number comes first.
@@ -108,13 +108,13 @@ const EQUALS: [(Call, Answer); 10] = [
 const A_FULL_TREE: [(Call, Answer); 14] = [
     (SetAll, Done),
     (Least, First(0, 0)),
-    (DueOf(31), Due(310)),
-    (Set(31, 0), Done),
+    (DueOf(255), Due(2550)),
+    (Set(255, 0), Done),
     (Least, First(0, 0)),
     (Set(0, u128::MAX), Done),
-    (Least, First(0, 31)),
+    (Least, First(0, 255)),
     (Set(16, 160), Done),
-    (Clear(31), Done),
+    (Clear(255), Done),
     (Least, First(10, 1)),
     (ClearProcessor(0), Done),
     (Least, First(40, 4)),
@@ -160,7 +160,7 @@ fn other(
     steps: &[(Call, Answer)],
 ) -> Result<Option<Other<Answer>>, AllocError>
     requires some { 1 ≤ processors }
-    requires bound { processors ≤ 8 }
+    requires bound { processors ≤ 64 }
 {
     Ok(first_other(&mut DeadlineTree::open(alloc, processors)?, steps))
 }
@@ -179,7 +179,7 @@ const SMALL: [(&str, &[(Call, Answer)]); 2] = [
 #[test]
 fn each_table_is_answered(rt: HostRuntime) {
     for (table, steps) in &TABLES {
-        assert_eq!(rt; other(rt.alloc(), 8, *steps), Ok(None), "{table}");
+        assert_eq!(rt; other(rt.alloc(), 64, *steps), Ok(None), "{table}");
     }
     for (table, steps) in &SMALL {
         assert_eq!(rt; other(rt.alloc(), 3, *steps), Ok(None), "{table}");

@@ -1,5 +1,5 @@
 // Pages and overlays, at worked values.
-ghost use Rattle.std.specs.Prelude.{◌≡◌, ◌<◌, ◌≤◌, IfSome};
+ghost use Rattle.std.specs.Prelude.{◌≡◌, ◌≢◌, ◌<◌, ◌≤◌, IfSome};
 ghost use Rattle.gpa_space.specs.Space.{processors_of};
 
 use crate::steps::{Other, Part, first_other};
@@ -53,18 +53,12 @@ use Call::{
     SiefByte, SimByte, Store, StoreSome, WriteMessage, WriteSlot,
 };
 
-/// A space of two processors, with four pages or sparse.
+/// A space of some processors, with four pages or sparse.
 #[derive(Drop)]
 struct Scene {
     space: Space,
-    ghost two: { processors_of space ≡ 2 },
-}
-
-/// A processor of the two.
-fn on_board(number: u8) -> Option<Vp>
-    ensures { IfSome result (λ vp. vp < 2) }
-{
-    if number < 2 { Vp::new(number) } else { None }
+    processors: u8,
+    ghost all: { processors_of space ≡ processors },
 }
 
 fn owner(owner: Owner) -> Answer {
@@ -84,12 +78,26 @@ fn byte(page: Option<&[u8]>, at: usize) -> Option<Answer> {
 }
 
 impl Scene {
-    /// Two processors, with that many pages.
-    fn open(alloc: Global, pages: u8) -> Result<Scene, AllocError>
-        requires { pages ≤ 64 }
+    /// That many processors and pages.
+    fn open(alloc: Global, processors: u8, pages: u8) -> Result<Scene, AllocError>
+        requires some { 1 ≤ processors }
+        requires processor_bound { processors ≤ 64 }
+        requires page_bound { pages ≤ 64 }
+        requires dense { pages ≢ 0 → processors ≤ 8 }
     {
-        let space = Space::open(alloc, 2, pages)?;
-        Ok(Scene { space })
+        let space = Space::open(alloc, processors, pages)?;
+        Ok(Scene { space, processors })
+    }
+
+    /// A processor of the space.
+    fn on_board(&self, number: u8) -> Option<Vp>
+        ensures { IfSome result (λ vp. vp < self.now.processors) }
+    {
+        if number < self.processors {
+            Vp::new(number)
+        } else {
+            None
+        }
     }
 
     // README gpa_space: begin
@@ -121,7 +129,7 @@ impl Scene {
     }
 
     fn set_flag(&mut self, vp: Vp, sint: Sint, flag: u16) -> Option<Answer>
-        requires { vp < 2 }
+        requires { vp < self.old.processors }
     {
         if flag >= 2048 {
             return None;
@@ -133,21 +141,27 @@ impl Scene {
     fn ask_hypervisor(&mut self, call: Call) -> Option<Answer> {
         match call {
             WriteSlot(vp, sint, byte) => {
-                self.space
-                    .write_slot(on_board(vp)?, Sint::new(sint)?, &[byte; 256]);
+                let vp = self.on_board(vp)?;
+                self.space.write_slot(vp, Sint::new(sint)?, &[byte; 256]);
                 Some(Done)
             }
             WriteMessage(vp, sint, byte) => {
+                let vp = self.on_board(vp)?;
                 self.space
-                    .write_message(on_board(vp)?, Sint::new(sint)?, &HEADER, &[byte]);
+                    .write_message(vp, Sint::new(sint)?, &HEADER, &[byte]);
                 Some(Done)
             }
             SetPending(vp, sint) => {
-                Some(Is(self.space.set_pending(on_board(vp)?, Sint::new(sint)?)))
+                let vp = self.on_board(vp)?;
+                Some(Is(self.space.set_pending(vp, Sint::new(sint)?)))
             }
-            SetFlag(vp, sint, flag) => self.set_flag(on_board(vp)?, Sint::new(sint)?, flag),
+            SetFlag(vp, sint, flag) => {
+                let vp = self.on_board(vp)?;
+                self.set_flag(vp, Sint::new(sint)?, flag)
+            }
             ClearPages(vp) => {
-                self.space.clear_pages(on_board(vp)?);
+                let vp = self.on_board(vp)?;
+                self.space.clear_pages(vp);
                 Some(Done)
             }
             _ => None,
@@ -163,7 +177,8 @@ impl Part for Scene {
     fn ask(&mut self, call: Call) -> Option<Answer> {
         match call {
             SetOverlay(vp, kind, register) => {
-                self.space.set_overlay(on_board(vp)?, kind, register);
+                let vp = self.on_board(vp)?;
+                self.space.set_overlay(vp, kind, register);
                 Some(Done)
             }
             Call::Owner(page) => Some(owner(self.space.owner(page))),
@@ -175,8 +190,8 @@ impl Part for Scene {
             LoadEight(address) => self.load_eight(address),
             Store(address, byte) => Some(self.store(address, &[byte])),
             StoreSome(address, count) => Some(self.store(address, [1; 9].get(..count)?)),
-            SimByte(vp, at) => byte(Some(self.space.sim(on_board(vp)?)), at),
-            SiefByte(vp, at) => byte(Some(self.space.sief(on_board(vp)?)), at),
+            SimByte(vp, at) => byte(Some(self.space.sim(self.on_board(vp)?)), at),
+            SiefByte(vp, at) => byte(Some(self.space.sief(self.on_board(vp)?)), at),
             OwnByte(vp, kind, at) => byte(self.space.own_page(Vp::new(vp)?, kind), at),
             GuestByte(page, at) => byte(self.space.guest_page(page), at),
             call => self.ask_hypervisor(call),
@@ -186,15 +201,19 @@ impl Part for Scene {
 
 /// The first step at which a new scene gives another answer.
 fn other(alloc: Global, steps: &[(Call, Answer)]) -> Result<Option<Other<Answer>>, AllocError> {
-    Ok(first_other(&mut Scene::open(alloc, 4)?, steps))
+    Ok(first_other(&mut Scene::open(alloc, 2, 4)?, steps))
 }
 
 /// The same of a sparse scene.
 fn other_sparse(
     alloc: Global,
+    processors: u8,
     steps: &[(Call, Answer)],
-) -> Result<Option<Other<Answer>>, AllocError> {
-    Ok(first_other(&mut Scene::open(alloc, 0)?, steps))
+) -> Result<Option<Other<Answer>>, AllocError>
+    requires some { 1 ≤ processors }
+    requires bound { processors ≤ 64 }
+{
+    Ok(first_other(&mut Scene::open(alloc, processors, 0)?, steps))
 }
 
 /// An overlay obscures the page below, and the first of several obscures the others. Obscured bytes
@@ -318,6 +337,23 @@ const SPARSE: [(Call, Answer); 22] = [
     (GuestByte(0, 0), Nothing),
 ];
 
+/// The last two of 128 overlays are moved, and found where they are.
+const LAST_OVERLAYS: [(Call, Answer); 13] = [
+    (SetOverlay(63, Kind::Sim, 0x5001), Done),
+    (SetOverlay(63, Kind::Sief, 0x6001), Done),
+    (Call::Owner(5), Overlay(63, Kind::Sim)),
+    (Call::Owner(6), Overlay(63, Kind::Sief)),
+    (Store(0x6fff, 9), Overlay(63, Kind::Sief)),
+    (SiefByte(63, 0xfff), Byte(9)),
+    (SiefByte(7, 0xfff), Byte(0)),
+    (SetOverlay(63, Kind::Sim, 0x6001), Done),
+    (Call::Owner(5), Guest),
+    (Call::Owner(6), Overlay(63, Kind::Sim)),
+    (SetOverlay(7, Kind::Sief, 0x6001), Done),
+    (Call::Owner(6), Overlay(7, Kind::Sief)),
+    (NextOverlay(0), At(6)),
+];
+
 const TABLES: [(&str, &[(Call, Answer)]); 4] = [
     ("overlays hide what is below", &OVERLAYS),
     ("addresses are refused in order", &REFUSALS),
@@ -334,5 +370,6 @@ fn each_table_is_answered(rt: HostRuntime) {
 
 #[test]
 fn a_sparse_space_is_answered(rt: HostRuntime) {
-    assert_eq!(rt; other_sparse(rt.alloc(), &SPARSE), Ok(None));
+    assert_eq!(rt; other_sparse(rt.alloc(), 2, &SPARSE), Ok(None));
+    assert_eq!(rt; other_sparse(rt.alloc(), 64, &LAST_OVERLAYS), Ok(None));
 }

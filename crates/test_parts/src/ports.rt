@@ -102,17 +102,17 @@ const ALL_FLAGS: PortShape = PortShape::Flags {
     count: 2048,
 };
 
-/// On a board of eight processors.
+/// On a board of 64 processors.
 const EDGES: [(Call, Answer); 15] = [
-    (Open(0, 7, 15, LAST_FLAG), Opened),
-    (FlagPlace(0, 0), Flag(7, 15, 2047)),
+    (Open(0, 63, 15, LAST_FLAG), Opened),
+    (FlagPlace(0, 0), Flag(63, 15, 2047)),
     (FlagPlace(0, 1), Refused(Refusal::BadFlag)),
-    (Open(1, 7, 15, ALL_FLAGS), Opened),
-    (FlagPlace(1, 2047), Flag(7, 15, 2047)),
+    (Open(1, 63, 15, ALL_FLAGS), Opened),
+    (FlagPlace(1, 2047), Flag(63, 15, 2047)),
     (
         Open(
             2,
-            7,
+            63,
             15,
             PortShape::Flags {
                 base: 2047,
@@ -122,13 +122,13 @@ const EDGES: [(Call, Answer); 15] = [
         Refused(Refusal::BadTarget),
     ),
     (
-        Open(2, 7, 15, PortShape::Flags { base: 0, count: 0 }),
+        Open(2, 63, 15, PortShape::Flags { base: 0, count: 0 }),
         Refused(Refusal::BadTarget),
     ),
     (
         Open(
             2,
-            7,
+            63,
             15,
             PortShape::Flags {
                 base: 2048,
@@ -140,7 +140,7 @@ const EDGES: [(Call, Answer); 15] = [
     (
         Open(
             2,
-            7,
+            63,
             15,
             PortShape::Flags {
                 base: 65535,
@@ -150,26 +150,26 @@ const EDGES: [(Call, Answer); 15] = [
         Refused(Refusal::BadTarget),
     ),
     (
-        Open(2, 7, 15, PortShape::Messages { buffers: 0 }),
+        Open(2, 63, 15, PortShape::Messages { buffers: 0 }),
         Refused(Refusal::BadTarget),
     ),
     (
-        Open(2, 7, 15, PortShape::Messages { buffers: 17 }),
+        Open(2, 63, 15, PortShape::Messages { buffers: 17 }),
         Refused(Refusal::BadTarget),
     ),
     (
-        Open(2, 7, 15, PortShape::Messages { buffers: 255 }),
+        Open(2, 63, 15, PortShape::Messages { buffers: 255 }),
         Refused(Refusal::BadTarget),
     ),
     (
-        Open(2, 8, 15, PortShape::Messages { buffers: 16 }),
+        Open(2, 64, 15, PortShape::Messages { buffers: 16 }),
         Refused(Refusal::BadTarget),
     ),
-    (Open(2, 7, 15, PortShape::Messages { buffers: 16 }), Opened),
-    (Open(15, 7, 15, PortShape::Messages { buffers: 1 }), Opened),
+    (Open(2, 63, 15, PortShape::Messages { buffers: 16 }), Opened),
+    (Open(15, 63, 15, PortShape::Messages { buffers: 1 }), Opened),
 ];
 
 #[test]
 fn the_edges(rt: HostRuntime) {
-    assert_eq!(rt; first_other(&mut Ports::new(8), &EDGES), None);
+    assert_eq!(rt; first_other(&mut Ports::new(64), &EDGES), None);
 }

@@ -1,5 +1,5 @@
 // Queueing, placing and withdrawing messages.
-ghost use Rattle.std.specs.Prelude.{◌≡◌, ◌<◌, [], length, IfSome};
+ghost use Rattle.std.specs.Prelude.{◌≡◌, [], length};
 ghost use Rattle.board_terms.specs.declared.messages.Message.TheVariants.{FromPort, FromTimer};
 
 use crate::steps::{Other, Part, first_other};
@@ -66,13 +66,6 @@ fn expired(ticket: Ticket, timer: TimerId) -> Message
     }
 }
 
-/// A processor of the two.
-fn on_board(number: u8) -> Option<Vp>
-    ensures { IfSome result (λ vp. vp < 2) }
-{
-    if number < 2 { Vp::new(number) } else { None }
-}
-
 fn answer_of(message: Option<Message>) -> Answer {
     match message {
         Some(message) => Answer::Message(message.ticket()),
@@ -88,23 +81,23 @@ fn listed(tickets: &[Ticket]) -> Answer {
     Tickets(tickets.len(), first)
 }
 
-/// The queues of two processors.
+/// The queues of 64 processors.
 #[derive(Drop)]
 struct Scene {
     queues: Queues,
-    ghost two: { length queues ≡ 32 },
+    ghost all: { length queues ≡ 1024 },
 }
 
 impl Scene {
     fn open(alloc: Global) -> Result<Scene, AllocError> {
-        let queues = Queues::open(alloc, 2)?;
+        let queues = Queues::open(alloc, 64)?;
         Ok(Scene { queues })
     }
 
     /// Queues a post of a port, if it has a free buffer.
     fn post(&mut self, queue: Queue, ticket: Ticket, port: u8) -> Option<Answer> {
         // README message_queues: begin
-        let (vp, sint) = (on_board(queue.0)?, Sint::new(queue.1)?);
+        let (vp, sint) = (Vp::new(queue.0)?, Sint::new(queue.1)?);
         if port > 15 || self.queues.port_used(port) > 15 {
             return None;
         }
@@ -122,41 +115,42 @@ impl Scene {
 
     /// Queues the message of a timer, if its buffer is free.
     fn expire(&mut self, queue: Queue, ticket: Ticket, number: u8) -> Option<Answer> {
-        let (vp, sint) = (on_board(queue.0)?, Sint::new(queue.1)?);
+        let (vp, sint) = (Vp::new(queue.0)?, Sint::new(queue.1)?);
         let timer = TimerId::from_number(number)?;
-        if !self.queues.timer_buffer_free(timer) {
+        let message = expired(ticket, timer);
+        if !self.queues.has_buffer(&message) {
             return None;
         }
-        self.queues.append(vp, sint, expired(ticket, timer));
+        self.queues.append(vp, sint, message);
         Some(Done)
     }
 
     fn expire_all(&mut self, queue: Queue) -> Option<Answer> {
-        for number in 0..32 {
+        for number in 0..=u8::MAX {
             self.expire(queue, 100 + number as Ticket, number)?;
         }
         Some(Done)
     }
 
     fn place(&mut self, queue: Queue) -> Option<Answer> {
-        let (vp, sint) = (on_board(queue.0)?, Sint::new(queue.1)?);
+        let (vp, sint) = (Vp::new(queue.0)?, Sint::new(queue.1)?);
         Some(answer_of(self.queues.place(vp, sint)))
     }
 
     fn withdraw_port(&mut self, queue: Queue, port: u8) -> Option<Answer> {
-        let (vp, sint) = (on_board(queue.0)?, Sint::new(queue.1)?);
+        let (vp, sint) = (Vp::new(queue.0)?, Sint::new(queue.1)?);
         let tickets = self.queues.withdraw_port(vp, sint, port);
         Some(listed(tickets.as_slice()))
     }
 
     fn withdraw_all(&mut self, queue: Queue) -> Option<Answer> {
-        let (vp, sint) = (on_board(queue.0)?, Sint::new(queue.1)?);
+        let (vp, sint) = (Vp::new(queue.0)?, Sint::new(queue.1)?);
         let tickets = self.queues.withdraw_all(vp, sint);
         Some(listed(tickets.as_slice()))
     }
 
     fn count(&self, queue: Queue) -> Option<Answer> {
-        let (vp, sint) = (on_board(queue.0)?, Sint::new(queue.1)?);
+        let (vp, sint) = (Vp::new(queue.0)?, Sint::new(queue.1)?);
         Some(Messages(self.queues.count(vp, sint)))
     }
 
@@ -193,7 +187,7 @@ fn other(alloc: Global, steps: &[(Call, Answer)]) -> Result<Option<Other<Answer>
 }
 
 /// The queue that most tables fill, and another.
-const QUEUE: Queue = (1, 15);
+const QUEUE: Queue = (63, 15);
 
 const OTHER: Queue = (0, 2);
 
@@ -241,7 +235,7 @@ const SIXTEEN_OF_ONE_PORT: [(Call, Answer); 10] = [
     (Place(QUEUE), NoMessage),
 ];
 
-/// All 288 buffers: sixteen of each port, and one of each timer, queued between the first port and
+/// All 512 buffers: sixteen of each port, and one of each timer, queued between the first port and
 /// the others.
 const ALL_BUFFERS: [(Call, Answer); 38] = [
     (PostSixteen(QUEUE, 0), Done),
@@ -261,16 +255,16 @@ const ALL_BUFFERS: [(Call, Answer); 38] = [
     (PostSixteen(QUEUE, 13), Done),
     (PostSixteen(QUEUE, 14), Done),
     (PostSixteen(QUEUE, 15), Done),
-    (Count(QUEUE), Messages(288)),
+    (Count(QUEUE), Messages(512)),
     (PortUsed(15), Used(16)),
-    (TimerIsFree(31), Is(false)),
+    (TimerIsFree(255), Is(false)),
     (WithdrawPort(QUEUE, 15), SIXTEEN),
     (WithdrawPort(QUEUE, 0), SIXTEEN),
     (WithdrawPort(QUEUE, 7), SIXTEEN),
     (PortUsed(15), Used(0)),
     (PortUsed(7), Used(0)),
     (PortUsed(1), Used(16)),
-    (Count(QUEUE), Messages(240)),
+    (Count(QUEUE), Messages(464)),
     (Place(QUEUE), Answer::Message(100)),
     (Place(QUEUE), Answer::Message(101)),
     (TimerIsFree(1), Is(true)),
@@ -279,9 +273,19 @@ const ALL_BUFFERS: [(Call, Answer); 38] = [
     (PostSixteen(OTHER, 15), Done),
     (PortUsed(15), Used(16)),
     (Count(OTHER), Messages(16)),
-    (Count(QUEUE), Messages(239)),
+    (Count(QUEUE), Messages(463)),
     (Place(QUEUE), Answer::Message(102)),
     (WithdrawAll(OTHER), SIXTEEN),
+];
+
+/// Each timer has a buffer of its own, and none is in use once its message is withdrawn.
+const ALL_WITHDRAWN: [(Call, Answer); 6] = [
+    (ExpireAll(QUEUE), Done),
+    (TimerIsFree(0), Is(false)),
+    (TimerIsFree(32), Is(false)),
+    (WithdrawAll(QUEUE), Tickets(256, [100, 101, 102, 103, 104])),
+    (TimerIsFree(255), Is(true)),
+    (Count(QUEUE), Messages(0)),
 ];
 
 /// Withdrawals from the front, the middle and the end, from a queue of one and from one without
@@ -344,10 +348,11 @@ const AN_EMPTIED_QUEUE: [(Call, Answer); 13] = [
     (Place(OTHER), Answer::Message(20)),
 ];
 
-const TABLES: [(&str, &[(Call, Answer)]); 5] = [
+const TABLES: [(&str, &[(Call, Answer)]); 6] = [
     ("a queued message has a buffer", &BUFFERS),
     ("sixteen of one port", &SIXTEEN_OF_ONE_PORT),
     ("all buffers in one queue", &ALL_BUFFERS),
+    ("all timers in one queue", &ALL_WITHDRAWN),
     ("a withdrawal mends the queue", &WITHDRAWALS),
     ("a queue is emptied", &AN_EMPTIED_QUEUE),
 ];
@@ -357,4 +362,19 @@ fn each_table_is_answered(rt: HostRuntime) {
     for (table, steps) in &TABLES {
         assert_eq!(rt; other(rt.alloc(), *steps), Ok(None), "{table}");
     }
+}
+
+/// Whether the buffer of a timer is free, and whether its message has one, in the queues of one
+/// processor.
+fn timer_of_one(alloc: Global, number: u8) -> Result<(bool, bool), AllocError> {
+    let queues = Queues::open(alloc, 1)?;
+    let timer = TimerId::from_number(number).unwrap();
+    let message = expired(0, timer);
+    Ok((queues.timer_buffer_free(timer), queues.has_buffer(&message)))
+}
+
+#[test]
+fn a_timer_without_queues_has_no_buffer(rt: HostRuntime) {
+    assert_eq!(rt; timer_of_one(rt.alloc(), 3), Ok((true, true)));
+    assert_eq!(rt; timer_of_one(rt.alloc(), 4), Ok((true, false)));
 }

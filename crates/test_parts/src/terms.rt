@@ -13,7 +13,7 @@ fn a_number_outside_its_range_is_none(rt: HostRuntime) {
             Vector::new(number).is_some(),
             TimerId::from_number(number).is_some(),
         ];
-        let expected = [number <= 7, number <= 15, number >= 16, number <= 31];
+        let expected = [number <= 63, number <= 15, number >= 16, true];
         assert_eq!(rt; exist, expected, "{number}");
     }
 }
@@ -21,7 +21,7 @@ fn a_number_outside_its_range_is_none(rt: HostRuntime) {
 /// The numbers of the last processor, source and vector, and of the last source and timer of a
 /// board.
 fn numbers_of_the_last() -> [usize; 5] {
-    let (vp, sint) = (Vp::new(7).unwrap(), Sint::new(15).unwrap());
+    let (vp, sint) = (Vp::new(63).unwrap(), Sint::new(15).unwrap());
     [
         vp.number() as usize,
         sint.number() as usize,
@@ -33,15 +33,15 @@ fn numbers_of_the_last() -> [usize; 5] {
 
 /// The processor and the index of the last timer, and whether there is another one.
 fn last_timer() -> (u8, u8, bool) {
-    let timer = TimerId::from_number(31).unwrap();
+    let timer = TimerId::from_number(255).unwrap();
     let another = TimerId::new(timer.vp(), 4).is_some();
     (timer.vp().number(), timer.index(), another)
 }
 
 #[test]
 fn the_last_of_each_has_the_last_number(rt: HostRuntime) {
-    assert_eq!(rt; numbers_of_the_last(), [7, 15, 255, 127, 31]);
-    assert_eq!(rt; last_timer(), (7, 3, false));
+    assert_eq!(rt; numbers_of_the_last(), [63, 15, 255, 1023, 255]);
+    assert_eq!(rt; last_timer(), (63, 3, false));
 }
 
 const REFUSALS: [(u8, Refusal, &str); 17] = [

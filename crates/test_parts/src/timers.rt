@@ -164,30 +164,30 @@ const REGISTERS: [(Call, Answer); 14] = [
     (ReadConfig(0), Word(0x10f0)),
     (Config(0, 1, 0), Done),
     (ReadConfig(0), Word(0)),
-    (ReadConfig(31), Word(0)),
+    (ReadConfig(255), Word(0)),
 ];
 
 /// The greatest count from the greatest time; and the timers due at a time, by deadline and then by
 /// number.
 const ORDER: [(Call, Answer); 18] = [
-    (Count(31, u64::MAX, u64::MAX), Done),
-    (Config(31, 0x1403, u64::MAX), Done),
-    (Earliest, First(36893488147419103230, 31)),
+    (Count(255, u64::MAX, u64::MAX), Done),
+    (Config(255, 0x1403, u64::MAX), Done),
+    (Earliest, First(36893488147419103230, 255)),
     (Count(0, 7, u64::MAX), Done),
     (Config(0, 0x2_0001, u64::MAX), Done),
     (Due(0, u64::MAX), Timer(0)),
     (Due(1, u64::MAX), Nothing),
-    (Count(31, 7, 0), Done),
-    (Config(31, 0x1401, 0), Done),
+    (Count(255, 7, 0), Done),
+    (Config(255, 0x1401, 0), Done),
     (Due(0, 7), Timer(0)),
-    (Due(1, 7), Timer(31)),
+    (Due(1, 7), Timer(255)),
     (Due(2, 7), Nothing),
     (Due(0, 6), Nothing),
-    (Count(31, 6, 0), Done),
-    (Due(0, 7), Timer(31)),
+    (Count(255, 6, 0), Done),
+    (Due(0, 7), Timer(255)),
     (Due(1, 7), Timer(0)),
     (Due(2, 7), Nothing),
-    (Earliest, First(6, 31)),
+    (Earliest, First(6, 255)),
 ];
 
 /// A timer in direct mode signals a vector, any other a source. A one-shot that has expired is
@@ -272,7 +272,7 @@ const TABLES: [(&str, &[(Call, Answer)]); 7] = [
 
 /// The first step at which a new bank gives another answer.
 fn other(alloc: Global, steps: &[(Call, Answer)]) -> Result<Option<Other<Answer>>, AllocError> {
-    Ok(first_other(&mut TimerBank::open(alloc, 8)?, steps))
+    Ok(first_other(&mut TimerBank::open(alloc, 64)?, steps))
 }
 
 #[test]

@@ -310,15 +310,16 @@ fn a_missing_token_is_told(rt: HostRuntime) {
 }
 
 /// Sizes, and whether words of these sizes can be opened.
-const SIZES: [(u8, u8, u8, bool); 8] = [
+const SIZES: [(u8, u8, u8, bool); 9] = [
     (0, 1, 1, false),
-    (9, 1, 1, false),
+    (65, 1, 1, false),
     (1, 0, 1, false),
     (1, 17, 1, false),
     (1, 1, 17, false),
     (255, 255, 255, false),
     (1, 1, 0, true),
     (8, 16, 16, true),
+    (64, 16, 16, true),
 ];
 
 /// The processors of the words, and the numbers of sweepers and lines.

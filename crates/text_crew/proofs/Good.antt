@@ -186,7 +186,7 @@ module _ (board : Option State) where
       cond_both (nat_lt all 16) (Ok (Some (record (finished crew) { section = InLine [] }))) (Err faults.Many) Kept (λ is. line-begun (finished crew) g ((Decides-ltb all 16).0 is)) (λ _. tt)
   line-kept crew (field ∷ fields) g = tt
 
-  new-kept : (n pages ticket : ℕ) → HasBoard board n pages → n ≤ 8 → IsGood (finished (new_crew n pages ticket))
+  new-kept : (n pages ticket : ℕ) → HasBoard board n pages → n ≤ 64 → IsGood (finished (new_crew n pages ticket))
   new-kept n pages ticket is bound = record {
     board = is;
     few_actors = omega arith;
@@ -198,8 +198,8 @@ module _ (board : Option State) where
   }
 
   held-within : (n : ℕ) (pages : Option ℕ) → AreBoardSizes n pages → IsWithinLimits n (pages_held pages)
-  held-within n None h = record { some_processor = h.some; processor_bound = h.bound; page_bound = omega arith }
-  held-within n (Some pages) h = record { some_processor = h.some_processor; processor_bound = h.processor_bound; page_bound = h.page_bound }
+  held-within n None h = record { some_processor = h.some; processor_bound = h.bound; dense_bound = λ held. absurd (held refl); page_bound = omega arith }
+  held-within n (Some pages) h = record { some_processor = h.some_processor; processor_bound = let bound = h.processor_bound in omega arith; dense_bound = λ held. h.processor_bound; page_bound = h.page_bound }
 
   board-kept : board ≡ None → (opening : Option (ℕ × Option ℕ × ℕ)) → Kept (with_board opening)
   board-kept none None = tt
@@ -227,6 +227,6 @@ module _ (board : Option State) where
   all-good seen old new (line ∷ lines) answers g h = all-good seen h.2 new lines h.1 (subst Kept h.4.1 (kept (seen old) line g)) h.5
 
 -- before the first line
-pub first-good : (board : Option State) → IfSome board (λ s. processors s ≤ 8) → AllGood board (option_map crew_on board)
+pub first-good : (board : Option State) → IfSome board (λ s. processors s ≤ 64) → AllGood board (option_map crew_on board)
 first-good None bound = refl
 first-good (Some s) bound = new-kept (Some s) (processors s) (length s.pages) s.next_ticket refl bound

@@ -38,7 +38,7 @@ one-sparse n ticket s is = sym (ap processors is ∙ length-replicate n _)
 
 pub sized : (c : CrewScript) → IsGoodOn None (crew_of c) → 1 ≤ c.setup.pages → IsSized c.setup c.scripts
 sized c g some = record {
-  board = record { some_processor = g.board.some_processor; processor_bound = g.board.processor_bound; some_page = some; page_bound = g.board.page_bound };
+  board = record { some_processor = g.board.some_processor; processor_bound = g.board.dense_bound (λ none. omega (arith, none, some)); some_page = some; page_bound = g.board.page_bound };
   sizes = script-sized None c g;
 }
 

@@ -18,5 +18,5 @@ pub(crate) struct CrewScript {
     pub(crate) setup: Setup,
     pub(crate) scripts: Scripts,
     pub(crate) section: Section,
-    ghost bound: { setup.processors ≤ 8 },
+    ghost bound: { setup.processors ≤ 64 },
 }

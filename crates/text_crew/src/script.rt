@@ -71,18 +71,21 @@ fn open(
 fn pages_within(processors: u8, pages: Option<u8>) -> Option<u8>
     ensures { result ≡ (if are_sizes processors pages then Some (pages_held pages) else None) }
 {
-    let is_count = 1 <= processors && processors <= 8;
+    let most_processors = if pages.is_none() { 64 } else { 8 };
+    if processors < 1 || processors > most_processors {
+        return None;
+    }
     match pages {
-        None if is_count => Some(0),
-        Some(pages) if is_count && 1 <= pages && pages <= 64 => Some(pages),
-        _ => None,
+        None => Some(0),
+        Some(pages) if 1 <= pages && pages <= 64 => Some(pages),
+        Some(_) => None,
     }
 }
 
 impl CrewScript {
     /// The script of a crew whose board line was read, without steps.
     fn new(alloc: Global, processors: u8, pages: u8, first_ticket: Ticket) -> CrewScript
-        requires { processors ≤ 8 }
+        requires { processors ≤ 64 }
         ensures { crew_of result ≡ new_crew processors pages first_ticket }
     {
         CrewScript {
@@ -103,7 +106,7 @@ impl CrewScript {
     /// What is read of a script before its first line: a crew of a board that is given, or nothing.
     pub(crate) fn on(alloc: Global, board: &Option<Board>) -> Option<CrewScript>
         ensures value { optional_crew result ≡ option_map crew_on (state_in board.now) }
-        ensures bound { IfSome (state_in board.now) (λ s. processors s ≤ 8) }
+        ensures bound { IfSome (state_in board.now) (λ s. processors s ≤ 64) }
     {
         let board = board.as_ref()?;
         let script = CrewScript::new(
@@ -289,7 +292,7 @@ fn sweep_of(fields: &mut Fields<'_>) -> Option<Step>
 
 /// The raise of a line in a line's script.
 fn raise_of(processors: u8, word: &[u8], fields: &mut Fields<'_>) -> Option<(Vp, Vector)>
-    requires { processors ≤ 8 }
+    requires { processors ≤ 64 }
     ensures { result ≡ parse_line_step processors word.now fields.old }
 {
     if word != b"raise".as_slice() {

@@ -233,14 +233,14 @@ posted-says ticket in_range fs message =
 
 record HasTimer (fields : Fields) (timer : ℕ × ℕ) (rest : Fields) : Type 0 where
   same : fields ≡ decimal timer.0 ∷ decimal timer.1 ∷ rest
-  vp : timer.0 < 8
+  vp : timer.0 < 64
   index : timer.1 < 4
 
 timer-only : (fs : Fields) (timer : ℕ × ℕ) (rest : Fields) → read_timer fs ≡ Some (timer, rest) → HasTimer fs timer rest
 timer-only fs timer rest =
-    then-some (decimal_at 7) _ fs (timer, rest) (HasTimer fs timer rest) (λ a vp more at read.
+    then-some (decimal_at 63) _ fs (timer, rest) (HasTimer fs timer rest) (λ a vp more at read.
     then-some (decimal_at 3) _ more (timer, rest) (HasTimer fs timer rest) (λ b index more' at' read' e.
-    let h = decimal_at-only 7 a vp read in let h' = decimal_at-only 3 b index read' in
+    let h = decimal_at-only 63 a vp read in let h' = decimal_at-only 3 b index read' in
     let fields : fs ≡ decimal vp ∷ decimal index ∷ more' = rw (at, at', h.1, h'.1) refl in
     let is : ((vp, index), more') ≡ (timer, rest) = cc in
     let same_vp : vp ≡ timer.0 = ap (λ (p : (ℕ × ℕ) × Fields). p.0.0) is in

@@ -86,9 +86,9 @@ due-spelled (Some d) h =
     then-read hex_u64_at _ (hex (d / 2 ^ 64)) (d / 2 ^ 64) _ high ∙ then-read hex_u64_at _ (hex (d % 2 ^ 64)) (d % 2 ^ 64) [] low ∙ ap (λ (x : ℕ). Some (Some x)) whole
 
 -- A message.
-timer-spelled : (timer : ℕ × ℕ) (rest : Fields) → timer.0 < 8 → timer.1 < 4 → read_timer (decimal timer.0 ∷ decimal timer.1 ∷ rest) ≡ Some (timer, rest)
+timer-spelled : (timer : ℕ × ℕ) (rest : Fields) → timer.0 < 64 → timer.1 < 4 → read_timer (decimal timer.0 ∷ decimal timer.1 ∷ rest) ≡ Some (timer, rest)
 timer-spelled timer rest vp index =
-    then-read (decimal_at 7) _ (decimal timer.0) timer.0 _ (decimal_at-spelled 7 timer.0 (omega arith) (omega arith))
+    then-read (decimal_at 63) _ (decimal timer.0) timer.0 _ (decimal_at-spelled 63 timer.0 (omega arith) (omega arith))
     ∙ then-read (decimal_at 3) _ (decimal timer.1) timer.1 rest (decimal_at-spelled 3 timer.1 (omega arith) (omega arith))
 
 origin-spelled : (message : Message) → HasMessageRanges message → parse_origin (ticket_of message) (origin_fields message) ≡ Some message

@@ -118,7 +118,7 @@ abbrev pub parse_posted : Ticket → Fields → Option Message
 parse_posted ticket = take_then u8_at (λ port. take_then hex_u32_at (λ kind. take_then (bytes_at 240) (λ payload. none_left (FromPort ticket port kind (record { items = payload })))))
 
 abbrev pub read_timer : Fields → Option (TimerId × Fields)
-read_timer = take_then (decimal_at 7) (λ vp. take_then (decimal_at 3) (λ index fields. Some ((vp, index), fields)))
+read_timer = take_then (decimal_at 63) (λ vp. take_then (decimal_at 3) (λ index fields. Some ((vp, index), fields)))
 
 abbrev pub parse_expired : Ticket → Fields → Option Message
 parse_expired ticket = read_then read_timer (λ timer. take_then u64_at (λ expiration. none_left (FromTimer ticket timer expiration)))

@@ -6,7 +6,7 @@ use board_terms::{Sint, TimerId, Vp};
 /// The processor with that number.
 #[inline(always)]
 pub(crate) fn vp_of(number: u8) -> Vp
-    requires { number < 8 }
+    requires { number < 64 }
     ensures { result ≡ number }
 {
     match Vp::new(number) {

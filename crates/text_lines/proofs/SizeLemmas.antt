@@ -9,7 +9,7 @@ between : (low n high : ℕ) → Decides (nat_le low n && nat_le n high) ((low �
 between low n high = Decides-and _ _ (leb-true low n, le-leb low n) (leb-true n high, le-leb n high)
 
 pub sizes-are : (processors : ℕ) (pages : Option ℕ) → IsTrue (are_sizes processors pages) ↔ AreBoardSizes processors pages
-sizes-are processors None = let within = between 1 processors 8 in (
+sizes-are processors None = let within = between 1 processors 64 in (
   λ e. let h = within.0 e in record { some = h.0; bound = h.1 },
   λ h. within.1 (h.some, h.bound),
 )

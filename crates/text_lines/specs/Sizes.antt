@@ -9,7 +9,7 @@ AreBoardSizes processors (Some pages) = AreSizes processors pages
 
 -- the same as a Boolean test
 abbrev pub are_sizes : ℕ → Option ℕ → Bool
-are_sizes processors None = nat_le 1 processors && nat_le processors 8
+are_sizes processors None = nat_le 1 processors && nat_le processors 64
 are_sizes processors (Some pages) = (nat_le 1 processors && nat_le processors 8) && (nat_le 1 pages && nat_le pages 64)
 
 -- a sparse board holds no guest pages

@@ -32,7 +32,7 @@ use Rattle.text_restore.proofs.Short.{piece-written}
 
 -- The local APICs that are missing can come, and the end.
 pub record IsOpenBody (s : State) (last lapics : ℕ) : Type 0 where
-  pub bound : processors s ≤ 8
+  pub bound : processors s ≤ 64
   pub few : lapics ≤ processors s
   pub missing : lapics < processors s → last < place 2 lapics 0 0
   pub before : last < place 10 0 0 0
@@ -234,7 +234,7 @@ titled-ends =
       pages = 1;
       ticket = 0;
       item = (item-reading (spaced (item_fields (Opening 1 (Some 1) 0))) (Opening 1 (Some 1) 0)).1 (item-means (Opening 1 (Some 1) 0) (omega arith, omega arith, omega arith));
-      sizes = record { some_processor = omega arith; processor_bound = omega arith; page_bound = omega arith };
+      sizes = record { some_processor = omega arith; processor_bound = omega arith; dense_bound = λ some. omega arith; page_bound = omega arith };
       stage = refl;
     }) (end-body 1 s 0 0 fits (omega (arith, length-replicate 1 empty_apic)))
 

@@ -1,5 +1,6 @@
 -- Which lines open a board.
-use Rattle.std.proofs.Common.{◌≡◌, ℕ, List, [], ◌∷◌, Option, Some, None, true, false, refl, sym, ap, subst, ◌∙◌, codes, decimal}
+use Rattle.std.proofs.Common.{◌≡◌, ℕ, List, [], ◌∷◌, Option, Some, None, true, false, refl, sym, ap, subst, ◌∙◌, codes, decimal, ◌≢◌, ◌<◌, ◌≤◌, ◌⊎◌, inl, inr, arith}
+use Rattle.std.proofs.lemmas.Bool.{cases_lt}
 use Rattle.std.specs.Str.{bytes_eq}
 use Rattle.text_base.specs.Fields.{fields_of}
 use Rattle.synic_board.specs.State.{IsWithinLimits}
@@ -51,3 +52,28 @@ bad-sizes line n p t is off = λ new h.
     let count : h.count ≡ n = cc in
     let pages : h.pages ≡ p = cc in
     off (subst (λ (k : ℕ). IsWithinLimits n k) pages (subst (λ (k : ℕ). IsWithinLimits k h.pages) count h.sizes))
+
+-- sizes that are not outside the limits are within them
+pub within-limits : (n p : ℕ) → ((IsWithinLimits n p → ⊥) → ⊥) → IsWithinLimits n p
+within-limits n p inside = record {
+  some_processor = some (cases_lt 0 n);
+  processor_bound = bound (cases_lt 64 n);
+  dense_bound = λ held. dense held (cases_lt 8 n);
+  page_bound = pages (cases_lt 64 p);
+}
+  where
+    some : (0 < n) ⊎ (n ≤ 0) → 1 ≤ n
+    some (inl h) = omega (arith, h)
+    some (inr h) = absurd (inside (λ w. let l = w.some_processor in omega (arith, h, l)))
+
+    bound : (64 < n) ⊎ (n ≤ 64) → n ≤ 64
+    bound (inl h) = absurd (inside (λ w. let l = w.processor_bound in omega (arith, h, l)))
+    bound (inr h) = h
+
+    dense : p ≢ 0 → (8 < n) ⊎ (n ≤ 8) → n ≤ 8
+    dense held (inl h) = absurd (inside (λ w. let l = w.dense_bound held in omega (arith, h, l)))
+    dense held (inr h) = h
+
+    pages : (64 < p) ⊎ (p ≤ 64) → p ≤ 64
+    pages (inl h) = absurd (inside (λ w. let l = w.page_bound in omega (arith, h, l)))
+    pages (inr h) = h

@@ -10,6 +10,6 @@ ports_of a = record { processors = a.processors; ports = a.ports }
 
 -- an open port has a target on the board, and its shape is in range
 pub record PortsInvariant (a : Inside) : Type 0 where
-  pub processor_bound : a.processors ≤ 8
+  pub processor_bound : a.processors ≤ 64
   pub on_the_board : (n : ℕ) (p : Port) → port_at (ports_of a) n ≡ Some p → p.vp < a.processors
   pub fits : (n : ℕ) (p : Port) → port_at (ports_of a) n ≡ Some p → fits p.shape ≡ true

@@ -94,7 +94,7 @@ opened_port-extends n m ticket s last lapics k p i shape new h blank later e =
     subst (λ (t : State). Extends n m ticket s lapics (pieces.Port k p i shape) t lapics) (sym o.is) (port-extends n m ticket s last lapics k p i shape h blank later o.low)
 
 -- a timer that is not idle
-pub timer-extends : (n m ticket : ℕ) (s : State) (last lapics p i config count : ℕ) (due : Option ℕ) → n ≤ 8 → IsShaped n m ticket s → IsBlank n m s last lapics →
+pub timer-extends : (n m ticket : ℕ) (s : State) (last lapics p i config count : ℕ) (due : Option ℕ) → n ≤ 64 → IsShaped n m ticket s → IsBlank n m s last lapics →
     last < place_of (pieces.Timer p i config count due) → p < n → i < 4 → ((config == 0) && ((count == 0) && is_none due) ≡ false) →
     Extends n m ticket s lapics (pieces.Timer p i config count due) (with_saved_timer s (p, i) (record { config = config; count = count; due = due })) lapics
 timer-extends n m ticket s last lapics p i config count due few h blank later on low some = record {

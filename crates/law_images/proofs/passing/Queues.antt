@@ -5,14 +5,14 @@ use Rattle.std.specs.Option.{option_map_or}
 use Rattle.std.specs.List.{All}
 use Rattle.std.proofs.lemmas.Bool.{cases_lt}
 use Rattle.std.proofs.lemmas.Bool.Decides.{nat_tests}
-use Rattle.std.proofs.lemmas.List.{get_or-set_same, set-set, take_all}
+use Rattle.std.proofs.lemmas.List.{length-set, get_or-set_same, set-set, take_all}
 use Rattle.std.proofs.lemmas.List.Elements.{All-nil, All-cons}
 use Rattle.std.proofs.lemmas.List.Sums.{sum_by-cons, sum_by_more_le}
 use Rattle.board_terms.specs.declared.messages.Message.{Message}
 use Rattle.board_terms.specs.declared.messages.Message.TheVariants.{FromPort, FromTimer}
 use Rattle.board_terms.specs.Messages.{ticket_of}
 use Rattle.board_terms.specs.Ranges.{HasMessageRanges}
-use Rattle.message_queues.specs.Queues.{Queues, HasBuffer, is_from_port, is_from_timer, port_used, queue_of}
+use Rattle.message_queues.specs.Queues.{Queues, HasBuffer, processors_of, is_from_port, is_from_timer, port_used, queue_of}
 use Rattle.event_ports.specs.declared.ports.Port.{Port}
 use Rattle.synic_board.specs.State.{State, processors}
 use Rattle.synic_board.specs.Locations.{times, locations}
@@ -94,13 +94,22 @@ before-all next (x ∷ q) (suc k) m within is h =
     (before-all next q k m (omega (arith, within)) is h.2)
 
 -- a message of a board has a buffer before it is queued
-has-buffer : (s : State) → IsBoardState s → (p j k : ℕ) (m : Message) (inside : j < length s.queues) (g : Got (get_or s.queues j []) k m) → (i : ℕ) → IsHome s.ports p i m →
+has-buffer : (s : State) → IsBoardState s → (p j k : ℕ) (m : Message) (inside : j < length s.queues) (g : Got (get_or s.queues j []) k m) → (i : ℕ) → 16 * p ≤ j → IsHome s.ports p i m →
     HasBuffer (drafted s.queues j k m inside g) m
-has-buffer s h p j k (FromPort ticket port kind payload) inside g i home =
+has-buffer s h p j k (FromPort ticket port kind payload) inside g i place home =
     (port-below s port _ h.buffers.ports home.1.1, omega (arith, more-counted s.queues j k (FromPort ticket port kind payload) inside g (is_from_port port) (test-same port), h.buffers.room port))
-has-buffer s h p j k (FromTimer ticket timer expiration) inside g i home = free _
-    (omega (arith, more-counted s.queues j k (FromTimer ticket timer expiration) inside g (is_from_timer timer) itself, h.buffers.one_each timer))
+has-buffer s h p j k (FromTimer ticket timer expiration) inside g i place home = (
+  there,
+  free _
+      (omega (arith, more-counted s.queues j k (FromTimer ticket timer expiration) inside g (is_from_timer timer) itself, h.buffers.one_each timer)),
+)
   where
+    m : Message
+    m = FromTimer ticket timer expiration
+
+    there : timer.0 < processors_of (drafted s.queues j k m inside g)
+    there = omega (arith, home.0, place, inside, h.sound.whole.queues, length-front j s.queues [], length-set (front j s.queues []) j (take k (get_or s.queues j [])))
+
     itself : is_from_timer timer (FromTimer ticket timer expiration) ≡ true
     itself = rw (test-same timer.0, test-same timer.1) refl
 
@@ -130,7 +139,7 @@ module _ (s : State) (h : IsBoardState s) (t : State) (full : processors t ≡ p
   joins p i k m low inside g = record {
     message = subst IsMessage (g.is m) (h.sound.whole.messages j [] inside k m g.within);
     home = subst (λ (ports : List (Option Port)). IsHome ports p i m) (sym same_ports) home;
-    buffer = has-buffer s h p j k m inside g i home;
+    buffer = has-buffer s h p j k m inside g i (omega arith) home;
     share = has-share s h j k m inside g board refl same_ports;
     ticket = record { given = given; nowhere = nowhere };
     order = subst (λ (xs : List Message). All (λ x. ticket_of x < ticket_of m) xs) (sym drafted_queue)

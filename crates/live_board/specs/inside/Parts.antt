@@ -186,6 +186,13 @@ pub record IsLooks (s : State) (p : ℕ) (log : List Access) (now : State) (log_
   pub few : length notices ≤ n
   pub looks : AreLooks n watched.news
 
+-- looks at the headers of the slots below n, each of which is what the board has, and a load of the next
+pub record IsOther (s : State) (p n found : ℕ) (log log_now : List Access) : Type 0 where
+  pub below : n < 16
+  pub same : List Access
+  pub looks : IsLooks s p log s same [] n
+  pub page : log_now ≡ Load (32 * n) found ∷ same
+
 -- a look at each slot of a message page, if the guest sees it
 pub record IsViewed (s : State) (p : ℕ) (log : List Access) (now : State) (log_now : List Access) (notices : List Notice) : Type 0 where
   pub watched : IsWatched s p Sim log now log_now notices

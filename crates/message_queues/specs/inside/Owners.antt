@@ -1,4 +1,4 @@
--- The owners of the 288 buffers (profile): each of the ports 0 to 15 has 16, and each of the 32 timers has one.
+-- The owners of the buffers (profile): each of the ports 0 to 15 has 16, and each timer of a processor that has queues has one.
 use Rattle.std.specs.Prelude.{◌≡◌, ℕ, ◌+◌, ◌*◌, ◌<◌, ◌≤◌, nat_lt, ◌==◌, List, length, sum_by, count_by, slice_index_or, if◌then◌else◌}
 use Rattle.board_terms.specs.declared.messages.Message.{Message}
 use Rattle.board_terms.specs.declared.messages.Message.TheVariants.{FromPort, FromTimer}
@@ -12,15 +12,14 @@ abbrev pub owner_of : Message → ℕ
 owner_of (FromPort ticket port kind payload) = port
 owner_of (FromTimer ticket timer expiration) = owner_of_timer timer
 
--- the message has an owner
-abbrev pub HasOwner : Message → Type 0
-HasOwner (FromPort ticket port kind payload) = port < 16
-HasOwner (FromTimer ticket timer expiration) = (timer.0 < 8) × (timer.1 < 4)
+-- how many owners there are with that many processors: the 16 ports, and four timers of each
+abbrev pub owners : ℕ → ℕ
+owners processors = 16 + 4 * processors
 
--- the port of a message is below 16; a timer is one of the 32 by its type
-abbrev pub IsPortOwned : Message → Type 0
-IsPortOwned (FromPort ticket port kind payload) = port < 16
-IsPortOwned (FromTimer ticket timer expiration) = Unit {0}
+-- the message has an owner
+abbrev pub HasOwner : ℕ → Message → Type 0
+HasOwner processors (FromPort ticket port kind payload) = port < 16
+HasOwner processors (FromTimer ticket timer expiration) = (timer.0 < processors) × (timer.1 < 4)
 
 -- how many buffers an owner has in use
 abbrev pub used_by : ℕ → Queues → ℕ
@@ -31,7 +30,7 @@ abbrev pub share : ℕ → ℕ
 share o = if nat_lt o 16 then 16 else 1
 
 -- the counts are those of the queues, and no owner exceeds its share
-pub record IsCounted (qs : Queues) (in_use : List ℕ) : Type 0 where
-  pub size : length in_use ≡ 48
-  pub counted : (o : ℕ) → o < 48 → slice_index_or in_use o 0 ≡ used_by o qs
-  pub within : (o : ℕ) → o < 48 → used_by o qs ≤ share o
+pub record IsCounted (processors : ℕ) (qs : Queues) (in_use : List ℕ) : Type 0 where
+  pub size : length in_use ≡ owners processors
+  pub counted : (o : ℕ) → o < owners processors → slice_index_or in_use o 0 ≡ used_by o qs
+  pub within : (o : ℕ) → o < owners processors → used_by o qs ≤ share o

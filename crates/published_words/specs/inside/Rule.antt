@@ -26,14 +26,14 @@ pub record IsRight (start : State) (i : ℕ) (log : List Entry) (value : ℕ) : 
 
 -- the values of all words, as the publisher has them
 pub record HasValues (start : State) (logs : Logs) (values : List ℕ) : Type 0 where
-  pub bound : processors start ≤ 8
+  pub bound : processors start ≤ 64
   pub lengths : length values ≡ word_count start
   pub count : length logs ≡ word_count start
   pub each : (i : ℕ) → i < word_count start → slice_index values i ≡ word_at start i (leads_to start (log_at logs i))
 
 -- the values of all words when they are opened
 pub record AreOpening (start : State) (values : List ℕ) : Type 0 where
-  pub bound : processors start ≤ 8
+  pub bound : processors start ≤ 64
   pub lengths : length values ≡ word_count start
   pub each : (i : ℕ) → i < word_count start → slice_index values i ≡ word_at start i start
   pub vector : (i v : ℕ) → i < processors start → next_of start i ≡ Some v → (16 ≤ v) × (v < 256)

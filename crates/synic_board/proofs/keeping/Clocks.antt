@@ -1,6 +1,6 @@
 -- Writing and expiring timers, and the clock.
-use Rattle.std.proofs.Common.{◌≡◌, ℕ, ◌*◌, ◌<◌, Bool, true, false, ◌&&◌, List, [], ◌∷◌, refl, arith, nat_lt}
-use Rattle.std.specs.Prelude.{Option, None, Some, ◌==◌}
+use Rattle.std.proofs.Common.{◌≡◌, ℕ, ◌*◌, ◌<◌, Bool, true, false, ◌&&◌, List, [], ◌∷◌, refl, arith, nat_lt, zero, suc}
+use Rattle.std.specs.Prelude.{Option, None, Some, ◌==◌, if◌then◌else◌}
 use Rattle.stimer_bank.proofs.Shown.{due-there}
 use Rattle.board_terms.specs.Dues.{number_of}
 use Rattle.board_terms.specs.declared.messages.Message.TheVariants.{FromTimer}
@@ -12,7 +12,7 @@ use Rattle.stimer_bank.specs.Timer.{is_direct, vector_of, sint_of, mode_of, afte
 use Rattle.stimer_bank.specs.Bank.{timer_in, is_due_in, dues, due_list, with_config, with_count, with_timer}
 use Rattle.synic_board.specs.State.{State, bank_of, with_bank}
 use Rattle.synic_board.specs.declared.event.Reply.TheVariants.{Done, Refused}
-use Rattle.synic_board.specs.Timers.{mode_at, is_ready_for, is_ready, expired_notices, skipped_notices, expiry_notices, delivery_by, signalled_by, expired_state, expiry_at, fired, attempted, attempted_all, written_timer, at_moment, ticked}
+use Rattle.synic_board.specs.Timers.{mode_at, is_ready_for, is_ready, expired_notices, skipped_notices, expiry_notices, delivery_by, signalled_by, expired_state, expiry_at, fired, attempted, attempted_until, most_expiries, written_timer, at_moment, ticked}
 use Rattle.synic_board.specs.Locations.{times_ended}
 use Rattle.synic_board.proofs.keeping.Counts.{ended-append}
 use Rattle.synic_board.proofs.keeping.Left.{leaves-same}
@@ -70,12 +70,14 @@ keeps-attempted n s t h =
     (λ ready. keeps-fired n s t (mode_at s t) h (due-on n s t h (first-of (is_due_in (bank_of s) t s.moment) (is_ready_for s t (mode_at s t)) ready)) (mode-names (timer_in (bank_of s) t).config))
     (λ _. keeps-nothing n s h)
 
-keeps-attempted_all : (n : ℕ) (s : State) (ts : List (ℕ × ℕ)) → IsIntact n s → Keeps n s (attempted_all s ts)
-unfolding attempted_all
-keeps-attempted_all n s [] h = keeps-nothing n s h
-keeps-attempted_all n s (t ∷ ts) h =
+keeps-attempted_until : (n few : ℕ) (s : State) (ts : List (ℕ × ℕ)) → IsIntact n s → Keeps n s (attempted_until few s ts)
+unfolding attempted_until
+keeps-attempted_until n zero s ts h = keeps-nothing n s h
+keeps-attempted_until n (suc few) s [] h = keeps-nothing n s h
+keeps-attempted_until n (suc few) s (t ∷ ts) h =
     let first = keeps-attempted n s t h in
-    keeps-after n s (attempted s t) (attempted_all (attempted s t).0 ts) first (keeps-attempted_all n (attempted s t).0 ts first.kept)
+    let left = if is_ready s t then few else suc few in
+    keeps-after n s (attempted s t) (attempted_until left (attempted s t).0 ts) first (keeps-attempted_until n left (attempted s t).0 ts first.kept)
 
 keeps-written : (n : ℕ) (s : State) (t : ℕ × ℕ) (x : Timer) → number_of t < 4 * n → IsIntact n s → KeepsOutcome n s (written_timer s (with_timer (bank_of s) t x) t)
 keeps-written n s t x low h =
@@ -98,4 +100,4 @@ keeps-ticked n s moment h =
     (λ _. either (KeepsOutcome n s) (moment == s.moment) _ _
     (λ _. keeps-unchanged n s Done h)
     (λ _. let first = keeps-still n s (now, []) (kept-moment n s moment h) (record { queues = refl; slots = refl; next = refl }) (leaves-same n s now refl refl) (λ _. refl) in
-    keeps-after n s (now, []) (attempted_all now ts) first (keeps-attempted_all n now ts first.kept)))
+    keeps-after n s (now, []) (attempted_until most_expiries now ts) first (keeps-attempted_until n most_expiries now ts first.kept)))

@@ -26,7 +26,7 @@ use Rattle.synic_board.specs.Absorbing.{is_posted, absorbed_below}
 use Rattle.synic_board.specs.Sending.{sent_below}
 use Rattle.synic_board.specs.Delivery.{delivers, is_slot_empty, placed_head, placed, tried, tried_below, accepted, delivered}
 use Rattle.synic_board.specs.Posts.{are_tickets_left}
-use Rattle.synic_board.specs.Timers.{mode_at, is_ready_for, is_ready, delivery_by, signalled_by, expired_state, expiry_at, attempted, attempted_all}
+use Rattle.synic_board.specs.Timers.{mode_at, is_ready_for, is_ready, delivery_by, signalled_by, expired_state, expiry_at, attempted, attempted_until}
 use Rattle.synic_board.specs.Timed.{HasExpired}
 use Rattle.synic_board.specs.Buffers.{HasBuffers}
 use Rattle.synic_board.proofs.keeping.Requests.{either}
@@ -137,7 +137,9 @@ buffers-attempted s t index h =
     (expired-ready s t (mode_at s t) (ready-to s t (mode_at s t) (is_due_in (bank_of s) t s.moment) ready)) (unmoved s (expired_state s t) refl refl (timed-expired s t due h.timed) h))
     (λ _. h)
 
-pub buffers-attempted_all : (s : State) (ts : List (ℕ × ℕ)) → ((k : ℕ) → k < length ts → (get_or ts k (0, 0)).1 < 4) → HasBuffers s → HasBuffers (attempted_all s ts).0
-unfolding attempted_all
-buffers-attempted_all s [] indexes h = h
-buffers-attempted_all s (t ∷ ts) indexes h = buffers-attempted_all (attempted s t).0 ts (λ k less. indexes (suc k) (omega (arith, less))) (buffers-attempted s t (indexes 0 (omega arith)) h)
+pub buffers-attempted_until : (n : ℕ) (s : State) (ts : List (ℕ × ℕ)) → ((k : ℕ) → k < length ts → (get_or ts k (0, 0)).1 < 4) → HasBuffers s → HasBuffers (attempted_until n s ts).0
+unfolding attempted_until
+buffers-attempted_until zero s ts indexes h = h
+buffers-attempted_until (suc n) s [] indexes h = h
+buffers-attempted_until (suc n) s (t ∷ ts) indexes h =
+    buffers-attempted_until (if is_ready s t then n else suc n) (attempted s t).0 ts (λ k less. indexes (suc k) (omega (arith, less))) (buffers-attempted s t (indexes 0 (omega arith)) h)

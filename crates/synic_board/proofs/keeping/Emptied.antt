@@ -1,4 +1,4 @@
--- A reset emits at most 276 notices.
+-- A reset emits at most 276 notices, and each of them fits.
 use Rattle.std.proofs.Common.{◌≡◌, ◌⊎◌, inl, inr, ℕ, zero, suc, ◌+◌, ◌*◌, ◌<◌, ◌≤◌, Bool, true, false, cond, ◌&&◌, List, [], ◌∷◌, ◌++◌, length, length-append, map, refl, ap, ◌∙◌, arith, nat_lt}
 use Rattle.std.specs.Prelude.{None, Some, ◌==◌, sum_by, count_by}
 use Rattle.std.specs.Option.{option_map_or}
@@ -163,3 +163,25 @@ emptied-emitted s p (suc i) bound h =
 
 pub bound-reset : (s : State) (p : ℕ) → HasBuffers s → length (reset s p).2 ≤ 276
 bound-reset s p h = omega (arith, emptied-emitted s p 16 (omega arith) h, homes-bound s p h, length-append (emptied s p).1 [])
+
+-- the notice of a slot fits, and then those of its queue
+pub slot-fits : (s : State) (p n : ℕ) → n < 16 → HasBuffers s → length (emptied_below s p n).1 < 320
+slot-fits s p n below h = omega (arith, emptied-emitted s p n (omega (arith, below)) h, homes-bound s p h)
+
+pub queue-fits : (s : State) (p n : ℕ) → n < 16 → HasBuffers s →
+    length (emptied_below s p n).1 + length (slot_emptied (emptied_below s p n).0 p n).1 + length (queue_of (slot_emptied (emptied_below s p n).0 p n).0.queues p n) ≤ 320
+unfolding emptied_below
+queue-fits s p n below h =
+    let e : Effect = emptied_below s p n in
+    let slot : Effect = slot_emptied e.0 p n in
+    let q : List Message = queue_of slot.0.queues p n in
+    let queue : Effect = queue_emptied slot.0 p n in
+    omega (
+      arith,
+      emptied-emitted s p (suc n) (omega (arith, below)) h,
+      homes-bound s p h,
+      length-append e.1 (slot.1 ++ queue.1),
+      length-append slot.1 queue.1,
+      length-map (map ticket_of q) (λ t. Withdrawn p n t),
+      length-map q ticket_of,
+    )

@@ -159,7 +159,7 @@ all-same zero k x = refl
 all-same (suc n) zero x = refl
 all-same (suc n) (suc k) x = all-same n k x
 
-pub settled-opened : (n pages ticket : ℕ) → n ≤ 8 → HasPairedTimers (opened n pages ticket)
+pub settled-opened : (n pages ticket : ℕ) → n ≤ 64 → HasPairedTimers (opened n pages ticket)
 settled-opened n pages ticket bound = record {
   bound = let l = length-replicate n empty_apic in omega (arith, l, bound);
   timers = length-replicate (4 * n) idle_timer ∙ ap (λ k. 4 * k) (sym (length-replicate n empty_apic));

@@ -71,7 +71,6 @@ pub timed-same : (s now : State) → now.queues ≡ s.queues → now.next_ticket
 timed-same s now queues next moment timers h = record {
   order = λ k. subst (λ n. Ascends n (get_or now.queues k [])) (sym next) (subst (λ qs. Ascends s.next_ticket (get_or qs k [])) (sym queues) (h.order k));
   timely = λ k. subst (λ n. All (HasExpired n (k % 16)) (get_or now.queues k [])) (sym moment) (subst (λ qs. All (HasExpired s.moment (k % 16)) (get_or qs k [])) (sym queues) (h.timely k));
-  few = omega (arith, ap length timers, h.few);
   sound = λ n. subst (λ ts. IsSoundTimer (get_or ts n idle_timer)) (sym timers) (h.sound n);
   near = λ n. subst (λ m. IsNear m (get_or now.timers n idle_timer)) (sym moment) (subst (λ ts. IsNear s.moment (get_or ts n idle_timer)) (sym timers) (h.near n));
 }
@@ -80,7 +79,6 @@ pub timed-moment : (s : State) (moment : ℕ) → s.moment ≤ moment → IsTime
 timed-moment s moment later h = record {
   order = h.order;
   timely = λ k. All-weaker (HasExpired s.moment (k % 16)) (HasExpired moment (k % 16)) (timely-later s.moment moment (k % 16) later) (get_or s.queues k []) (h.timely k);
-  few = h.few;
   sound = h.sound;
   near = λ n d due periodic. omega (arith, h.near n d due periodic, later);
 }
@@ -91,7 +89,6 @@ pub timed-queue : (s now : State) (j : ℕ) (q : List Message) → now.queues �
 timed-queue s now j q queues next moment timers order timely h = timed-same written now queues next moment timers (record {
   order = each-queue (λ k. Ascends s.next_ticket) s.queues j q order h.order;
   timely = each-queue (λ k. All (HasExpired s.moment (k % 16))) s.queues j q timely h.timely;
-  few = h.few;
   sound = h.sound;
   near = h.near;
 })
@@ -105,7 +102,6 @@ timed-accepted s p i m under is timely h = record {
       (λ k. ascends-more s.next_ticket (s.next_ticket + 1) (get_or s.queues k []) (omega arith) (h.order k));
   timely = each-queue (λ k. All (HasExpired s.moment (k % 16))) s.queues (source_number p i) (queue_of s.queues p i ++ m ∷ [])
       (All-push (HasExpired s.moment (source_number p i % 16)) (queue_of s.queues p i) m (h.timely (source_number p i)) (subst (λ n. HasExpired s.moment n m) (sym place) timely)) h.timely;
-  few = h.few;
   sound = h.sound;
   near = h.near;
 }
@@ -125,7 +121,6 @@ pub timed-timer : (s : State) (t : ℕ × ℕ) (x : Timer) → IsSoundTimer x �
 timed-timer s t x sound near h = record {
   order = h.order;
   timely = h.timely;
-  few = omega (arith, length-set s.timers (number_of t) x, h.few);
   sound = written_sound s.timers (number_of t) x h.sound sound;
   near = near-set s.moment s.timers (number_of t) x near h.near;
 }
@@ -182,11 +177,10 @@ none-near moment zero k = idle-near moment
 none-near moment (suc n) zero = idle-near moment
 none-near moment (suc n) (suc k) = none-near moment n k
 
-pub timed-opened : (n pages ticket : ℕ) → n ≤ 8 → IsTimed (opened n pages ticket)
-timed-opened n pages ticket bound = record {
+pub timed-opened : (n pages ticket : ℕ) → IsTimed (opened n pages ticket)
+timed-opened n pages ticket = record {
   order = λ k. subst (Ascends ticket) (sym (none-queued (16 * n) k)) tt;
   timely = λ k. subst (All (HasExpired 0 (k % 16))) (sym (none-queued (16 * n) k)) (All-nil (HasExpired 0 (k % 16)));
-  few = omega (arith, bound, length-replicate (4 * n) idle_timer);
   sound = opened_sound (4 * n);
   near = none-near 0 (4 * n);
 }

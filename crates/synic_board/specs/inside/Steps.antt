@@ -1,6 +1,5 @@
 -- Definitions for the clauses of private functions that perform one event.
-use Rattle.std.specs.Prelude.{ℕ, Bool, false, ◌<◌, ◌==◌, nat_le, List, length, slice_index_or, Option, None, Some, if◌then◌else◌}
-use Rattle.std.specs.Int.{bit_at}
+use Rattle.std.specs.Prelude.{ℕ, Bool, false, ◌<◌, ◌==◌, nat_le, not, List, length, slice_index_or, Option, None, Some, if◌then◌else◌}
 use Rattle.std.specs.Option.{option_map_or}
 use Rattle.board_terms.specs.Dues.{number_of}
 use Rattle.board_terms.specs.Quantities.{TimerId, Moment}
@@ -21,13 +20,13 @@ AllOn s ts = (k : ℕ) → k < length ts → (slice_index_or ts k (0, 0)).0 < pr
 abbrev pub is_any_due : Option (Moment × TimerId) → Moment → Bool
 is_any_due first moment = option_map_or (λ e. nat_le e.0 moment) first false
 
+-- a timer other than t
+abbrev pub is_other : TimerId → TimerId → Bool
+is_other t u = not (number_of u == number_of t)
+
 -- the earliest timer, if it is due
 abbrev pub first_due : Option (Moment × TimerId) → Moment → Option TimerId
 first_due first moment = option_map_or (λ e. if nat_le e.0 moment then Some e.1 else None) first None
-
--- a timer is in a set: its bit of the word is set
-abbrev pub is_in_set : ℕ → TimerId → Bool
-is_in_set word t = bit_at word (number_of t) == 1
 
 -- an owner whose processor is on the board
 abbrev pub IsOn : State → Owner → Type 0

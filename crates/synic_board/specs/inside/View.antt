@@ -1,5 +1,5 @@
 -- The abstract view of the machine's fields, and their invariant.
-use Rattle.std.specs.Prelude.{◌≡◌, ◌≤◌, ◌*◌, length}
+use Rattle.std.specs.Prelude.{◌≡◌, ◌≢◌, ◌≤◌, ◌*◌, length}
 use Rattle.synic_board.specs.State.{State, BoardModel, overlay_registers}
 use Rattle.synic_board.specs.Summaries.{summary_of}
 use Rattle.synic_board.specs.declared.machine.Machine.TheInside.{Inside}
@@ -25,7 +25,8 @@ model_of b = record { state = state_of b; writes = b.summary.writes }
 
 pub record MachineInvariant (b : Inside) : Type 0 where
   pub some_processor : 1 ≤ length b.lapics.items
-  pub processor_bound : length b.lapics.items ≤ 8
+  pub processor_bound : length b.lapics.items ≤ 64
+  pub dense_bound : b.page_count ≢ 0 → length b.lapics.items ≤ 8
   pub registers : length b.regs.items ≡ length b.lapics.items
   pub page_count : b.page_count ≡ length b.space.pages
   pub page_bound : b.page_count ≤ 64

@@ -1,11 +1,12 @@
 // Resetting a processor.
-ghost use Rattle.std.specs.Prelude.{◌≡◌, ◌<◌, ◌≤◌, ◌+◌, [], length, sum_by};
+ghost use Rattle.std.specs.Prelude.{◌≡◌, ◌<◌, ◌≤◌, ◌+◌, [], length};
 ghost use Rattle.lapic_core.specs.Apic.{empty_apic};
 ghost use Rattle.synic_regs.specs.Regs.{reset_regs};
 ghost use Rattle.gpa_space.specs.Space.{after_clearing};
 ghost use Rattle.message_queues.specs.Queues.{queue_of};
 ghost use Rattle.stimer_bank.specs.Bank.{reset as bank_reset};
 ghost use Rattle.synic_board.specs.State.{processors, regs_of, space_of, bank_of, with_apic, with_regs, with_space, with_bank};
+ghost use Rattle.synic_board.specs.Buffers.{HasBuffers};
 ghost use Rattle.synic_board.specs.inside.Effected.{preceded};
 ghost use Rattle.synic_board.specs.inside.Effected.{Effected};
 ghost use Rattle.synic_board.specs.Resetting.{slot_emptied, queue_emptied, emptied, cleared, reset};
@@ -24,6 +25,7 @@ impl Machine {
     #[inline(always)]
     pub(crate) fn reset(&mut self, vp: Vp, notices: &mut Notices) -> Reply
         requires on { vp < processors self.old.state }
+        requires buffers { HasBuffers self.old.state }
         requires none { notices.old ≡ [] }
         ensures step { (self.new.state, result, notices.new) ≡ reset self.old.state vp }
         ensures writes_monotone { self.old.writes ≤ self.new.writes }
@@ -39,6 +41,7 @@ impl Machine {
     #[inline(never)]
     fn empty(&mut self, vp: Vp, notices: &mut Notices)
         requires on { vp < processors self.old.state }
+        requires buffers { HasBuffers self.old.state }
         requires none { notices.old ≡ [] }
         ensures { Effected self.old notices.old self.new notices.new (emptied self.old.state vp) }
     {
@@ -66,9 +69,8 @@ impl Machine {
     /// Withdraws the messages in the queue of a source, front first.
     fn empty_queue(&mut self, vp: Vp, sint: Sint, notices: &mut Notices)
         requires on { vp < processors self.old.state }
-        requires room { sum_by length self.old.state.queues ≤ 288 → length notices.old + sum_by length self.old.state.queues ≤ 320 }
-        ensures effect { Effected self.old notices.old self.new notices.new (queue_emptied self.old.state vp sint) }
-        ensures in_all { sum_by length self.old.state.queues ≤ 288 }
+        requires room { length notices.old + length (queue_of self.old.state.queues vp sint) ≤ 320 }
+        ensures { Effected self.old notices.old self.new notices.new (queue_emptied self.old.state vp sint) }
     {
         if self.queues.count(vp, sint) > 0 {
             self.withdraw_queue(vp, sint, notices);
@@ -81,9 +83,8 @@ impl Machine {
     fn withdraw_queue(&mut self, vp: Vp, sint: Sint, notices: &mut Notices)
         requires on { vp < processors self.old.state }
         requires some { 0 < length (queue_of self.old.state.queues vp sint) }
-        requires room { sum_by length self.old.state.queues ≤ 288 → length notices.old + sum_by length self.old.state.queues ≤ 320 }
-        ensures effect { Effected self.old notices.old self.new notices.new (queue_emptied self.old.state vp sint) }
-        ensures in_all { sum_by length self.old.state.queues ≤ 288 }
+        requires room { length notices.old + length (queue_of self.old.state.queues vp sint) ≤ 320 }
+        ensures { Effected self.old notices.old self.new notices.new (queue_emptied self.old.state vp sint) }
     {
         let tickets = self.queues.withdraw_all(vp, sint);
         self.summary.write(Entry::Reduced(vp, sint, 0));

@@ -18,7 +18,9 @@ impl Machine {
         ensures writes_monotone { self.old.writes ≤ self.new.writes }
         ensures bound { self.new.writes ≤ self.old.writes + length notices.new }
     {
-        if mask >> self.processors() != 0 {
+        // With 64 processors each bit is one of them.
+        let count = self.processors();
+        if count < 64 && mask >> count != 0 {
             return Reply::Refused(Refusal::NoSuchProcessor);
         }
         self.send_to_each(vector, mask, notices);

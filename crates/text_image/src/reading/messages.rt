@@ -69,7 +69,7 @@ fn expired_of(ticket: Ticket, fields: &mut Fields<'_>) -> Option<Message>
 fn timer_in(fields: &mut Fields<'_>) -> Option<TimerId>
     ensures { Takes read_timer result fields.old fields.new }
 {
-    let vp = fields.decimal(7)?;
+    let vp = fields.decimal(63)?;
     let index = fields.decimal(3)?;
     Some(timer_of(vp_of(vp as u8), index as u8))
 }

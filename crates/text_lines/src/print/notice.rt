@@ -6,7 +6,7 @@ ghost use Rattle.text_lines.specs.Printing.{notice_fields, text_of};
 
 use board_terms::{Notice, Sint, Ticket, Vp};
 use std::alloc::AllocError;
-use text_base::{ROOM, byte_before, decimal_before, digit_before, small_before, text_before};
+use text_base::{ROOM, byte_before, decimal_before, small_before, text_before};
 
 /// Appends a line for each notice to `out`.
 #[inline(always)]
@@ -57,7 +57,7 @@ fn put_message<const N: usize>(
     let at = text_before(&mut room, ROOM, b"\n");
     let at = small_before(&mut room, at, sint.number());
     let at = text_before(&mut room, at, b" ");
-    let at = digit_before(&mut room, at, vp.number());
+    let at = small_before(&mut room, at, vp.number());
     let at = text_before(&mut room, at, b" ");
     let at = decimal_before(&mut room, at, ticket);
     let at = text_before(&mut room, at, head);
@@ -82,7 +82,7 @@ fn put_numbers<const N: usize>(
     let at = text_before(&mut room, at, b" ");
     let at = small_before(&mut room, at, number);
     let at = text_before(&mut room, at, b" ");
-    let at = digit_before(&mut room, at, vp.number());
+    let at = small_before(&mut room, at, vp.number());
     let at = text_before(&mut room, at, head);
     out.extend_from_slice(&room[at..])
 }
@@ -102,7 +102,7 @@ fn put_source<const N: usize>(
     let at = text_before(&mut room, ROOM, b"\n");
     let at = small_before(&mut room, at, sint.number());
     let at = text_before(&mut room, at, b" ");
-    let at = digit_before(&mut room, at, vp.number());
+    let at = small_before(&mut room, at, vp.number());
     let at = text_before(&mut room, at, head);
     out.extend_from_slice(&room[at..])
 }
@@ -122,7 +122,7 @@ fn put_request<const N: usize>(
     let at = text_before(&mut room, ROOM, b"\n");
     let at = byte_before(&mut room, at, vector);
     let at = text_before(&mut room, at, b" ");
-    let at = digit_before(&mut room, at, vp.number());
+    let at = small_before(&mut room, at, vp.number());
     let at = text_before(&mut room, at, head);
     out.extend_from_slice(&room[at..])
 }

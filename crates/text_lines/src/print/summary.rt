@@ -20,20 +20,20 @@ pub fn put_summary(
     pages: u8,
 ) -> Result<(), AllocError>
     requires sizes { HasSizes processors pages summary.now.values }
-    requires bound { processors ≤ 8 }
+    requires bound { processors ≤ 64 }
     ensures { OnOk result (out.new.items ≡ out.old.items ++ text_of (summary_lines summary.now.values)) }
 {
     put_nexts(out, summary, processors)?;
     put_autos(out, summary, processors)?;
     put_earliest(out, summary.earliest())?;
     put_pages(out, summary, pages)?;
-    put_queues(out, summary, 16 * processors)
+    put_queues(out, summary, 16 * u16::from(processors))
 }
 
 /// Appends the next vector of each processor.
 fn put_nexts(out: &mut Vec<u8>, summary: &Summary, processors: u8) -> Result<(), AllocError>
     requires count { processors ≡ length summary.now.values.nexts }
-    requires bound { processors ≤ 8 }
+    requires bound { processors ≤ 64 }
     ensures { OnOk result (out.new.items ≡ out.old.items ++ text_of (numbered next_lines 0 summary.now.values.nexts)) }
 {
     for number in 0..processors {
@@ -57,7 +57,7 @@ fn put_next(out: &mut Vec<u8>, summary: &Summary, vp: Vp) -> Result<(), AllocErr
 /// Appends the auto-EOI vectors of each processor that has any.
 fn put_autos(out: &mut Vec<u8>, summary: &Summary, processors: u8) -> Result<(), AllocError>
     requires count { processors ≡ length summary.now.values.autos }
-    requires bound { processors ≤ 8 }
+    requires bound { processors ≤ 64 }
     ensures { OnOk result (out.new.items ≡ out.old.items ++ text_of (numbered auto_lines 0 summary.now.values.autos)) }
 {
     for number in 0..processors {
@@ -67,7 +67,7 @@ fn put_autos(out: &mut Vec<u8>, summary: &Summary, processors: u8) -> Result<(),
 }
 
 fn put_auto(out: &mut Vec<u8>, summary: &Summary, number: u8) -> Result<(), AllocError>
-    requires { number < 8 }
+    requires { number < 64 }
     ensures { OnOk result (out.new.items ≡ out.old.items ++ text_of (auto_lines number (slice_index_or summary.now.values.autos number set.empty))) }
 {
     match Vp::new(number) {
@@ -172,20 +172,21 @@ fn put_overlay(out: &mut Vec<u8>, page: u8, kind: &[u8], vp: Vp) -> Result<(), A
 }
 
 /// Appends the length of each queue that is not empty.
-fn put_queues(out: &mut Vec<u8>, summary: &Summary, sources: u8) -> Result<(), AllocError>
+fn put_queues(out: &mut Vec<u8>, summary: &Summary, sources: u16) -> Result<(), AllocError>
     requires count { sources ≡ length summary.now.values.queued }
-    requires bound { sources ≤ 128 }
+    requires bound { sources ≤ 1024 }
     ensures { OnOk result (out.new.items ≡ out.old.items ++ text_of (numbered queue_lines 0 summary.now.values.queued)) }
 {
     for place in 0..sources {
-        if let (Some(vp), Some(sint)) = (Vp::new(place / 16), Sint::new(place % 16)) {
+        let (vp, sint) = ((place / 16) as u8, (place % 16) as u8);
+        if let (Some(vp), Some(sint)) = (Vp::new(vp), Sint::new(sint)) {
             put_queue(out, place, summary.queued(vp, sint))?;
         }
     }
     Ok(())
 }
 
-fn put_queue(out: &mut Vec<u8>, place: u8, count: u16) -> Result<(), AllocError>
+fn put_queue(out: &mut Vec<u8>, place: u16, count: u16) -> Result<(), AllocError>
     ensures { OnOk result (out.new.items ≡ out.old.items ++ text_of (queue_lines place count)) }
 {
     if count == 0 {
@@ -194,7 +195,7 @@ fn put_queue(out: &mut Vec<u8>, place: u8, count: u16) -> Result<(), AllocError>
     put_length(out, place, count)
 }
 
-fn put_length(out: &mut Vec<u8>, place: u8, count: u16) -> Result<(), AllocError>
+fn put_length(out: &mut Vec<u8>, place: u16, count: u16) -> Result<(), AllocError>
     ensures { OnOk result (out.new.items ≡ out.old.items ++ text_of (queue_line place count ∷ [])) }
 {
     put(out, b": queue ")?;

@@ -1,17 +1,10 @@
 use Rattle.std.proofs.Common.{◌≡◌, rules}
-use Rattle.std.specs.Prelude.{slice_get, None, Some}
-use Rattle.live_board.proofs.Passed.{has-word}
-use Rattle.live_board.proofs.Watched.{passed-one, passed-none}
+use Rattle.gpa_space.specs.Space.{overlay_of}
+use Rattle.live_board.specs.Words.{word_of}
+use Rattle.live_board.proofs.Passed.{passed-equal}
 use Rattle.live_board.proofs.passing.pass.Goals as goal
 
-pub returns-in-Some : goal.returns-in-Some
-returns-in-Some c =
-    let word = has-word _ _ _ _ _ _ _ c.facts.ensures.sound c.requires.on c.requires.word c.ranges.value.fits c.requires.shown c.store_found.ensures.passed in
-    let first : slice_get c.store_found.new.notices 0 ≡ Some c.in-Some.notice.now = search rules in
-    passed-one _ _ _ _ _ _ _ _ _ _ c.store_found.ensures.passed word first c.push.ensures
-
-pub returns-in_default : goal.returns-in_default
-returns-in_default c =
-    let word = has-word _ _ _ _ _ _ _ c.facts.ensures.sound c.requires.on c.requires.word c.ranges.value.fits c.requires.shown c.store_found.ensures.passed in
-    let none : slice_get c.store_found.new.notices 0 ≡ None = search rules in
-    passed-none _ _ _ _ _ _ _ _ c.store_found.ensures.passed word none
+pub returns-else-own_word-value : goal.returns-else-own_word-value
+returns-else-own_word-value c =
+    let same : c.args.value ≡ word_of c.args.board.now.state (overlay_of c.args.vp c.args.kind) c.args.word = search rules in
+    passed-equal _ _ _ _ _ _ same

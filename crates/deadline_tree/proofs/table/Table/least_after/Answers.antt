@@ -9,20 +9,20 @@ use Rattle.deadline_tree.proofs.Leasts.{least-none, least-more, least-is-found, 
 use Rattle.deadline_tree.proofs.table.Table.least_after.Goals as goal
 use Rattle.deadline_tree.proofs.table.Table.least_after.Goals.{in-Some, in_default}
 
-pub loop-number-init : goal.loop-number-init
-loop-number-init c = sym (least-none (later_than c.args.moment (dues (tree_in c.args.self.now))))
+pub loop-at-init : goal.loop-at-init
+loop-at-init c = sym (least-none (later_than c.args.moment (dues (tree_in c.args.self.now))))
 
-pub loop-number-preserved : goal.loop-number-preserved
-loop-number-preserved c =
+pub loop-at-preserved : goal.loop-at-preserved
+loop-at-preserved c =
     let m = later_than c.args.moment (dues (tree_in c.args.self.now)) in
-    let n = c.loop-number.number in
+    let n = c.loop-at.at in
     let within : n < length (dues (tree_in c.args.self.now)) = omega (arith, length-dues (tree_in c.args.self.now)) in
     let here : get_or m n None ≡ c.later.result = get_or-map (if_later c.args.moment) (dues (tree_in c.args.self.now)) n None None within ∙ sym c.later.ensures in
     let next = λ (o : Option ℕ). option_map_or (λ d. Some (earlier (least_below m n) (d, n))) o (least_below m n) in
-    elim c.match-later.branch as (λ _. c.match-later.first ≡ least_below (later_than c.args.moment (dues (tree_in c.args.self.now))) (c.loop-number.number + 1)) [
-      | in-Some w ↦ w.first-is ∙ ap Some w.earlier.ensures ∙ ap (λ (o : Option (ℕ × ℕ)). Some (earlier o (w.in-Some.due, n))) c.loop-number.invariant
+    elim c.match-later.branch as (λ _. c.match-later.first ≡ least_below (later_than c.args.moment (dues (tree_in c.args.self.now))) (c.loop-at.at + 1)) [
+      | in-Some w ↦ w.first-is ∙ ap Some w.earlier.ensures ∙ ap (λ (o : Option (ℕ × ℕ)). Some (earlier o (w.in-Some.due, n))) c.loop-at.invariant
           ∙ sym (least-more m n ∙ ap next (here ∙ w.in-Some.is))
-      | in_default w ↦ w.first-is ∙ c.loop-number.invariant ∙ sym (least-more m n ∙ ap next (here ∙ w.in_default.is))
+      | in_default w ↦ w.first-is ∙ c.loop-at.invariant ∙ sym (least-more m n ∙ ap next (here ∙ w.in_default.is))
     ]
 
 -- all timers were looked at
@@ -34,7 +34,7 @@ unwrap-requires c =
     let d = dues (tree_in c.args.self.now) in
     let m = later_than c.args.moment d in
     let many : length m ≡ count (tree_in c.args.self.now) = length-map d (if_later c.args.moment) ∙ length-dues (tree_in c.args.self.now) in
-    let seen = all-seen m c.loop-number.number c.loop-number.first (omega (arith, many, c.requires.tree.bound)) c.loop-number.invariant in
+    let seen = all-seen m c.loop-at.at c.loop-at.first (omega (arith, many, c.requires.tree.bound)) c.loop-at.invariant in
     let low = (least-is-found m c.in-Some-first.due c.in-Some-first.number (sym c.in-Some-first.is ∙ seen)).0 in
     c.from_number.ensures.valid.1 (omega (arith, low, many, c.requires.tree.bound))
 
@@ -43,7 +43,7 @@ returns-in-Some-first c =
     let d = dues (tree_in c.args.self.now) in
     let m = later_than c.args.moment d in
     let many : length m ≡ count (tree_in c.args.self.now) = length-map d (if_later c.args.moment) ∙ length-dues (tree_in c.args.self.now) in
-    let seen = all-seen m c.loop-number.number c.loop-number.first (omega (arith, many, c.requires.tree.bound)) c.loop-number.invariant in
+    let seen = all-seen m c.loop-at.at c.loop-at.first (omega (arith, many, c.requires.tree.bound)) c.loop-at.invariant in
     let timer : c.unwrap.result ≡ timer_of c.in-Some-first.number = rw c.unwrap.ensures at c.from_number.ensures.value in
     (λ i. Some (c.in-Some-first.due, timer i)) ∙ (least-is-found m c.in-Some-first.due c.in-Some-first.number (sym c.in-Some-first.is ∙ seen)).1
 
@@ -52,5 +52,5 @@ returns-in-None c =
     let d = dues (tree_in c.args.self.now) in
     let m = later_than c.args.moment d in
     let many : length m ≡ count (tree_in c.args.self.now) = length-map d (if_later c.args.moment) ∙ length-dues (tree_in c.args.self.now) in
-    let seen = all-seen m c.loop-number.number c.loop-number.first (omega (arith, many, c.requires.tree.bound)) c.loop-number.invariant in
+    let seen = all-seen m c.loop-at.at c.loop-at.first (omega (arith, many, c.requires.tree.bound)) c.loop-at.invariant in
     least-is-none m (sym c.in-None.is ∙ seen)

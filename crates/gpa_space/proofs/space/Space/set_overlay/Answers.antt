@@ -21,6 +21,7 @@ invariant_of-self c =
     let comes = subst (λ b. Marks once twice (page_of y) o b) (c.is_enabled.ensures ∙ ap is_enabled c.new-word.ensures) reached in
     record {
       bound = search rules;
+      dense = search rules;
       own = search rules;
       each = comes.many ∙ leaves.many ∙ c.self.invariant.each;
       mapped = keeps xs words once twice o y on c.self.invariant.mapped leaves comes;

@@ -4,17 +4,17 @@ use Rattle.board_terms.specs.declared.messages.Message.{Message}
 use Rattle.board_terms.specs.declared.messages.Message.TheVariants.{FromPort}
 use Rattle.message_queues.specs.inside.Buffers.{buffer_at}
 use Rattle.message_queues.specs.inside.Chains.{queues_at}
-use Rattle.message_queues.proofs.Steps.{room-for, here, append-step}
+use Rattle.message_queues.proofs.Steps.{used-at, room-for, here, append-step}
 use Rattle.message_queues.proofs.queues.Queues.append_post.Goals as goal
 
-pub bounds-self-inside-port : goal.bounds-self-inside-port
-bounds-self-inside-port c = let low = c.requires.buffer.0 in omega arith
+pub index_mut-requires : goal.index_mut-requires
+index_mut-requires c = let low = c.requires.buffer.0 in omega (arith, low, c.self.invariant.counts.size)
 
-pub overflow_add-self : goal.overflow_add-self
-overflow_add-self c =
+pub overflow_add-index_mut : goal.overflow_add-index_mut
+overflow_add-index_mut c =
     let m : Message = FromPort c.args.ticket c.args.port c.args.kind (record { items = c.args.payload.now }) in
     let room = room-for c.self.inside c.args.self.now m c.args.port c.self.invariant c.self.view_is c.requires.buffer.0 c.requires.buffer refl in
-    omega (arith, room.fits)
+    omega (arith, room.fits, used-at c.self.inside c.args.port c.index_mut.result.now c.self.invariant room.below c.index_mut.ensures.value)
 
 pub link-key-requires-clause-room : goal.link-key-requires-clause-room
 link-key-requires-clause-room c =
@@ -33,18 +33,18 @@ invariant_of-self c =
     let m : Message = FromPort c.args.ticket c.args.port c.args.kind (record { items = c.args.payload.now }) in
     let within : c.source_number.result < length c.args.self.now = omega (arith, c.source_number.ensures.value, c.requires.on_the_board) in
     let s = append-step c.self.inside c.args.self.now c.source_number.result c.index_mut-chain.result.now c.link-key.new.chain c.link-key.result m c.args.port
-    c.link-key.new.neighbours c.self.invariant c.self.view_is within c.index_mut-chain.ensures.value c.requires.buffer.0 c.requires.buffer refl
-    c.link-key.ensures.linked c.link-key.ensures.len c.link-key.ensures.capacity c.link-key.ensures.range in
+    c.index_mut.result.now c.link-key.new.neighbours c.self.invariant c.self.view_is within c.index_mut-chain.ensures.value c.requires.buffer.0 c.requires.buffer refl
+    (used-at c.self.inside c.args.port c.index_mut.result.now c.self.invariant (let low = c.requires.buffer.0 in omega arith) c.index_mut.ensures.value) c.link-key.ensures.linked c.link-key.ensures.len c.link-key.ensures.capacity c.link-key.ensures.range in
     let s' = rw (← c.write_post.ensures) at s in
-    record { linked = s'.linked; held = s'.held; both_ways = s'.both_ways; room = s'.room; size = s'.size; owned = s'.owned; counts = s'.counts }
+    record { linked = s'.linked; held = s'.held; both_ways = s'.both_ways; room = s'.room; size = s'.size; owned = s'.owned; counts = s'.counts; each = s'.each; processor_bound = c.self.invariant.processor_bound }
 
 pub returns-clause-queued : goal.returns-clause-queued
 returns-clause-queued c =
     let m : Message = FromPort c.args.ticket c.args.port c.args.kind (record { items = c.args.payload.now }) in
     let within : c.source_number.result < length c.args.self.now = omega (arith, c.source_number.ensures.value, c.requires.on_the_board) in
     let s = append-step c.self.inside c.args.self.now c.source_number.result c.index_mut-chain.result.now c.link-key.new.chain c.link-key.result m c.args.port
-    c.link-key.new.neighbours c.self.invariant c.self.view_is within c.index_mut-chain.ensures.value c.requires.buffer.0 c.requires.buffer refl
-    c.link-key.ensures.linked c.link-key.ensures.len c.link-key.ensures.capacity c.link-key.ensures.range in
+    c.index_mut.result.now c.link-key.new.neighbours c.self.invariant c.self.view_is within c.index_mut-chain.ensures.value c.requires.buffer.0 c.requires.buffer refl
+    (used-at c.self.inside c.args.port c.index_mut.result.now c.self.invariant (let low = c.requires.buffer.0 in omega arith) c.index_mut.ensures.value) c.link-key.ensures.linked c.link-key.ensures.len c.link-key.ensures.capacity c.link-key.ensures.range in
     let chains = slice_set c.self.inside.chains.items c.source_number.result c.link-key.new.chain in
     ap (λ (x : Message). queues_at (buffer_at c.link-key.new.neighbours (slice_set c.self.inside.messages.items c.link-key.result x)) chains) c.write_post.ensures
     ∙ s.view_is ∙ ap (λ (k : ℕ). slice_set c.args.self.now k (slice_index_or c.args.self.now k [] ++ m ∷ [])) c.source_number.ensures.value

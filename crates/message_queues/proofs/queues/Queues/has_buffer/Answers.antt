@@ -1,4 +1,4 @@
-use Rattle.std.proofs.Common.{◌≡◌, ◌<◌, ℕ, IsTrue, nat_lt, sym, subst, ◌∙◌, arith}
+use Rattle.std.proofs.Common.{◌≡◌, ◌<◌, ℕ, IsTrue, nat_lt, refl, sym, subst, ◌∙◌, arith}
 use Rattle.std.proofs.lemmas.Bool.Decides.{nat_tests}
 use Rattle.board_terms.specs.declared.messages.Message.{Message}
 use Rattle.message_queues.specs.Queues.{HasBuffer}
@@ -18,9 +18,10 @@ returns-then-port-lt16 c =
     subst (λ (m : Message). (IsTrue (nat_lt c.port_used.result 16) → HasBuffer qs m) × (HasBuffer qs m → IsTrue (nat_lt c.port_used.result 16))) (sym c.in-FromPort.is)
     (λ h. (low, below _ _ used h), λ h. tested _ _ used h.1)
 
-pub returns-in-FromTimer : goal.returns-in-FromTimer
-returns-in-FromTimer c =
+pub returns-then-has_timer : goal.returns-then-has_timer
+returns-then-has_timer c =
     let qs = c.args.self.now in
     let free = c.timer_buffer_free.ensures in
+    let on = c.if-has_timer.ensures.0 refl in
     subst (λ (m : Message). (IsTrue c.timer_buffer_free.result → HasBuffer qs m) × (HasBuffer qs m → IsTrue c.timer_buffer_free.result)) (sym c.in-FromTimer.is)
-    (λ h. sym free ∙ h, λ h. free ∙ h)
+    (λ h. (on, sym free ∙ h), λ h. free ∙ h.1)

@@ -1,7 +1,6 @@
-use Rattle.std.proofs.Common.{◌≤◌, ◌<◌}
+use Rattle.std.proofs.Common.{◌≤◌}
 use Rattle.synic_board.specs.inside.Effected.{Effected}
 use Rattle.synic_board.specs.Resetting.{emptied_below}
-use Rattle.synic_board.proofs.Emptying.{total}
 use Rattle.synic_board.proofs.machine.Machine.empty.Given as goal
 
 abbrev pub invariant-loop-number : goal.invariant-loop-number
@@ -9,5 +8,4 @@ invariant-loop-number l =
     record {
       bound : l.number ≤ 16;
       so_far : Effected l.fn.self l.fn.notices l.self l.notices (emptied_below l.fn.self.state l.vp l.number);
-      in_all : 0 < l.number → total l.fn.self.state ≤ 288;
     }

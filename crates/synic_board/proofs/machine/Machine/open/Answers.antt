@@ -35,6 +35,7 @@ invariant_of-result c =
     record {
       some_processor = omega (arith, c.requires.some_processor, ap length lapics, length-replicate n empty_apic);
       processor_bound = omega (arith, c.requires.processor_bound, ap length lapics, length-replicate n empty_apic);
+      dense_bound = λ some. omega (arith, c.requires.dense some, ap length lapics, length-replicate n empty_apic);
       registers = ap length regs ∙ length-replicate n reset_regs ∙ sym (ap length lapics ∙ length-replicate n empty_apic);
       page_count = sym (ap (λ (s : Space). length s.pages) space ∙ length-replicate pages zero_page);
       page_bound = c.requires.page_bound;

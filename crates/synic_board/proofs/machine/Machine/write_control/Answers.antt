@@ -20,6 +20,7 @@ invariant_of-self c =
     record {
       some_processor = c.self.invariant.some_processor;
       processor_bound = c.self.invariant.processor_bound;
+      dense_bound = c.self.invariant.dense_bound;
       registers = length-set rs c.number.result c.write.new.self ∙ c.self.invariant.registers;
       page_count = c.self.invariant.page_count;
       page_bound = c.self.invariant.page_bound;

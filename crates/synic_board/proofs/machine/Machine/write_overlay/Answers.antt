@@ -35,6 +35,7 @@ invariant_of-self c =
     record {
       some_processor = c.self.invariant.some_processor;
       processor_bound = c.self.invariant.processor_bound;
+      dense_bound = c.self.invariant.dense_bound;
       registers = length-set rs c.number.result c.write.new.self ∙ c.self.invariant.registers;
       page_count = c.self.invariant.page_count ∙ sym (ap (λ (s : Space). length s.pages) c.set_overlay.ensures);
       page_bound = c.self.invariant.page_bound;
