@@ -1,6 +1,6 @@
 -- The timers of a due list other than the first, once it was tried.
-use Rattle.std.proofs.Common.{◌≡◌, ◌≢◌, ℕ, zero, suc, ◌+◌, ◌-◌, ◌*◌, ◌/◌, ◌%◌, ◌^◌, ◌<◌, ◌≤◌, Bool, true, false, not, cond, nat_le, [], ◌∷◌, length, get_or, ◌⊎◌, inl, inr, refl, sym, ap, ◌∙◌, arith, subst}
-use Rattle.std.specs.Prelude.{Option, None, Some, ◌==◌, filter, if◌then◌else◌}
+use Rattle.std.proofs.Common.{◌≡◌, ◌≢◌, ℕ, ◌+◌, ◌*◌, ◌/◌, ◌%◌, ◌<◌, ◌≤◌, Bool, true, false, not, cond, nat_le, [], ◌∷◌, length, get_or, ◌⊎◌, inl, inr, refl, sym, ap, ◌∙◌, arith, subst}
+use Rattle.std.specs.Prelude.{None, Some, ◌==◌, filter}
 use Rattle.std.specs.Option.{option_map_or}
 use Rattle.std.proofs.lemmas.Bool.Decides.{nat_tests}
 use Rattle.board_terms.specs.Dues.{Dues, number_of, timer_of, due_of, least, IsLeast}
@@ -223,3 +223,14 @@ module _ (m n : Dues) (moment : ℕ) (t : ℕ × ℕ) (us : Timers) (first : due
 -- the earliest timer of all
 pub earliest-least : (m : Dues) (d : ℕ) (t : ℕ × ℕ) → t.1 < 4 → least m ≡ Some (d, t) → IsLeast m d (number_of t)
 earliest-least m d t i h = ((finds-least m).some d (number_of t)).1 (h ∙ ap (λ u. Some (d, u)) (sym (timer_back t i)))
+
+-- a due list has no other form
+pub due-list-is : (m : Dues) (moment : ℕ) (ts : Timers) → Each (λ u. u.1 < 4) ts → IsDueList m moment (length m) ts → ts ≡ due_list m moment
+due-list-is m moment ts index h =
+    let l = sorted m moment in
+    same-list m moment ts (due_list m moment) h.each l.each h.order l.order (within ts (due_list m moment) index h l) (within (due_list m moment) ts (each-listed (λ u. u.1 < 4) (λ n. omega arith) m moment) l h)
+  where
+    within : (us vs : Timers) → Each (λ u. u.1 < 4) us → IsDueList m moment (length m) us → IsDueList m moment (length m) vs → (u : ℕ × ℕ) → Has us u → Has vs u
+    within us vs index a b u g =
+        let due = each_has (IsDueBy m moment (length m)) us u g a.each in
+        subst (Has vs) (timer_back u (each_has (λ x. x.1 < 4) us u g index)) (b.every (number_of u) due.due due.low due.is due.by)

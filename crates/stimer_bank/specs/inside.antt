@@ -1,2 +1,3 @@
--- The abstract view of the fields, and their invariant. Callers need neither.
+-- The abstract view of the fields, their invariant, and the keys of due timers. Callers need none of these.
 pub mod View
+pub mod Keys
