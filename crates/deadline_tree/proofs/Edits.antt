@@ -69,6 +69,7 @@ module _ (t now : Tree) (n word : ℕ) (tree : IsTree t) (low : n < count t) (no
       nodes = ap length nodes ∙ length-set t.nodes (count t + n) word ∙ tree.nodes ∙ sym (ap (λ c. 2 * c) as-many);
       some = omega (arith, as-many, tree.some);
       bound = omega (arith, as-many, tree.bound);
+      fours = ap (λ c. c % 4) as-many ∙ tree.fours;
       leaves = λ m h. elim (cases_eq m n) as (λ _. IsWord (word_of now m) (late_due now m) m) [
         | inl e ↦ rw (e, word-here, far n) is
         | inr e ↦ rw (word-other m e, far m) (tree.leaves m (omega (arith, as-many)))
@@ -103,6 +104,7 @@ module _ (t now : Tree) (n due : ℕ) (sound : IsSound t) (low : n < count t) (n
       nodes = ap length nodes ∙ sound.tree.nodes ∙ sym (ap (λ c. 2 * c) same-count);
       some = omega (arith, same-count, sound.tree.some);
       bound = omega (arith, same-count, sound.tree.bound);
+      fours = ap (λ c. c % 4) same-count ∙ sound.tree.fours;
       leaves = λ m h. elim (cases_eq m n) as (λ _. IsWord (word_of now m) (late_due now m) m) [
         | inl e ↦ record {
           number = λ l. ap (λ w. w % 256) (word-same m) ∙ (sound.tree.leaves m (omega (arith, same-count))).number (omega (arith, l, word-same m));

@@ -3,3 +3,4 @@ pub mod Levels
 pub mod Nodes
 pub mod Leasts
 pub mod Whole
+pub mod Processors

@@ -52,6 +52,7 @@ module _ (t now : Tree) (x v : ℕ) (h : IsClimbing t x) (pos : 1 < x) (inside :
       nodes = ap length nodes ∙ length-set t.nodes (x / 2) v ∙ h.tree.nodes ∙ sym (ap (λ c. 2 * c) as-many);
       some = omega (arith, as-many, h.tree.some);
       bound = omega (arith, as-many, h.tree.bound);
+      fours = ap (λ c. c % 4) as-many ∙ h.tree.fours;
       leaves = λ n l. rw (leaf n (omega (arith, as-many)), lates) (h.tree.leaves n (omega (arith, as-many)));
     };
     mins = λ j a b above.

@@ -134,6 +134,7 @@ module _ (t : Tree) (k : ℕ) (some : 1 ≤ k) (bound : k ≤ 64) (nodes : t.nod
       nodes = ap length nodes ∙ length-replicate (2 * (4 * k)) never ∙ sym (ap (λ c. 2 * c) many);
       some = omega (arith, many);
       bound = omega (arith, many);
+      fours = omega (arith, many);
       leaves = λ n h. let is = leaf-never n h in record { number = λ l. absurd (omega (arith, is, l)); is_late = λ l. absurd (omega (arith, is, l)) };
     };
     ordered = record {

@@ -1,5 +1,5 @@
 -- The deadlines in the contracts of the tree.
-use Rattle.std.specs.Prelude.{ℕ, zero, suc, ◌+◌, ◌*◌, ◌^◌, Bool, false, nat_le, nat_lt, None, slice_index_or, slice_set, replicate, if◌then◌else◌}
+use Rattle.std.specs.Prelude.{ℕ, zero, suc, ◌+◌, ◌*◌, ◌^◌, Bool, false, ◌||◌, nat_le, nat_lt, None, slice_index_or, slice_set, replicate, if◌then◌else◌}
 use Rattle.std.specs.Option.{option_map_or}
 use Rattle.board_terms.specs.Dues.{Dues, number_of}
 
@@ -19,6 +19,11 @@ without_processor m p = slice_set (slice_set (slice_set (slice_set m (number_of 
 -- timer n is due by a time
 abbrev pub is_due_by : Dues → ℕ → ℕ → Bool
 is_due_by m moment n = option_map_or (λ d. nat_le d moment) (slice_index_or m n None) false
+
+-- a timer of processor p is due by a time
+abbrev pub has_due : Dues → ℕ → ℕ → Bool
+has_due m moment p =
+    is_due_by m moment (number_of (p, 0)) || is_due_by m moment (number_of (p, 1)) || is_due_by m moment (number_of (p, 2)) || is_due_by m moment (number_of (p, 3))
 
 -- how many of the first k powers of two, from 1 on, are less than n
 unfoldable pub powers_below : ℕ → ℕ → ℕ

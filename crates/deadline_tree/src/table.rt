@@ -2,7 +2,7 @@
 ghost use Rattle.std.specs.Prelude.{◌≡◌, ◌≢◌, ◌+◌, ◌*◌, ◌/◌, ◌<◌, ◌≤◌, IsTrue, None, Some, IfOk, length, min, nat_lt, slice_index_or, slice_set};
 ghost use Rattle.std.specs.Option.{option_map, option_map_or};
 ghost use Rattle.board_terms.specs.Dues.{timer_of, least, earlier, if_later, later_than};
-ghost use Rattle.deadline_tree.specs.Deadlines.{no_dues, levels};
+ghost use Rattle.deadline_tree.specs.Deadlines.{no_dues, is_due_by, has_due, levels};
 ghost use Rattle.deadline_tree.specs.inside.Table.{tree_in, count, node, word_of, late_due, due_from, late, late_word, never, dues, IsWord, IsSound};
 ghost use Rattle.deadline_tree.specs.inside.Climbs.{IsClimbing};
 
@@ -130,6 +130,47 @@ impl Table {
             Some(self.lates[number as usize])
         } else {
             None
+        }
+    }
+
+    /// Whether a timer is due.
+    fn is_due(&self, number: u8, moment: u64) -> bool
+        requires { IsSound (tree_in self.now) }
+        ensures { result ≡ is_due_by (dues (tree_in self.now)) moment number }
+    {
+        match self.due(number) {
+            Some(due) => due <= moment as u128,
+            None => false,
+        }
+    }
+
+    /// Whether a processor has a timer that is due, by a look at each of its timers.
+    #[cold]
+    #[inline(never)]
+    fn finds_due(&self, processor: u8, moment: u64) -> bool
+        requires sound { IsSound (tree_in self.now) }
+        requires bound { processor < 64 }
+        ensures { result ≡ has_due (dues (tree_in self.now)) moment processor }
+    {
+        let first = 4 * processor;
+        self.is_due(first, moment)
+            || self.is_due(first + 1, moment)
+            || self.is_due(first + 2, moment)
+            || self.is_due(first + 3, moment)
+    }
+
+    /// Whether a processor has a timer that is due. The four leaves of a processor have one node two levels
+    /// up.
+    pub(crate) fn has_due(&self, processor: u8, moment: u64) -> bool
+        requires sound { IsSound (tree_in self.now) }
+        requires processor { 4 * processor < count (tree_in self.now) }
+        ensures { result ≡ has_due (dues (tree_in self.now)) moment processor }
+    {
+        let word = self.nodes[self.count() / 4 + processor as usize];
+        if word < LATE_WORD {
+            word / 256 <= moment
+        } else {
+            word < NEVER && self.finds_due(processor, moment)
         }
     }
 

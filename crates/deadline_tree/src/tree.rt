@@ -1,13 +1,13 @@
 // The timers that have deadlines, with the earliest first.
 ghost use Rattle.std.specs.Prelude.{◌≡◌, ◌+◌, ◌*◌, ◌≤◌, None, Some, IfOk, length, slice_set};
 ghost use Rattle.board_terms.specs.Dues.{number_of, due_of, least, later_than};
-ghost use Rattle.deadline_tree.specs.Deadlines.{no_dues, without_processor, levels};
+ghost use Rattle.deadline_tree.specs.Deadlines.{no_dues, without_processor, has_due, levels};
 
 pub(crate) mod comparer;
 
 use crate::table::Table;
 use crate::tree::comparer::Comparer;
-use board_terms::{TimerId, Vp};
+use board_terms::{Moment, TimerId, Vp};
 use std::alloc::{AllocError, Global};
 use std::marker::Model;
 
@@ -99,6 +99,15 @@ impl DeadlineTree {
         ensures { result ≡ least (later_than moment self.now.dues) }
     {
         self.table.least_after(moment)
+    }
+
+    /// Whether a processor has a timer that is due. Looks at one node, or also at four timers if the
+    /// earliest of them has a late deadline.
+    pub fn has_due(&self, vp: Vp, moment: Moment) -> bool
+        ensures { result ≡ has_due self.now.dues moment vp }
+    {
+        let processor = vp.number();
+        4 * (processor as usize) < self.table.count() && self.table.has_due(processor, moment)
     }
 
     /// The deadline of a timer, if it has one.

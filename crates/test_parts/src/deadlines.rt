@@ -2,7 +2,7 @@
 ghost use Rattle.std.specs.Prelude.{◌≤◌};
 
 use crate::steps::{Other, Part, first_other};
-use board_terms::{TimerId, Vp};
+use board_terms::{Moment, TimerId, Vp};
 use deadline_tree::DeadlineTree;
 use std::alloc::{AllocError, Global};
 
@@ -15,6 +15,7 @@ pub(crate) enum Call {
     SetAll,
     Least,
     DueOf(u8),
+    HasDue(u8, Moment),
 }
 
 #[derive(Clone, Copy, PartialEq, Debug)]
@@ -22,11 +23,12 @@ pub(crate) enum Answer {
     Done,
     Due(u128),
     First(u128, u8),
+    Is(bool),
     Never,
 }
 
-use Answer::{Done, Due, First, Never};
-use Call::{Clear, ClearProcessor, DueOf, Least, Set, SetAll};
+use Answer::{Done, Due, First, Is, Never};
+use Call::{Clear, ClearProcessor, DueOf, HasDue, Least, Set, SetAll};
 
 /// Sets each timer to ten times its number, the last timer first, so that each moves to the front.
 fn set_all(tree: &mut DeadlineTree) {
@@ -67,6 +69,7 @@ impl Part for DeadlineTree {
                 Some(due) => Due(due),
                 None => Never,
             },
+            HasDue(number, moment) => Is(self.has_due(Vp::new(number)?, moment)),
         })
         // README deadline_tree: end
     }
@@ -142,14 +145,20 @@ const THREE_PROCESSORS: [(Call, Answer); 15] = [
 ];
 
 /// Deadlines from 2^55 on are compared one by one.
-const LATE: [(Call, Answer); 8] = [
+const LATE: [(Call, Answer); 14] = [
     (Set(3, 36028797018963968), Done),
     (Least, First(36028797018963968, 3)),
+    (HasDue(0, 36028797018963967), Is(false)),
+    (HasDue(0, 36028797018963968), Is(true)),
     (Set(1, 36028797018963969), Done),
     (Set(2, 36028797018963968), Done),
     (Least, First(36028797018963968, 2)),
     (Set(11, 36028797018963967), Done),
     (Least, First(36028797018963967, 11)),
+    (HasDue(2, 36028797018963966), Is(false)),
+    (HasDue(2, 36028797018963967), Is(true)),
+    (HasDue(1, u64::MAX), Is(false)),
+    (HasDue(3, u64::MAX), Is(false)),
     (DueOf(1), Due(36028797018963969)),
 ];
 

@@ -64,6 +64,8 @@ pub record IsTree (t : Tree) : Type 0 where
   pub nodes : length t.nodes ≡ 2 * count t
   pub some : 4 ≤ count t
   pub bound : count t ≤ 256
+  -- four timers for each processor
+  pub fours : count t % 4 ≡ 0
   pub leaves : (n : ℕ) → n < count t → IsWord (word_of t n) (late_due t n) n
 
 -- each other node has the lesser word of its children
