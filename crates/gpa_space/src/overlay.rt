@@ -1,6 +1,6 @@
 // The value of an overlay's register.
 ghost use Rattle.std.specs.Prelude.{◌≡◌};
-ghost use Rattle.gpa_space.specs.Space.{is_enabled, page_of, is_mapped_at};
+ghost use Rattle.gpa_space.specs.Space.{is_enabled, page_of};
 
 use bitflags::{Flag, Flags, bitflag_items};
 
@@ -61,12 +61,5 @@ impl OverlayWord {
         ensures { result ≡ page_of self.0 }
     {
         self.0 >> PAGE
-    }
-
-    /// Whether the overlay is mapped at a page.
-    pub(crate) fn is_mapped_at(self, page: u64) -> bool
-        ensures { result ≡ is_mapped_at page self.0 }
-    {
-        self.is_enabled() && self.page() == page
     }
 }

@@ -1,5 +1,5 @@
 // Guest pages, and the overlay pages that may obscure them.
-ghost use Rattle.std.specs.Prelude.{[], ◌≡◌, ◌≢◌, ◌+◌, ◌<◌, ◌≤◌, ◌*◌, ◌/◌, length, slice_index_or, not, IfOk, IfErr, OnOk, IfSome, None, Some, Ok, Err, replicate, slice_get};
+ghost use Rattle.std.specs.Prelude.{[], ◌≡◌, ◌≢◌, ◌+◌, ◌<◌, ◌≤◌, ◌*◌, ◌/◌, ◌^◌, length, slice_index_or, not, IfOk, IfErr, OnOk, IfSome, None, Some, Ok, Err, replicate, slice_get};
 ghost use Rattle.std.specs.List.{All};
 ghost use Rattle.std.specs.Option.{option_copied, option_map_or};
 ghost use Rattle.board_terms.specs.declared.pages.Kind.TheVariants as kind;
@@ -7,7 +7,8 @@ ghost use Rattle.board_terms.specs.Ranges.{AreBytes};
 ghost use Rattle.gpa_space.specs.Page.{zero_page, overwritten, message_bytes};
 ghost use Rattle.gpa_space.specs.Space.{opened, processors_of, overlay_of, with_register, visible, overlay_owner, is_sparse, page_count, owner_of, IsNextOverlay, refusal_of, loaded, store_answer, after_store, own_page, with_own_page, with_guest_page, after_slot, is_pending, after_pending, is_flag_set, after_flag, after_clearing};
 
-use crate::mapped::{OverlaysAt, least_page};
+use crate::index::OverlayIndex;
+use crate::mapped::OverlaysAt;
 use crate::overlay::OverlayWord;
 use crate::page::{HEADER_SIZE, MESSAGE_FLAGS, Page, SIZE, SLOT_SIZE};
 use board_terms::{Bytes8, Kind, Owner, Refusal, Sint, Vp};
@@ -28,9 +29,10 @@ pub struct Space {
     // The registers and the own pages of the overlays, in the order of visibility.
     registers: Vec<u64>,
     own: Vec<Page>,
-    // Cache: the overlays at each guest page, by their registers. Only `set_overlay` writes
-    // registers, and it updates the cache.
+    // Caches: the overlays at each guest page that the space holds, and the enabled overlays in the
+    // order of their pages. Only `set_overlay` writes registers, and it updates both.
     mapped: OverlaysAt,
+    index: OverlayIndex,
 }
 
 impl Model for Space {
@@ -62,12 +64,14 @@ impl Space {
         let registers = vec![in alloc; 0; overlays]?;
         let own = zero_pages(alloc, overlays)?;
         let mapped = OverlaysAt::open(alloc, pages)?;
+        let index = OverlayIndex::open(alloc, overlays)?;
         let pages = zero_pages(alloc, pages as usize)?;
         Ok(Space {
             pages,
             registers,
             own,
             mapped,
+            index,
         })
     }
 
@@ -84,6 +88,8 @@ impl Space {
         // It was mapped at no other page.
         self.mapped.mark(before.page(), overlay, false);
         self.mapped.mark(word.page(), overlay, word.is_enabled());
+        self.index.mark(before.page(), overlay, false);
+        self.index.mark(word.page(), overlay, word.is_enabled());
     }
 
     /// Whether the guest pages are in the caller's memory.
@@ -118,12 +124,14 @@ impl Space {
     /// The number of the first overlay that is mapped at a page which the space does not hold.
     #[inline(never)]
     fn search(&self, page: u64) -> Option<usize>
+        requires { page < 2 ^ 52 }
         ensures value { result ≡ visible self.now page }
         ensures bound { IfSome result (λ overlay. overlay < 128) }
     {
-        self.registers
-            .iter()
-            .position(|register| OverlayWord::new(*register).is_mapped_at(page))
+        match self.index.first_from(page) {
+            Some((other, overlay)) if other == page => Some(overlay),
+            _ => None,
+        }
     }
 
     /// Which page a guest sees at a page number.
@@ -159,9 +167,13 @@ impl Space {
     pub fn next_overlay(&self, from: u64) -> Option<(u64, Owner)>
         ensures { IsNextOverlay self.now from result }
     {
-        match least_page(self.registers.as_slice(), from, self.page_count()) {
-            Some(page) => Some((page, self.owner(page))),
-            None => None,
+        let count = self.page_count();
+        if from >= count {
+            return None;
+        }
+        match self.index.first_from(from) {
+            Some((page, overlay)) if page < count => Some((page, overlay_owner(overlay))),
+            _ => None,
         }
     }
 

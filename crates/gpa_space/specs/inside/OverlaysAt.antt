@@ -1,8 +1,7 @@
 -- The cache of where overlays are mapped.
-use Rattle.std.specs.Prelude.{◌≡◌, ◌≢◌, ◌<◌, ◌≤◌, ℕ, Bool, true, false, ◌==◌, ◌&&◌, nat_le, nat_lt, List, Option, None, Some, ◌⊎◌, length, slice_index_or, if◌then◌else◌}
+use Rattle.std.specs.Prelude.{◌≡◌, ◌≢◌, ◌<◌, ℕ, Bool, ◌==◌, List, Option, None, Some, ◌⊎◌, length, slice_index_or}
 use Rattle.std.specs.Int.{bit_at}
-use Rattle.std.specs.Option.{option_map_or}
-use Rattle.gpa_space.specs.Space.{is_enabled, page_of, is_mapped_at}
+use Rattle.gpa_space.specs.Space.{is_mapped_at}
 
 -- bit i of the word of a guest page is set iff overlay i is mapped there
 abbrev pub AreOverlaysAt : List ℕ → List ℕ → Type 0
@@ -18,18 +17,3 @@ pub record Marks (old new : List ℕ) (page overlay : ℕ) (is_mapped : Bool) : 
 abbrev pub IsLowest : ℕ → Option ℕ → Type 0
 IsLowest word None = (i : ℕ) → bit_at word i ≡ 0
 IsLowest word (Some k) = (k < 16) × (bit_at word k ≡ 1) × ((i : ℕ) → i < k → bit_at word i ≡ 0)
-
--- an overlay is mapped at a page from a number on and below another
-abbrev pub is_mapped_in : ℕ → ℕ → ℕ → Bool
-is_mapped_in from count word = is_enabled word && (nat_le from (page_of word) && nat_lt (page_of word) count)
-
--- the lesser of a page and of that of one more overlay, if it is mapped there
-abbrev pub lesser_page : ℕ → ℕ → ℕ → Option ℕ → Option ℕ
-lesser_page from count word least = if is_mapped_in from count word && option_map_or (λ p. nat_lt (page_of word) p) least true then Some (page_of word) else least
-
--- the least page at which one of the first n overlays is mapped, if any is
-abbrev pub IsLeastPage : List ℕ → ℕ → ℕ → ℕ → Option ℕ → Type 0
-IsLeastPage registers from count n None = (i : ℕ) → i < n → is_mapped_in from count (slice_index_or registers i 0) ≡ false
-IsLeastPage registers from count n (Some p) =
-    ((k : ℕ) × (k < n) × (is_mapped_in from count (slice_index_or registers k 0) ≡ true) × (p ≡ page_of (slice_index_or registers k 0)))
-    × ((i : ℕ) → i < n → is_mapped_in from count (slice_index_or registers i 0) ≡ true → p ≤ page_of (slice_index_or registers i 0))

@@ -1,6 +1,7 @@
 -- The abstract view of the fields, and their invariant.
-use Rattle.std.specs.Prelude.{◌≡◌, ◌≢◌, ◌≤◌, length}
+use Rattle.std.specs.Prelude.{◌≡◌, ◌≢◌, ◌≤◌, length, vec_capacity}
 use Rattle.gpa_space.specs.Space.{Space}
+use Rattle.gpa_space.specs.inside.OverlayIndex.{IsIndexOf}
 use Rattle.gpa_space.specs.inside.OverlaysAt.{AreOverlaysAt}
 use Rattle.gpa_space.specs.declared.space.Space.TheInside.{Inside}
 
@@ -10,10 +11,14 @@ space_of s = record { pages = s.pages.items; registers = s.registers.items; own 
 pub record SpaceInvariant (s : Inside) : Type 0 where
   -- there are at most 64 processors, with two overlays each
   pub bound : length s.registers.items ≤ 128
-  -- and at most eight if the space holds guest pages, since the word of a page has 16 bits
+  pub pages : length s.pages.items ≤ 64
+  -- and at most eight processors if the space holds guest pages, since the word of a page has 16 bits
   pub dense : length s.pages.items ≢ 0 → length s.registers.items ≤ 16
   -- each overlay has its own page
   pub own : length s.own.items ≡ length s.registers.items
   -- there is a word for each guest page
   pub each : length s.mapped.words.items ≡ length s.pages.items
   pub mapped : AreOverlaysAt s.registers.items s.mapped.words.items
+  -- no register write allocates
+  pub room : length s.registers.items ≤ vec_capacity s.index.keys
+  pub index : IsIndexOf s.registers.items s.index.keys.items
