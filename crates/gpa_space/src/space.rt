@@ -29,8 +29,9 @@ pub struct Space {
     // The registers and the own pages of the overlays, in the order of visibility.
     registers: Vec<u64>,
     own: Vec<Page>,
-    // Caches: the overlays at each guest page that the space holds, and the enabled overlays in the
-    // order of their pages. Only `set_overlay` writes registers, and it updates both.
+    // Caches: the overlays at each guest page that the space holds, and, if it holds none, the
+    // enabled overlays in the order of their pages. Only `set_overlay` writes registers, and it
+    // updates the one that is in use.
     mapped: OverlaysAt,
     index: OverlayIndex,
 }
@@ -64,7 +65,7 @@ impl Space {
         let registers = vec![in alloc; 0; overlays]?;
         let own = zero_pages(alloc, overlays)?;
         let mapped = OverlaysAt::open(alloc, pages)?;
-        let index = OverlayIndex::open(alloc, overlays)?;
+        let index = OverlayIndex::open(alloc, if pages == 0 { overlays } else { 0 })?;
         let pages = zero_pages(alloc, pages as usize)?;
         Ok(Space {
             pages,
@@ -86,10 +87,13 @@ impl Space {
         let word = OverlayWord::new(register);
         self.registers[overlay] = register;
         // It was mapped at no other page.
-        self.mapped.mark(before.page(), overlay, false);
-        self.mapped.mark(word.page(), overlay, word.is_enabled());
-        self.index.mark(before.page(), overlay, false);
-        self.index.mark(word.page(), overlay, word.is_enabled());
+        if self.pages.is_empty() {
+            self.index.mark(before.page(), overlay, false);
+            self.index.mark(word.page(), overlay, word.is_enabled());
+        } else {
+            self.mapped.mark(before.page(), overlay, false);
+            self.mapped.mark(word.page(), overlay, word.is_enabled());
+        }
     }
 
     /// Whether the guest pages are in the caller's memory.
@@ -121,10 +125,11 @@ impl Space {
         self.mapped.first(page as usize)
     }
 
-    /// The number of the first overlay that is mapped at a page which the space does not hold.
+    /// The number of the overlay that is visible at a page of a sparse space.
     #[inline(never)]
     fn search(&self, page: u64) -> Option<usize>
-        requires { page < 2 ^ 52 }
+        requires sparse { length self.now.pages ≡ 0 }
+        requires page { page < 2 ^ 52 }
         ensures value { result ≡ visible self.now page }
         ensures bound { IfSome result (λ overlay. overlay < 128) }
     {
@@ -167,13 +172,28 @@ impl Space {
     pub fn next_overlay(&self, from: u64) -> Option<(u64, Owner)>
         ensures { IsNextOverlay self.now from result }
     {
-        let count = self.page_count();
-        if from >= count {
+        if self.is_sparse() {
+            return self.next_elsewhere(from);
+        }
+        for page in from..self.pages.len() as u64 {
+            if let Some(overlay) = self.visible(page) {
+                return Some((page, overlay_owner(overlay)));
+            }
+        }
+        None
+    }
+
+    /// The same for a sparse space.
+    fn next_elsewhere(&self, from: u64) -> Option<(u64, Owner)>
+        requires { length self.now.pages ≡ 0 }
+        ensures { IsNextOverlay self.now from result }
+    {
+        if from >= ALL_PAGES {
             return None;
         }
         match self.index.first_from(from) {
-            Some((page, overlay)) if page < count => Some((page, overlay_owner(overlay))),
-            _ => None,
+            Some((page, overlay)) => Some((page, overlay_owner(overlay))),
+            None => None,
         }
     }
 

@@ -11,14 +11,13 @@ space_of s = record { pages = s.pages.items; registers = s.registers.items; own 
 pub record SpaceInvariant (s : Inside) : Type 0 where
   -- there are at most 64 processors, with two overlays each
   pub bound : length s.registers.items ≤ 128
-  pub pages : length s.pages.items ≤ 64
-  -- and at most eight processors if the space holds guest pages, since the word of a page has 16 bits
+  -- and at most eight if the space holds guest pages, since the word of a page has 16 bits
   pub dense : length s.pages.items ≢ 0 → length s.registers.items ≤ 16
   -- each overlay has its own page
   pub own : length s.own.items ≡ length s.registers.items
   -- there is a word for each guest page
   pub each : length s.mapped.words.items ≡ length s.pages.items
   pub mapped : AreOverlaysAt s.registers.items s.mapped.words.items
-  -- no register write allocates
-  pub room : length s.registers.items ≤ vec_capacity s.index.keys
-  pub index : IsIndexOf s.registers.items s.index.keys.items
+  -- if there are no guest pages, the enabled overlays have an index instead, with capacity for all
+  pub index : length s.pages.items ≡ 0 → IsIndexOf s.registers.items s.index.keys.items
+  pub room : length s.pages.items ≡ 0 → length s.registers.items ≤ vec_capacity s.index.keys

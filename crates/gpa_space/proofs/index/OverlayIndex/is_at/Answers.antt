@@ -9,7 +9,7 @@ pub returns-then-at-len-clause-value : goal.returns-then-at-len-clause-value
 returns-then-at-len-clause-value c =
     let keys = c.args.self.now.keys.items in
     let lt : c.args.at < length keys = omega arith in
-    ap (λ k. k == c.args.key) (c.index.ensures ∙ get_or_default keys c.args.at c.index.result.now 0 lt) ∙ at-place keys c.args.key c.args.at c.requires.ascending c.requires.place lt
+    ap (λ k. k == c.args.key) (c.index.ensures ∙ get_or_default keys c.args.at c.index.result.now 0 lt) ∙ at-place keys c.args.key c.args.at c.requires.keys c.requires.place lt
 
 pub returns-then-at-len-clause-there : goal.returns-then-at-len-clause-there
 returns-then-at-len-clause-there c =
@@ -20,5 +20,5 @@ returns-then-at-len-clause-there c =
 
 pub returns-else-at-len-clause-value : goal.returns-else-at-len-clause-value
 returns-else-at-len-clause-value c =
-    let none = elsewhere c.args.self.now.keys.items c.args.key c.args.at c.requires.ascending c.requires.place (λ lt same. omega arith) in
+    let none = elsewhere c.args.self.now.keys.items c.args.key c.args.at c.requires.keys c.requires.place (λ lt same. omega arith) in
     grind (arith, nat_tests)

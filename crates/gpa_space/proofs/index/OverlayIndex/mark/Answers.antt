@@ -1,4 +1,4 @@
-use Rattle.std.proofs.Common.{◌≡◌, ◌+◌, ◌*◌, ◌%◌, ◌^◌, true, false, ap, sym, ◌∙◌, subst, arith}
+use Rattle.std.proofs.Common.{◌≡◌, true, false, ap, sym, ◌∙◌, subst, arith}
 use Rattle.std.specs.List.{insert, remove}
 use Rattle.std.proofs.lemmas.Bool.Decides.{nat_tests}
 use Rattle.gpa_space.specs.inside.OverlayIndex.{key_of, has_key, MarksKey}
@@ -15,27 +15,24 @@ pub returns-then-is_at-is_mapped-clause-marks : goal.returns-then-is_at-is_mappe
 returns-then-is_at-is_mapped-clause-marks c =
     let same : c.is_at.result ≡ c.args.is_mapped = grind (arith, nat_tests) in
     let keys = c.args.self.now.keys.items in
-    let key : c.args.page * 4096 % 2 ^ 64 + c.args.overlay ≡ key_of c.args.page c.args.overlay = omega arith in
-    marks-none keys (key_of c.args.page c.args.overlay) c.args.is_mapped c.requires.ascending (ap (λ k. has_key k keys) (sym key) ∙ sym c.is_at.ensures.value ∙ same)
+    marks-none keys (key_of c.args.page c.args.overlay) c.args.is_mapped c.requires.keys (ap (λ k. has_key k keys) (sym c.key_of-key.ensures) ∙ sym c.is_at.ensures.value ∙ same)
 
 pub returns-then-is_mapped-clause-marks : goal.returns-then-is_mapped-clause-marks
 returns-then-is_mapped-clause-marks c =
     let none : c.is_at.result ≡ false = grind (arith, nat_tests) in
     let keys = c.args.self.now.keys.items in
     let at = c.place_of-at.result in
-    let raw = c.args.page * 4096 % 2 ^ 64 + c.args.overlay in
-    let key : raw ≡ key_of c.args.page c.args.overlay = omega arith in
+    let key = c.key_of-key.result in
     let items = rw (c.insert.ensures.succeeds (omega (arith, c.requires.room c.if-is_mapped.true))) at c.insert.ensures.items in
-    rw (items, c.if-is_mapped.true) (subst (λ k. MarksKey keys (insert keys at raw) k true) key
-    (marks-insert keys raw at c.requires.ascending c.place_of-at.ensures (sym c.is_at.ensures.value ∙ none)))
+    rw (items, c.if-is_mapped.true) (subst (λ k. MarksKey keys (insert keys at key) k true) c.key_of-key.ensures
+    (marks-insert keys key at c.requires.keys c.place_of-at.ensures (omega arith) (sym c.is_at.ensures.value ∙ none)))
 
 pub returns-else-is_mapped-clause-marks : goal.returns-else-is_mapped-clause-marks
 returns-else-is_mapped-clause-marks c =
     let some : c.is_at.result ≡ true = grind (arith, nat_tests) in
     let keys = c.args.self.now.keys.items in
     let at = c.place_of-at.result in
-    let raw = c.args.page * 4096 % 2 ^ 64 + c.args.overlay in
-    let key : raw ≡ key_of c.args.page c.args.overlay = omega arith in
+    let key = c.key_of-key.result in
     let there = c.is_at.ensures.there some in
-    rw (c.remove.ensures.items, c.if-is_mapped.false) (subst (λ k. MarksKey keys (remove keys at) k false) key
-    (marks-remove keys raw at c.requires.ascending c.place_of-at.ensures there.0 there.1))
+    rw (c.remove.ensures.items, c.if-is_mapped.false) (subst (λ k. MarksKey keys (remove keys at) k false) c.key_of-key.ensures
+    (marks-remove keys key at c.requires.keys there.0 there.1))
