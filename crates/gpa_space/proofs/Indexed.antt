@@ -48,10 +48,10 @@ module _ (xs keys once : List ℕ) (o : ℕ) (index : IsIndexOf xs keys) (lt : o
           here = λ here. ap (λ p. is_at twice p o) here ∙ reached.here;
           others = λ k less other. reached.others (key_of page k) (apart page (y / 4096) k o less small other);
         } in
-        moved xs o y 128 page (is_at keys page) (is_at once page) (is_at twice page) (leaves page) (index.each page) reaches lt i low;
+        moved xs o 128 page (is_at keys page) (is_at once page) (leaves page) (index.each page) y (is_at twice page) reaches lt i low;
     count =
         let page = y / 4096 in
-        let none = gone xs o y 128 page (is_at keys page) (is_at once page) (is_at twice page) (leaves page) (index.each page) small in
+        let none = gone xs o 128 page (is_at keys page) (is_at once page) (leaves page) (index.each page) small in
         let count = rw none at reached.count in
         let other = sum_by-set (λ x. cond (is_enabled x) 1 0) xs o y 0 lt in
         omega (arith, left-count);

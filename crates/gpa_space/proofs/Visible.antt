@@ -15,8 +15,8 @@ none-visible registers page none =
     let first : position_or_len (is_mapped_at page) registers ≡ length registers = position_or_len_is (is_mapped_at page) registers (length registers) 0 (omega arith) none (λ lt. absurd (omega arith)) in
     grind (arith, nat_tests)
 
--- an overlay that is mapped, or more than 128, is within
-pub within : (registers : List ℕ) (page k : ℕ) → is_mapped_at page (get_or registers k 0) ≡ true → k < length registers
+-- an overlay that is mapped somewhere has a register
+within : (registers : List ℕ) (page k : ℕ) → is_mapped_at page (get_or registers k 0) ≡ true → k < length registers
 within registers page k is_mapped = ⊎_elim (λ lt. lt)
     (λ beyond. let none = ap (is_mapped_at page) (get_or_past registers k 0 beyond) in let no : true ≡ false = sym is_mapped ∙ none in absurd (cc)) (cases_lt k (length registers))
 
@@ -54,14 +54,14 @@ pub record Reaches (y o bound page : ℕ) (once twice : ℕ → Bool) : Type 0 w
   pub here : page ≡ y / 4096 → twice o ≡ (bit_and y 1 == 1)
   pub others : (i : ℕ) → i < bound → (page ≢ y / 4096) ⊎ (i ≢ o) → twice i ≡ once i
 
-module _ (xs : List ℕ) (o y bound page : ℕ) (was once twice : ℕ → Bool) (leaves : Leaves (get_or xs o 0) o bound page was once)
+module _ (xs : List ℕ) (o bound page : ℕ) (was once : ℕ → Bool) (leaves : Leaves (get_or xs o 0) o bound page was once)
     (are : (i : ℕ) → i < bound → was i ≡ is_mapped_at page (get_or xs i 0)) where
   -- in between it is mapped nowhere
   pub gone : o < bound → once o ≡ false
   gone low = ⊎_elim (λ here. leaves.here here) (λ away. leaves.others o low (inl away) ∙ are o low ∙ elsewhere page (get_or xs o 0) away) (cases_eq page (get_or xs o 0 / 4096))
 
-  pub moved : Reaches y o bound page once twice → o < length xs → (i : ℕ) → i < bound → twice i ≡ is_mapped_at page (get_or (set xs o y) i 0)
-  moved reaches lt i low = ⊎_elim own other (cases_eq i o)
+  pub moved : (y : ℕ) (twice : ℕ → Bool) → Reaches y o bound page once twice → o < length xs → (i : ℕ) → i < bound → twice i ≡ is_mapped_at page (get_or (set xs o y) i 0)
+  moved y twice reaches lt i low = ⊎_elim own other (cases_eq i o)
     where
       other : i ≢ o → twice i ≡ is_mapped_at page (get_or (set xs o y) i 0)
       other apart = reaches.others i low (inr apart) ∙ leaves.others i low (inr apart) ∙ are i low ∙ ap (is_mapped_at page) (sym (get_or-set_other xs o i y 0 apart))
@@ -82,12 +82,12 @@ keeps xs words once twice o y lt are leaves comes page i inside low =
     let is_set : List ℕ → ℕ → Bool = λ ws k. bit_at (get_or ws page 0) k == 1 in
     let before : page < length words = omega (arith, leaves.many, comes.many) in
     let between : page < length once = omega (arith, leaves.many, comes.many) in
-    moved xs o y 16 page (is_set words) (is_set once) (is_set twice)
+    moved xs o 16 page (is_set words) (is_set once)
     (record {
       here = λ here. ap (λ p. bit_at (get_or once p 0) o == 1) here ∙ leaves.here (subst (λ p. p < length words) here before);
       others = λ k low other. ap (λ b. b == 1) (leaves.others page k low other);
     })
-    (λ k low. are page k before low)
+    (λ k low. are page k before low) y (is_set twice)
     (record {
       here = λ here. ap (λ p. bit_at (get_or twice p 0) o == 1) here ∙ comes.here (subst (λ p. p < length once) here between);
       others = λ k low other. ap (λ b. b == 1) (comes.others page k low other);
