@@ -110,6 +110,8 @@ CALL(synicboard_due, synicboard_earliest_after, board == NULL, CONST_BOARD(board
      const synicboard *board, uint64_t moment)
 CALL(uint64_t, synicboard_update, board == NULL || view == NULL, CONST_BOARD(board) VIEW(view),
      (board, view), const synicboard *board, synicboard_view *view)
+CALL(synicboard_changes, synicboard_update_wide, board == NULL || view == NULL, CONST_BOARD(board) WIDE_VIEW(view),
+     (board, view), const synicboard *board, synicboard_wide_view *view)
 CALL(uint64_t, synicboard_update_owners, board == NULL || owners == NULL, CONST_BOARD(board) OWNERS(owners),
      (board, owners), const synicboard *board, synicboard_owners *owners)
 CALL(bool, synicboard_message_page, board == NULL || page == NULL, CONST_BOARD(board) PLACE(page),

@@ -21,6 +21,7 @@ static const uint8_t too_many[sizeof no_event.bytes + 1] = { 0 };
 #define ROOM(room, length, type) length = room != NULL ? length : 0; OR(room, &(type){ 0 })
 #define PLACE(page) OR(page, &(const uint8_t *){ NULL })
 #define VIEW(view) OR(view, &(synicboard_view){ 0 })
+#define WIDE_VIEW(view) OR(view, &(synicboard_wide_view){ 0 })
 #define OWNERS(owners) OR(owners, &(synicboard_owners){ 0 })
 #define DUE(due) OR(due, &(synicboard_due){ 0 })
 #define FORWARDED(forwarded) OR(forwarded, &(synicboard_forwarded){ 0 })

@@ -5,7 +5,7 @@ import os
 import subprocess
 import tempfile
 
-SOURCES, PORTS, BUFFERS = 16, 16, 16
+SOURCES, BUFFERS = 16, 16
 
 # the processors and the guest pages of each
 BOARDS = (8, 64), (64, 0)
@@ -23,13 +23,18 @@ FIRST_SINT, TIMER_SINT = 10, 15
 SECONDS = 120
 
 
-def first_ticket(processors):
+def ports(processors, pages):
+    """How many ports the board has: 16, or on a sparse board four for each processor."""
+    return 16 if pages else max(16, 4 * processors)
+
+
+def first_ticket(processors, pages):
     """The first ticket, if the last one is the greatest that was given: those of all queued messages and slots."""
-    return MOST - PORTS * BUFFERS - processors * (4 + SOURCES)
+    return MOST - ports(processors, pages) * BUFFERS - processors * (4 + SOURCES)
 
 
 def target(port, processors):
-    """The processor and the source of a port: two ports for each of eight processors, or one for each of more."""
+    """The processor and the source of a port: each processor has as many ports."""
     return port % processors, FIRST_SINT + port // processors
 
 
@@ -37,9 +42,9 @@ def words(first):
     return " ".join(["%x" % first] + ["f" * 16] * 3)
 
 
-def queued(vp, sint, tickets, processors):
+def queued(vp, sint, tickets, processors, pages):
     """The messages of a source: those of its port, or those of all timers of its processor."""
-    for port in range(PORTS):
+    for port in range(ports(processors, pages)):
         if target(port, processors) == (vp, sint):
             for _ in range(BUFFERS):
                 yield "message %d %d %d port %d 7fffffff %s" % (vp, sint, next(tickets), port, PAYLOAD)
@@ -49,7 +54,7 @@ def queued(vp, sint, tickets, processors):
 
 
 def lines(processors, pages):
-    tickets = iter(range(first_ticket(processors), MOST))
+    tickets = iter(range(first_ticket(processors, pages), MOST))
     yield "image 1"
     yield "board %d %d %d" % (processors, pages, MOST)
     yield "moment %d" % MOST
@@ -65,14 +70,14 @@ def lines(processors, pages):
         for kind in ["sim", "sief"]:
             for offset in BLOCKS:
                 yield "own %d %s %x %s" % (vp, kind, offset, "c3" * 256)
-    for port in range(PORTS):
+    for port in range(ports(processors, pages)):
         yield "open %d message %d %d %d" % (port, *target(port, processors), BUFFERS)
     for vp in range(processors):
         for timer in range(4):
             yield "timer %d %d f1fff %x due 1 %x" % (vp, timer, MOST, MOST - 1)
     for vp in range(processors):
         for sint in range(SOURCES):
-            yield from queued(vp, sint, tickets, processors)
+            yield from queued(vp, sint, tickets, processors, pages)
     for vp in range(processors):
         for sint in range(SOURCES):
             yield "slot %d %d %d" % (vp, sint, next(tickets))
@@ -83,10 +88,10 @@ def image(processors, pages):
     return "".join(line + "\n" for line in lines(processors, pages))
 
 
-def script_and_output(processors):
+def script_and_output(processors, pages):
     """Events on that board: port 0 has no buffer left, and closing it withdraws its messages."""
     vp, sint = target(0, processors)
-    first = first_ticket(processors)
+    first = first_ticket(processors, pages)
     withdrawn = "".join(". withdrawn %d %d %d\n" % (first + k, vp, sint) for k in range(BUFFERS))
     return ("post 0 1 -\nclose 0\npost 0 1 -\n",
             "= refused 8\n= done\n%s= refused 1\n" % withdrawn)
@@ -101,7 +106,7 @@ def complaints_of(binary, processors, pages):
     """It is restored, performs events, and is the start of a crew and of a trace, whose image is the
     same text."""
     text = image(processors, pages)
-    script, output = script_and_output(processors)
+    script, output = script_and_output(processors, pages)
     with tempfile.TemporaryDirectory() as folder:
         path = os.path.join(folder, "image")
         with open(path, "w") as file:

@@ -160,6 +160,73 @@ def a_message_and_a_flag_reach_the_last_processor():
     return scene
 
 
+def port_target(port):
+    """The processor and the source of one of 256 ports: four for each processor."""
+    return port // 4, 2 + port % 4
+
+
+def each_processor_has_four_ports():
+    """All 256 ports are open: each posts as often as it has buffers, is refused once more, and signals
+    nothing. Closing it withdraws its own messages."""
+    scene = Scene(PROCESSORS, "sparse")
+    for vp in range(PROCESSORS):
+        scene.write(vp, SCONTROL, 1)
+    for port in range(256):
+        scene.done("open %d message %d %d 16" % (port, *port_target(port)))
+        scene.ask("open %d message 0 2 1" % port, "refused 2")
+    for ticket in range(4096):
+        port = ticket % 256
+        scene.ask("post %d 1 -" % port, "accepted %d" % ticket, "accepted %d %d %d" % (ticket, *port_target(port)))
+    for port in range(256):
+        scene.ask("post %d 1 -" % port, "refused 8")
+    scene.summary(queues={port_target(port): 16 for port in range(256)})
+    for port in reversed(range(256)):
+        scene.ask("signal %d 0" % port, "refused 3")
+        own = range(port, 4096, 256)
+        scene.ask("close %d" % port, "done", *("withdrawn %d %d %d" % (ticket, *port_target(port)) for ticket in own))
+        scene.ask("close %d" % port, "refused 1")
+    scene.summary()
+    return scene
+
+
+def a_board_has_four_ports_for_each_processor(processors):
+    """Sixteen, if these are more."""
+    count = max(16, 4 * processors)
+    scene = Scene(processors, "sparse")
+    scene.done("open %d event %d 2 0 1" % (count - 1, processors - 1))
+    for port in (count, count + 1, 255):
+        scene.ask("open %d event 0 2 0 1" % port, "refused 1")
+        scene.ask("close %d" % port, "refused 1")
+    return scene
+
+
+def a_processor_has_256_buffers():
+    """Of all its ports, whatever their sources. Ports of event flags need none, and a port that is closed gives
+    its own back."""
+    scene = Scene(5, "sparse")
+    scene.done(*("open %d message 3 %d 16" % (port, port) for port in range(15)))
+    scene.done("open 15 message 3 0 15")
+    scene.ask("open 16 message 3 1 2", "refused 4")
+    scene.done("open 16 message 3 1 1")
+    scene.ask("open 17 message 3 2 1", "refused 4")
+    scene.done("open 17 event 3 2 0 2048", "open 18 message 4 2 16")
+    scene.done("close 15")
+    scene.ask("open 15 message 3 2 16", "refused 4")
+    scene.done("open 15 message 3 2 15", "close 17")
+    scene.ask("open 17 message 3 2 1", "refused 4")
+    scene.done("reset 3")
+    # a reset leaves the ports
+    scene.ask("open 17 message 3 2 1", "refused 4")
+    return scene
+
+
+def a_dense_board_of_eight_has_sixteen_ports():
+    scene = Scene(8, 1)
+    scene.ask("open 16 message 0 2 1", "refused 1")
+    scene.done(*("open %d message 7 2 16" % port for port in range(16)))
+    return scene
+
+
 def each_timer_is_told_by_its_number():
     """Each of 256 timers is due at another moment, and ticks expire them one by one."""
     scene = Scene(PROCESSORS, "sparse")
@@ -182,8 +249,11 @@ def scenes():
             each_processor_has_a_local_apic, a_tick_expires_32_timers, the_earliest_expire_first,
             a_timer_that_is_not_ready_holds_up_no_other, a_reset_withdraws_the_messages_of_the_last_processor,
             the_first_overlay_of_128_is_visible, a_message_and_a_flag_reach_the_last_processor,
-            each_timer_is_told_by_its_number):
+            each_timer_is_told_by_its_number, each_processor_has_four_ports, a_processor_has_256_buffers,
+            a_dense_board_of_eight_has_sixteen_ports):
         yield scene.__name__.replace("_", " "), scene()
     whole, fewer = each_bit_of_a_mask_is_a_processor()
     yield "each bit of a mask is a processor", whole
     yield "bit 63 is beyond 63 processors", fewer
+    for processors in (1, 4, 5, 8, 63):
+        yield "a board of %d has four ports for each" % processors, a_board_has_four_ports_for_each_processor(processors)

@@ -116,7 +116,7 @@ enum {
 
 /* Why the board refused an event (docs/MACHINE.md, "Refusals"). */
 enum {
-    SYNICBOARD_UNKNOWN_PORT = 1,        /* the port is not open, or its number is above 15 */
+    SYNICBOARD_UNKNOWN_PORT = 1,        /* the port is not open, or the board has none of that number */
     SYNICBOARD_PORT_OPEN = 2,           /* the port to open is already open */
     SYNICBOARD_WRONG_KIND = 3,          /* a post to a flag port, or a signal to a message port */
     SYNICBOARD_BAD_TARGET = 4,          /* the target or shape of a port to open, or a part, is out of range */
@@ -176,11 +176,13 @@ enum {
  * SYNICBOARD_NO_SUCH_PROCESSOR (for opening a port, SYNICBOARD_BAD_TARGET). "Replies:" lists the kinds
  * of replies and, in parentheses, the other refusals, without the prefix SYNICBOARD_. */
 
-/* Opens port `port`, 0 to 15, for messages to source `sint` of processor `vp`, with 1 to 16 buffers.
+/* Opens port `port` for messages to source `sint` of processor `vp`, with 1 to 16 buffers. A board has ports
+ * 0 to 15; a sparse board of more than four processors has four for each. All ports of a processor have at
+ * most 256 buffers; one that would have more is refused as BAD_TARGET.
  * Replies: DONE, REFUSED (UNKNOWN_PORT, PORT_OPEN, BAD_TARGET). */
 synicboard_reply synicboard_open_message_port(synicboard *board, uint8_t port, uint8_t vp, uint8_t sint, uint8_t buffers);
 
-/* Opens port `port`, 0 to 15, for the `count` event flags from `base` on, at source `sint` of processor
+/* Opens port `port`, as above, for the `count` event flags from `base` on, at source `sint` of processor
  * `vp`. `count` is at least 1, and `base + count` at most 2048.
  * Replies: DONE, REFUSED (UNKNOWN_PORT, PORT_OPEN, BAD_TARGET). */
 synicboard_reply synicboard_open_event_port(synicboard *board, uint8_t port, uint8_t vp, uint8_t sint, uint16_t base, uint16_t count);
@@ -354,7 +356,7 @@ synicboard_batch synicboard_perform_all(synicboard *board, const synicboard_even
  * Posted words have one bit for each vector of each processor. A device sets a bit by one atomic step,
  * without the lock of the board; the thread of a processor absorbs the bits into the board. A line is
  * the right of one thread to do so: each thread uses its own line, and lines of the same words may be
- * used at the same time. Opening the words returns their first line, from which at most 31 more can be
+ * used at the same time. Opening the words returns their first line, from which at most 319 more can be
  * split. The words are freed when the last of their lines is closed. What a thread wrote before it
  * raised a vector is visible to the thread that absorbs this raise. */
 
@@ -374,7 +376,7 @@ typedef struct synicboard_line {
  * SYNICBOARD_NO_MEMORY if an allocation fails. */
 uint8_t synicboard_open_line(synicboard_line *line, uint8_t processors);
 
-/* Opens `other` as a line of the same words. Only the first line of the words can split off others, 31
+/* Opens `other` as a line of the same words. Only the first line of the words can split off others, 319
  * in all. No other call may use `line` at the same time.
  *
  * Returns SYNICBOARD_OK; SYNICBOARD_NO_HANDLE if `other` is null; SYNICBOARD_IS_OPEN if `other` is
@@ -496,7 +498,7 @@ typedef struct synicboard_overlay {
 } synicboard_overlay;
 
 /* The first page from `from` on at which a guest sees an overlay. From 0 on, and then from `page` + 1, these are
- * all of them in ascending order, at most 16, for a host to map. A write of SIMP or SIEFP, or a reset, may change
+ * all of them in ascending order, at most two for each processor, for a host to map. A write of SIMP or SIEFP, or a reset, may change
  * them. */
 synicboard_overlay synicboard_next_overlay(const synicboard *board, uint64_t from);
 
@@ -525,7 +527,7 @@ synicboard_reply synicboard_tick_due(synicboard *board, uint64_t moment, synicbo
 
 /* What a run loop acts on: the next vector of each processor, 0 if it has none, and the earliest
  * deadline. For a closed handle all is 0, and so is `next` for a processor that is not on the board. A view
- * has processors 0 to 7; synicboard_next answers for any. */
+ * has processors 0 to 7; a wide view, below, has 64. */
 typedef struct synicboard_view {
     uint8_t next[8];
     synicboard_due earliest;
@@ -538,6 +540,23 @@ typedef struct synicboard_view {
  * (kick its thread), SYNICBOARD_EARLIEST_CHANGED iff the earliest deadline does (arm the host's timer),
  * and no other bit. One call after an event, or after several, in place of one for each processor. */
 uint64_t synicboard_update(const synicboard *board, synicboard_view *view);
+
+/* The same for a board of up to 64 processors. */
+typedef struct synicboard_wide_view {
+    uint8_t next[64];
+    synicboard_due earliest;
+} synicboard_wide_view;
+
+/* What differs in a wide view: bit p of `next` iff the next vector of processor p does (kick its thread),
+ * `earliest` iff the earliest deadline does (arm the host's timer). */
+typedef struct synicboard_changes {
+    uint64_t next;
+    bool earliest;
+} synicboard_changes;
+
+/* Updates a wide view, and returns what differs from before. It asks for each of 64 processors; for a board of
+ * at most eight use synicboard_update. */
+synicboard_changes synicboard_update_wide(const synicboard *board, synicboard_wide_view *view);
 
 /* Which page a guest sees at each page number, as synicboard_owner returns it. */
 typedef struct synicboard_owners {

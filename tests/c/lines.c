@@ -9,7 +9,7 @@
 #include "checks.h"
 #include "synicboard.h"
 
-enum { VECTORS = 256, FIRST_VECTOR = 16, PARTS = 4, PART_VECTORS = 64, MOST_SPLITS = 31 };
+enum { VECTORS = 256, FIRST_VECTOR = 16, PARTS = 4, PART_VECTORS = 64, MOST_SPLITS = 319, LAST_VECTOR = 255 };
 
 static struct text before, after;
 
@@ -112,7 +112,13 @@ static void test_opening_twice(void)
     synicboard_close_line(&other);
 }
 
-/* 31 lines are split off, and they share the same words as long as one of them is open. */
+/* The vector that line `at` finds raised: each line but the last ones raises the next. */
+static uint8_t last_raised(unsigned at)
+{
+    return (uint8_t)(FIRST_VECTOR + at < LAST_VECTOR ? FIRST_VECTOR + at : LAST_VECTOR);
+}
+
+/* 319 lines are split off, and they share the same words as long as one of them is open. */
 static void test_splitting(void)
 {
     synicboard_line line = SYNICBOARD_LINE_CLOSED, others[MOST_SPLITS], more = SYNICBOARD_LINE_CLOSED;
@@ -122,15 +128,15 @@ static void test_splitting(void)
     for (unsigned at = 0; at < MOST_SPLITS; at++) {
         CHECK_NUMBER(synicboard_split_line(&line, &others[at]), SYNICBOARD_OK);
         CHECK_NUMBER(synicboard_split_line(&others[at], &more), SYNICBOARD_NO_MORE_LINES);
-        CHECK_NUMBER(synicboard_raise(&others[at], 0, (uint8_t)(FIRST_VECTOR + at)), SYNICBOARD_ALREADY);
-        CHECK_NUMBER(synicboard_raise(&others[at], 0, (uint8_t)(FIRST_VECTOR + 1 + at)), SYNICBOARD_FRESH);
+        CHECK_NUMBER(synicboard_raise(&others[at], 0, last_raised(at)), SYNICBOARD_ALREADY);
+        CHECK_NUMBER(synicboard_raise(&others[at], 0, last_raised(at + 1)), last_raised(at) < LAST_VECTOR ? SYNICBOARD_FRESH : SYNICBOARD_ALREADY);
     }
     CHECK_NUMBER(synicboard_split_line(&line, &more), SYNICBOARD_NO_MORE_LINES);
     CHECK(is_blank(&more));
     synicboard_close_line(&line);
     for (unsigned at = 0; at < MOST_SPLITS; at++) {
         CHECK(blocks_out > 0);
-        CHECK_NUMBER(synicboard_raise(&others[at], 0, (uint8_t)(FIRST_VECTOR + MOST_SPLITS)), SYNICBOARD_ALREADY);
+        CHECK_NUMBER(synicboard_raise(&others[at], 0, LAST_VECTOR), SYNICBOARD_ALREADY);
         synicboard_close_line(&others[at]);
         CHECK(is_blank(&others[at]));
     }

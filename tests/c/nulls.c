@@ -9,7 +9,7 @@
 #include "checks.h"
 #include "synicboard.h"
 
-enum { MESSAGE_PORT = 3, SOURCE = 2, SLOT = 256, EVENTS = 4, NOTICES = 300, MOST_SPLITS = 31, FILLER = 0xee };
+enum { MESSAGE_PORT = 3, SOURCE = 2, SLOT = 256, EVENTS = 4, NOTICES = 300, MOST_SPLITS = 319, FILLER = 0xee };
 
 static struct text before, after;
 
@@ -107,6 +107,7 @@ static void test_null_board_looks(void)
     const uint8_t byte = 0, *page = &byte;
     synicboard_notice notice;
     synicboard_view view = { .next = { 0x50 } };
+    synicboard_wide_view wide = { .next = { 0x50 } };
     synicboard_owners owners = { .page = { { .kind = SYNICBOARD_OWNER_GUEST } } };
     memset(&notice, FILLER, sizeof notice);
     CHECK_NUMBER(synicboard_next(NULL, 0), 0);
@@ -134,7 +135,10 @@ static void test_null_board_looks(void)
     CHECK(view.next[0] == 0);
     CHECK_NUMBER(synicboard_update_owners(NULL, &owners), 1);
     CHECK(owners.page[0].kind == SYNICBOARD_OWNER_NOTHING);
+    CHECK_NUMBER(synicboard_update_wide(NULL, &wide).next, 1);
+    CHECK(wide.next[0] == 0);
     CHECK_NUMBER(synicboard_update(NULL, NULL), 0);
+    CHECK(synicboard_update_wide(NULL, NULL).next == 0 && !synicboard_update_wide(NULL, NULL).earliest);
     CHECK_NUMBER(synicboard_update_owners(NULL, NULL), 0);
     CHECK_NUMBER(synicboard_notices(NULL, &notice, 1), 0);
     CHECK(is_filled(&notice, sizeof notice));

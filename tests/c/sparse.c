@@ -161,6 +161,89 @@ static void test_many_processors(void)
     synicboard_close(&board);
 }
 
+/* After each event the bits are those of the processors whose next vector differs, up to processor 63. */
+static void test_wide_view(void)
+{
+    synicboard board = SYNICBOARD_CLOSED;
+    synicboard_wide_view view = { 0 };
+    synicboard_changes changes = synicboard_update_wide(&board, &view);
+    CHECK(changes.next == 0 && !changes.earliest);
+    CHECK_NUMBER(synicboard_open_sparse(&board, MOST_PROCESSORS, 0), SYNICBOARD_OK);
+    for (uint8_t vp = 0; vp < MOST_PROCESSORS; vp++) {
+        CHECK_REPLY(synicboard_assert(&board, vp, 0x40), SYNICBOARD_DONE);
+        changes = synicboard_update_wide(&board, &view);
+        CHECK(changes.next == UINT64_C(1) << vp && !changes.earliest && view.next[vp] == 0x40);
+        changes = synicboard_update_wide(&board, &view);
+        CHECK(changes.next == 0 && !changes.earliest);
+    }
+    CHECK_REPLY(synicboard_send(&board, 0x50, UINT64_C(0x8000000000000101)), SYNICBOARD_DONE);
+    CHECK_REPLY(synicboard_write(&board, 63, STIMER0_COUNT + 6, 10), SYNICBOARD_DONE);
+    CHECK_REPLY(synicboard_write(&board, 63, STIMER0_CONFIG + 6, 0x1401), SYNICBOARD_DONE);
+    changes = synicboard_update_wide(&board, &view);
+    CHECK(changes.next == UINT64_C(0x8000000000000101) && changes.earliest);
+    CHECK(view.earliest.is_due && view.earliest.vp == 63 && view.earliest.timer == 3 && view.earliest.low == 10);
+    synicboard_close(&board);
+    changes = synicboard_update_wide(&board, &view);
+    CHECK(changes.next == UINT64_MAX && changes.earliest && !view.earliest.is_due);
+}
+
+/* Four ports for each of 64 processors, the last of which takes as many messages as it has buffers. */
+static void test_many_ports(void)
+{
+    enum { BUFFERS = 16 };
+    synicboard board = SYNICBOARD_CLOSED;
+    CHECK_NUMBER(synicboard_open_sparse(&board, MOST_PROCESSORS, 0), SYNICBOARD_OK);
+    CHECK_REPLY(synicboard_write(&board, 63, SCONTROL, 1), SYNICBOARD_DONE);
+    for (unsigned port = 0; port < 4 * MOST_PROCESSORS; port++)
+        CHECK_REPLY(synicboard_open_message_port(&board, (uint8_t)port, (uint8_t)(port / 4), 2, BUFFERS), SYNICBOARD_DONE);
+    for (unsigned turn = 0; turn < BUFFERS; turn++)
+        CHECK_REPLY(synicboard_post(&board, 255, 1, NULL, 0), SYNICBOARD_ACCEPTED);
+    CHECK_REFUSAL(synicboard_post(&board, 255, 1, NULL, 0), SYNICBOARD_NO_BUFFERS);
+    CHECK_NUMBER(synicboard_queued(&board, 63, 2), BUFFERS);
+    CHECK_REPLY(synicboard_close_port(&board, 255), SYNICBOARD_DONE);
+    CHECK_NUMBER(synicboard_notices(&board, NULL, 0), BUFFERS);
+    synicboard_close(&board);
+}
+
+/* The ports of a processor have at most 256 buffers, and one that is closed gives its own back. */
+static void test_buffers_of_a_processor(void)
+{
+    enum { BUFFERS = 16 };
+    synicboard board = SYNICBOARD_CLOSED;
+    CHECK_NUMBER(synicboard_open_sparse(&board, MOST_PROCESSORS, 0), SYNICBOARD_OK);
+    for (unsigned port = 0; port < 16; port++)
+        CHECK_REPLY(synicboard_open_message_port(&board, (uint8_t)(16 * port), 63, (uint8_t)port, BUFFERS), SYNICBOARD_DONE);
+    CHECK_REFUSAL(synicboard_open_message_port(&board, 255, 63, 2, 1), SYNICBOARD_BAD_TARGET);
+    CHECK_REPLY(synicboard_open_message_port(&board, 255, 62, 2, BUFFERS), SYNICBOARD_DONE);
+    CHECK_REPLY(synicboard_open_event_port(&board, 254, 63, 2, 0, 2048), SYNICBOARD_DONE);
+    CHECK_REPLY(synicboard_close_port(&board, 240), SYNICBOARD_DONE);
+    CHECK_REPLY(synicboard_open_message_port(&board, 253, 63, 2, BUFFERS), SYNICBOARD_DONE);
+    CHECK_REFUSAL(synicboard_open_message_port(&board, 240, 63, 2, 1), SYNICBOARD_BAD_TARGET);
+    synicboard_close(&board);
+}
+
+/* Two overlays of each of 64 processors, the last ones at the first pages: each has a page of its own, in ascending order. */
+static void test_128_overlays(void)
+{
+    synicboard board = SYNICBOARD_CLOSED;
+    unsigned count = 2 * MOST_PROCESSORS;
+    CHECK_NUMBER(synicboard_open_sparse(&board, MOST_PROCESSORS, 0), SYNICBOARD_OK);
+    for (unsigned at = 0; at < count; at++) {
+        uint32_t msr = at % 2 == 0 ? SIMP : SIEFP;
+        CHECK_REPLY(synicboard_write(&board, (uint8_t)(at / 2), msr, at_page(3 * (count - 1 - at))), SYNICBOARD_DONE);
+    }
+    uint64_t from = 0;
+    for (unsigned at = 0; at < count; at++) {
+        synicboard_overlay next = synicboard_next_overlay(&board, from);
+        CHECK_NUMBER(next.page, 3 * at);
+        CHECK_NUMBER(next.owner.vp, (count - 1 - at) / 2);
+        CHECK_NUMBER(next.owner.kind, at % 2 == 0 ? SYNICBOARD_OWNER_FLAGS : SYNICBOARD_OWNER_MESSAGES);
+        from = next.page + 1;
+    }
+    CHECK_NUMBER(synicboard_next_overlay(&board, from).owner.kind, SYNICBOARD_OWNER_NOTHING);
+    synicboard_close(&board);
+}
+
 static const struct test tests[] = {
     { "opening", test_opening },
     { "refused memory of an opening", test_refused_memory },
@@ -168,6 +251,10 @@ static const struct test tests[] = {
     { "overlays in order", test_overlays_in_order },
     { "messages at any page", test_messages },
     { "many processors", test_many_processors },
+    { "a wide view", test_wide_view },
+    { "many ports", test_many_ports },
+    { "buffers of a processor", test_buffers_of_a_processor },
+    { "128 overlays", test_128_overlays },
 };
 
 int main(void)

@@ -3,7 +3,7 @@
 use crate::notice::{Room, ROOM};
 use crate::{
     beyond_the_header, sys, Changes, Event, Line, Moment, Notices, Owner, Owners, PortShape, Reply, Ticket,
-    TimerId, Vector, View, Vp,
+    TimerId, Vector, View, Vp, WideChanges, WideView,
 };
 use core::cell::UnsafeCell;
 use core::error::Error;
@@ -318,16 +318,17 @@ impl Board {
         }
     }
 
-    /// Opens a port, 0 to 15, for messages to source `sint`, 0 to 15, of processor `vp`. At most
-    /// `buffers` of its messages, 1 to 16, may be queued at once.
+    /// Opens a port for messages to source `sint`, 0 to 15, of processor `vp`. At most `buffers` of its
+    /// messages, 1 to 16, may be queued at once. A board has ports 0 to 15; a sparse board of more than
+    /// four processors has four for each. All ports of a processor have at most 256 buffers.
     ///
     /// `Done`, or refused: `UnknownPort`, `PortOpen`, `BadTarget` (also if `vp` is not on the
-    /// board).
+    /// board, or has not as many buffers left).
     pub fn open_message_port(&mut self, port: u8, vp: u8, sint: u8, buffers: u8) -> Reply {
         Reply::of(ask!(self, synicboard_open_message_port, port, vp, sint, buffers))
     }
 
-    /// Opens a port, 0 to 15, for the `count` event flags from `base` on, of source `sint`, 0 to
+    /// Opens a port for the `count` event flags from `base` on, of source `sint`, 0 to
     /// 15, of processor `vp`. `count` is at least 1, and `base` + `count` at most 2048.
     ///
     /// `Done`, or refused: `UnknownPort`, `PortOpen`, `BadTarget` (also if `vp` is not on the
@@ -642,8 +643,8 @@ impl Board {
     }
 
     /// The first page from `from` on at which a guest sees an overlay, with its owner; `None` if there is
-    /// none. From 0 on, and then from the page after each answer, these are all of them, at most 16, for a
-    /// host to map. A write of SIMP or SIEFP, or a reset, may change them.
+    /// none. From 0 on, and then from the page after each answer, these are all of them, at most two for each
+    /// processor, for a host to map. A write of SIMP or SIEFP, or a reset, may change them.
     pub fn next_overlay(&self, from: u64) -> Option<(u64, Owner)> {
         let next = ask!(self, synicboard_next_overlay, from);
         match owner_of(&next.owner) {
@@ -669,6 +670,12 @@ impl Board {
     /// processors to kick, and whether to arm the host's timer again.
     pub fn update(&self, view: &mut View) -> Changes {
         Changes(ask!(self, synicboard_update, &mut view.0))
+    }
+
+    /// The same for a board of up to 64 processors. It asks for each of 64; for a board of at most eight use
+    /// [`update`](Board::update).
+    pub fn update_wide(&self, view: &mut WideView) -> WideChanges {
+        WideChanges(ask!(self, synicboard_update_wide, &mut view.0))
     }
 
     /// Updates the owners of pages 0 to 63, and returns those whose owner differs from before, for a

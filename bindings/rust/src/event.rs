@@ -14,7 +14,7 @@ use core::ops::Deref;
 pub enum Event {
     /// Opens a port to a source of a processor.
     OpenPort {
-        /// The port, 0 to 15.
+        /// The port: 0 to 15, or one of four for each processor of a sparse board.
         port: u8,
         /// The processor.
         vp: u8,
@@ -25,7 +25,7 @@ pub enum Event {
     },
     /// Closes a port.
     ClosePort {
-        /// The port, 0 to 15.
+        /// The port: 0 to 15, or one of four for each processor of a sparse board.
         port: u8,
     },
     /// A guest writes a register.
@@ -46,7 +46,7 @@ pub enum Event {
     },
     /// Posts a message to a port.
     Post {
-        /// The port, 0 to 15.
+        /// The port: 0 to 15, or one of four for each processor of a sparse board.
         port: u8,
         /// The type of the message: not 0, and bit 31 is clear.
         kind: u32,
@@ -55,7 +55,7 @@ pub enum Event {
     },
     /// Signals an event flag of a port.
     Signal {
-        /// The port, 0 to 15.
+        /// The port: 0 to 15, or one of four for each processor of a sparse board.
         port: u8,
         /// The number of the flag within the port, from 0 on.
         flag: u16,

@@ -1,5 +1,5 @@
 //! The interrupt side of a Hyper-V-like partition: local APICs, the synthetic interrupt controller
-//! with its message and event flags pages, ports, message queues and synthetic timers, for 1 to 8
+//! with its message and event flags pages, ports, message queues and synthetic timers, for 1 to 64
 //! processors.
 //!
 //! These are bindings for the C library `libsynicboard.a`, whose code is proved to meet the
@@ -46,7 +46,7 @@ pub use reply::{Refusal, Reply};
 pub use terms::{Moment, Owner, Sint, Ticket, TimerId, Vector, Vp};
 pub use text::{check, format_entry, replay, End, FormatFault, Verdict};
 pub use tsc::TscPage;
-pub use view::{Changes, Owners, View};
+pub use view::{Changes, Owners, View, WideChanges, WideView};
 
 /// Panics: the library returned a value that its header does not have, so their versions differ.
 #[cold]

@@ -7,7 +7,7 @@ use core::fmt;
 /// Why no line was split off.
 #[derive(Clone, Copy, PartialEq, Eq, Hash, Debug)]
 pub enum SplitFault {
-    /// The line has none left: 31 were split off it, or it was itself split off.
+    /// The line has none left: 319 were split off it, or it was itself split off.
     NoMore,
     /// An allocation failed.
     Memory,
@@ -131,7 +131,7 @@ impl Line {
     }
 
     /// Splits off another line of the same words, for another thread. Only the first line of the
-    /// words splits off others, 31 in all. Dropping one of them does not allow another.
+    /// words splits off others, 319 in all. Dropping one of them does not allow another.
     ///
     /// # Errors
     ///
@@ -165,7 +165,7 @@ impl Line {
         }
     }
 
-    /// How many processors the words are for, 1 to 8.
+    /// How many processors the words are for, 1 to 64.
     pub fn processors(&self) -> u8 {
         self.processors
     }

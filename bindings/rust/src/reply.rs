@@ -96,7 +96,7 @@ fn first(bytes: &[u8; 8], length: u8) -> Option<Bytes8> {
 #[derive(Clone, Copy, PartialEq, Eq, PartialOrd, Ord, Hash, Debug)]
 #[repr(u8)]
 pub enum Refusal {
-    /// The port is not open; to open one, its number is above 15.
+    /// The port is not open; to open one, the board has none of its number.
     UnknownPort = sys::SYNICBOARD_UNKNOWN_PORT,
     /// The port is already open.
     PortOpen = sys::SYNICBOARD_PORT_OPEN,

@@ -414,6 +414,26 @@ pub struct synicboard_view {
     pub earliest: synicboard_due,
 }
 
+/// The next vector of each of up to 64 processors, 0 if it has none, and the earliest deadline.
+#[repr(C)]
+#[derive(Clone, Copy, PartialEq, Eq, Debug)]
+pub struct synicboard_wide_view {
+    /// The next vectors.
+    pub next: [u8; 64],
+    /// The earliest deadline.
+    pub earliest: synicboard_due,
+}
+
+/// What differs in a wide view.
+#[repr(C)]
+#[derive(Clone, Copy, PartialEq, Eq, Debug)]
+pub struct synicboard_changes {
+    /// Bit p for the next vector of processor p.
+    pub next: u64,
+    /// Whether the earliest deadline differs.
+    pub earliest: bool,
+}
+
 /// The bit of `synicboard_update` for the earliest deadline.
 pub const SYNICBOARD_EARLIEST_CHANGED: u64 = 0x100;
 
@@ -643,6 +663,11 @@ extern "C" {
     ) -> synicboard_reply;
     /// Updates a view, and returns a bit for each value that differs.
     pub fn synicboard_update(board: *const synicboard, view: *mut synicboard_view) -> u64;
+    /// Updates a view of 64 processors, and returns what differs from before.
+    pub fn synicboard_update_wide(
+        board: *const synicboard,
+        view: *mut synicboard_wide_view,
+    ) -> synicboard_changes;
     /// Updates the owners, and returns a bit for each page whose owner differs.
     pub fn synicboard_update_owners(board: *const synicboard, owners: *mut synicboard_owners) -> u64;
 

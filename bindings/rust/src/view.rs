@@ -58,6 +58,72 @@ impl fmt::Debug for View {
     }
 }
 
+/// The same for a board of up to 64 processors, as of the last
+/// [`update_wide`](crate::Board::update_wide).
+///
+/// ```
+/// use synicboard::{Board, Vector, WideView};
+///
+/// # fn main() -> Result<(), synicboard::OpenFault> {
+/// let mut board = Board::open_sparse(64, 0)?;
+/// let mut view = WideView::default();
+/// let vector = Vector::new(0x50).expect("a vector from 16 on");
+/// board.assert(63, vector);
+/// let changes = board.update_wide(&mut view);
+/// assert!(changes.nexts() == 1 << 63 && !changes.earliest());
+/// assert_eq!(view.next(63), Some(vector));
+/// # Ok(())
+/// # }
+/// ```
+#[derive(Clone, PartialEq, Eq)]
+pub struct WideView(pub(crate) sys::synicboard_wide_view);
+
+impl WideView {
+    /// The next vector of a processor. `None` if there is none, or `vp` is not on the board.
+    pub fn next(&self, vp: u8) -> Option<Vector> {
+        self.0.next.get(usize::from(vp)).and_then(|&vector| Vector::new(vector))
+    }
+
+    /// The timer with the earliest deadline, and the deadline in units of 100 ns.
+    pub fn earliest(&self) -> Option<(u128, TimerId)> {
+        first_due(&self.0.earliest)
+    }
+}
+
+impl Default for WideView {
+    /// The view of a newly opened board.
+    fn default() -> WideView {
+        WideView(sys::synicboard_wide_view { next: [0; 64], earliest: NEVER })
+    }
+}
+
+impl fmt::Debug for WideView {
+    fn fmt(&self, formatter: &mut fmt::Formatter<'_>) -> fmt::Result {
+        formatter.debug_struct("WideView").field("next", &self.0.next).field("earliest", &self.earliest()).finish()
+    }
+}
+
+/// What differs between two updates of a wide view.
+#[derive(Clone, Copy, PartialEq, Eq, Debug)]
+pub struct WideChanges(pub(crate) sys::synicboard_changes);
+
+impl WideChanges {
+    /// The processors whose next vector differs: bit p for processor p.
+    pub fn nexts(self) -> u64 {
+        self.0.next
+    }
+
+    /// Whether the earliest deadline or its timer differs.
+    pub fn earliest(self) -> bool {
+        self.0.earliest
+    }
+
+    /// Whether anything differs.
+    pub fn any(self) -> bool {
+        self.0.next != 0 || self.0.earliest
+    }
+}
+
 /// What differs between two updates of a view.
 #[derive(Clone, Copy, PartialEq, Eq, Debug)]
 pub struct Changes(pub(crate) u64);

@@ -373,8 +373,8 @@ fn a_dropped_board_gives_its_memory_back() {
     assert!(before.zip(after).is_none_or(|(before, after)| after < before + 100_000), "{before:?} {after:?}");
 }
 
-/// A line and the 31 that are split off it take more than a kilobyte, so 60,000 times as many take
-/// more than 60 megabytes.
+/// A line and 31 that are split off it take more than a kilobyte, so 60,000 times as many take more
+/// than 60 megabytes.
 #[test]
 fn dropped_lines_give_their_memory_back() {
     let open = || {

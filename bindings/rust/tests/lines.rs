@@ -63,10 +63,10 @@ fn a_processor_that_the_words_are_not_for_is_not_raised() {
 }
 
 #[test]
-fn a_first_line_gives_31_and_no_other_gives_any() {
+fn a_first_line_gives_319_and_no_other_gives_any() {
     let mut line = Line::open(1).unwrap();
     let mut others = Vec::new();
-    for _ in 0..31 {
+    for _ in 0..319 {
         others.push(line.split().unwrap());
     }
     assert_eq!(line.split().unwrap_err(), SplitFault::NoMore);
@@ -86,13 +86,13 @@ fn a_first_line_gives_31_and_no_other_gives_any() {
 fn the_words_stay_as_long_as_one_of_their_lines() {
     let mut board = Board::open(1, 1, 0).unwrap();
     let mut line = Line::open(1).unwrap();
-    let mut others: Vec<_> = (0..31).map(|_| line.split().unwrap()).collect();
+    let mut others: Vec<_> = (0..319).map(|_| line.split().unwrap()).collect();
     assert_eq!(line.raise(0, VECTOR), FRESH);
     drop(line);
     for other in &mut others {
         assert_eq!(other.raise(0, VECTOR), ALREADY);
     }
-    let mut last = others.swap_remove(30);
+    let mut last = others.swap_remove(318);
     drop(others);
     assert_eq!(last.raise(0, VECTOR), ALREADY);
     absorbs(&mut board, &mut last, 0, PART, &[VECTOR]);

@@ -153,6 +153,9 @@ fn looks_at_a_closed_handle_find_nothing() {
         assert!(!synicboard_earliest(board).is_due);
         let mut view = synicboard_view { next: [0x50; 8], earliest: synicboard_earliest(board) };
         assert_eq!(synicboard_update(board, &mut view), 0xff);
+        let mut wide = synicboard_wide_view { next: [0x50; 64], earliest: synicboard_earliest(board) };
+        let changes = synicboard_update_wide(board, &mut wide);
+        assert!(changes.next == u64::MAX && !changes.earliest && wide.next == [0; 64]);
         let mut owners = synicboard_owners { page: [synicboard_owner(board, 0); 64] };
         assert_eq!(synicboard_update_owners(board, &mut owners), 0);
         assert!(!synicboard_message_page(board, 0, &mut page));

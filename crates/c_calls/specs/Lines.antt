@@ -13,9 +13,9 @@ use Rattle.synic_board.specs.State.{State, processors}
 use Rattle.synic_board.specs.Step.{step}
 use Rattle.c_calls.specs.Performing.{outcome_to_c}
 
--- the first line of new words, which may split off 31
+-- the first line of new words, which may split off 319
 abbrev pub IsFirstLine : ℕ → Option LineModel → Type 0
-IsFirstLine count (Some line) = line ≡ line_model (shared_words line.words.name count 16 16) [] 31
+IsFirstLine count (Some line) = line ≡ line_model (shared_words line.words.name count 64 256) [] 319
 IsFirstLine count None = ⊥
 
 -- a line has none left to split off

@@ -1,6 +1,6 @@
 // Lines, which raise vectors without the lock, and absorb them under it.
 ghost use Rattle.std.specs.Prelude.{◌≡◌, ◌≢◌, ◌<◌, ◌↔◌, true, nat_eq, IsSome, None};
-ghost use Rattle.posted_words.specs.Words.{AreWordSizes};
+ghost use Rattle.posted_words.specs.Words.{AreManyWordSizes};
 ghost use Rattle.c_calls.specs.Lines.{IsFirstLine, gives_none, IsSplit, has_bit, IsRaised, IsAbsorbed};
 
 use c_handles::{BoardHandle, LineHandle, OwnedLine, SplitFault};
@@ -15,7 +15,7 @@ use std::alloc::Global;
 pub extern "C" fn synicboard_open_line(alloc: Global, line: &mut LineHandle, processors: u8) -> u8
     ensures answers { result < 4 }
     ensures before { (result ≡ 3) ↔ IsSome line.old.line }
-    ensures size { (result ≡ 1) ↔ ((line.old.line ≡ None) × (¬ AreWordSizes processors 16 16)) }
+    ensures size { (result ≡ 1) ↔ ((line.old.line ≡ None) × (¬ AreManyWordSizes processors 64 256)) }
     ensures opened { result ≡ 0 → IsFirstLine processors line.new.line }
     ensures not_opened { result ≢ 0 → line.new.line ≡ line.old.line }
 {
@@ -38,7 +38,7 @@ pub extern "C" fn synicboard_open_line(alloc: Global, line: &mut LineHandle, pro
 }
 
 /// Opens another line of the same words, for another thread, in a closed handle. Only the first
-/// line of the words splits off others, 31 in all. Returns 0; or 2 if an allocation fails, 3 if the
+/// line of the words splits off others, 319 in all. Returns 0; or 2 if an allocation fails, 3 if the
 /// other handle is open, 4 if the first handle is closed, 5 if its line has none left.
 #[unsafe(no_mangle)]
 pub extern "C" fn synicboard_split_line(

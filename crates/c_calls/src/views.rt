@@ -1,8 +1,8 @@
 // What a run loop acts on, and what has changed in it.
-ghost use Rattle.std.specs.Prelude.{◌≡◌, ◌≢◌, ◌==◌, ◌↔◌, ◌<◌, ◌≤◌, ℕ};
+ghost use Rattle.std.specs.Prelude.{◌≡◌, ◌≢◌, ◌==◌, ◌↔◌, ◌<◌, ◌≤◌, ℕ, true, length};
 ghost use Rattle.std.specs.Int.{bit_at};
-ghost use Rattle.c_calls.specs.Looks.{next_vector_of};
-ghost use Rattle.c_calls.specs.Views.{AreOwners, IsView, MarksOwners, MarksView, vector_in};
+ghost use Rattle.c_calls.specs.Looks.{earliest_of};
+ghost use Rattle.c_calls.specs.Views.{AreNexts, AreOwners, IsView, IsWideView, MarkNexts, MarksOwners, MarksView, MarksWideView};
 
 use crate::looks::{CDeadline, COwner, synicboard_earliest, synicboard_next, synicboard_owner};
 use c_handles::BoardHandle;
@@ -14,6 +14,23 @@ use c_handles::BoardHandle;
 pub struct CView {
     pub next: [u8; 8],
     pub earliest: CDeadline,
+}
+
+/// The same for up to 64 processors.
+#[repr(C)]
+#[derive(Clone, Copy)]
+pub struct CWideView {
+    pub next: [u8; 64],
+    pub earliest: CDeadline,
+}
+
+/// What differs in a wide view: bit p for the next vector of processor p, and whether the earliest
+/// deadline does.
+#[repr(C)]
+#[derive(Clone, Copy)]
+pub struct CChanges {
+    pub next: u64,
+    pub earliest: bool,
 }
 
 /// Which page a guest sees at each page number.
@@ -35,22 +52,49 @@ pub extern "C" fn synicboard_update(handle: &mut BoardHandle, view: &mut CView) 
     ensures view { IsView handle.old.board view.new }
     ensures changes { MarksView result view.old view.new }
 {
-    let changed = update_nexts(handle, &mut view.next);
-    let earliest = synicboard_earliest(handle);
-    let differs = view.earliest != earliest;
-    view.earliest = earliest;
+    let changed = update_nexts(handle, view.next.as_mut_slice());
+    let differs = update_earliest(handle, &mut view.earliest);
     with_bit(changed, EARLIEST, differs)
 }
 
-/// Updates the next vectors, and returns a word with a bit for each that differs.
-fn update_nexts(handle: &mut BoardHandle, nexts: &mut [u8; 8]) -> u64
+/// Updates a view of 64 processors, and returns what of it differs. Without a board, no processor has a
+/// next vector and no timer a deadline; nor has a processor that is not on the board.
+#[unsafe(no_mangle)]
+pub extern "C" fn synicboard_update_wide(handle: &mut BoardHandle, view: &mut CWideView) -> CChanges
     ensures board { handle.new.board ≡ handle.old.board }
-    ensures nexts { (p : ℕ) → p < 8 → vector_in nexts.new p ≡ next_vector_of handle.old.board p }
-    ensures changes { (p : ℕ) → p < 8 → bit_at result p ≡ 1 ↔ (vector_in nexts.old p ≢ vector_in nexts.new p) }
-    ensures others { (i : ℕ) → 8 ≤ i → i < 64 → bit_at result i ≡ 0 }
+    ensures view { IsWideView handle.old.board view.new }
+    ensures changes { MarksWideView result view.old view.new }
+{
+    CChanges {
+        next: update_nexts(handle, view.next.as_mut_slice()),
+        earliest: update_earliest(handle, &mut view.earliest),
+    }
+}
+
+/// Updates the earliest deadline, and returns whether it differs.
+fn update_earliest(handle: &mut BoardHandle, earliest: &mut CDeadline) -> bool
+    ensures board { handle.new.board ≡ handle.old.board }
+    ensures earliest { earliest.new ≡ earliest_of handle.old.board }
+    ensures differs { result ≡ true ↔ (earliest.old ≢ earliest.new) }
+{
+    let now = synicboard_earliest(handle);
+    let differs = *earliest != now;
+    *earliest = now;
+    differs
+}
+
+/// Updates the next vectors of the first processors, and returns a word with a bit for each that
+/// differs.
+fn update_nexts(handle: &mut BoardHandle, nexts: &mut [u8]) -> u64
+    requires { length nexts.old ≤ 64 }
+    ensures board { handle.new.board ≡ handle.old.board }
+    ensures as_many { length nexts.new ≡ length nexts.old }
+    ensures nexts { AreNexts (length nexts.old) handle.old.board nexts.new }
+    ensures changes { MarkNexts (length nexts.old) result nexts.old nexts.new }
+    ensures others { (i : ℕ) → length nexts.old ≤ i → i < 64 → bit_at result i ≡ 0 }
 {
     let mut changed = 0;
-    for vp in 0..8u8 {
+    for vp in 0..nexts.len() as u8 {
         let next = synicboard_next(handle, vp);
         changed = with_bit(changed, vp, nexts[vp as usize] != next);
         nexts[vp as usize] = next;

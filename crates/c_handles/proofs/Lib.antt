@@ -1,3 +1,4 @@
+pub mod Dealt
 pub mod Steps
 pub mod Owned
 pub mod Heap

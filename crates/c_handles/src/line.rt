@@ -2,7 +2,7 @@
 ghost use Rattle.std.specs.Prelude.{◌≡◌, ◌<◌, ◌≤◌, ◌↔◌, [], IfOk, OnErr, IfSome, IfNone, IsErrOf, IsSome, replicate, vec_len};
 ghost use Rattle.std.specs.Arc.{arc_value};
 ghost use Rattle.posted_words.specs.Answers.{is_fresh};
-ghost use Rattle.posted_words.specs.Words.{AreWordSizes, shared_words, raise_of, sweep_of, token};
+ghost use Rattle.posted_words.specs.Words.{AreManyWordSizes, shared_words, raise_of, sweep_of, token};
 ghost use Rattle.c_handles.specs.Lines.{line_model, new_line, with_step, with_one_split_off, IsSwept};
 
 use board_terms::{Vector, Vp};
@@ -45,13 +45,13 @@ impl Model for OwnedLine {
 
 impl OwnedLine {
     /// The first line of new words for that many processors, with all bits clear. It has no steps
-    /// and may split off 31 lines. `BadSize` unless there are 1 to 64 processors, which is checked
+    /// and may split off 319 lines. `BadSize` unless there are 1 to 64 processors, which is checked
     /// first; `Memory` if an allocation fails.
     pub fn open(alloc: Global, processors: u8) -> Result<OwnedLine, PostedFault>
-        ensures size { IsErrOf result PostedFault.BadSize ↔ (¬ AreWordSizes processors 16 16) }
-        ensures line { IfOk result (λ l. l ≡ line_model (shared_words l.words.name processors 16 16) [] 31) }
+        ensures size { IsErrOf result PostedFault.BadSize ↔ (¬ AreManyWordSizes processors 64 256) }
+        ensures line { IfOk result (λ l. l ≡ line_model (shared_words l.words.name processors 64 256) [] 319) }
     {
-        let (words, mut spare, mut lines) = PostedWords::open(alloc, processors, 16, 16)?;
+        let (words, mut spare, mut lines) = PostedWords::open_many(alloc, processors, 64, 256)?;
         let Some(line) = lines.pop() else {
             unreachable!()
         };

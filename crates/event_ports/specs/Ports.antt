@@ -1,5 +1,5 @@
 -- The ports of a partition (TLFS, "Ports").
-use Rattle.std.specs.Prelude.{ℕ, Bool, not, ◌+◌, ◌==◌, ◌&&◌, nat_lt, List, replicate, slice_index_or, slice_set, Option, None, Some, is_some, Result, Ok, Err, if◌then◌else◌}
+use Rattle.std.specs.Prelude.{ℕ, Bool, not, ◌+◌, ◌*◌, ◌==◌, ◌&&◌, nat_lt, nat_le, max, List, length, replicate, slice_index_or, slice_set, sum_by, Option, None, Some, is_some, Result, Ok, Err, if◌then◌else◌}
 use Rattle.std.specs.Option.{option_map_or}
 use Rattle.board_terms.specs.Quantities.{Processor, Source, PortNumber, Flag}
 use Rattle.board_terms.specs.declared.messages.PortShape.{PortShape}
@@ -7,18 +7,22 @@ use Rattle.board_terms.specs.declared.messages.PortShape.TheVariants.{Messages, 
 use Rattle.board_terms.specs.declared.refusal.Refusal.{Refusal}
 use Rattle.board_terms.specs.declared.refusal.Refusal.TheVariants.{UnknownPort, PortOpen, WrongKind, BadTarget, BadType, BadFlag}
 use Rattle.event_ports.specs.declared.ports.Port.{Port}
-use Rattle.event_ports.specs.Shapes.{fits}
+use Rattle.event_ports.specs.Shapes.{fits, buffers_of}
 
 pub record Ports : Type 0 where
   -- the number of processors on the board
   pub processors : ℕ
-  -- the ports 0 to 15
+  -- by number
   pub ports : List (Option Port)
 
-abbrev pub no_ports : ℕ → Ports
-no_ports n = record { processors = n; ports = replicate 16 None }
+-- how many ports a board of n processors has: 16, or if it is sparse four for each processor, if these are more
+unfoldable pub port_count : ℕ → Bool → ℕ
+port_count n sparse = if sparse then max 16 (4 * n) else 16
 
--- the open port with this number; none above 15
+abbrev pub no_ports : ℕ → Bool → Ports
+no_ports n sparse = record { processors = n; ports = replicate (port_count n sparse) None }
+
+-- the open port with this number; none from the count of ports on
 abbrev pub port_at : Ports → PortNumber → Option Port
 port_at s n = slice_index_or s.ports n None
 
@@ -32,12 +36,24 @@ without_port s n = record s { ports = slice_set s.ports n None }
 abbrev pub is_target : Ports → Processor → Source → Bool
 is_target s vp sint = nat_lt vp s.processors && nat_lt sint 16
 
+-- the message buffers of a port, if it is one of processor p
+abbrev pub buffers_at : Processor → Option Port → ℕ
+buffers_at p port = option_map_or (λ (x : Port). if x.vp == p then buffers_of x.shape else 0) port 0
+
+-- the message buffers of the ports of processor p
+abbrev pub buffers_to : Ports → Processor → ℕ
+buffers_to s p = sum_by (buffers_at p) s.ports
+
+-- with a port of that shape, those of processor p have at most 256
+abbrev pub has_room : Ports → Processor → PortShape → Bool
+has_room s p shape = nat_le (buffers_to s p + buffers_of shape) 256
+
 -- why a port cannot be opened; the checks are in this order
 abbrev pub open_refusal : Ports → PortNumber → Processor → Source → PortShape → Option Refusal
 open_refusal s port vp sint shape =
-    if nat_lt 15 port then Some UnknownPort
+    if nat_le (length s.ports) port then Some UnknownPort
     else if is_some (port_at s port) then Some PortOpen
-    else if not (is_target s vp sint && fits shape) then Some BadTarget
+    else if not (is_target s vp sint && fits shape && has_room s vp shape) then Some BadTarget
     else None
 
 abbrev pub target_of : Ports → PortNumber → Result Port Refusal

@@ -1,5 +1,5 @@
 -- The shapes of ports.
-use Rattle.std.specs.Prelude.{Bool, true, false, ◌+◌, nat_le, ◌&&◌}
+use Rattle.std.specs.Prelude.{ℕ, Bool, true, false, ◌+◌, nat_le, ◌&&◌}
 use Rattle.board_terms.specs.declared.messages.PortShape.{PortShape}
 use Rattle.board_terms.specs.declared.messages.PortShape.TheVariants.{Messages, Flags}
 
@@ -12,3 +12,8 @@ takes_messages (Flags base count) = false
 abbrev pub fits : PortShape → Bool
 fits (Messages buffers) = nat_le 1 buffers && nat_le buffers 16
 fits (Flags base count) = nat_le 1 count && nat_le (base + count) 2048
+
+-- how many messages of a port may be queued
+abbrev pub buffers_of : PortShape → ℕ
+buffers_of (Messages buffers) = buffers
+buffers_of (Flags base count) = 0

@@ -4,4 +4,4 @@
 
 mod ports;
 
-pub use ports::{Port, Ports};
+pub use ports::{Port, Ports, port_count};

@@ -69,6 +69,7 @@ impl OverlayIndex {
     }
 
     /// Records that an overlay is mapped at a page or no longer is. Does not allocate.
+    #[inline(never)]
     pub(crate) fn mark(&mut self, page: u64, overlay: usize, is_mapped: bool)
         requires keys { AreKeys self.old.keys.items }
         requires page { page < 2 ^ 52 }

@@ -78,6 +78,7 @@ impl Space {
 
     /// Writes the register of an overlay, SIMP or SIEFP: bit 0 enables it, and bits 63:12 are the
     /// page number at which it is mapped.
+    #[inline(always)]
     pub fn set_overlay(&mut self, vp: Vp, kind: Kind, register: u64)
         requires { vp < processors_of self.old }
         ensures { self.new ≡ with_register self.old vp kind register }

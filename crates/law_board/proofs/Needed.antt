@@ -1,18 +1,20 @@
 -- What may join a queue is just what leaves a sound board.
-use Rattle.std.proofs.Common.{◌≡◌, ◌⊎◌, inl, inr, ℕ, ◌+◌, ◌%◌, ◌<◌, ◌≤◌, Bool, true, cond, ◌&&◌, List, [], ◌∷◌, ◌++◌, length, refl, ap, subst, ◌∙◌, arith}
+use Rattle.std.proofs.Common.{◌≡◌, ◌⊎◌, inl, inr, ℕ, ◌+◌, ◌/◌, ◌%◌, ◌<◌, ◌≤◌, Bool, true, cond, ◌&&◌, List, [], ◌∷◌, ◌++◌, length, refl, ap, subst, ◌∙◌, arith}
 use Rattle.std.specs.Prelude.{◌==◌, count_by, Some}
 use Rattle.std.specs.List.{All}
 use Rattle.std.proofs.lemmas.Bool.{cases_lt}
 use Rattle.std.proofs.lemmas.Bool.Decides.{nat_tests}
-use Rattle.std.proofs.lemmas.List.{get_or-set_same}
+use Rattle.std.proofs.lemmas.List.{length-set, get_or-set_same}
 use Rattle.std.proofs.lemmas.List.Elements.{All-nil, All-cons, All-pop}
 use Rattle.std.proofs.lemmas.List.Sums.{sum_by-set, sum_by_push}
 use Rattle.board_terms.specs.declared.messages.Message.{Message}
 use Rattle.board_terms.specs.declared.messages.Message.TheVariants.{FromPort, FromTimer}
 use Rattle.board_terms.specs.Messages.{ticket_of}
 use Rattle.board_terms.specs.Sources.{source_number}
-use Rattle.message_queues.specs.Queues.{is_from_port, is_from_timer, timer_used, queue_of, processors_of, HasBuffer}
-use Rattle.synic_board.specs.State.{State, processors}
+use Rattle.event_ports.specs.declared.ports.Port.{Port}
+use Rattle.event_ports.specs.Ports.{port_at}
+use Rattle.message_queues.specs.Queues.{is_from_port, is_from_timer, timer_used, queue_of, processors_of, most_ports, HasBuffer}
+use Rattle.synic_board.specs.State.{State, processors, ports_of}
 use Rattle.synic_board.specs.Locations.{times, locations}
 use Rattle.synic_board.specs.Sound.{IsMessage, IsSound}
 use Rattle.synic_board.specs.Timed.{Ascends, HasExpired}
@@ -72,8 +74,12 @@ may-join s p i m below under before sound buffers = record {
     more : (f : Message → Bool) → f m ≡ true → found_in f now.queues ≡ found_in f s.queues + 1
     more f e = omega (arith, sum_by-set (count_by f) s.queues j q [] inside, sum_by_push (λ x. cond (f x) 1 0) (queue_of s.queues p i) m, ap one_if e)
 
+    -- the port is among as many as the queues have buffers for
+    reached : (port : ℕ) (x : Port) → port_at (ports_of s) port ≡ Some x → port < most_ports (processors_of s.queues)
+    reached port x is = omega (arith, port-below s port x is, buffers.ports, ap (λ n. most_ports (n / 16)) (length-set s.queues j q))
+
     room : (x : Message) → m ≡ x → IsHome s.ports p i x → HasBuffer s.queues x
-    room (FromPort ticket port kind payload) is at = (port-below s port _ buffers.ports at.1.1, omega (arith, buffers.room port, more (is_from_port port) (ap (is_from_port port) is ∙ itself port)))
+    room (FromPort ticket port kind payload) is at = (reached port _ at.1.1, omega (arith, buffers.room port, more (is_from_port port) (ap (is_from_port port) is ∙ itself port)))
     room (FromTimer ticket t expiration) is at =
         let found : is_from_timer t m ≡ true = ap (is_from_timer t) is ∙ (λ k. itself t.0 k && itself t.1 k) in
         let none : timer_used s.queues t ≡ 0 = omega (arith, buffers.one_each t, more (is_from_timer t) found) in

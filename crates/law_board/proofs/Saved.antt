@@ -1,5 +1,5 @@
 -- What is saved of a state leads back to it.
-use Rattle.std.proofs.Common.{◌≡◌, ℕ, zero, suc, ◌+◌, ◌*◌, ◌<◌, ◌≤◌, Bool, true, false, ◌&&◌, List, [], ◌∷◌, ◌++◌, length, replicate, map, refl, ap, sym, ◌∙◌, arith, length-append, append_assoc, zero-add}
+use Rattle.std.proofs.Common.{◌≡◌, ℕ, zero, suc, ◌+◌, ◌*◌, ◌<◌, ◌≤◌, Bool, true, false, ◌&&◌, List, [], ◌∷◌, ◌++◌, length, replicate, map, nat_eq, refl, ap, sym, ◌∙◌, arith, length-append, append_assoc, zero-add}
 use Rattle.std.specs.Prelude.{◌==◌, Option, None, Some, is_none, slice_set, slice_index_or, if◌then◌else◌}
 use Rattle.std.specs.List.{All}
 use Rattle.std.proofs.lemmas.Bool.Decides.{nat_tests}
@@ -7,6 +7,7 @@ use Rattle.std.proofs.lemmas.List.{ext_get_or, get_or-map, length-map}
 use Rattle.std.proofs.lemmas.List.Elements.{All-head, All-tail}
 use Rattle.board_terms.specs.declared.messages.Message.{Message}
 use Rattle.lapic_core.specs.Apic.{Apic, empty_apic}
+use Rattle.event_ports.specs.Ports.{port_count}
 use Rattle.gpa_space.specs.Page.{zero_page}
 use Rattle.stimer_bank.specs.declared.timer.Timer.{Timer}
 use Rattle.stimer_bank.specs.Bank.{idle_timer}
@@ -96,7 +97,7 @@ pub saved-back : (s : State) → HasShape s → HasPairedTimers s → restored (
 saved-back s h settled =
     let pages = back is_zero_page zero_page (λ page. length page ≡ 4096) known-page s.pages (length s.pages) refl h.pages in
     let own = back is_zero_page zero_page (λ page. length page ≡ 4096) known-page s.own (2 * length s.apics) h.overlays h.own in
-    let ports = back is_none None IsAny known-none s.ports 16 h.ports (all-any s.ports) in
+    let ports = back is_none None IsAny known-none s.ports (port_count (length s.apics) (nat_eq (length s.pages) 0)) h.ports (all-any s.ports) in
     let queues = back is_empty [] IsAny known-queue s.queues (16 * length s.apics) h.queues (all-any s.queues) in
     let slots = back is_none None IsAny known-none s.slots (16 * length s.apics) h.slots (all-any s.slots) in
     let timers = back is_idle idle_timer IsAny known-timer s.timers (4 * length s.apics) h.timers (all-any s.timers) in

@@ -6,6 +6,7 @@ use Rattle.board_terms.specs.declared.messages.Message.{Message}
 use Rattle.lapic_core.specs.Apic.{Apic}
 use Rattle.synic_regs.specs.Regs.{Regs}
 use Rattle.event_ports.specs.declared.ports.Port.{Port}
+use Rattle.event_ports.specs.Ports.{no_ports}
 use Rattle.gpa_space.specs.Page.{zero_page}
 use Rattle.stimer_bank.specs.declared.timer.Timer.{Timer}
 use Rattle.stimer_bank.specs.Bank.{idle_timer}
@@ -72,7 +73,7 @@ restored v =
       regs = v.regs;
       pages = put_back (replicate v.page_count zero_page) v.pages;
       own = put_back (replicate (2 * n) zero_page) v.own;
-      ports = put_back (replicate 16 None) v.ports;
+      ports = put_back (no_ports n (v.page_count == 0)).ports v.ports;
       queues = put_back (replicate (16 * n) []) v.queues;
       slots = put_back (replicate (16 * n) None) v.slots;
       timers = put_back (replicate (4 * n) idle_timer) v.timers;

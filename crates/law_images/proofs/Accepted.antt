@@ -1,5 +1,6 @@
 -- The image of a board leads, line by line, to the state of the board.
-use Rattle.std.proofs.Common.{◌≡◌, ◌⊎◌, inl, inr, ℕ, zero, suc, ◌+◌, ◌*◌, ◌<◌, ◌≤◌, [], ◌∷◌, ◌++◌, length, get_or, replicate, refl, arith, codes}
+use Rattle.std.proofs.Common.{◌≡◌, ◌⊎◌, inl, inr, ℕ, zero, suc, ◌+◌, ◌*◌, ◌<◌, ◌≤◌, [], ◌∷◌, ◌++◌, length, get_or, replicate, refl, sym, nat_eq, arith, codes}
+use Rattle.event_ports.specs.Ports.{port_count}
 use Rattle.std.specs.Prelude.{Option, None, Some}
 use Rattle.std.proofs.lemmas.Bool.{cases_lt}
 use Rattle.std.proofs.lemmas.List.{get_or-replicate, get_or_past, length-replicate}
@@ -81,7 +82,7 @@ module _ (s : State) (h : IsBoardState s) where
       (passes-append (point with_registers n (place 4 0 0 0)) (point with_guests n (place 5 0 0 0)) end (each_below (length s.pages) (guest_lines s)) _ (guests-passed s h with_registers refl)
       (passes-append (point with_guests n (place 5 0 0 0)) (point with_owns n (place 6 0 0 0)) end (each_below n (own_lines s)) _
       (owns-passed s h with_guests refl (λ p i low. no-ticket (16 * n) (16 * p + i)))
-      (passes-append (point with_owns n (place 6 0 0 0)) (point with_ports n (place 7 0 0 0)) end (each_below 16 (port_lines s)) _ (ports-passed s h with_owns refl)
+      (passes-append (point with_owns n (place 6 0 0 0)) (point with_ports n (place 7 0 0 0)) end (each_below (length s.ports) (port_lines s)) _ (ports-passed s h with_owns refl (port_count n (nat_eq (length s.pages) 0)) (sym h.shape.ports))
       (passes-append (point with_ports n (place 7 0 0 0)) (point with_timers n (place 8 0 0 0)) end (each_below n (timers_lines s)) _ (timers-passed s h with_ports refl refl)
       (passes-append (point with_timers n (place 8 0 0 0)) (point with_queues n (place 9 0 0 0)) end (each_below n (queues_lines s)) (each_below n (slots_lines s))
       (queues-passed s h with_timers refl refl refl (λ x. none-in x (16 * n)) refl)

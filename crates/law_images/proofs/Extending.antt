@@ -1,6 +1,7 @@
 -- A piece of an image adds its line to what was printed before it.
-use Rattle.std.proofs.Common.{◌≡◌, ℕ, ◌*◌, ◌≤◌, List, [], ◌∷◌, ◌++◌, length, sym, ap, ◌∙◌, arith}
+use Rattle.std.proofs.Common.{◌≡◌, nat_eq, ℕ, ◌*◌, ◌≤◌, List, [], ◌∷◌, ◌++◌, length, sym, ap, ◌∙◌, arith}
 use Rattle.std.specs.List.{All}
+use Rattle.event_ports.specs.Ports.{port_count}
 use Rattle.synic_regs.specs.Regs.{Regs}
 use Rattle.synic_board.specs.State.{State}
 use Rattle.text_image.specs.Image.{Lines}
@@ -17,7 +18,7 @@ pub record IsShaped (n m ticket : ℕ) (s : State) : Type 0 where
   pub next : s.next_ticket ≡ ticket
   pub regs : length s.regs ≡ n
   pub own : length s.own ≡ 2 * n
-  pub ports : length s.ports ≡ 16
+  pub ports : length s.ports ≡ port_count n (nat_eq m 0)
   pub timers : length s.timers ≡ 4 * n
   pub queues : length s.queues ≡ 16 * n
   pub slots : length s.slots ≡ 16 * n

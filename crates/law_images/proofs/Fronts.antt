@@ -68,3 +68,8 @@ front-sum-room f k w xs d y none below part =
     let two = sum_by-set f (front k xs d) k (get_or xs k d) d within in
     let more = ap (sum_by f) (front-more k xs d d below) in
     omega (arith, first, one, two, more, none, part, front-sum f (suc k) xs d none)
+
+-- a front and the next element of the list
+pub front-sum-next : {A : Type 0} (f : A → ℕ) (k : ℕ) (xs : List A) (d : A) → f d ≡ 0 → k < length xs → sum_by f (front k xs d) + f (get_or xs k d) ≤ sum_by f xs
+front-sum-next f k xs d none below =
+    omega (arith, front-sum-room f k (f (get_or xs k d)) xs d d none below (omega (arith, none)), ap (sum_by f) (front-start k xs d below))

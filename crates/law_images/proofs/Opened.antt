@@ -1,5 +1,5 @@
 -- A newly opened board has nothing at any spot.
-use Rattle.std.proofs.Common.{◌≡◌, ℕ, zero, suc, ◌+◌, ◌*◌, ◌<◌, Bool, true, false, List, [], ◌∷◌, cond, length, get_or, replicate, refl, ap, ◌∙◌, arith, nat_lt}
+use Rattle.std.proofs.Common.{◌≡◌, ℕ, zero, suc, ◌+◌, ◌*◌, ◌<◌, Bool, true, false, List, [], ◌∷◌, cond, length, get_or, replicate, refl, ap, ◌∙◌, arith, nat_eq, nat_lt}
 use Rattle.std.specs.Prelude.{Option, None, slice_get}
 use Rattle.std.specs.Option.{option_map_or}
 use Rattle.std.specs.Str.{bytes_eq}
@@ -9,6 +9,7 @@ use Rattle.std.proofs.lemmas.List.Elements.{All-replicate}
 use Rattle.std.proofs.lemmas.Slice.Eq.{bytes_eq-Decides}
 use Rattle.board_terms.specs.declared.messages.Message.{Message}
 use Rattle.event_ports.specs.declared.ports.Port.{Port}
+use Rattle.event_ports.specs.Ports.{port_count}
 use Rattle.gpa_space.specs.Page.{zero_page}
 use Rattle.gpa_space.specs.Space.{overlay_of}
 use Rattle.lapic_core.specs.Apic.{empty_apic}
@@ -32,7 +33,7 @@ opened-shaped n m ticket = record {
   next = refl;
   regs = length-replicate n reset_regs;
   own = length-replicate (2 * n) zero_page;
-  ports = length-replicate {A = Option Port} 16 None;
+  ports = length-replicate {A = Option Port} (port_count n (nat_eq m 0)) None;
   timers = length-replicate (4 * n) idle_timer;
   queues = length-replicate {A = List Message} (16 * n) [];
   slots = length-replicate {A = Option ℕ} (16 * n) None;
@@ -69,7 +70,7 @@ opened-blank n m ticket sizes Guests k b c h =
 opened-blank n m ticket sizes Owns p b c h =
     ap (λ (page : List ℕ). own_printed p (kind_of b) page c) (get_or-replicate (2 * n) (overlay_of p (kind_of b)) zero_page [] (own-in n p b h.0))
     ∙ block-blank (pieces.Own p (kind_of b) (256 * c) (record { items = block_of zero_page c })) (block_of zero_page c) (zero-block c h.2)
-opened-blank n m ticket sizes Ports k b c h = ap (λ (o : Option Port). option_map_or (λ port. port_line k port ∷ []) o []) (get_or-replicate 16 k None None h.0)
+opened-blank n m ticket sizes Ports k b c h = ap (λ (o : Option Port). option_map_or (λ port. port_line k port ∷ []) o []) (get_or-replicate (port_count n (nat_eq m 0)) k None None h.0)
 opened-blank n m ticket sizes Timers p i c h =
     let below = h.0 in let inside = h.1 in
     ap (λ (x : Timer). timer_line (p, i) x.config x.count x.due) (get_or-replicate (4 * n) (4 * p + i) idle_timer idle_timer (omega arith))

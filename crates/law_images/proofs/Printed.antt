@@ -1,5 +1,6 @@
 -- What the image of a board has at each spot. These are all its lines after the board line, except the last.
-use Rattle.std.proofs.Common.{◌≡◌, ℕ, zero, suc, ◌+◌, ◌*◌, Bool, true, List, [], ◌∷◌, ◌++◌, append_assoc, append-nil, cond, length, Some, refl, ap, ◌∙◌, arith, codes, nat_lt, replicate}
+use Rattle.std.proofs.Common.{◌≡◌, ℕ, zero, suc, ◌+◌, ◌*◌, Bool, true, List, [], ◌∷◌, ◌++◌, append_assoc, append-nil, cond, length, Some, refl, sym, ap, ◌∙◌, arith, codes, nat_eq, nat_lt, replicate}
+use Rattle.event_ports.specs.Ports.{port_count}
 use Rattle.std.specs.Prelude.{slice_index_or, slice_range}
 use Rattle.std.specs.Str.{bytes_eq}
 use Rattle.std.proofs.lemmas.Bool.Decides.{nat_tests}
@@ -102,26 +103,27 @@ two-levels : (n m : ℕ) (f : ℕ → ℕ → Lines) → each_below n (λ p. eac
 two-levels n m f = each-same n (λ p. each_below m (f p)) (λ p. each_below m (λ b. each_below 1 (λ c. f p b)))
     (λ p below. each-same m (f p) (λ b. each_below 1 (λ c. f p b)) (λ b inside. each-one (λ c. f p b)))
 
-sections-printed : (s : State) → all_lines (processors s) (length s.pages) (printed s (processors s)) ≡
+sections-printed : (s : State) → length s.ports ≡ port_count (processors s) (nat_eq (length s.pages) 0) → all_lines (processors s) (length s.pages) (printed s (processors s)) ≡
     moment_lines s.moment ++ (each_below (processors s) (lapic_lines s) ++ (each_below (processors s) (register_lines s) ++ (each_below (length s.pages) (guest_lines s)
-    ++ (each_below (processors s) (own_lines s) ++ (each_below 16 (port_lines s) ++ (each_below (processors s) (timers_lines s) ++ (each_below (processors s) (queues_lines s)
+    ++ (each_below (processors s) (own_lines s) ++ (each_below (length s.ports) (port_lines s) ++ (each_below (processors s) (timers_lines s) ++ (each_below (processors s) (queues_lines s)
     ++ each_below (processors s) (slots_lines s))))))))
-sections-printed s =
+sections-printed s h =
     let n = processors s in
     let registers = each-same n (register_lines s) (λ p. each_below 19 (λ b. each_below 1 (λ c. register_printed p (regs_of s p) b))) (λ p below. registers-printed s p) in
+    let ports = one-level (port_count n (nat_eq (length s.pages) 0)) (port_lines s) ∙ ap (λ (count : ℕ). each_below count (port_lines s)) (sym h) in
     nine (λ k. section_lines n (length s.pages) (printed s n) (section_of k))
-    ∙ (λ i. time-printed (moment_lines s.moment) i ++ (lapics-printed s i ++ (registers i ++ (guests-printed s i ++ (owns-printed s i ++ (one-level 16 (port_lines s) i
+    ∙ (λ i. time-printed (moment_lines s.moment) i ++ (lapics-printed s i ++ (registers i ++ (guests-printed s i ++ (owns-printed s i ++ (ports i
     ++ (two-levels n 4 (timer_lines s) i ++ (two-levels n 16 (queue_lines s) i ++ two-levels n 16 (slot_lines s) i))))))))
 
 in-order : (title opening : List (List ℕ)) (moment a b c d e f g h last : Lines) →
     title ∷ opening ∷ ((moment ++ (a ++ (b ++ (c ++ (d ++ (e ++ (f ++ (g ++ h)))))))) ++ last) ≡ (title ∷ opening ∷ moment) ++ ((a ++ (b ++ (c ++ (d ++ (e ++ (f ++ (g ++ h))))))) ++ last)
 in-order title opening moment a b c d e f g h last = ap (λ (x : Lines). title ∷ opening ∷ x) (simp append_assoc)
 
-pub image-printed : (s : State) →
+pub image-printed : (s : State) → length s.ports ≡ port_count (processors s) (nat_eq (length s.pages) 0) →
     titles (processors s) (length s.pages) s.next_ticket ++ (all_lines (processors s) (length s.pages) (printed s (processors s)) ++ end_fields ∷ []) ≡ image_lines s
-image-printed s =
+image-printed s h =
     let n = processors s in
-    ap (λ (x : Lines). titles n (length s.pages) s.next_ticket ++ (x ++ end_fields ∷ [])) (sections-printed s)
+    ap (λ (x : Lines). titles n (length s.pages) s.next_ticket ++ (x ++ end_fields ∷ [])) (sections-printed s h)
     ∙ in-order (codes "image" ∷ codes "1" ∷ []) (item_fields (Opening n (Some (length s.pages)) s.next_ticket)) (moment_lines s.moment)
-    (each_below n (lapic_lines s)) (each_below n (register_lines s)) (each_below (length s.pages) (guest_lines s)) (each_below n (own_lines s)) (each_below 16 (port_lines s))
+    (each_below n (lapic_lines s)) (each_below n (register_lines s)) (each_below (length s.pages) (guest_lines s)) (each_below n (own_lines s)) (each_below (length s.ports) (port_lines s))
     (each_below n (timers_lines s)) (each_below n (queues_lines s)) (each_below n (slots_lines s)) (end_fields ∷ [])

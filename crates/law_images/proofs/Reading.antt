@@ -1,5 +1,6 @@
 -- The lines that were read at each stage are those that an image of the board would have so far.
-use Rattle.std.proofs.Common.{◌≡◌, ℕ, ◌<◌, ◌≤◌, Bool, false, List, [], ◌∷◌, ◌++◌, append_assoc, append-nil, Some, cond, refl, sym, ap, subst, ◌∙◌, arith, codes}
+use Rattle.std.proofs.Common.{◌≡◌, ℕ, nat_eq, ◌<◌, ◌≤◌, Bool, false, List, [], ◌∷◌, ◌++◌, append_assoc, append-nil, Some, cond, refl, sym, ap, subst, ◌∙◌, arith, codes}
+use Rattle.event_ports.specs.Ports.{port_count}
 use Rattle.std.specs.Prelude.{◌==◌}
 use Rattle.std.proofs.lemmas.Bool.Decides.{nat_tests}
 use Rattle.std.proofs.lemmas.List.Splits.{join_with_byte-slice_split}
@@ -205,4 +206,4 @@ saved text s h =
     all-read : IsRead s (place_of pieces.End) h.complete.0 read.more → read.more ≡ image_lines s
     all-read w = w.same ∙ (λ i. titles (sym w.shaped.apics i) (sym w.shaped.pages i) (sym w.shaped.next i)
         ++ (all_lines (sym w.shaped.apics i) (sym w.shaped.pages i) (printed s ((w.full refl ∙ sym w.shaped.apics) i)) ++ end_fields ∷ []))
-        ∙ image-printed s
+        ∙ image-printed s (w.shaped.ports ∙ (λ i. port_count (sym w.shaped.apics i) (nat_eq (sym w.shaped.pages i) 0)))

@@ -1,5 +1,6 @@
 -- The spots of an image, in their order: where lines may be. Spots before a line stay when it is added, and those after it are empty.
-use Rattle.std.proofs.Common.{◌≡◌, ◌≢◌, ℕ, zero, suc, ◌+◌, ◌*◌, ◌<◌, ◌≤◌, List, [], ◌∷◌, ◌++◌, refl, sym, subst, ◌∙◌, arith}
+use Rattle.std.proofs.Common.{◌≡◌, ◌≢◌, Bool, true, false, nat_eq, ℕ, zero, suc, ◌+◌, ◌*◌, ◌<◌, ◌≤◌, List, [], ◌∷◌, ◌++◌, refl, sym, subst, ◌∙◌, arith}
+use Rattle.event_ports.specs.Ports.{port_count}
 use Rattle.text_image.specs.Image.{Lines, each_below}
 use Rattle.text_restore.specs.Restoring.{place}
 use Rattle.law_images.proofs.Growing.{each-same, each-empty, each-grows}
@@ -42,7 +43,7 @@ section_of k = Slots
 abbrev pub first_size : ℕ → ℕ → Section → ℕ
 first_size n m Time = 1
 first_size n m Guests = m
-first_size n m Ports = 16
+first_size n m Ports = port_count n (nat_eq m 0)
 first_size n m section = n
 
 abbrev pub second_size : Section → ℕ
@@ -136,10 +137,15 @@ few Timers = omega arith
 few Queues = omega arith
 few Slots = omega arith
 
-first-few : (n m : ℕ) → n ≤ 64 → m ≤ 64 → (σ : Section) → first_size n m σ ≤ 64
+pub ports-few : (n : ℕ) (sparse : Bool) → n ≤ 64 → port_count n sparse ≤ 256
+unfolding port_count
+ports-few n true processors = omega arith
+ports-few n false processors = omega arith
+
+first-few : (n m : ℕ) → n ≤ 64 → m ≤ 64 → (σ : Section) → first_size n m σ ≤ 256
 first-few n m processors pages Time = omega arith
-first-few n m processors pages Guests = pages
-first-few n m processors pages Ports = omega arith
+first-few n m processors pages Guests = omega arith
+first-few n m processors pages Ports = ports-few n (nat_eq m 0) processors
 first-few n m processors pages Lapics = omega arith
 first-few n m processors pages Registers = omega arith
 first-few n m processors pages Owns = omega arith
@@ -171,7 +177,7 @@ third-few Lapics = omega arith
 
 -- Numbers are so low that the places are in the order of the spots.
 record IsLow (n m : ℕ) (σ : Section) (a b c : ℕ) : Type 0 where
-  first : a < 64
+  first : a < 256
   second : b < 19
   third : c < 16
 

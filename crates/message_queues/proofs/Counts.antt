@@ -7,7 +7,8 @@ use Rattle.std.proofs.lemmas.List.{length-set, get_or-set_same, get_or-set_other
 use Rattle.std.proofs.lemmas.List.Sums.{sum_by-cons, sum_by_push, sum_by-set, get_or-le-sum_by}
 use Rattle.board_terms.specs.declared.messages.Message.{Message}
 use Rattle.board_terms.specs.declared.messages.Message.TheVariants.{FromPort, FromTimer}
-use Rattle.message_queues.specs.Queues.{Queues, is_from_port, is_from_timer, port_used, timer_used, HasBuffer}
+use Rattle.event_ports.specs.Ports.{port_count}
+use Rattle.message_queues.specs.Queues.{Queues, most_ports, is_from_port, is_from_timer, port_used, timer_used, HasBuffer}
 use Rattle.message_queues.specs.inside.Owners.{owner_of_timer, owner_of, owners, HasOwner, used_by, share, IsCounted}
 
 -- f 0 + .. + f (n - 1)
@@ -68,24 +69,45 @@ sum_below-lt (suc n) x f limit h k l = go (λ j. sum_below-lt n x f limit (λ o 
     go before (inl t) = let more = sum_below-le n f limit (λ o k. h o (omega arith)) in let fx = ap f t.1 in let cx = ap limit t.1 in omega arith
     go before (inr t) = let more = before (omega (arith, t.1)) in let here = h n (omega arith) in omega arith
 
-share-port : (o : ℕ) → o < 16 → share o ≡ 16
-share-port o h = grind (arith, nat_tests)
+share-port : (ports o : ℕ) → o < ports → share ports o ≡ 16
+share-port ports o h = grind (arith, nat_tests)
 
-share-timer : (o : ℕ) → 16 ≤ o → share o ≡ 1
-share-timer o h = grind (arith, nat_tests)
+share-none : (ports o : ℕ) → ports ≤ o → o < 256 → share ports o ≡ 0
+share-none ports o h k = grind (arith, nat_tests)
 
-pub share-le : (o : ℕ) → share o ≤ 16
-share-le o = grind (arith, nat_tests)
+share-timer : (ports o : ℕ) → ports ≤ 256 → 256 ≤ o → share ports o ≡ 1
+share-timer ports o h k = grind (arith, nat_tests)
 
--- 16 of each of the 16 ports, and one of each timer
-shares-timers : (timers o : ℕ) → o ≡ 16 + timers → sum_below o share ≡ 256 + timers
+pub share-le : (ports o : ℕ) → share ports o ≤ 16
+share-le ports o = grind (arith, nat_tests)
+
+-- a board of at most 64 processors has at most 256 ports
+pub few-ports : (n : ℕ) → n ≤ 64 → most_ports n ≤ 256
+unfolding port_count
+few-ports n h = omega arith
+
+-- 16 of each port
+shares-ports : (ports o : ℕ) → o ≤ ports → sum_below o (share ports) ≡ 16 * o
 unfolding sum_below
-shares-timers zero o e = rw e refl
-shares-timers (suc n) zero e = absurd (omega arith)
-shares-timers (suc n) (suc o) e = omega (arith, shares-timers n o (omega arith), share-timer o (omega arith))
+shares-ports ports zero h = refl
+shares-ports ports (suc o) h = omega (arith, shares-ports ports o (omega arith), share-port ports o (omega arith))
 
-shares : (n : ℕ) → sum_below (owners n) share ≡ 256 + 4 * n
-shares n = shares-timers (4 * n) (owners n) refl
+-- nothing of the numbers from the ports to the timers
+shares-none : (ports more o : ℕ) → o ≡ ports + more → o ≤ 256 → sum_below o (share ports) ≡ 16 * ports
+unfolding sum_below
+shares-none ports zero o e h = omega (arith, shares-ports ports o (omega (arith, e)), e)
+shares-none ports (suc more) zero e h = absurd (omega (arith, e))
+shares-none ports (suc more) (suc o) e h = omega (arith, shares-none ports more o (omega (arith, e)) (omega arith), share-none ports o (omega (arith, e)) (omega arith))
+
+-- and one of each timer
+shares-timers : (ports timers o : ℕ) → ports ≤ 256 → o ≡ 256 + timers → sum_below o (share ports) ≡ 16 * ports + timers
+unfolding sum_below
+shares-timers ports zero o h e = omega (arith, shares-none ports (256 - ports) o (omega (arith, h, e)) (omega (arith, e)))
+shares-timers ports (suc n) zero h e = absurd (omega arith)
+shares-timers ports (suc n) (suc o) h e = omega (arith, shares-timers ports n o h (omega arith), share-timer ports o h (omega arith))
+
+shares : (n : ℕ) → n ≤ 64 → sum_below (owners n) (share (most_ports n)) ≡ 16 * most_ports n + 4 * n
+shares n h = shares-timers (most_ports n) (4 * n) (owners n) (few-ports n h) refl
 
 abbrev pub AllOwned : ℕ → List Message → Type 0
 AllOwned n [] = Unit {0}
@@ -103,8 +125,13 @@ pub each-owned : (n : ℕ) (qs : Queues) → All (λ (q : List Message). All (Ha
 each-owned n [] h = tt
 each-owned n (q ∷ qs) h = (all-owned n q (h 0 [] (omega arith)), each-owned n qs (λ k d below. h (suc k) d (omega arith)))
 
+-- each port has a number
+enough-numbers : (n : ℕ) → most_ports n ≤ owners n
+unfolding port_count
+enough-numbers n = omega arith
+
 pub owner-below : (n : ℕ) (m : Message) → HasOwner n m → owner_of m < owners n
-owner-below n (FromPort ticket port kind payload) h = omega arith
+owner-below n (FromPort ticket port kind payload) h = omega (arith, h, enough-numbers n)
 owner-below n (FromTimer ticket timer expiration) h = omega arith
 
 abbrev pub count_of : ℕ → List Message → ℕ
@@ -133,33 +160,34 @@ all-counts n (q ∷ qs) h =
     omega (arith, more, here, add, same, sum_by-cons (length {A = Message}) q qs)
 
 -- if an owner has a free buffer, the slab has a free entry
-pub has_room : (n : ℕ) (qs : Queues) (in_use : List ℕ) (o : ℕ) → EachOwned n qs → IsCounted n qs in_use → o < owners n → used_by o qs < share o → sum_by (length {A = Message}) qs < 256 + 4 * n
-has_room n qs in_use o owned counts below left =
+pub has_room : (n : ℕ) (qs : Queues) (in_use : List ℕ) (o : ℕ) → n ≤ 64 → EachOwned n qs → IsCounted n qs in_use → o < owners n → used_by o qs < share (most_ports n) o
+    → sum_by (length {A = Message}) qs < 16 * most_ports n + 4 * n
+has_room n qs in_use o few owned counts below left =
     let total = all-counts n qs owned in
-    let less = sum_below-lt (owners n) o (λ x. used_by x qs) share counts.within below left in
-    omega (arith, total, less, shares n)
+    let less = sum_below-lt (owners n) o (λ x. used_by x qs) (share (most_ports n)) counts.within below left in
+    omega (arith, total, less, shares n few)
 
 -- no owner exceeds its share, so there are no more messages than buffers
-pub all-within : (n : ℕ) (qs : Queues) (in_use : List ℕ) → EachOwned n qs → IsCounted n qs in_use → sum_by (length {A = Message}) qs ≤ 256 + 4 * n
-all-within n qs in_use owned counts = omega (arith, all-counts n qs owned, sum_below-le (owners n) (λ x. used_by x qs) share counts.within, shares n)
+pub all-within : (n : ℕ) (qs : Queues) (in_use : List ℕ) → n ≤ 64 → EachOwned n qs → IsCounted n qs in_use → sum_by (length {A = Message}) qs ≤ 16 * most_ports n + 4 * n
+all-within n qs in_use few owned counts = omega (arith, all-counts n qs owned, sum_below-le (owners n) (λ x. used_by x qs) (share (most_ports n)) counts.within, shares n few)
 
 pub sum_by-same : {X : Type 0} (f g : X → ℕ) (xs : List X) → ((x : X) → f x ≡ g x) → sum_by f xs ≡ sum_by g xs
 sum_by-same f g [] h = refl
 sum_by-same f g (x ∷ xs) h = let here = h x in let more = sum_by-same f g xs h in omega (arith, here, more, sum_by-cons f x xs, sum_by-cons g x xs)
 
-pub is_from_port-owner : (port : ℕ) (m : Message) → port < 16 → is_from_port port m ≡ (owner_of m == port)
+pub is_from_port-owner : (port : ℕ) (m : Message) → port < 256 → is_from_port port m ≡ (owner_of m == port)
 is_from_port-owner port (FromPort ticket n kind payload) h = refl
 is_from_port-owner port (FromTimer ticket timer expiration) h = sym (ne_eqb (owner_of_timer timer) port (λ e. omega (arith, e)))
 
 -- the buffers of a port are those of the owner with its number
-pub port_used-owner : (qs : Queues) (port : ℕ) → port < 16 → port_used qs port ≡ used_by port qs
+pub port_used-owner : (qs : Queues) (port : ℕ) → port < 256 → port_used qs port ≡ used_by port qs
 port_used-owner qs port h =
     sum_by-same (count_by (is_from_port port)) (count_of port) qs
     (λ q. sum_by-same (λ m. cond (is_from_port port m) 1 0) (λ m. cond (owner_of m == port) 1 0) q (λ m. ap (λ (b : Bool). cond b 1 0) (is_from_port-owner port m h)))
 
-is_from_timer-owner : (n : ℕ) (timer : ℕ × ℕ) (m : Message) → timer.1 < 4 → HasOwner n m → is_from_timer timer m ≡ (owner_of m == owner_of_timer timer)
-is_from_timer-owner n timer (FromPort ticket port kind payload) h k = sym (ne_eqb port (owner_of_timer timer) (λ e. omega (arith, e)))
-is_from_timer-owner n timer (FromTimer ticket t expiration) h k = go (eqb_tells t.0 timer.0) (eqb_tells t.1 timer.1)
+is_from_timer-owner : (n : ℕ) (timer : ℕ × ℕ) (m : Message) → n ≤ 64 → timer.1 < 4 → HasOwner n m → is_from_timer timer m ≡ (owner_of m == owner_of_timer timer)
+is_from_timer-owner n timer (FromPort ticket port kind payload) few h k = sym (ne_eqb port (owner_of_timer timer) (λ e. omega (arith, e, few-ports n few, k)))
+is_from_timer-owner n timer (FromTimer ticket t expiration) few h k = go (eqb_tells t.0 timer.0) (eqb_tells t.1 timer.1)
   where
     go : ((nat_eq t.0 timer.0 ≡ true) × (t.0 ≡ timer.0)) ⊎ ((nat_eq t.0 timer.0 ≡ false) × (t.0 ≢ timer.0)) →
         ((nat_eq t.1 timer.1 ≡ true) × (t.1 ≡ timer.1)) ⊎ ((nat_eq t.1 timer.1 ≡ false) × (t.1 ≢ timer.1))
@@ -168,38 +196,20 @@ is_from_timer-owner n timer (FromTimer ticket t expiration) h k = go (eqb_tells 
     go (inl a) (inr b) = rw (a.0, b.0) (sym (ne_eqb (owner_of_timer t) (owner_of_timer timer) (λ e. b.1 (omega (arith, a.1, e)))))
     go (inr a) b = rw a.0 (sym (ne_eqb (owner_of_timer t) (owner_of_timer timer) (λ e. a.1 (omega (arith, k, h, e)))))
 
-queue-timer : (n : ℕ) (q : List Message) (timer : ℕ × ℕ) → timer.1 < 4 → AllOwned n q → count_by (is_from_timer timer) q ≡ count_of (owner_of_timer timer) q
-queue-timer n [] timer h k = refl
-queue-timer n (m ∷ ms) timer h k =
-    let more = queue-timer n ms timer h k.1 in
-    let here : cond (is_from_timer timer m) 1 0 ≡ at_place (owner_of m) (owner_of_timer timer) = ap (λ (b : Bool). cond b 1 0) (is_from_timer-owner n timer m h k.0) in
+queue-timer : (n : ℕ) (q : List Message) (timer : ℕ × ℕ) → n ≤ 64 → timer.1 < 4 → AllOwned n q → count_by (is_from_timer timer) q ≡ count_of (owner_of_timer timer) q
+queue-timer n [] timer few h k = refl
+queue-timer n (m ∷ ms) timer few h k =
+    let more = queue-timer n ms timer few h k.1 in
+    let here : cond (is_from_timer timer m) 1 0 ≡ at_place (owner_of m) (owner_of_timer timer) = ap (λ (b : Bool). cond b 1 0) (is_from_timer-owner n timer m few h k.0) in
     omega (arith, more, here, sum_by-cons (λ x. cond (is_from_timer timer x) 1 0) m ms, count_of-cons (owner_of_timer timer) m ms)
 
 -- the one buffer of a timer is that of its owner
-pub timer_used-owner : (n : ℕ) (qs : Queues) (timer : ℕ × ℕ) → timer.1 < 4 → EachOwned n qs → timer_used qs timer ≡ used_by (owner_of_timer timer) qs
-timer_used-owner n [] timer h k = refl
-timer_used-owner n (q ∷ qs) timer h k =
-    let more = timer_used-owner n qs timer h k.1 in
-    let here = queue-timer n q timer h k.0 in
+pub timer_used-owner : (n : ℕ) (qs : Queues) (timer : ℕ × ℕ) → n ≤ 64 → timer.1 < 4 → EachOwned n qs → timer_used qs timer ≡ used_by (owner_of_timer timer) qs
+timer_used-owner n [] timer few h k = refl
+timer_used-owner n (q ∷ qs) timer few h k =
+    let more = timer_used-owner n qs timer few h k.1 in
+    let here = queue-timer n q timer few h k.0 in
     omega (arith, more, here, sum_by-cons (count_by (is_from_timer timer)) q qs, sum_by-cons (count_of (owner_of_timer timer)) q qs)
-
-queue-past : (n : ℕ) (q : List Message) (port : ℕ) → 16 ≤ port → AllOwned n q → count_by (is_from_port port) q ≡ 0
-queue-past n [] port h k = refl
-queue-past n (FromPort ticket from kind payload ∷ ms) port h k =
-    let more = queue-past n ms port h k.1 in
-    let here : at_place from port ≡ 0 = at_place-other from port (λ e. omega (arith, k.0, e)) in
-    omega (arith, more, here, sum_by-cons (λ x. cond (is_from_port port x) 1 0) (FromPort ticket from kind payload) ms)
-queue-past n (FromTimer ticket timer expiration ∷ ms) port h k =
-    let more = queue-past n ms port h k.1 in
-    omega (arith, more, sum_by-cons (λ x. cond (is_from_port port x) 1 0) (FromTimer ticket timer expiration) ms)
-
--- a port above 15 has no message
-pub port_used-past : (n : ℕ) (qs : Queues) (port : ℕ) → 16 ≤ port → EachOwned n qs → port_used qs port ≡ 0
-port_used-past n [] port h k = refl
-port_used-past n (q ∷ qs) port h k =
-    let more = port_used-past n qs port h k.1 in
-    let here = queue-past n q port h k.0 in
-    omega (arith, more, here, sum_by-cons (count_by (is_from_port port)) q qs)
 
 queue-absent : (n : ℕ) (q : List Message) (timer : ℕ × ℕ) → n ≤ timer.0 → AllOwned n q → count_by (is_from_timer timer) q ≡ 0
 queue-absent n [] timer h k = refl
@@ -220,18 +230,18 @@ timer_used-absent n (q ∷ qs) timer h k =
     omega (arith, more, here, sum_by-cons (count_by (is_from_timer timer)) q qs)
 
 -- the owner of a message that has a buffer has a free one
-pub buffer-left : (n : ℕ) (qs : Queues) (m : Message) → EachOwned n qs → HasOwner n m → HasBuffer qs m → used_by (owner_of m) qs < share (owner_of m)
-buffer-left n qs (FromPort ticket port kind payload) owned h b = omega (arith, b.1, port_used-owner qs port b.0, share-port port b.0)
-buffer-left n qs (FromTimer ticket timer expiration) owned h b =
+pub buffer-left : (n : ℕ) (qs : Queues) (m : Message) → n ≤ 64 → EachOwned n qs → HasOwner n m → HasBuffer qs m → used_by (owner_of m) qs < share (most_ports n) (owner_of m)
+buffer-left n qs (FromPort ticket port kind payload) few owned h b = omega (arith, b.1, port_used-owner qs port (omega (arith, h, few-ports n few)), share-port (most_ports n) port h)
+buffer-left n qs (FromTimer ticket timer expiration) few owned h b =
     let none : timer_used qs timer ≡ 0 = is_zero (timer_used qs timer) b.1 in
-    omega (arith, none, timer_used-owner n qs timer h.1 owned, share-timer (owner_of_timer timer) (omega arith))
+    omega (arith, none, timer_used-owner n qs timer few h.1 owned, share-timer (most_ports n) (owner_of_timer timer) (few-ports n few) (omega arith))
   where
     is_zero : (used : ℕ) → (used == 0) ≡ true → used ≡ 0
     is_zero used h = grind (arith, nat_tests)
 
 -- one queue is replaced, and one owner has more or fewer messages
 pub counted-set : (n : ℕ) (qs : Queues) (in_use : List ℕ) (q : ℕ) (r : List Message) (o v : ℕ) → IsCounted n qs in_use → q < length qs → o < owners n →
-    ((x : ℕ) → x ≢ o → count_of x r ≡ count_of x (slice_index_or qs q [])) → v + count_of o (slice_index_or qs q []) ≡ used_by o qs + count_of o r → v ≤ share o →
+    ((x : ℕ) → x ≢ o → count_of x r ≡ count_of x (slice_index_or qs q [])) → v + count_of o (slice_index_or qs q []) ≡ used_by o qs + count_of o r → v ≤ share (most_ports n) o →
     IsCounted n (slice_set qs q r) (slice_set in_use o v)
 counted-set n qs in_use q r o v counts at below same now bound = record {
   size = length-set in_use o v ∙ counts.size;
@@ -246,13 +256,13 @@ counted-set n qs in_use q r o v counts at below same now bound = record {
     counted x k (inl t) = rw t.1 (get_or-set_same in_use o v 0 (omega (arith, counts.size)) ∙ omega (arith, sum o, now))
     counted x k (inr t) = get_or-set_other in_use o x v 0 t.1 ∙ counts.counted x k ∙ omega (arith, sum x, same x t.1)
 
-    within : (x : ℕ) → x < owners n → ((nat_eq x o ≡ true) × (x ≡ o)) ⊎ ((nat_eq x o ≡ false) × (x ≢ o)) → used_by x (slice_set qs q r) ≤ share x
+    within : (x : ℕ) → x < owners n → ((nat_eq x o ≡ true) × (x ≡ o)) ⊎ ((nat_eq x o ≡ false) × (x ≢ o)) → used_by x (slice_set qs q r) ≤ share (most_ports n) x
     within x k (inl t) = rw t.1 (omega (arith, sum o, now, bound))
     within x k (inr t) = omega (arith, sum x, same x t.1, counts.within x k)
 
 -- a message joins the end of a queue
 pub counted-append : (n : ℕ) (qs : Queues) (in_use : List ℕ) (q : ℕ) (m : Message) → IsCounted n qs in_use → q < length qs → owner_of m < owners n →
-    used_by (owner_of m) qs < share (owner_of m) →
+    used_by (owner_of m) qs < share (most_ports n) (owner_of m) →
     IsCounted n (slice_set qs q (slice_index_or qs q [] ++ m ∷ [])) (slice_set in_use (owner_of m) (slice_index_or in_use (owner_of m) 0 + 1))
 counted-append n qs in_use q m counts at below left =
     let before = counts.counted (owner_of m) below in

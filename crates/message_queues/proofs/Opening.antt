@@ -9,7 +9,7 @@ use Rattle.message_queues.specs.declared.chains.Neighbours.{Neighbours}
 use Rattle.message_queues.specs.inside.Buffers.{buffer_at}
 use Rattle.board_terms.specs.declared.messages.Message.{Message}
 use Rattle.message_queues.specs.declared.chains.Chain.{Chain}
-use Rattle.message_queues.specs.Queues.{Queues}
+use Rattle.message_queues.specs.Queues.{Queues, most_ports}
 use Rattle.message_queues.specs.inside.Owners.{owner_of, owners, HasOwner, used_by}
 use Rattle.message_queues.specs.inside.Chains.{queues_at, IsChain, AreChains}
 use Rattle.message_queues.specs.inside.View.{total_of}
@@ -42,7 +42,7 @@ pub opened-queues : (new : Slab Neighbours) (messages : List Message) (n : ℕ) 
 opened-queues new messages zero = refl
 opened-queues new messages (suc n) = ap (λ (x : Queues). [] ∷ x) (opened-queues new messages n)
 
-pub opened : (new : Slab Neighbours) (messages : List Message) (in_use : List ℕ) (processors n : ℕ) → in_use ≡ replicate (owners processors) 0 → n ≡ 16 * processors → new.slots ≡ [] → 256 + 4 * processors ≤ new.capacity →
+pub opened : (new : Slab Neighbours) (messages : List Message) (in_use : List ℕ) (processors n : ℕ) → in_use ≡ replicate (owners processors) 0 → n ≡ 16 * processors → new.slots ≡ [] → 16 * most_ports processors + 4 * processors ≤ new.capacity →
     length messages ≡ new.capacity → Step new messages (replicate n empty_chain) processors in_use (replicate n [])
 opened new messages in_use processors n unused queues empty room size = record {
   linked = linked;

@@ -2,7 +2,6 @@
 use Rattle.std.proofs.Common.{◌≡◌, ◌≢◌, ◌⊎◌, inl, inr, ℕ, ◌+◌, ◌*◌, ◌-◌, ◌<◌, ◌≤◌, List, [], ◌∷◌, ◌++◌, length, zero, suc, drop, map, Some, None, refl, sym, ap, subst, ◌∙◌, cond, nat_eq, Bool, true, false, not, arith, get_or}
 use Rattle.std.specs.List.{All, filter, slice_get}
 use Rattle.std.specs.Prelude.{◌==◌, slice_index_or, slice_set, count_by}
-use Rattle.std.proofs.lemmas.Bool.{cases_lt}
 use Rattle.std.proofs.lemmas.Bool.Decides.{eqb_tells}
 use Rattle.std.proofs.lemmas.List.{length-map, length-set, set-get_or, get_or_default}
 use Rattle.std.proofs.lemmas.List.Elements.{All-append, All-drop, All-filter, All-get_or, All-set}
@@ -15,12 +14,12 @@ use Rattle.board_terms.specs.declared.messages.Message.TheVariants.{FromTimer}
 use Rattle.message_queues.specs.inside.Buffers.{Buffer, message_in, buffer_of, buffer_at}
 use Rattle.message_queues.specs.declared.chains.Chain.{Chain}
 use Rattle.message_queues.specs.declared.queues.Queues.TheInside.{Inside}
-use Rattle.message_queues.specs.Queues.{Queues, processors_of, HasBuffer, is_from_port, port_used, withdrawn_of, left_of}
+use Rattle.message_queues.specs.Queues.{Queues, processors_of, most_ports, HasBuffer, is_from_port, port_used, withdrawn_of, left_of}
 use Rattle.message_queues.specs.inside.Owners.{owner_of, owners, HasOwner, used_by, share, IsCounted}
 use Rattle.message_queues.specs.inside.Chains.{queue_at, queues_at, ReadsBothWays, AreChains}
 use Rattle.message_queues.specs.inside.Moves.{Linked, Freed, Withdrawn}
 use Rattle.message_queues.specs.inside.View.{buffers_of, queues_of, total_of, QueuesInvariant}
-use Rattle.message_queues.proofs.Counts.{owner-below, has_room, all-within, buffer-left, share-le, each-owned, counted-append, counted-place, counted-set, head-used, at_place, at_place-other, count_of, count_of-cons, sum_by-same, is_from_port-owner, port_used-past, count-le-used}
+use Rattle.message_queues.proofs.Counts.{owner-below, few-ports, has_room, all-within, buffer-left, share-le, each-owned, counted-append, counted-place, counted-set, head-used, at_place, at_place-other, count_of, count_of-cons, sum_by-same, is_from_port-owner, count-le-used}
 use Rattle.message_queues.proofs.Parts.{pushed, unlinked, message-there, buffer-there}
 use Rattle.message_queues.proofs.ChainLemmas.{those, push-moved, unlink-moved, first-split, no-first, row-chain, chain_at, queue-is, length-chain, total-queues, total-set, len-le-total, both-ways}
 use Rattle.message_queues.proofs.Walks.{withdrawn-moved}
@@ -30,7 +29,7 @@ pub record Step (neighbours : Slab Neighbours) (messages : List Message) (chains
   pub linked : AreChains (buffer_at neighbours messages) chains
   pub held : slab_len neighbours ≡ total_of chains
   pub both_ways : (queue : ℕ) (chain : Chain) → slice_get chains queue ≡ Some chain → ReadsBothWays (buffer_at neighbours messages) chain
-  pub room : 256 + 4 * processors ≤ neighbours.capacity
+  pub room : 16 * most_ports processors + 4 * processors ≤ neighbours.capacity
   pub size : length messages ≡ neighbours.capacity
   pub owned : All (λ (queue : List Message). All (HasOwner processors) queue) (queues_at (buffer_at neighbours messages) chains)
   pub counts : IsCounted processors (queues_at (buffer_at neighbours messages) chains) in_use
@@ -39,23 +38,23 @@ pub record Step (neighbours : Slab Neighbours) (messages : List Message) (chains
 
 -- What an append relies on: its owner has a free buffer, and the slab and each chain have capacity.
 pub record Room (a : Inside) (owner : ℕ) : Type 0 where
-  pub left : used_by owner (queues_of a) < share owner
+  pub left : used_by owner (queues_of a) < share (most_ports a.processors) owner
   pub below : owner < owners a.processors
   pub fits : slice_index_or a.in_use.items owner 0 < 16
-  pub total : total_of a.chains.items < 256 + 4 * a.processors
+  pub total : total_of a.chains.items < 16 * most_ports a.processors + 4 * a.processors
 
 pub room-for : (a : Inside) (qs : Queues) (message : Message) (o : ℕ) → QueuesInvariant a → queues_of a ≡ qs → HasOwner a.processors message → HasBuffer qs message → o ≡ owner_of message → Room a o
 room-for a qs message o k shown own has is =
     let owned = each-owned a.processors (queues_of a) k.owned in
     let below = owner-below a.processors message own in
     let has' : HasBuffer (queues_of a) message = subst (λ (x : Queues). HasBuffer x message) (sym shown) has in
-    let left = buffer-left a.processors (queues_of a) message owned own has' in
-    let bound = has_room a.processors (queues_of a) a.in_use.items (owner_of message) owned k.counts below left in
+    let left = buffer-left a.processors (queues_of a) message k.processor_bound owned own has' in
+    let bound = has_room a.processors (queues_of a) a.in_use.items (owner_of message) k.processor_bound owned k.counts below left in
     let total = total-queues (buffers_of a) a.chains.items k.linked in
     rw is (record {
       left = left;
       below = below;
-      fits = omega (arith, left, share-le (owner_of message), k.counts.counted (owner_of message) below);
+      fits = omega (arith, left, share-le (most_ports a.processors) (owner_of message), k.counts.counted (owner_of message) below);
       total = omega (arith, bound, total);
     })
 
@@ -66,7 +65,8 @@ pub record Here (a : Inside) (qs : Queues) (q : ℕ) (c : Chain) : Type 0 where
   pub shown_row : slice_index_or qs q [] ≡ queue_at (buffers_of a) c
   pub within : q < length (queues_of a)
   pub len : length (queue_at (buffers_of a) c) ≡ c.len
-  pub bound : c.len ≤ 256 + 4 * a.processors
+  pub bound : c.len ≤ 16 * most_ports a.processors + 4 * a.processors
+  pub few : c.len ≤ 4352
   pub each : length qs ≡ 16 * a.processors
 
 -- each processor has 16 queues
@@ -76,6 +76,10 @@ queues-each a qs k shown = sym (ap length shown) ∙ length-map a.chains.items (
 -- a count that was read is that of its owner
 pub used-at : (a : Inside) (o used : ℕ) → QueuesInvariant a → o < owners a.processors → used ≡ get_or a.in_use.items o used → used ≡ slice_index_or a.in_use.items o 0
 used-at a o used k below read = read ∙ get_or_default a.in_use.items o used 0 (omega (arith, below, k.counts.size))
+
+-- the processors that a call sees
+pub same-processors : (a : Inside) (qs : Queues) → QueuesInvariant a → queues_of a ≡ qs → processors_of qs ≡ a.processors
+same-processors a qs k shown = omega (arith, queues-each a qs k shown)
 
 -- a timer of a processor that has queues has an owner
 pub timer-owned : (a : Inside) (qs : Queues) (ticket expiration : ℕ) (timer : ℕ × ℕ) → QueuesInvariant a → queues_of a ≡ qs → timer.0 < processors_of qs → timer.1 < 4 →
@@ -87,7 +91,7 @@ here a qs q c k shown within read =
     let at = chain_at (buffers_of a) a.chains.items qs q c shown within read in
     let row = queue-is (buffers_of a) a.chains.items q c at in
     let total = total-queues (buffers_of a) a.chains.items k.linked in
-    let all = all-within a.processors (queues_of a) a.in_use.items (each-owned a.processors (queues_of a) k.owned) k.counts in
+    let all = all-within a.processors (queues_of a) a.in_use.items k.processor_bound (each-owned a.processors (queues_of a) k.owned) k.counts in
     record {
       at = at;
       row = row;
@@ -95,6 +99,7 @@ here a qs q c k shown within read =
       within = omega (arith, within, ap length shown);
       len = length-chain (buffers_of a) k.linked.owner k.linked.rank q c (k.linked.each q c at);
       bound = omega (arith, total, all, len-le-total a.chains.items q c at);
+      few = omega (arith, total, all, len-le-total a.chains.items q c at, few-ports a.processors k.processor_bound, k.processor_bound);
       each = queues-each a qs k shown;
     }
 
@@ -124,7 +129,7 @@ append-step a qs q c d key message o used new k shown within read own has is cou
     let room = room-for a qs message o k shown own has is in
     let m = push-moved (buffers_of a) (buffer_at new messages) a.chains.items q c d message key k.linked h.at push in
     let view = m.view ∙ ap (λ (x : List Message). slice_set (queues_of a) q (x ++ message ∷ [])) (sym h.row) in
-    let left : used_by (owner_of message) (queues_of a) < share (owner_of message) = rw is at room.left in
+    let left : used_by (owner_of message) (queues_of a) < share (most_ports a.processors) (owner_of message) = rw is at room.left in
     record {
       linked = m.kept;
       both_ways = both-ways (buffer_at new messages) (slice_set a.chains.items q d) m.kept;
@@ -230,11 +235,11 @@ place-none a qs q c k shown within read none =
     h.shown_row ∙ row-chain (buffers_of a) k.linked.owner k.linked.rank q c chain ∙ ap (those (buffers_of a)) (no-first (buffers_of a) k.linked.owner k.linked.rank q c chain none)
 
 -- the port's messages of a queue are its buffers there
-withdrawn-count : (port : ℕ) (q : List Message) → port < 16 → length (withdrawn_of port q) ≡ count_of port q
+withdrawn-count : (port : ℕ) (q : List Message) → port < 256 → length (withdrawn_of port q) ≡ count_of port q
 withdrawn-count port q below = length-map (filter (is_from_port port) q) ticket_of ∙ length-filter (is_from_port port) q
     ∙ sum_by-same (λ m. cond (is_from_port port m) 1 0) (λ m. cond (owner_of m == port) 1 0) q (λ m. ap (λ (b : Bool). cond b 1 0) (is_from_port-owner port m below))
 
-left-count : (port o : ℕ) (q : List Message) → port < 16 → o ≢ port → count_of o (left_of port q) ≡ count_of o q
+left-count : (port o : ℕ) (q : List Message) → port < 256 → o ≢ port → count_of o (left_of port q) ≡ count_of o q
 left-count port o [] below ne = refl
 left-count port o (m ∷ ms) below ne = go (left-count port o ms below ne) (is_from_port port m) refl (eqb_tells (owner_of m) port)
   where
@@ -245,7 +250,7 @@ left-count port o (m ∷ ms) below ne = go (left-count port o ms below ne) (is_f
     go more true e (inr t) = let bad : true ≡ false = sym e ∙ is_from_port-owner port m below ∙ t.0 in cc
     go more false e t = omega (arith, more, count_of-cons o m (left_of port ms), count_of-cons o m ms)
 
-left-none : (port : ℕ) (q : List Message) → port < 16 → count_of port (left_of port q) ≡ 0
+left-none : (port : ℕ) (q : List Message) → port < 256 → count_of port (left_of port q) ≡ 0
 left-none port [] below = refl
 left-none port (m ∷ ms) below = go (left-none port ms below) (is_from_port port m) refl
   where
@@ -255,20 +260,12 @@ left-none port (m ∷ ms) below = go (left-none port ms below) (is_from_port por
         let other : at_place (owner_of m) port ≡ 0 = ap (λ (b : Bool). cond b 1 0) (sym (is_from_port-owner port m below) ∙ e) in
         omega (arith, more, other, count_of-cons port m (left_of port ms))
 
--- a port that has a message is below 16
-pub port-below : (a : Inside) (qs : Queues) (port : ℕ) → QueuesInvariant a → queues_of a ≡ qs → port_used qs port ≢ 0 → port < 16
-port-below a qs port k shown some = go (cases_lt port 16)
-  where
-    go : (port < 16) ⊎ (16 ≤ port) → port < 16
-    go (inl below) = below
-    go (inr above) = absurd (some (ap (λ (x : Queues). port_used x port) (sym shown) ∙ port_used-past a.processors (queues_of a) port above (each-owned a.processors (queues_of a) k.owned)))
-
 -- What a withdrawal relies on: the port's messages in the queue are among its buffers in use.
 pub record Found (a : Inside) (c : Chain) (port : ℕ) : Type 0 where
   pub bound : length (withdrawn_of port (queue_at (buffers_of a) c)) ≤ slice_index_or a.in_use.items port 0
   pub in_use : slice_index_or a.in_use.items port 0 ≤ 16
 
-pub found : (a : Inside) (qs : Queues) (q : ℕ) (c : Chain) (port : ℕ) → QueuesInvariant a → queues_of a ≡ qs → q < length qs → c ≡ get_or a.chains.items q c → port < 16 → Found a c port
+pub found : (a : Inside) (qs : Queues) (q : ℕ) (c : Chain) (port : ℕ) → QueuesInvariant a → queues_of a ≡ qs → q < length qs → c ≡ get_or a.chains.items q c → port < 256 → Found a c port
 found a qs q c port k shown within read below =
     let h = here a qs q c k shown within read in
     let least = count-le-used (queues_of a) q port h.within in
@@ -276,11 +273,11 @@ found a qs q c port k shown within read below =
     let count = k.counts.counted port (omega arith) in
     record {
       bound = omega (arith, withdrawn-count port (queue_at (buffers_of a) c) below, same, least, count);
-      in_use = omega (arith, count, k.counts.within port (omega arith), share-le port);
+      in_use = omega (arith, count, k.counts.within port (omega arith), share-le (most_ports a.processors) port);
     }
 
 pub withdrawn-step : (a : Inside) (qs : Queues) (q : ℕ) (c d : Chain) (port used n : ℕ) (tickets : List ℕ) (new : Slab Neighbours) (k : QueuesInvariant a) → queues_of a ≡ qs →
-    q < length qs → c ≡ get_or a.chains.items q c → port < 16 →
+    q < length qs → c ≡ get_or a.chains.items q c → port < 256 →
     Withdrawn (buffers_of a) (buffer_at new a.messages.items) k.linked.owner k.linked.rank q c d port tickets → slab_len new + length tickets ≡ slab_len a.neighbours →
     new.capacity ≡ a.neighbours.capacity → used ≡ slice_index_or a.in_use.items port 0 → n ≡ length tickets →
     Step new a.messages.items (slice_set a.chains.items q d) a.processors (slice_set a.in_use.items port (used - n))

@@ -5,6 +5,7 @@ use Rattle.board_terms.specs.declared.messages.Message.{Message}
 use Rattle.board_terms.specs.declared.messages.Message.TheVariants.{FromPort, FromTimer}
 use Rattle.board_terms.specs.Messages.{ticket_of}
 use Rattle.board_terms.specs.Sources.{source_number}
+use Rattle.event_ports.specs.Ports.{port_count}
 
 -- all queues, those of processor 0 first; each has its front first
 abbrev pub Queues : Type 0
@@ -17,9 +18,13 @@ no_messages processors = replicate (16 * processors) []
 abbrev pub processors_of : Queues → ℕ
 processors_of qs = length qs / 16
 
--- the greatest number of messages in all queues together: 16 of each of the 16 ports, and one of each timer, of which there are a quarter as many as queues
+-- the greatest number of ports of a board of n processors: as many as a sparse one has
+abbrev pub most_ports : ℕ → ℕ
+most_ports n = port_count n true
+
+-- the greatest number of messages in all queues together: 16 of each port, and one of each timer, of which there are four for each processor
 abbrev pub most_messages : Queues → ℕ
-most_messages qs = 256 + length qs / 4
+most_messages qs = 16 * most_ports (processors_of qs) + 4 * processors_of qs
 
 abbrev pub queue_of : Queues → Processor → Source → List Message
 queue_of qs p i = slice_index_or qs (source_number p i) []
@@ -47,9 +52,9 @@ timer_used qs timer = sum_by (count_by (is_from_timer timer)) qs
 abbrev pub is_timer_free : Queues → ℕ × ℕ → Bool
 is_timer_free qs timer = timer_used qs timer == 0
 
--- there is a free buffer for the message: a port below 16 has 16 of them, a timer of a processor that has queues has one
+-- there is a free buffer for the message: each of the ports has 16 of them, and a timer of a processor that has queues has one
 abbrev pub HasBuffer : Queues → Message → Type 0
-HasBuffer qs (FromPort ticket port kind payload) = (port < 16) × (port_used qs port < 16)
+HasBuffer qs (FromPort ticket port kind payload) = (port < most_ports (processors_of qs)) × (port_used qs port < 16)
 HasBuffer qs (FromTimer ticket timer expiration) = (timer.0 < processors_of qs) × (is_timer_free qs timer ≡ true)
 
 -- a message joins the end of a queue

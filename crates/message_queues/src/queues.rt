@@ -1,24 +1,27 @@
 // The message queues.
-ghost use Rattle.std.specs.Prelude.{◌≡◌, ◌↔◌, IsTrue, ◌<◌, ◌≤◌, [], length, map, sum_by, IfOk, slice_get};
+ghost use Rattle.std.specs.Prelude.{◌≡◌, ◌↔◌, IsTrue, ◌<◌, ◌≤◌, [], length, map, take, drop, sum_by, IfOk, slice_get};
 ghost use Rattle.std.specs.Option.{option_copied};
 ghost use Rattle.std.specs.List.{All};
 ghost use Rattle.board_terms.specs.Messages.{ticket_of};
 ghost use Rattle.board_terms.specs.declared.messages.Message.TheVariants.{FromPort, FromTimer};
 ghost use Rattle.board_terms.specs.Sources.{source_number};
 ghost use Rattle.board_terms.specs.Ranges.{HasMessageRanges};
-ghost use Rattle.message_queues.specs.Queues.{no_messages, queue_of, with_queue, appended, after_place, after_withdrawal, withdrawn_of, processors_of, most_messages, port_used, is_timer_free, HasBuffer};
+ghost use Rattle.message_queues.specs.Queues.{no_messages, queue_of, with_queue, appended, after_place, after_withdrawal, withdrawn_of, processors_of, most_ports, most_messages, port_used, is_timer_free, HasBuffer};
 
 use crate::chains::{Chain, Neighbours, drop_first, link, message_at, message_in, withdraw};
 use crate::messages::{copied, no_message, write_expiry, write_post};
-use crate::owners::{PORTS, owner_of, owner_of_timer};
+use crate::owners::{PORTS, most_ports, owner_of, owner_of_timer};
 use arrayvec::ArrayVec;
 use board_terms::{Message, Moment, Sint, Ticket, TimerId, Vp, source_number};
 use slab::Slab;
 use std::alloc::{AllocError, Global};
 use std::marker::Model;
 
-/// The buffers of all ports: 16 of each.
-const PORT_BUFFERS: usize = 256;
+/// The greatest number of buffers of a port.
+const PORT_BUFFERS: usize = 16;
+
+/// The greatest number of messages that `withdraw_front` removes.
+const FRONT: u16 = 320;
 
 /// The message queues of a board: one for each source of each processor.
 #[derive(Drop)]
@@ -51,8 +54,9 @@ impl Model for Queues {
 }
 
 impl Queues {
-    /// Empty queues for that many processors, 1 to 64, with capacity for 256 messages of ports and one
-    /// of each timer. The only call here that allocates.
+    /// Empty queues for that many processors, 1 to 64, with capacity for 16 messages of each port and one
+    /// of each timer: 16 ports, or four for each processor if these are more. The only call here that
+    /// allocates.
     pub fn open(alloc: Global, processors: u8) -> Result<Queues, AllocError>
         requires some { 1 ≤ processors }
         requires bound { processors ≤ 64 }
@@ -60,7 +64,8 @@ impl Queues {
     {
         let timers = 4 * processors as usize;
         let queues = 16 * processors as usize;
-        let neighbours = Slab::with_capacity(alloc, PORT_BUFFERS + timers)?;
+        let buffers = PORT_BUFFERS * most_ports(processors);
+        let neighbours = Slab::with_capacity(alloc, buffers + timers)?;
         let messages = unused(alloc, neighbours.capacity())?;
         let in_use = vec![in alloc; 0; PORTS + timers]?;
         let mut chains = Vec::with_capacity(alloc, queues)?;
@@ -213,16 +218,15 @@ impl Queues {
         tickets
     }
 
-    /// Removes all messages from a queue, and returns their tickets, front first. Never allocates.
-    /// All queues together have at most 256 messages of ports and one of each timer.
-    pub fn withdraw_all(&mut self, vp: Vp, sint: Sint) -> ArrayVec<Ticket, 512>
+    /// Removes the first 320 messages from a queue, or all if there are fewer, and returns their
+    /// tickets, front first. Never allocates.
+    pub fn withdraw_front(&mut self, vp: Vp, sint: Sint) -> ArrayVec<Ticket, 320>
         requires { source_number vp sint < length self.old }
-        ensures tickets { result.items ≡ map ticket_of (queue_of self.old vp sint) }
-        ensures rest { self.new ≡ with_queue self.old vp sint [] }
+        ensures tickets { result.items ≡ map ticket_of (take 320 (queue_of self.old vp sint)) }
+        ensures rest { self.new ≡ with_queue self.old vp sint (drop 320 (queue_of self.old vp sint)) }
         ensures as_many { length self.new ≡ length self.old }
-        ensures in_all { sum_by length self.old ≤ most_messages self.old }
     {
-        let count = self.count(vp, sint);
+        let count = self.count(vp, sint).min(FRONT);
         let mut tickets = ArrayVec::new();
         for _ in 0..count {
             tickets.push(self.head(vp, sint).unwrap().ticket());
@@ -231,31 +235,26 @@ impl Queues {
         tickets
     }
 
-    /// How many messages are in a queue. The bound, at most 512, is that for all queues together: 256
-    /// messages of ports and one of each timer.
+    /// How many messages are in a queue. The bound, at most 4352, is that for all queues together: 16
+    /// messages of each port and one of each timer.
     #[inline]
     pub fn count(&self, vp: Vp, sint: Sint) -> u16
         requires { source_number vp sint < length self.now }
         ensures value { result ≡ length (queue_of self.now vp sint) }
         ensures bound { result ≤ most_messages self.now }
         ensures in_all { sum_by length self.now ≤ most_messages self.now }
-        ensures most { most_messages self.now ≤ 512 }
+        ensures most { most_messages self.now ≤ 4352 }
     {
         self.chains[source_number(vp, sint)].len
     }
 
-    /// How many buffers of a port are in use: its messages over all queues, at most 16. 0 for a
-    /// port above 15.
+    /// How many buffers of a port are in use: its messages over all queues, at most 16.
     #[inline]
     pub fn port_used(&self, port: u8) -> u8
         ensures value { result ≡ port_used self.now port }
         ensures bound { result ≤ 16 }
     {
-        let in_use = &self.in_use;
-        if port as usize >= PORTS {
-            return 0;
-        }
-        in_use[port as usize]
+        self.in_use[port as usize]
     }
 
     /// Whether the one buffer of a timer is free: no message of it is queued. A timer of a processor
@@ -265,6 +264,14 @@ impl Queues {
         ensures { result ≡ is_timer_free self.now timer }
     {
         !self.has_timer(timer) || self.in_use[owner_of_timer(timer)] == 0
+    }
+
+    /// Whether there may be a port of that number.
+    #[inline]
+    fn has_port(&self, port: u8) -> bool
+        ensures { IsTrue result ↔ (port < most_ports (processors_of self.now)) }
+    {
+        usize::from(port) < most_ports(self.processors)
     }
 
     /// Whether the processor of a timer has queues here.
@@ -280,7 +287,9 @@ impl Queues {
         ensures { IsTrue result ↔ HasBuffer self.now message.now }
     {
         match message {
-            Message::FromPort { port, .. } => *port < 16 && self.port_used(*port) < 16,
+            Message::FromPort { port, .. } => {
+                self.has_port(*port) && usize::from(self.port_used(*port)) < PORT_BUFFERS
+            }
             Message::FromTimer { timer, .. } => {
                 self.has_timer(*timer) && self.timer_buffer_free(*timer)
             }

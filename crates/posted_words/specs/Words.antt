@@ -14,7 +14,14 @@ pub record Words : Type 0 where
 abbrev pub shared_words : TableId → ℕ → ℕ → ℕ → Words
 shared_words name processors sweepers lines = record { name = name; processors = processors; sweepers = sweepers; lines = lines }
 
--- the valid sizes of words
+-- the valid sizes of words: of those for the threads of a large machine, and of any others
+pub record AreManyWordSizes (processors sweepers lines : ℕ) : Type 0 where
+  pub some_processor : 1 ≤ processors
+  pub processor_bound : processors ≤ 64
+  pub some_sweeper : 1 ≤ sweepers
+  pub sweeper_bound : sweepers ≤ 64
+  pub line_bound : lines ≤ 256
+
 pub record AreWordSizes (processors sweepers lines : ℕ) : Type 0 where
   pub some_processor : 1 ≤ processors
   pub processor_bound : processors ≤ 64

@@ -3,7 +3,7 @@ ghost use Rattle.std.specs.Prelude.{◌≡◌, ◌+◌, ◌*◌, ◌-◌, ◌<�
 ghost use Rattle.std.specs.Mem.Slots.{slots_items, IsFull};
 ghost use Rattle.posted_words.specs.inside.Posted.{view_of};
 ghost use Rattle.posted_words.specs.Settled.{Settled};
-ghost use Rattle.posted_words.specs.Words.{shared_words, AreWordSizes, token, IsOf, with_last_step, actions_of, word_of, raise_of, sweep_of};
+ghost use Rattle.posted_words.specs.Words.{shared_words, AreWordSizes, AreManyWordSizes, token, IsOf, with_last_step, actions_of, word_of, raise_of, sweep_of};
 ghost use Rattle.posted_words.specs.Answers.{is_fresh};
 
 use crate::line::{Line, Raised, Sweeper};
@@ -42,19 +42,19 @@ pub struct PostedWords {
     table: Table<(), View, (u64, u64), Counted, Global>,
     processors: u8,
     sweepers: u8,
-    lines: u8,
+    lines: u16,
 }
 
 impl Model for PostedWords {
     ghost use Rattle.std.specs.Prelude.{◌≡◌, ◌+◌, ◌*◌};
-    ghost use Rattle.posted_words.specs.Words.{Words, shared_words, AreWordSizes};
+    ghost use Rattle.posted_words.specs.Words.{Words, shared_words, AreManyWordSizes};
 
     ghost Value = { Words };
 
     ghost view = { λ p. shared_words p.table.shared.table_id p.processors p.sweepers p.lines };
 
     ghost invariant = { λ p. (p.table.shared.key ≡ (4 * p.processors, p.sweepers + p.lines))
-        × (p.table.shared.table_id.words ≡ 4 * p.processors) × (p.table.shared.table_id.slots ≡ 0) × AreWordSizes p.processors p.sweepers p.lines };
+        × (p.table.shared.table_id.words ≡ 4 * p.processors) × (p.table.shared.table_id.slots ≡ 0) × AreManyWordSizes p.processors p.sweepers p.lines };
 }
 
 type Places = Shared<(), View, (u64, u64), Counted>;
@@ -136,6 +136,28 @@ impl PostedWords {
         if processors < 1 || processors > 64 || sweepers < 1 || sweepers > 16 || lines > 16 {
             return Err(PostedFault::BadSize);
         }
+        match PostedWords::open_sized(alloc, processors, sweepers, u16::from(lines)) {
+            Ok(opened) => Ok(opened),
+            Err(_) => Err(PostedFault::Memory),
+        }
+    }
+
+    /// The same with up to 64 sweepers and 256 lines, for the threads and the devices of a large machine.
+    pub fn open_many(
+        alloc: Global,
+        processors: u8,
+        sweepers: u8,
+        lines: u16,
+    ) -> Result<(PostedWords, Vec<Sweeper>, Vec<Line>), PostedFault>
+        ensures size { IsErrOf result PostedFault.BadSize ↔ (¬ AreManyWordSizes processors sweepers lines) }
+        ensures sizes { IfOk result (λ _. AreManyWordSizes processors sweepers lines) }
+        ensures words { IfOk result (λ r. r.0 ≡ shared_words r.0.name processors sweepers lines) }
+        ensures sweepers { IfOk result (λ r. r.1.items ≡ replicate sweepers (token r.0.name [])) }
+        ensures lines { IfOk result (λ r. r.2.items ≡ replicate lines (token r.0.name [])) }
+    {
+        if processors < 1 || processors > 64 || sweepers < 1 || sweepers > 64 || lines > 256 {
+            return Err(PostedFault::BadSize);
+        }
         match PostedWords::open_sized(alloc, processors, sweepers, lines) {
             Ok(opened) => Ok(opened),
             Err(_) => Err(PostedFault::Memory),
@@ -146,9 +168,9 @@ impl PostedWords {
         alloc: Global,
         processors: u8,
         sweepers: u8,
-        lines: u8,
+        lines: u16,
     ) -> Result<(PostedWords, Vec<Sweeper>, Vec<Line>), AllocError>
-        requires { AreWordSizes processors sweepers lines }
+        requires { AreManyWordSizes processors sweepers lines }
         ensures words { IfOk result (λ r. r.0 ≡ shared_words r.0.name processors sweepers lines) }
         ensures sweepers { IfOk result (λ r. r.1.items ≡ replicate sweepers (token r.0.name [])) }
         ensures lines { IfOk result (λ r. r.2.items ≡ replicate lines (token r.0.name [])) }

@@ -21,6 +21,7 @@ use Rattle.board_terms.specs.declared.messages.PortShape.{PortShape}
 use Rattle.board_terms.specs.declared.pages.Kind.{Kind}
 use Rattle.board_terms.specs.declared.pages.Kind.TheVariants.{Sim, Sief}
 use Rattle.board_terms.specs.declared.refusal.Refusal.{Refusal}
+use Rattle.event_ports.specs.Shapes.{buffers_of}
 use Rattle.event_ports.specs.declared.ports.Port.{Port}
 use Rattle.event_ports.specs.Ports.{open_refusal, port_at}
 use Rattle.gpa_space.specs.Page.{overwritten}
@@ -30,7 +31,7 @@ use Rattle.synic_regs.specs.declared.register.Register.{Register}
 use Rattle.synic_board.specs.declared.event.Event.TheVariants.{OpenPort}
 use Rattle.synic_board.specs.declared.event.Reply.TheVariants.{Done}
 use Rattle.synic_board.specs.Effects.{Outcome, refused, unchanged}
-use Rattle.synic_board.specs.Posts.{with_port, opened_port, buffers_of}
+use Rattle.synic_board.specs.Posts.{with_port, opened_port}
 use Rattle.synic_board.specs.Registers.{stored}
 use Rattle.synic_board.specs.Step.{step}
 use Rattle.synic_board.specs.State.{State, processors, opened, regs_of, with_regs, space_of, ports_of, bank_of, with_apic, slot_of, with_slot_ticket}

@@ -1,20 +1,10 @@
 -- Emptying the slots and queues of a processor: source by source.
-use Rattle.std.proofs.Common.{◌≡◌, ◌⊎◌, inl, inr, ℕ, zero, suc, ◌+◌, ◌<◌, ◌≤◌, List, [], ◌++◌, length, length-append, map, refl, ap, ◌∙◌, arith}
+use Rattle.std.proofs.Common.{◌≡◌, ℕ, zero, suc, ◌+◌, List, refl}
 use Rattle.std.specs.Prelude.{None, Some}
 use Rattle.std.specs.Option.{option_map_or}
-use Rattle.std.specs.List.{sum_by}
-use Rattle.std.proofs.lemmas.Bool.{cases_lt}
-use Rattle.std.proofs.lemmas.List.{length-map, set_past}
-use Rattle.std.proofs.lemmas.List.Sums.{sum_by-set}
-use Rattle.std.proofs.Math.ListN.{get_or-eq_default}
-use Rattle.board_terms.specs.Messages.{ticket_of}
-use Rattle.board_terms.specs.declared.messages.Message.{Message}
 use Rattle.board_terms.specs.declared.notices.Notice.{Notice}
-use Rattle.board_terms.specs.declared.notices.Notice.TheVariants.{Withdrawn}
-use Rattle.board_terms.specs.Sources.{source_number}
-use Rattle.message_queues.specs.Queues.{queue_of}
 use Rattle.synic_board.specs.State.{State, processors, slot_of}
-use Rattle.synic_board.specs.Effects.{Effect, nothing}
+use Rattle.synic_board.specs.Effects.{nothing}
 use Rattle.synic_board.specs.inside.Effected.{preceded}
 use Rattle.synic_board.specs.Resetting.{withdrawn_ticket, slot_emptied, queue_emptied, source_emptied, emptied_below}
 use Rattle.synic_board.proofs.Folds.{IsFold, fold_none, fold_more, chained}

@@ -1,5 +1,5 @@
 -- The summary of a newly opened board.
-use Rattle.std.proofs.Common.{◌≡◌, ℕ, ◌*◌, ◌<◌, Bool, true, false, cond, List, [], ◌∷◌, map, replicate, length, refl, sym, ap, ◌∙◌, zero, suc, arith, nat_lt}
+use Rattle.std.proofs.Common.{◌≡◌, ℕ, ◌*◌, ◌<◌, Bool, true, false, cond, List, [], ◌∷◌, map, replicate, length, refl, sym, ap, ◌∙◌, zero, suc, arith, nat_eq, nat_lt}
 use Rattle.std.specs.Prelude.{Option, None, Some, not, if◌then◌else◌}
 use Rattle.std.specs.Option.{option_map_or, option_map}
 use Rattle.std.specs.Ordering.{nat_cmp}
@@ -88,7 +88,7 @@ summary_of-opened n pages ticket v nexts autos owners queued earliest =
 
 -- the state of the fields of a newly opened board
 pub state-opened : (n pages ticket : ℕ) (apics : List Apic) (regs : List Regs) (space : Space) (ports : Ports) (queues : Queues) (slots : List (Option ℕ)) (bank : Bank) →
-    apics ≡ replicate n empty_apic → regs ≡ replicate n reset_regs → space ≡ opened_space n pages → ports ≡ no_ports n → queues ≡ no_messages n → slots ≡ replicate (16 * n) None → bank ≡ no_timers n →
+    apics ≡ replicate n empty_apic → regs ≡ replicate n reset_regs → space ≡ opened_space n pages → ports ≡ no_ports n (nat_eq pages 0) → queues ≡ no_messages n → slots ≡ replicate (16 * n) None → bank ≡ no_timers n →
     record {
       moment = 0;
       next_ticket = ticket;

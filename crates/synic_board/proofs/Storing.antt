@@ -94,6 +94,7 @@ kept-stored b t address bytes h is =
       two_overlays = ap length registers ∙ h.two_overlays;
       overlays = registers ∙ h.overlays;
       ports = h.ports;
+      port_count = h.port_count;
       queues = h.queues;
       slots = h.slots;
       timers = h.timers;

@@ -1,5 +1,5 @@
 -- A tick tries the due timers one after another, each as the earliest of all.
-use Rattle.std.proofs.Common.{◌≡◌, ◌≢◌, ℕ, zero, suc, ◌+◌, ◌-◌, ◌*◌, ◌^◌, ◌<◌, ◌≤◌, Bool, true, false, ◌&&◌, nat_lt, nat_le, cond, take, List, [], ◌∷◌, ◌++◌, length, get_or, refl, sym, ap, ◌∙◌, arith, subst, append_assoc, append-nil, length-append}
+use Rattle.std.proofs.Common.{◌≡◌, ◌≢◌, ℕ, zero, suc, ◌+◌, ◌-◌, ◌*◌, ◌<◌, ◌≤◌, Bool, true, false, ◌&&◌, nat_lt, nat_le, List, [], ◌∷◌, length, get_or, refl, sym, ap, ◌∙◌, arith, subst, append-nil}
 use Rattle.std.specs.Prelude.{Option, None, Some, filter, if◌then◌else◌}
 use Rattle.std.specs.Option.{option_map_or}
 use mir.Val.{bool_byte}
@@ -7,8 +7,6 @@ use Rattle.std.specs.FinSet as set
 use Rattle.std.proofs.lemmas.Bool.Decides.{nat_tests}
 use Rattle.std.proofs.lemmas.List.{length-set}
 use Rattle.std.proofs.lemmas.Option.{same_Some}
-use Rattle.std.proofs.lemmas.List.Elements.{filter_more}
-use Rattle.std.proofs.lemmas.List.Sums.{length-filter, sum_by-take-le}
 use Rattle.board_terms.specs.Dues.{Dues, number_of, least, IsLeast}
 use Rattle.board_terms.specs.declared.messages.Message.{Message}
 use Rattle.board_terms.specs.declared.messages.Message.TheVariants.{FromTimer}
@@ -25,7 +23,7 @@ use Rattle.synic_board.specs.State.{BoardModel, State, processors, apic_of, regs
 use Rattle.synic_board.specs.Effects.{Effect, nothing, after}
 use Rattle.synic_board.specs.Interrupts.{requested, raised}
 use Rattle.synic_board.specs.Delivery.{delivers, is_slot_empty, placed_head, placed, marked, tried, accepted, delivered}
-use Rattle.synic_board.specs.Timers.{mode_at, is_ready, delivery_by, signalled_by, expired_state, expiry_at, fired, attempted, attempted_until, most_expiries}
+use Rattle.synic_board.specs.Timers.{mode_at, is_ready, delivery_by, signalled_by, expired_state, expiry_at, fired, attempted, attempted_until}
 use Rattle.synic_board.specs.inside.Effected.{preceded, Effected}
 use Rattle.synic_board.specs.inside.Steps.{first_due, is_any_due, is_other}
 use Rattle.synic_board.proofs.Clocks.{none_listed}

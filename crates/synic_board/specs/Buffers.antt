@@ -5,11 +5,10 @@ use Rattle.board_terms.specs.declared.messages.Message.{Message}
 use Rattle.board_terms.specs.declared.messages.Message.TheVariants.{FromPort, FromTimer}
 use Rattle.board_terms.specs.declared.messages.PortShape.TheVariants.{Messages}
 use Rattle.event_ports.specs.declared.ports.Port.{Port}
-use Rattle.event_ports.specs.Ports.{port_at, is_posted_type}
-use Rattle.event_ports.specs.Shapes.{fits}
-use Rattle.message_queues.specs.Queues.{port_used, timer_used, queue_of}
+use Rattle.event_ports.specs.Ports.{port_at, buffers_to, is_posted_type}
+use Rattle.event_ports.specs.Shapes.{fits, buffers_of}
+use Rattle.message_queues.specs.Queues.{processors_of, most_ports, port_used, timer_used, queue_of}
 use Rattle.synic_board.specs.State.{State, ports_of}
-use Rattle.synic_board.specs.Posts.{buffers_of}
 use Rattle.synic_board.specs.Timed.{IsTimed}
 
 -- a port of a board is open for messages to source i of processor p, with some number of buffers
@@ -30,7 +29,10 @@ pub record HasBuffers (s : State) : Type 0 where
   pub home : (p i : ℕ) → i < 16 → All (IsHome s.ports p i) (queue_of s.queues p i)
   -- queues are in the order of tickets, and no timer is further ahead than its period
   pub timed : IsTimed s
-  -- there are 16 ports, and the source and the shape of each open one are in range
-  pub ports : length s.ports ≡ 16
+  -- each port has buffers
+  pub ports : length s.ports ≤ most_ports (processors_of s.queues)
+  -- the ports of a processor have at most 256 message buffers
+  pub few : (p : ℕ) → buffers_to (ports_of s) p ≤ 256
+  -- the source and the shape of each open port are in range
   pub shapes : (k : ℕ) (p : Port) → port_at (ports_of s) k ≡ Some p → fits p.shape ≡ true
   pub sources : (k : ℕ) (p : Port) → port_at (ports_of s) k ≡ Some p → p.sint < 16

@@ -4,13 +4,13 @@ use Rattle.std.specs.Option.{option_map_or}
 use Rattle.board_terms.specs.Quantities.{Processor, Source, PortNumber, Flag}
 use Rattle.arrayvec.specs.ArrayVec.{ArrayVec}
 use Rattle.board_terms.specs.declared.messages.PortShape.{PortShape}
-use Rattle.board_terms.specs.declared.messages.PortShape.TheVariants.{Messages, Flags}
 use Rattle.board_terms.specs.declared.messages.Message.TheVariants.{FromPort}
 use Rattle.board_terms.specs.declared.notices.Notice.{Notice}
 use Rattle.board_terms.specs.declared.notices.Notice.TheVariants.{FlagSet, Withdrawn}
 use Rattle.board_terms.specs.declared.refusal.Refusal.{Refusal}
 use Rattle.board_terms.specs.declared.refusal.Refusal.TheVariants.{SynicOff, NoBuffers, TicketsSpent}
 use Rattle.event_ports.specs.declared.ports.Port.{Port}
+use Rattle.event_ports.specs.Shapes.{buffers_of}
 use Rattle.event_ports.specs.Ports.{open_refusal, target_of, message_target_of, flag_place_of}
 use Rattle.message_queues.specs.Queues.{port_used, queue_of, withdrawn_of, after_withdrawal}
 use Rattle.synic_regs.specs.Regs.{has, enable}
@@ -47,11 +47,6 @@ closed_at s port (Ok p) = answered Done (withdrawn (without_port s port) p.vp p.
 
 abbrev pub closed : State → PortNumber → Outcome
 closed s port = closed_at s port (target_of (ports_of s) port)
-
--- how many messages of a port may be queued
-abbrev pub buffers_of : PortShape → ℕ
-buffers_of (Messages buffers) = buffers
-buffers_of (Flags base count) = 0
 
 -- the greatest ticket is 2^64 - 2
 abbrev pub are_tickets_left : State → Bool

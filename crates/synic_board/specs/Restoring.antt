@@ -19,7 +19,7 @@ use Rattle.stimer_bank.specs.declared.timer.Timer.{Timer}
 use Rattle.stimer_bank.specs.Timer.{IsSoundTimer}
 use Rattle.stimer_bank.specs.Bank.{with_timer, with_suspension as bank_with_suspension}
 use Rattle.synic_board.specs.State.{State, with_apic, with_bank, with_space, space_of, bank_of, slot_of, ports_of}
-use Rattle.synic_board.specs.Posts.{buffers_of}
+use Rattle.event_ports.specs.Shapes.{buffers_of}
 use Rattle.synic_board.specs.Delivery.{is_slot_empty}
 use Rattle.synic_board.specs.Locations.{times, locations}
 use Rattle.synic_board.specs.Sound.{IsMessage}

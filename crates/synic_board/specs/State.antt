@@ -1,10 +1,10 @@
 -- The state of the reference model: one list for each part, indexed by processor.
-use Rattle.std.specs.Prelude.{◌≢◌, ℕ, Bool, ◌≤◌, ◌*◌, List, [], ◌∷◌, Option, None, slice_index_or, slice_set, replicate, length}
+use Rattle.std.specs.Prelude.{◌≢◌, ℕ, Bool, ◌≤◌, ◌*◌, ◌==◌, List, [], ◌∷◌, Option, None, slice_index_or, slice_set, replicate, length}
 use Rattle.board_terms.specs.Quantities.{Processor, Source, Moment, Ticket}
 use Rattle.lapic_core.specs.Apic.{Apic, empty_apic}
 use Rattle.synic_regs.specs.Regs.{Regs, reset_regs}
 use Rattle.event_ports.specs.declared.ports.Port.{Port}
-use Rattle.event_ports.specs.Ports.{Ports}
+use Rattle.event_ports.specs.Ports.{Ports, no_ports}
 use Rattle.board_terms.specs.Sources.{source_number}
 use Rattle.message_queues.specs.Queues.{Queues, no_messages}
 use Rattle.stimer_bank.specs.declared.timer.Timer.{Timer}
@@ -25,7 +25,7 @@ pub record State : Type 0 where
   pub pages : List (List ℕ)
   -- the overlays' own pages, in the order of visibility
   pub own : List (List ℕ)
-  -- the ports 0 to 15
+  -- the ports, by number
   pub ports : List (Option Port)
   -- the queue of each source, those of processor 0 first
   pub queues : Queues
@@ -112,7 +112,7 @@ opened n pages ticket =
       regs = replicate n reset_regs;
       pages = replicate pages zero_page;
       own = replicate (2 * n) zero_page;
-      ports = replicate 16 None;
+      ports = (no_ports n (pages == 0)).ports;
       queues = no_messages n;
       slots = replicate (16 * n) None;
       timers = (no_timers n).timers;

@@ -86,7 +86,7 @@ impl Machine {
     {
         let summary = Summary::open(alloc, processors, pages)?;
         let space = Space::open(alloc, processors, pages)?;
-        let ports = Ports::new(processors);
+        let ports = Ports::open(alloc, processors, pages == 0)?;
         let timers = TimerBank::open(alloc, processors)?;
         let queues = Queues::open(alloc, processors)?;
         let slots = no_tickets(alloc, 16 * processors as usize)?;

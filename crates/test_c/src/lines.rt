@@ -157,9 +157,9 @@ fn lines_step_at_the_same_words(rt: HostRuntime) -> Result<(), Fail> {
 }
 
 /// How many lines a new line splits off, and why it splits off no more.
-fn splits(alloc: Global) -> Option<(u8, SplitFault)> {
+fn splits(alloc: Global) -> Option<(u16, SplitFault)> {
     let mut line = OwnedLine::open(alloc, 2).ok()?;
-    for count in 0..40 {
+    for count in 0..400 {
         if let Err(fault) = line.split(alloc) {
             return Some((count, fault));
         }
@@ -168,6 +168,6 @@ fn splits(alloc: Global) -> Option<(u8, SplitFault)> {
 }
 
 #[test]
-fn a_first_line_splits_off_31_others(rt: HostRuntime) {
-    assert_eq!(rt; splits(rt.alloc()), Some((31, SplitFault::NoMore)));
+fn a_first_line_splits_off_319_others(rt: HostRuntime) {
+    assert_eq!(rt; splits(rt.alloc()), Some((319, SplitFault::NoMore)));
 }

@@ -1,7 +1,10 @@
 // Opening and closing ports, and flags at the limits of their ranges.
-use crate::steps::{Part, first_other};
+ghost use Rattle.std.specs.Prelude.{◌≤◌};
+
+use crate::steps::{Other, Part, first_other};
 use board_terms::{PortShape, Refusal};
 use event_ports::{Port, Ports};
+use std::alloc::{AllocError, Global};
 
 /// A call of the ports.
 #[derive(Clone, Copy)]
@@ -87,9 +90,24 @@ const EACH_CALL: [(Call, Answer); 20] = [
     // README event_ports: end
 ];
 
+/// The first call that the ports of a board answer in another way.
+fn other(
+    alloc: Global,
+    processors: u8,
+    is_sparse: bool,
+    steps: &[(Call, Answer)],
+) -> Result<Option<Other<Answer>>, AllocError>
+    requires some { 1 ≤ processors }
+    requires bound { processors ≤ 64 }
+{
+    Ok(first_other(&mut Ports::open(alloc, processors, is_sparse)?, steps))
+}
+
 #[test]
 fn each_call_once(rt: HostRuntime) {
-    assert_eq!(rt; first_other(&mut Ports::new(1), &EACH_CALL), None);
+    for is_sparse in [false, true] {
+        assert_eq!(rt; other(rt.alloc(), 1, is_sparse, &EACH_CALL), Ok(None));
+    }
 }
 
 const LAST_FLAG: PortShape = PortShape::Flags {
@@ -171,5 +189,69 @@ const EDGES: [(Call, Answer); 15] = [
 
 #[test]
 fn the_edges(rt: HostRuntime) {
-    assert_eq!(rt; first_other(&mut Ports::new(64), &EDGES), None);
+    assert_eq!(rt; other(rt.alloc(), 64, true, &EDGES), Ok(None));
+}
+
+const ONE_BUFFER: PortShape = PortShape::Messages { buffers: 1 };
+
+const SIXTEEN_BUFFERS: PortShape = PortShape::Messages { buffers: 16 };
+
+/// Four ports for each processor of a sparse board, if these are more than 16.
+const LAST_PORTS: [(u8, bool, u8, Answer); 10] = [
+    (8, false, 15, Opened),
+    (8, false, 16, Refused(Refusal::UnknownPort)),
+    (4, true, 15, Opened),
+    (4, true, 16, Refused(Refusal::UnknownPort)),
+    (5, true, 19, Opened),
+    (5, true, 20, Refused(Refusal::UnknownPort)),
+    (8, true, 31, Opened),
+    (8, true, 32, Refused(Refusal::UnknownPort)),
+    (63, true, 252, Refused(Refusal::UnknownPort)),
+    (64, true, 255, Opened),
+];
+
+#[test]
+fn the_last_port(rt: HostRuntime) {
+    for (processors, is_sparse, port, answer) in LAST_PORTS {
+        if processors < 1 || processors > 64 {
+            return;
+        }
+        let step = (Open(port, 0, 2, ONE_BUFFER), answer);
+        assert_eq!(rt; other(rt.alloc(), processors, is_sparse, &[step]), Ok(None));
+    }
+}
+
+/// The ports of processor 3 get all their 256 buffers, and another processor its own; a closed port
+/// gives its buffers back.
+fn fill(ports: &mut Ports) -> Option<u8> {
+    for port in 0..16 {
+        if ports.open_port(port, 3, port, SIXTEEN_BUFFERS).is_err() {
+            return Some(port);
+        }
+    }
+    None
+}
+
+const FULL: [(Call, Answer); 11] = [
+    (Open(16, 3, 0, ONE_BUFFER), Refused(Refusal::BadTarget)),
+    (Open(16, 3, 0, EIGHT_FLAGS), Opened),
+    (Open(17, 2, 0, SIXTEEN_BUFFERS), Opened),
+    (Close(7), Answer::Port(3, 7, SIXTEEN_BUFFERS)),
+    (Open(18, 3, 0, TWO_BUFFERS), Opened),
+    (Open(7, 3, 7, SIXTEEN_BUFFERS), Refused(Refusal::BadTarget)),
+    (Open(7, 3, 7, PortShape::Messages { buffers: 14 }), Opened),
+    (Close(16), Answer::Port(3, 0, EIGHT_FLAGS)),
+    (Open(16, 3, 0, ONE_BUFFER), Refused(Refusal::BadTarget)),
+    (Close(18), Answer::Port(3, 0, TWO_BUFFERS)),
+    (Open(16, 3, 0, TWO_BUFFERS), Opened),
+];
+
+fn full(alloc: Global) -> Result<(Option<u8>, Option<Other<Answer>>), AllocError> {
+    let mut ports = Ports::open(alloc, 5, true)?;
+    Ok((fill(&mut ports), first_other(&mut ports, &FULL)))
+}
+
+#[test]
+fn a_processor_has_256_buffers(rt: HostRuntime) {
+    assert_eq!(rt; full(rt.alloc()), Ok((None, None)));
 }

@@ -16,12 +16,13 @@ pub(crate) enum Call {
     Post(Queue, Ticket, u8),
     /// Sixteen posts to a port, with tickets from 0 on.
     PostSixteen(Queue, u8),
+    PostOthers(Queue),
     Expire(Queue, Ticket, u8),
     /// Each timer expires, with tickets from 100 on.
     ExpireAll(Queue),
     Place(Queue),
     WithdrawPort(Queue, u8),
-    WithdrawAll(Queue),
+    WithdrawFront(Queue),
     Count(Queue),
     PortUsed(u8),
     TimerIsFree(u8),
@@ -41,8 +42,8 @@ pub(crate) enum Answer {
 
 use Answer::{Done, Is, Messages, NoMessage, Tickets, Used};
 use Call::{
-    Count, Expire, ExpireAll, Place, PortUsed, Post, PostSixteen, TimerIsFree, WithdrawAll,
-    WithdrawPort,
+    Count, Expire, ExpireAll, Place, PortUsed, Post, PostOthers, PostSixteen, TimerIsFree,
+    WithdrawFront, WithdrawPort,
 };
 
 fn post(ticket: Ticket, port: u8) -> Message
@@ -98,12 +99,21 @@ impl Scene {
     fn post(&mut self, queue: Queue, ticket: Ticket, port: u8) -> Option<Answer> {
         // README message_queues: begin
         let (vp, sint) = (Vp::new(queue.0)?, Sint::new(queue.1)?);
-        if port > 15 || self.queues.port_used(port) > 15 {
+        let message = post(ticket, port);
+        if !self.queues.has_buffer(&message) {
             return None;
         }
-        self.queues.append(vp, sint, post(ticket, port));
+        self.queues.append(vp, sint, message);
         Some(Done)
         // README message_queues: end
+    }
+
+    /// Sixteen of each port but port 0.
+    fn post_others(&mut self, queue: Queue) -> Option<Answer> {
+        for port in 1..256u16 {
+            self.post_sixteen(queue, port as u8)?;
+        }
+        Some(Done)
     }
 
     fn post_sixteen(&mut self, queue: Queue, port: u8) -> Option<Answer> {
@@ -143,9 +153,9 @@ impl Scene {
         Some(listed(tickets.as_slice()))
     }
 
-    fn withdraw_all(&mut self, queue: Queue) -> Option<Answer> {
+    fn withdraw_front(&mut self, queue: Queue) -> Option<Answer> {
         let (vp, sint) = (Vp::new(queue.0)?, Sint::new(queue.1)?);
-        let tickets = self.queues.withdraw_all(vp, sint);
+        let tickets = self.queues.withdraw_front(vp, sint);
         Some(listed(tickets.as_slice()))
     }
 
@@ -169,11 +179,12 @@ impl Part for Scene {
         match call {
             Post(queue, ticket, port) => self.post(queue, ticket, port),
             PostSixteen(queue, port) => self.post_sixteen(queue, port),
+            PostOthers(queue) => self.post_others(queue),
             Expire(queue, ticket, number) => self.expire(queue, ticket, number),
             ExpireAll(queue) => self.expire_all(queue),
             Place(queue) => self.place(queue),
             WithdrawPort(queue, port) => self.withdraw_port(queue, port),
-            WithdrawAll(queue) => self.withdraw_all(queue),
+            WithdrawFront(queue) => self.withdraw_front(queue),
             Count(queue) => self.count(queue),
             PortUsed(port) => Some(Used(self.queues.port_used(port))),
             TimerIsFree(number) => self.timer_is_free(number),
@@ -235,47 +246,37 @@ const SIXTEEN_OF_ONE_PORT: [(Call, Answer); 10] = [
     (Place(QUEUE), NoMessage),
 ];
 
-/// All 512 buffers: sixteen of each port, and one of each timer, queued between the first port and
-/// the others.
-const ALL_BUFFERS: [(Call, Answer); 38] = [
+/// All 4352 buffers: sixteen of each of 256 ports, and one of each timer, queued between the first port
+/// and the others.
+const ALL_BUFFERS: [(Call, Answer); 25] = [
     (PostSixteen(QUEUE, 0), Done),
     (ExpireAll(QUEUE), Done),
-    (PostSixteen(QUEUE, 1), Done),
-    (PostSixteen(QUEUE, 2), Done),
-    (PostSixteen(QUEUE, 3), Done),
-    (PostSixteen(QUEUE, 4), Done),
-    (PostSixteen(QUEUE, 5), Done),
-    (PostSixteen(QUEUE, 6), Done),
-    (PostSixteen(QUEUE, 7), Done),
-    (PostSixteen(QUEUE, 8), Done),
-    (PostSixteen(QUEUE, 9), Done),
-    (PostSixteen(QUEUE, 10), Done),
-    (PostSixteen(QUEUE, 11), Done),
-    (PostSixteen(QUEUE, 12), Done),
-    (PostSixteen(QUEUE, 13), Done),
-    (PostSixteen(QUEUE, 14), Done),
-    (PostSixteen(QUEUE, 15), Done),
-    (Count(QUEUE), Messages(512)),
-    (PortUsed(15), Used(16)),
+    (PostOthers(QUEUE), Done),
+    (Count(QUEUE), Messages(4352)),
+    (PortUsed(255), Used(16)),
     (TimerIsFree(255), Is(false)),
-    (WithdrawPort(QUEUE, 15), SIXTEEN),
+    (WithdrawPort(QUEUE, 255), SIXTEEN),
     (WithdrawPort(QUEUE, 0), SIXTEEN),
     (WithdrawPort(QUEUE, 7), SIXTEEN),
-    (PortUsed(15), Used(0)),
+    (PortUsed(255), Used(0)),
     (PortUsed(7), Used(0)),
     (PortUsed(1), Used(16)),
-    (Count(QUEUE), Messages(464)),
+    (Count(QUEUE), Messages(4304)),
     (Place(QUEUE), Answer::Message(100)),
     (Place(QUEUE), Answer::Message(101)),
     (TimerIsFree(1), Is(true)),
     (TimerIsFree(2), Is(false)),
     (Expire(QUEUE, 99, 1), Done),
-    (PostSixteen(OTHER, 15), Done),
-    (PortUsed(15), Used(16)),
+    (PostSixteen(OTHER, 255), Done),
+    (PortUsed(255), Used(16)),
     (Count(OTHER), Messages(16)),
-    (Count(QUEUE), Messages(463)),
     (Place(QUEUE), Answer::Message(102)),
-    (WithdrawAll(OTHER), SIXTEEN),
+    (WithdrawFront(OTHER), SIXTEEN),
+    (
+        WithdrawFront(QUEUE),
+        Tickets(320, [103, 104, 105, 106, 107]),
+    ),
+    (Count(QUEUE), Messages(3982)),
 ];
 
 /// Each timer has a buffer of its own, and none is in use once its message is withdrawn.
@@ -283,7 +284,10 @@ const ALL_WITHDRAWN: [(Call, Answer); 6] = [
     (ExpireAll(QUEUE), Done),
     (TimerIsFree(0), Is(false)),
     (TimerIsFree(32), Is(false)),
-    (WithdrawAll(QUEUE), Tickets(256, [100, 101, 102, 103, 104])),
+    (
+        WithdrawFront(QUEUE),
+        Tickets(256, [100, 101, 102, 103, 104]),
+    ),
     (TimerIsFree(255), Is(true)),
     (Count(QUEUE), Messages(0)),
 ];
@@ -303,25 +307,25 @@ const WITHDRAWALS: [(Call, Answer); 38] = [
     (Post(QUEUE, 7, 3), Done),
     (WithdrawPort(QUEUE, 3), Tickets(5, [0, 1, 3, 6, 7])),
     (Post(QUEUE, 99, 3), Done),
-    (WithdrawAll(QUEUE), Tickets(4, [2, 4, 5, 99, 0])),
+    (WithdrawFront(QUEUE), Tickets(4, [2, 4, 5, 99, 0])),
     (Post(QUEUE, 0, 4), Done),
     (Post(QUEUE, 1, 5), Done),
     (Post(QUEUE, 2, 5), Done),
     (WithdrawPort(QUEUE, 4), Tickets(1, [0, 0, 0, 0, 0])),
     (Post(QUEUE, 99, 3), Done),
-    (WithdrawAll(QUEUE), Tickets(3, [1, 2, 99, 0, 0])),
+    (WithdrawFront(QUEUE), Tickets(3, [1, 2, 99, 0, 0])),
     (Post(QUEUE, 0, 5), Done),
     (Post(QUEUE, 1, 4), Done),
     (Post(QUEUE, 2, 5), Done),
     (WithdrawPort(QUEUE, 4), Tickets(1, [1, 0, 0, 0, 0])),
     (Post(QUEUE, 99, 3), Done),
-    (WithdrawAll(QUEUE), Tickets(3, [0, 2, 99, 0, 0])),
+    (WithdrawFront(QUEUE), Tickets(3, [0, 2, 99, 0, 0])),
     (Post(QUEUE, 0, 5), Done),
     (Post(QUEUE, 1, 5), Done),
     (Post(QUEUE, 2, 4), Done),
     (WithdrawPort(QUEUE, 4), Tickets(1, [2, 0, 0, 0, 0])),
     (Post(QUEUE, 99, 3), Done),
-    (WithdrawAll(QUEUE), Tickets(3, [0, 1, 99, 0, 0])),
+    (WithdrawFront(QUEUE), Tickets(3, [0, 1, 99, 0, 0])),
     (Post(QUEUE, 0, 4), Done),
     (WithdrawPort(QUEUE, 4), Tickets(1, [0, 0, 0, 0, 0])),
     (Post(QUEUE, 99, 3), Done),
@@ -338,12 +342,12 @@ const AN_EMPTIED_QUEUE: [(Call, Answer); 13] = [
     (Expire(QUEUE, 2, 2), Done),
     (Post(QUEUE, 3, 5), Done),
     (Post(QUEUE, 4, 3), Done),
-    (WithdrawAll(QUEUE), Tickets(4, [1, 2, 3, 4, 0])),
+    (WithdrawFront(QUEUE), Tickets(4, [1, 2, 3, 4, 0])),
     (Count(QUEUE), Messages(0)),
     (PortUsed(3), Used(1)),
     (PortUsed(5), Used(0)),
     (TimerIsFree(2), Is(true)),
-    (WithdrawAll(QUEUE), NO_TICKETS),
+    (WithdrawFront(QUEUE), NO_TICKETS),
     (Place(QUEUE), NoMessage),
     (Place(OTHER), Answer::Message(20)),
 ];

@@ -177,7 +177,7 @@ body_lines s =
     ++ (each_below (processors s) (register_lines s)
     ++ (each_below (length s.pages) (guest_lines s)
     ++ (each_below (processors s) (own_lines s)
-    ++ (each_below 16 (port_lines s)
+    ++ (each_below (length s.ports) (port_lines s)
     ++ (each_below (processors s) (timers_lines s)
     ++ (each_below (processors s) (queues_lines s)
     ++ each_below (processors s) (slots_lines s)))))))

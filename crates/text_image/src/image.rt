@@ -1,6 +1,6 @@
 // The lines of an image, section by section. Each function appends to `out`; an error is an
 // allocation failure.
-ghost use Rattle.std.specs.Prelude.{◌≡◌, ◌++◌, OnOk, Some};
+ghost use Rattle.std.specs.Prelude.{◌≡◌, ◌++◌, OnOk, Some, length};
 ghost use Rattle.text_base.specs.Fields.{line_of};
 ghost use Rattle.text_lines.specs.Items.{Opening, item_fields};
 ghost use Rattle.text_lines.specs.Printing.{text_of};
@@ -12,6 +12,7 @@ use crate::pages::{put_guest_pages, put_own_pages};
 use crate::processors::{put_lapics, put_registers};
 use crate::timers::put_timers;
 use board_terms::{Moment, Ticket};
+use event_ports::port_count;
 use synic_board::{Board, Event};
 use text_base::{Sink, put_decimal};
 use text_lines::put_event;
@@ -74,10 +75,12 @@ fn put_moment<S: Sink>(out: &mut S, moment: Moment) -> Result<(), S::Error>
 
 /// Appends the open ports.
 fn put_ports<S: Sink>(out: &mut S, board: &Board) -> Result<(), S::Error>
-    ensures { OnOk result (S.text out.new ≡ S.text out.old ++ text_of (each_below 16 (port_lines board.now.state))) }
+    ensures { OnOk result (S.text out.new ≡ S.text out.old ++ text_of (each_below (length board.now.state.ports) (port_lines board.now.state))) }
 {
-    for number in 0..16 {
-        put_port(out, board, number)?;
+    board.facts();
+    // 256 ports are more than a u8 counts
+    for number in 0..port_count(board.processors(), board.pages() == 0) {
+        put_port(out, board, number as u8)?;
     }
     Ok(())
 }

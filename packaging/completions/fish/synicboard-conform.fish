@@ -17,5 +17,5 @@ complete -c synicboard-conform -n '__fish_seen_subcommand_from run' -l junit -r 
 complete -c synicboard-conform -n '__fish_seen_subcommand_from fuzz' -l seed -x
 complete -c synicboard-conform -n '__fish_seen_subcommand_from fuzz' -l events -x
 complete -c synicboard-conform -n '__fish_seen_subcommand_from fuzz' -l minutes -x
-complete -c synicboard-conform -n '__fish_seen_subcommand_from fuzz' -l without -x -d 'Leave out this event'
+complete -c synicboard-conform -n '__fish_seen_subcommand_from fuzz' -l without -x -d 'Leave out this event, or sparse boards'
 complete -c synicboard-conform -l help -d 'Print help'

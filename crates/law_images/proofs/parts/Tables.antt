@@ -1,5 +1,5 @@
 -- An open port, a timer, a queued message, and a ticket in a slot.
-use Rattle.std.proofs.Common.{◌≡◌, ℕ, zero, suc, ◌+◌, ◌*◌, ◌<◌, ◌≤◌, Bool, true, false, List, [], ◌∷◌, ◌++◌, ◌&&◌, cond, length, refl, sym, ap, subst, ◌∙◌, arith, nat_lt, length-append}
+use Rattle.std.proofs.Common.{◌≡◌, ℕ, zero, suc, ◌+◌, ◌*◌, ◌<◌, ◌≤◌, Bool, true, false, List, [], ◌∷◌, ◌++◌, ◌&&◌, cond, length, refl, sym, ap, subst, ◌∙◌, arith, nat_le, length-append}
 use Rattle.std.specs.Prelude.{◌==◌, Option, None, Some, is_none, slice_get}
 use Rattle.std.specs.Option.{option_map_or}
 use Rattle.std.proofs.lemmas.Bool.Decides.{nat_tests}
@@ -27,9 +27,9 @@ use Rattle.law_images.proofs.Spots.{Ports, Timers, Queues, Slots, IsSpot, AgreeE
 use Rattle.law_images.proofs.Printed.{printed}
 use Rattle.law_images.proofs.Extending.{IsShaped, IsBlank, Extends, first-added}
 
--- a port that can be opened has a number below 16
+-- a port that can be opened is one of the board's
 record IsOpened (s : State) (k : ℕ) (port : Port) (new : State) : Type 0 where
-  low : k < 16
+  low : k < length s.ports
   is : new ≡ with_port s k port
 
 is-opened : (s : State) (k p i : ℕ) (shape : PortShape) (new : State) → (new, Done, []) ≡ opened_port s k p i shape → IsOpened s k (record { vp = p; sint = i; shape = shape }) new
@@ -38,16 +38,16 @@ is-opened s k p i shape new e = by (open_refusal (ports_of s) k p i shape) refl 
     port : Port
     port = record { vp = p; sint = i; shape = shape }
 
-    numbered : (t : Bool) (rest : Option Refusal) → nat_lt 15 k ≡ t → cond t (Some UnknownPort) rest ≡ None → k < 16
+    numbered : (t : Bool) (rest : Option Refusal) → nat_le (length s.ports) k ≡ t → cond t (Some UnknownPort) rest ≡ None → k < length s.ports
     numbered true rest is none = cc
     numbered false rest is none = grind (arith, nat_tests)
 
     by : (o : Option Refusal) → open_refusal (ports_of s) k p i shape ≡ o → (new, Done, []) ≡ option_map_or (refused s) o (unchanged (with_port s k port) Done) → IsOpened s k port new
-    by None is e = record { low = numbered (nat_lt 15 k) _ refl is; is = ap (λ (x : Outcome). x.0) e }
+    by None is e = record { low = numbered (nat_le (length s.ports) k) _ refl is; is = ap (λ (x : Outcome). x.0) e }
     by (Some r) is e = let reply : Done ≡ Refused r = ap (λ (x : Outcome). x.1) e in cc
 
 port-extends : (n m ticket : ℕ) (s : State) (last lapics k p i : ℕ) (shape : PortShape) → IsShaped n m ticket s → IsBlank n m s last lapics →
-    last < place_of (pieces.Port k p i shape) → k < 16 → Extends n m ticket s lapics (pieces.Port k p i shape) (with_port s k (record { vp = p; sint = i; shape = shape })) lapics
+    last < place_of (pieces.Port k p i shape) → k < length s.ports → Extends n m ticket s lapics (pieces.Port k p i shape) (with_port s k (record { vp = p; sint = i; shape = shape })) lapics
 port-extends n m ticket s last lapics k p i shape h blank later low = record {
   shaped = record {
     apics = h.apics;
@@ -71,7 +71,7 @@ port-extends n m ticket s last lapics k p i shape h blank later low = record {
   is = refl;
   frame = frame;
   added = first-added (printed s lapics Ports k 0 0) (printed (with_port s k port) lapics Ports k 0 0) (piece_fields (pieces.Port k p i shape)) (blank Ports k 0 0 spot later)
-      (ap (lines k) (get_or-set_same s.ports k (Some port) None (omega (arith, h.ports, low))));
+      (ap (lines k) (get_or-set_same s.ports k (Some port) None low));
 }
   where
     port : Port
@@ -81,7 +81,7 @@ port-extends n m ticket s last lapics k p i shape h blank later low = record {
     lines number o = option_map_or (λ (x : Port). port_line number x ∷ []) o []
 
     spot : IsSpot n m Ports k 0 0
-    spot = (low, omega arith, omega arith)
+    spot = (omega (arith, low, h.ports), omega arith, omega arith)
 
     frame : AgreeElsewhere n m (place_of (pieces.Port k p i shape)) (printed s lapics) (printed (with_port s k port) lapics)
     frame Ports q b c h' other = ap (lines q) (get_or-set_other s.ports k q (Some port) None (λ e. other (omega (arith, e, h'.1, h'.2))))

@@ -1,5 +1,5 @@
 -- The queued messages.
-use Rattle.std.proofs.Common.{◌≡◌, ◌⊎◌, inl, inr, ℕ, zero, suc, ◌+◌, ◌*◌, ◌%◌, ◌<◌, ◌≤◌, Bool, true, List, [], ◌∷◌, ◌++◌, cond, length, get_or, set, take, replicate, refl, sym, ap, subst, ◌∙◌, arith}
+use Rattle.std.proofs.Common.{◌≡◌, ◌⊎◌, inl, inr, ℕ, zero, suc, ◌+◌, ◌*◌, ◌/◌, ◌%◌, ◌<◌, ◌≤◌, Bool, true, List, [], ◌∷◌, ◌++◌, cond, length, get_or, set, take, replicate, refl, sym, ap, subst, ◌∙◌, arith}
 use Rattle.std.specs.Prelude.{◌==◌, Option, None, Some, slice_get, slice_index_or, sum_by, count_by}
 use Rattle.std.specs.Option.{option_map_or}
 use Rattle.std.specs.List.{All}
@@ -12,7 +12,7 @@ use Rattle.board_terms.specs.declared.messages.Message.{Message}
 use Rattle.board_terms.specs.declared.messages.Message.TheVariants.{FromPort, FromTimer}
 use Rattle.board_terms.specs.Messages.{ticket_of}
 use Rattle.board_terms.specs.Ranges.{HasMessageRanges}
-use Rattle.message_queues.specs.Queues.{Queues, HasBuffer, processors_of, is_from_port, is_from_timer, port_used, queue_of}
+use Rattle.message_queues.specs.Queues.{Queues, HasBuffer, processors_of, most_ports, is_from_port, is_from_timer, port_used, queue_of}
 use Rattle.event_ports.specs.declared.ports.Port.{Port}
 use Rattle.synic_board.specs.State.{State, processors}
 use Rattle.synic_board.specs.Locations.{times, locations}
@@ -97,7 +97,7 @@ before-all next (x ∷ q) (suc k) m within is h =
 has-buffer : (s : State) → IsBoardState s → (p j k : ℕ) (m : Message) (inside : j < length s.queues) (g : Got (get_or s.queues j []) k m) → (i : ℕ) → 16 * p ≤ j → IsHome s.ports p i m →
     HasBuffer (drafted s.queues j k m inside g) m
 has-buffer s h p j k (FromPort ticket port kind payload) inside g i place home =
-    (port-below s port _ h.buffers.ports home.1.1, omega (arith, more-counted s.queues j k (FromPort ticket port kind payload) inside g (is_from_port port) (test-same port), h.buffers.room port))
+    (omega (arith, port-below s port _ home.1.1, h.buffers.ports, ap (λ n. most_ports (n / 16)) (length-set (front j s.queues []) j (take k (get_or s.queues j [])) ∙ length-front j s.queues [])), omega (arith, more-counted s.queues j k (FromPort ticket port kind payload) inside g (is_from_port port) (test-same port), h.buffers.room port))
 has-buffer s h p j k (FromTimer ticket timer expiration) inside g i place home = (
   there,
   free _

@@ -5,7 +5,7 @@ use Rattle.slab.specs.Slab.{slab_len}
 use Rattle.board_terms.specs.declared.messages.Message.{Message}
 use Rattle.message_queues.specs.declared.chains.Chain.{Chain}
 use Rattle.message_queues.specs.declared.queues.Queues.TheInside.{Inside}
-use Rattle.message_queues.specs.Queues.{Queues}
+use Rattle.message_queues.specs.Queues.{Queues, most_ports}
 use Rattle.message_queues.specs.inside.Owners.{HasOwner, IsCounted}
 use Rattle.message_queues.specs.inside.Buffers.{buffer_at}
 use Rattle.message_queues.specs.inside.Chains.{Buffers, queues_at, ReadsBothWays, AreChains}
@@ -27,7 +27,7 @@ pub record QueuesInvariant (a : Inside) : Type 0 where
   pub linked : AreChains (buffers_of a) a.chains.items
   pub held : slab_len a.neighbours ≡ total_of a.chains.items
   pub both_ways : (queue : ℕ) (chain : Chain) → slice_get a.chains.items queue ≡ Some chain → ReadsBothWays (buffers_of a) chain
-  pub room : 256 + 4 * a.processors ≤ a.neighbours.capacity
+  pub room : 16 * most_ports a.processors + 4 * a.processors ≤ a.neighbours.capacity
   pub size : length a.messages.items ≡ a.neighbours.capacity
   pub owned : All (λ (queue : List Message). All (HasOwner a.processors) queue) (queues_of a)
   pub counts : IsCounted a.processors (queues_of a) a.in_use.items

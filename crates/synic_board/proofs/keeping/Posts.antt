@@ -1,6 +1,6 @@
 -- Opening and closing ports, posts and signals.
 use Rattle.std.proofs.Common.{◌≡◌, ◌≢◌, ℕ, ◌+◌, ◌^◌, ◌<◌, ◌≤◌, Bool, true, false, ◌&&◌, [], ◌∷◌, length, refl, arith, nat_lt}
-use Rattle.std.specs.Prelude.{Option, None, Some, Ok, Err, if◌then◌else◌, not, is_some}
+use Rattle.std.specs.Prelude.{Option, None, Some, Ok, Err, if◌then◌else◌, not, nat_le, is_some}
 use Rattle.std.specs.Option.{option_map_or}
 use Rattle.std.proofs.lemmas.Bool.Decides.{nat_tests}
 use Rattle.arrayvec.specs.ArrayVec.{ArrayVec}
@@ -11,7 +11,7 @@ use Rattle.board_terms.specs.declared.notices.Notice.TheVariants.{FlagSet}
 use Rattle.board_terms.specs.declared.refusal.Refusal.{Refusal}
 use Rattle.board_terms.specs.declared.refusal.Refusal.TheVariants.{UnknownPort, PortOpen, WrongKind, BadTarget, BadType, BadFlag, SynicOff}
 use Rattle.event_ports.specs.declared.ports.Port.{Port}
-use Rattle.event_ports.specs.Ports.{port_at, is_target, open_refusal, is_posted_type, message_target_at, flag_place_at}
+use Rattle.event_ports.specs.Ports.{port_at, is_target, has_room, open_refusal, is_posted_type, message_target_at, flag_place_at}
 use Rattle.event_ports.specs.Shapes.{fits}
 use Rattle.synic_regs.specs.Regs.{has, enable}
 use Rattle.gpa_space.specs.Space.{is_flag_set}
@@ -27,12 +27,21 @@ use Rattle.synic_board.proofs.keeping.Requests.{either, keeps-raised}
 use Rattle.synic_board.proofs.keeping.Attempts.{keeps-delivered, keeps-withdrawn}
 use Rattle.synic_board.proofs.keeping.Changes.{kept-port, kept-without_port, kept-flag}
 
--- a port is opened only to a source of a processor on the board
-not-refused : (a b t f : Bool) (x y z : Refusal) → (if a then Some x else if b then Some y else if not (t && f) then Some z else None) ≡ None → t ≡ true
-not-refused true b t f x y z e = absurd (cc)
-not-refused false true t f x y z e = absurd (cc)
-not-refused false false false f x y z e = absurd (cc)
-not-refused false false true f x y z e = refl
+-- what holds where a port is opened
+pub record IsOpened (unknown is_open target fitting left : Bool) : Type 0 where
+  pub known : unknown ≡ false
+  pub closed : is_open ≡ false
+  pub reached : target ≡ true
+  pub fits : fitting ≡ true
+  pub room : left ≡ true
+
+pub not-refused : (a b t f r : Bool) (x y z : Refusal) → (if a then Some x else if b then Some y else if not (t && f && r) then Some z else None) ≡ None → IsOpened a b t f r
+not-refused true b t f r x y z e = absurd (cc)
+not-refused false true t f r x y z e = absurd (cc)
+not-refused false false false f r x y z e = absurd (cc)
+not-refused false false true false r x y z e = absurd (cc)
+not-refused false false true true false x y z e = absurd (cc)
+not-refused false false true true true x y z e = record { known = refl; closed = refl; reached = refl; fits = refl; room = refl }
 
 pub keeps-opened_port : (n : ℕ) (s : State) (port p i : ℕ) (shape : PortShape) → IsIntact n s → KeepsOutcome n s (opened_port s port p i shape)
 keeps-opened_port n s port p i shape h = judged (open_refusal (ports_of s) port p i shape) refl
@@ -41,8 +50,9 @@ keeps-opened_port n s port p i shape h = judged (open_refusal (ports_of s) port 
         KeepsOutcome n s (option_map_or (refused s) o (unchanged (with_port s port (record { vp = p; sint = i; shape = shape })) Done))
     judged (Some r) is = keeps-unchanged n s (Refused r) h
     judged None is =
-        let good : (nat_lt p (processors s) && nat_lt i 16) ≡ true = not-refused (nat_lt 15 port) (is_some (port_at (ports_of s) port)) (is_target (ports_of s) p i)
-        (fits shape) UnknownPort PortOpen BadTarget is in
+        let o : IsOpened (nat_le (length s.ports) port) (is_some (port_at (ports_of s) port)) (is_target (ports_of s) p i) (fits shape) (has_room (ports_of s) p shape) =
+        not-refused _ _ _ _ _ UnknownPort PortOpen BadTarget is in
+        let good : (nat_lt p (processors s) && nat_lt i 16) ≡ true = o.reached in
         let below : p < n = (let c = h.count in grind (arith, nat_tests)) in
         let under : i < 16 = grind (arith, nat_tests) in
         keeps-still n s (with_port s port (record { vp = p; sint = i; shape = shape }), [])

@@ -5,19 +5,19 @@ use Rattle.std.specs.Option.{option_map_or}
 use Rattle.std.specs.List.{All}
 use Rattle.std.proofs.lemmas.Bool.{cases_lt, cases_eq}
 use Rattle.std.proofs.lemmas.Bool.Decides.{nat_tests}
-use Rattle.std.proofs.lemmas.List.{set_past, get_or-set_same, get_or-set_other}
+use Rattle.std.proofs.lemmas.List.{length-set, set_past, get_or-set_same, get_or-set_other}
 use Rattle.std.proofs.lemmas.List.Elements.{All-nil, All-head, All-tail, All-push, All-filter}
 use Rattle.std.proofs.lemmas.List.Sums.{sum_by-set, sum_by-cons, sum_by_push}
 use Rattle.arrayvec.specs.ArrayVec.{ArrayVec}
 use Rattle.board_terms.specs.declared.messages.Message.{Message}
 use Rattle.board_terms.specs.declared.messages.Message.TheVariants.{FromPort, FromTimer}
 use Rattle.board_terms.specs.Sources.{source_number}
-use Rattle.message_queues.specs.Queues.{Queues, is_from_port, is_from_timer, port_used, timer_used, is_timer_free, queue_of, left_of, appended}
+use Rattle.message_queues.specs.Queues.{Queues, processors_of, most_ports, is_from_port, is_from_timer, port_used, timer_used, is_timer_free, queue_of, left_of, appended}
 use Rattle.board_terms.specs.declared.messages.PortShape.TheVariants.{Messages}
 use Rattle.event_ports.specs.declared.ports.Port.{Port}
-use Rattle.event_ports.specs.Ports.{port_at, is_posted_type}
+use Rattle.event_ports.specs.Ports.{port_at, buffers_at, is_posted_type}
 use Rattle.synic_board.specs.State.{State, slot_of, ports_of}
-use Rattle.synic_board.specs.Posts.{buffers_of}
+use Rattle.event_ports.specs.Shapes.{buffers_of}
 use Rattle.synic_board.specs.Effects.{Effect, nothing}
 use Rattle.synic_board.specs.Delivery.{accepted}
 use Rattle.synic_board.specs.Resetting.{withdrawn_ticket, slot_emptied, queue_emptied, emptied_below}
@@ -35,7 +35,8 @@ unmoved s now queues ports timed h = record {
   home = λ p i below. subst (λ qs. All (IsHome now.ports p i) (queue_of qs p i)) (sym queues)
       (subst (λ ps. All (IsHome ps p i) (queue_of s.queues p i)) (sym ports) (h.home p i below));
   timed = timed;
-  ports = ap length ports ∙ h.ports;
+  ports = omega (arith, ap length ports, ap (λ (qs : Queues). most_ports (processors_of qs)) queues, h.ports);
+  few = λ p. omega (arith, ap (λ (xs : List (Option Port)). sum_by (buffers_at p) xs) ports, h.few p);
   shapes = λ k p e. h.shapes k p (ap (λ xs. slice_index_or xs k None) (sym ports) ∙ e);
   sources = λ k p e. h.sources k p (ap (λ xs. slice_index_or xs k None) (sym ports) ∙ e);
 }
@@ -139,7 +140,8 @@ fewer-queued s now j q is ports next moment timers part h = alike written now is
   home = each-set (IsHome s.ports) s.queues j q
       (λ p i below same. part.home s.ports p i (subst (λ k. All (IsHome s.ports p i) (get_or s.queues k [])) same (h.home p i below))) (λ p i below _. h.home p i below);
   timed = timed-queue s written j q refl refl refl refl (part.order s.next_ticket (h.timed.order j)) (part.timely s.moment (j % 16) (h.timed.timely j)) h.timed;
-  ports = h.ports;
+  ports = omega (arith, ap (λ n. most_ports (n / 16)) (length-set s.queues j q), h.ports);
+  few = h.few;
   shapes = h.shapes;
   sources = h.sources;
 })
@@ -218,7 +220,8 @@ buffers-joined s next p i m fit timed h = record {
       (λ q j below same. All-push (IsHome s.ports q j) (queue_of s.queues p i) m (subst (λ k. All (IsHome s.ports q j) (get_or s.queues k [])) same (h.home q j below)) (fit.home q j below same))
       (λ q j below _. h.home q j below);
   timed = timed;
-  ports = h.ports;
+  ports = omega (arith, ap (λ n. most_ports (n / 16)) (length-set s.queues (source_number p i) (queue_of s.queues p i ++ m ∷ [])), h.ports);
+  few = h.few;
   shapes = h.shapes;
   sources = h.sources;
 }

@@ -1,5 +1,6 @@
 -- The abstract view of the machine's fields, and their invariant.
-use Rattle.std.specs.Prelude.{◌≡◌, ◌≢◌, ◌≤◌, ◌*◌, length}
+use Rattle.std.specs.Prelude.{◌≡◌, ◌≢◌, ◌≤◌, ◌*◌, ◌==◌, length}
+use Rattle.event_ports.specs.Ports.{port_count}
 use Rattle.synic_board.specs.State.{State, BoardModel, overlay_registers}
 use Rattle.synic_board.specs.Summaries.{summary_of}
 use Rattle.synic_board.specs.declared.machine.Machine.TheInside.{Inside}
@@ -34,6 +35,7 @@ pub record MachineInvariant (b : Inside) : Type 0 where
   pub two_overlays : length b.space.registers ≡ 2 * length b.lapics.items
   pub overlays : b.space.registers ≡ overlay_registers b.regs.items
   pub ports : b.ports.processors ≡ length b.lapics.items
+  pub port_count : length b.ports.ports ≡ port_count (length b.lapics.items) (b.page_count == 0)
   pub queues : length b.queues ≡ 16 * length b.lapics.items
   pub slots : length b.slots.items ≡ 16 * length b.lapics.items
   pub timers : length b.timers.timers ≡ 4 * length b.lapics.items

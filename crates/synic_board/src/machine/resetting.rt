@@ -1,9 +1,11 @@
 // Resetting a processor.
-ghost use Rattle.std.specs.Prelude.{◌≡◌, ◌<◌, ◌≤◌, ◌+◌, [], length};
+ghost use Rattle.std.specs.Prelude.{◌≡◌, ◌<◌, ◌≤◌, ◌+◌, [], length, map};
+ghost use Rattle.board_terms.specs.Messages.{ticket_of};
+ghost use Rattle.board_terms.specs.Sources.{source_number};
 ghost use Rattle.lapic_core.specs.Apic.{empty_apic};
 ghost use Rattle.synic_regs.specs.Regs.{reset_regs};
 ghost use Rattle.gpa_space.specs.Space.{after_clearing};
-ghost use Rattle.message_queues.specs.Queues.{queue_of};
+ghost use Rattle.message_queues.specs.Queues.{queue_of, with_queue};
 ghost use Rattle.stimer_bank.specs.Bank.{reset as bank_reset};
 ghost use Rattle.synic_board.specs.State.{processors, regs_of, space_of, bank_of, with_apic, with_regs, with_space, with_bank};
 ghost use Rattle.synic_board.specs.Buffers.{HasBuffers};
@@ -15,9 +17,23 @@ use crate::event::Reply;
 use crate::machine::Machine;
 use crate::machine::posts::emit_withdrawn;
 use crate::summary::Entry;
-use board_terms::{Kind, Notice, Notices, Sint, Vp, source_number};
+use arrayvec::ArrayVec;
+use board_terms::{Kind, Notice, Notices, Sint, Ticket, Vp, source_number};
 use lapic_core::{Lapic, VectorSet};
+use message_queues::Queues;
 use synic_regs::SynicRegs;
+
+/// Withdraws the messages of a queue that has no more than an event has notices.
+#[inline(always)]
+fn withdraw_all(queues: &mut Queues, vp: Vp, sint: Sint) -> ArrayVec<Ticket, 320>
+    requires there { source_number vp sint < length queues.old }
+    requires few { length (queue_of queues.old vp sint) ≤ 320 }
+    ensures tickets { result.items ≡ map ticket_of (queue_of queues.old vp sint) }
+    ensures rest { queues.new ≡ with_queue queues.old vp sint [] }
+    ensures as_many { length queues.new ≡ length queues.old }
+{
+    queues.withdraw_front(vp, sint)
+}
 
 impl Machine {
     /// Resets a processor: withdraws the messages in its slots and queues, and then restores its
@@ -86,7 +102,7 @@ impl Machine {
         requires room { length notices.old + length (queue_of self.old.state.queues vp sint) ≤ 320 }
         ensures { Effected self.old notices.old self.new notices.new (queue_emptied self.old.state vp sint) }
     {
-        let tickets = self.queues.withdraw_all(vp, sint);
+        let tickets = withdraw_all(&mut self.queues, vp, sint);
         self.summary.write(Entry::Reduced(vp, sint, 0));
         emit_withdrawn(vp, sint, tickets.as_slice(), notices);
     }

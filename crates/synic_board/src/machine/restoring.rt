@@ -5,12 +5,13 @@ ghost use Rattle.stimer_bank.specs.Timer.{IsSoundTimer};
 ghost use Rattle.std.specs.List.{All};
 ghost use Rattle.std.specs.Option.{option_copied};
 ghost use Rattle.synic_regs.specs.Regs.{stores, value_of};
-ghost use Rattle.event_ports.specs.Ports.{port_at};
+ghost use Rattle.event_ports.specs.Ports.{port_count, port_at};
+ghost use Rattle.gpa_space.specs.Space.{is_sparse};
 ghost use Rattle.message_queues.specs.Queues.{queue_of};
 ghost use Rattle.stimer_bank.specs.Bank.{idle_timer, timer_in, dues};
 ghost use Rattle.board_terms.specs.Dues.{least, later_than};
 ghost use Rattle.synic_board.specs.Ranges.{HasRanges};
-ghost use Rattle.synic_board.specs.State.{IsWithinLimits, processors, apic_of, regs_of, ports_of, bank_of, slot_of, with_slot_ticket};
+ghost use Rattle.synic_board.specs.State.{IsWithinLimits, processors, apic_of, regs_of, space_of, ports_of, bank_of, slot_of, with_slot_ticket};
 ghost use Rattle.synic_board.specs.Timers.{at_moment};
 ghost use Rattle.synic_board.specs.Restoring.{with_processor, with_saved_timer, with_own_bytes, with_guest_bytes, with_message, HasNoTickets};
 
@@ -138,6 +139,7 @@ impl Machine {
     /// What holds for the parts of every machine.
     pub(crate) fn facts(&self)
         ensures timers { length self.now.state.timers ≡ 4 * processors self.now.state }
+        ensures ports { length self.now.state.ports ≡ port_count (processors self.now.state) (is_sparse (space_of self.now.state)) }
         ensures sound { (n : ℕ) → IsSoundTimer (slice_index_or self.now.state.timers n idle_timer) }
         ensures pages { All (λ page. length page ≡ 4096) self.now.state.pages }
         ensures sizes { IsWithinLimits (processors self.now.state) (length self.now.state.pages) }

@@ -14,7 +14,7 @@ returns g c =
     let last : OnOk c.put.result ((g.S.Sink.text c.put.new.self) ≡ (g.S.Sink.text c.put_slots.new.out) ++ text_of ((codes "end" ∷ []) ∷ [])) = search rules in
     on_ok_weaker c.put.result
     (λ h. sections (head_lines s) (each_below n (lapic_lines s)) (each_below n (register_lines s)) (each_below (length s.pages) (guest_lines s))
-    (each_below n (own_lines s)) (each_below 16 (port_lines s))
+    (each_below n (own_lines s)) (each_below (length s.ports) (port_lines s))
     (each_below n (timers_lines s)) (each_below n (queues_lines s)) (each_below n (slots_lines s)) ((codes "end" ∷ []) ∷ [])
     (g.S.Sink.text c.args.out.now) (g.S.Sink.text c.put_head.new.out) (g.S.Sink.text c.put_lapics.new.out) (g.S.Sink.text c.put_registers.new.out) (g.S.Sink.text c.put_guest_pages.new.out)
     (g.S.Sink.text c.put_own_pages.new.out) (g.S.Sink.text c.put_ports.new.out)

@@ -31,7 +31,7 @@ pub link-key-requires-clause-bound : goal.link-key-requires-clause-bound
 link-key-requires-clause-bound c =
     let within : c.source_number.result < length c.args.self.now = omega (arith, c.source_number.ensures.value, c.requires.on_the_board) in
     let h = here c.self.inside c.args.self.now c.source_number.result c.index_mut-chain.result.now c.self.invariant c.self.view_is within c.index_mut-chain.ensures.value in
-    omega (arith, h.bound)
+    omega (arith, h.few)
 
 pub invariant_of-self : goal.invariant_of-self
 invariant_of-self c =

@@ -30,7 +30,7 @@ returns-else-not-has_timer c =
     let own = timer-owned c.self.inside c.args.self.now 0 0 c.args.timer c.self.invariant c.self.view_is (c.if-not-has_timer.ensures.0 refl) c.owner_of_timer.ensures.index in
     let below : c.owner_of_timer.result < owners n = omega (arith, own.0, own.1, c.owner_of_timer.ensures.value) in
     let owned = each-owned n (queues_of c.self.inside) c.self.invariant.owned in
-    let used = timer_used-owner n (queues_of c.self.inside) c.args.timer c.owner_of_timer.ensures.index owned in
+    let used = timer_used-owner n (queues_of c.self.inside) c.args.timer c.self.invariant.processor_bound c.owner_of_timer.ensures.index owned in
     let shown = ap (λ (x : Queues). timer_used x c.args.timer) c.self.view_is in
     let stored = used-at c.self.inside c.owner_of_timer.result c.index.result.now c.self.invariant below c.index.ensures
     ∙ c.self.invariant.counts.counted c.owner_of_timer.result below in

@@ -1,7 +1,7 @@
 use Rattle.std.proofs.Common.{◌≡◌, ◌<◌, ◌+◌, ◌*◌, [], ℕ, sym, ap, ◌∙◌, length, arith}
 use Rattle.std.specs.Prelude.{slice_index_or, slice_set}
 use Rattle.message_queues.specs.Queues.{port_used, left_of, withdrawn_of}
-use Rattle.message_queues.proofs.Steps.{used-at, here, unused, port-below, found, withdrawn-step}
+use Rattle.message_queues.proofs.Steps.{used-at, here, unused, found, withdrawn-step}
 use Rattle.message_queues.proofs.queues.Queues.withdraw_port.Goals as goal
 
 pub returns-then-port_used-eq0-clause-tickets : goal.returns-then-port_used-eq0-clause-tickets
@@ -24,19 +24,19 @@ withdraw-tickets-requires-clause-linked c =
 pub withdraw-tickets-requires-clause-bound : goal.withdraw-tickets-requires-clause-bound
 withdraw-tickets-requires-clause-bound c =
     let within : c.source_number.result < length c.args.self.now = omega (arith, c.source_number.ensures.value, c.requires) in
-    let below = port-below c.self.inside c.args.self.now c.args.port c.self.invariant c.self.view_is (λ none. c.if-port_used-eq0.false (c.port_used.ensures.value ∙ none)) in
+    let below = c.ranges.port.fits in
     let f = found c.self.inside c.args.self.now c.source_number.result c.index_mut-chain.result.now c.args.port c.self.invariant c.self.view_is within c.index_mut-chain.ensures.value below in
     rw c.as_slice-messages.ensures.value (omega (arith, f.bound, f.in_use))
 
 pub index_mut-requires : goal.index_mut-requires
 index_mut-requires c =
-    let below = port-below c.self.inside c.args.self.now c.args.port c.self.invariant c.self.view_is (λ none. c.if-port_used-eq0.false (c.port_used.ensures.value ∙ none)) in
+    let below = c.ranges.port.fits in
     omega (arith, below, c.self.invariant.counts.size)
 
 pub overflow_sub-index_mut : goal.overflow_sub-index_mut
 overflow_sub-index_mut c =
     let within : c.source_number.result < length c.args.self.now = omega (arith, c.source_number.ensures.value, c.requires) in
-    let below = port-below c.self.inside c.args.self.now c.args.port c.self.invariant c.self.view_is (λ none. c.if-port_used-eq0.false (c.port_used.ensures.value ∙ none)) in
+    let below = c.ranges.port.fits in
     let h = here c.self.inside c.args.self.now c.source_number.result c.index_mut-chain.result.now c.self.invariant c.self.view_is within c.index_mut-chain.ensures.value in
     let k = c.self.invariant.linked in
     let withdrawn = rw c.as_slice-messages.ensures.value at c.withdraw-tickets.ensures.withdrawn in
@@ -48,7 +48,7 @@ overflow_sub-index_mut c =
 pub invariant_of-self : goal.invariant_of-self
 invariant_of-self c =
     let within : c.source_number.result < length c.args.self.now = omega (arith, c.source_number.ensures.value, c.requires) in
-    let below = port-below c.self.inside c.args.self.now c.args.port c.self.invariant c.self.view_is (λ none. c.if-port_used-eq0.false (c.port_used.ensures.value ∙ none)) in
+    let below = c.ranges.port.fits in
     let h = here c.self.inside c.args.self.now c.source_number.result c.index_mut-chain.result.now c.self.invariant c.self.view_is within c.index_mut-chain.ensures.value in
     let k = c.self.invariant.linked in
     let withdrawn = rw c.as_slice-messages.ensures.value at c.withdraw-tickets.ensures.withdrawn in
@@ -71,7 +71,7 @@ returns-clause-tickets c =
 pub returns-clause-rest : goal.returns-clause-rest
 returns-clause-rest c =
     let within : c.source_number.result < length c.args.self.now = omega (arith, c.source_number.ensures.value, c.requires) in
-    let below = port-below c.self.inside c.args.self.now c.args.port c.self.invariant c.self.view_is (λ none. c.if-port_used-eq0.false (c.port_used.ensures.value ∙ none)) in
+    let below = c.ranges.port.fits in
     let h = here c.self.inside c.args.self.now c.source_number.result c.index_mut-chain.result.now c.self.invariant c.self.view_is within c.index_mut-chain.ensures.value in
     let k = c.self.invariant.linked in
     let withdrawn = rw c.as_slice-messages.ensures.value at c.withdraw-tickets.ensures.withdrawn in

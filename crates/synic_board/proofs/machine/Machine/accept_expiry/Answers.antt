@@ -1,4 +1,4 @@
-use Rattle.std.proofs.Common.{◌≡◌, ◌<◌, length, refl, ap, sym, ◌∙◌, arith}
+use Rattle.std.proofs.Common.{◌<◌, refl, ap, ◌∙◌, arith}
 use Rattle.message_queues.specs.Queues.{processors_of, is_timer_free}
 use Rattle.synic_board.specs.State.{BoardModel, processors}
 use Rattle.synic_board.proofs.Restored.{kept-queued}

@@ -1,11 +1,9 @@
-use Rattle.std.proofs.Common.{◌≡◌, ◌≢◌, ℕ, ◌+◌, ◌-◌, ◌<◌, List, [], ◌∷◌, length, get_or, drop, Bool, true, false, cond, not, ap, sym, ◌∙◌, subst, arith}
-use Rattle.std.specs.Prelude.{filter, ◌==◌}
+use Rattle.std.proofs.Common.{◌≡◌, ◌≢◌, ℕ, ◌+◌, ◌<◌, List, ◌∷◌, length, get_or, drop, Bool, true, false, cond, ap, sym, ◌∙◌, subst, arith}
+use Rattle.std.specs.Prelude.{filter}
 use Rattle.std.proofs.lemmas.List.{at_drop_more, drop_all}
 use Rattle.std.proofs.lemmas.Bool.Decides.{nat_tests}
-use mir.Val.{bool_byte}
 use Rattle.board_terms.specs.Dues.{number_of}
 use Rattle.synic_board.specs.inside.Steps.{is_other}
-use Rattle.synic_board.specs.State.{processors}
 use Rattle.synic_board.proofs.Trying.{IsTrying, starts-trying, tried-all, tried-most, tries-first}
 use Rattle.synic_board.proofs.machine.Machine.attempt_others.Goals as goal
 use Rattle.synic_board.proofs.machine.Machine.attempt_others.Goals.{then-number, else-number}

@@ -1,8 +1,9 @@
-use Rattle.std.proofs.Common.{◌≡◌, ◌*◌, ap, sym, ◌∙◌, length, replicate, arith}
+use Rattle.std.proofs.Common.{◌≡◌, ◌*◌, ap, sym, ◌∙◌, length, replicate, nat_eq, arith}
 use Rattle.std.proofs.lemmas.List.{length-replicate}
 use Rattle.lapic_core.specs.Apic.{empty_apic}
 use Rattle.synic_regs.specs.Regs.{reset_regs}
-use Rattle.event_ports.specs.Ports.{Ports}
+use Rattle.event_ports.specs.declared.ports.Port.{Port}
+use Rattle.event_ports.specs.Ports.{Ports, port_count}
 use Rattle.std.specs.Prelude.{ℕ, List, [], Option, None}
 use Rattle.board_terms.specs.declared.messages.Message.{Message}
 use Rattle.gpa_space.specs.Page.{zero_page}
@@ -30,8 +31,8 @@ invariant_of-result c =
     let summary = c.in_ok-summary.ensures {u = tt} in
     let queues = c.in_ok-queues.ensures {u = tt} in
     let slots = c.in_ok-slots.ensures {u = tt} in
-    let state = state-opened n pages c.args.first_ticket c.in_ok-lapics.lapics.items c.in_ok-regs.regs.items c.in_ok-space.space c.new-ports.result c.in_ok-queues.queues
-    c.in_ok-slots.slots.items c.in_ok-timers.timers lapics regs space c.new-ports.ensures queues slots (c.in_ok-timers.ensures {u = tt}) in
+    let state = state-opened n pages c.args.first_ticket c.in_ok-lapics.lapics.items c.in_ok-regs.regs.items c.in_ok-space.space c.in_ok-ports.ports c.in_ok-queues.queues
+    c.in_ok-slots.slots.items c.in_ok-timers.timers lapics regs space (c.in_ok-ports.ensures {u = tt}) queues slots (c.in_ok-timers.ensures {u = tt}) in
     record {
       some_processor = omega (arith, c.requires.some_processor, ap length lapics, length-replicate n empty_apic);
       processor_bound = omega (arith, c.requires.processor_bound, ap length lapics, length-replicate n empty_apic);
@@ -41,7 +42,9 @@ invariant_of-result c =
       page_bound = c.requires.page_bound;
       two_overlays = omega (arith, ap (λ (s : Space). length s.registers) space, length-replicate {A = ℕ} (2 * n) 0, ap length lapics, length-replicate n empty_apic);
       overlays = ap (λ (s : Space). s.registers) space ∙ sym (overlays-opened n) ∙ ap overlay_registers (sym regs);
-      ports = ap (λ (p : Ports). p.processors) c.new-ports.ensures ∙ sym (ap length lapics ∙ length-replicate n empty_apic);
+      ports = ap (λ (p : Ports). p.processors) (c.in_ok-ports.ensures {u = tt}) ∙ sym (ap length lapics ∙ length-replicate n empty_apic);
+      port_count = ap (λ (p : Ports). length p.ports) (c.in_ok-ports.ensures {u = tt}) ∙ length-replicate {A = Option Port} (port_count n (nat_eq pages 0)) None
+          ∙ ap (λ m. port_count m (nat_eq pages 0)) (sym (ap length lapics ∙ length-replicate n empty_apic));
       queues = omega (arith, ap length queues, length-replicate {A = List Message} (16 * n) [], ap length lapics, length-replicate n empty_apic);
       slots = omega (arith, ap length slots, length-replicate {A = Option ℕ} (16 * n) None, ap length lapics, length-replicate n empty_apic);
       timers = omega (arith, ap (λ (b : Bank). length b.timers) (c.in_ok-timers.ensures {u = tt}), length-replicate (4 * n) idle_timer, ap length lapics, length-replicate n empty_apic);
@@ -50,6 +53,6 @@ invariant_of-result c =
 
 pub returns-clause-opened : goal.returns-clause-opened
 returns-clause-opened c =
-    state-opened c.args.processors c.args.pages c.args.first_ticket c.in_ok-lapics.lapics.items c.in_ok-regs.regs.items c.in_ok-space.space c.new-ports.result
+    state-opened c.args.processors c.args.pages c.args.first_ticket c.in_ok-lapics.lapics.items c.in_ok-regs.regs.items c.in_ok-space.space c.in_ok-ports.ports
     c.in_ok-queues.queues c.in_ok-slots.slots.items c.in_ok-timers.timers
-    (lapics-opened c) (regs-opened c) (c.in_ok-space.ensures {u = tt}) c.new-ports.ensures (c.in_ok-queues.ensures {u = tt}) (c.in_ok-slots.ensures {u = tt}) (c.in_ok-timers.ensures {u = tt})
+    (lapics-opened c) (regs-opened c) (c.in_ok-space.ensures {u = tt}) (c.in_ok-ports.ensures {u = tt}) (c.in_ok-queues.ensures {u = tt}) (c.in_ok-slots.ensures {u = tt}) (c.in_ok-timers.ensures {u = tt})

@@ -1,11 +1,11 @@
-use Rattle.std.proofs.Common.{◌≡◌, ℕ, ◌+◌, ◌*◌, ◌-◌, ◌<◌, ◌≤◌, Bool, true, false, length, ap, sym, ◌∙◌, subst, arith}
+use Rattle.std.proofs.Common.{◌≡◌, ℕ, ◌-◌, ◌<◌, Bool, true, false, length, ap, sym, ◌∙◌, subst, arith}
 use Rattle.std.specs.Prelude.{filter}
 use mir.Val.{bool_byte}
 use Rattle.synic_board.specs.inside.Steps.{is_other}
 use Rattle.stimer_bank.specs.Bank.{is_due_in}
 use Rattle.synic_board.specs.State.{BoardModel, bank_of}
 use Rattle.synic_board.specs.Timers.{most_expiries}
-use Rattle.synic_board.proofs.Trying.{IsTrying, due_now, starts-trying, tried-all, tried-most, tried-rest, tries-due, none-due, first-is_due, others, expired, due-others, without-first}
+use Rattle.synic_board.proofs.Trying.{IsTrying, due_now, starts-trying, tried-all, tried-most, tried-rest, tries-due, none-due, first-is_due, expired, due-others, without-first}
 use Rattle.synic_board.proofs.machine.Machine.try_due.Goals as goal
 
 less : (n : ℕ) (b : Bool) → 0 < n → b ≡ true → n - bool_byte b < n

@@ -42,6 +42,7 @@ invariant_of-self c =
       two_overlays = ap (λ (s : Space). length s.registers) moved ∙ length-set c.self.inside.space.registers (overlay_of c.number.result c.args.kind) c.args.value ∙ c.self.invariant.two_overlays;
       overlays = tied;
       ports = c.self.invariant.ports;
+      port_count = c.self.invariant.port_count;
       queues = c.self.invariant.queues;
       slots = c.self.invariant.slots;
       timers = c.self.invariant.timers;

@@ -27,6 +27,7 @@ invariant_of-self-2 c =
       two_overlays = c.self.invariant.two_overlays;
       overlays = c.self.invariant.overlays ∙ sym (overlays-kept rs c.number.result c.write.new.self within sim sief);
       ports = c.self.invariant.ports;
+      port_count = c.self.invariant.port_count;
       queues = c.self.invariant.queues;
       slots = c.self.invariant.slots;
       timers = c.self.invariant.timers;

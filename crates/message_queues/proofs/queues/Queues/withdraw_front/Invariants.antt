@@ -1,7 +1,7 @@
 use Rattle.std.proofs.Common.{◌≡◌, map, take, drop}
 use Rattle.board_terms.specs.Messages.{ticket_of}
 use Rattle.message_queues.specs.Queues.{queue_of, with_queue}
-use Rattle.message_queues.proofs.queues.Queues.withdraw_all.Given as goal
+use Rattle.message_queues.proofs.queues.Queues.withdraw_front.Given as goal
 
 abbrev pub invariant-loop : goal.invariant-loop
 invariant-loop l =
