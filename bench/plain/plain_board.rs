@@ -12,7 +12,7 @@ use board::events::{Event, Notices};
 use std::process::ExitCode;
 use std::time::Instant;
 use tally::{Digest, Tally, Totals};
-use workloads::{NAMES, Scene};
+use workloads::{NAMES, Scene, Size};
 
 const FEW_EVENTS: u32 = 10_000;
 
@@ -64,19 +64,20 @@ fn total(board: &mut Board, notices: &mut Notices, scene: &mut Scene, events: u3
     totals
 }
 
-fn digest_of(name: &str, events: u32, notices: &mut Notices) -> Option<u64> {
-    let mut scene = Scene::of(name)?;
+fn digest_of(name: &str, size: Size, events: u32, notices: &mut Notices) -> Option<u64> {
+    let mut scene = Scene::of(name, size)?;
     let mut board = scene.open(notices);
     let mut digest = Digest::new();
     perform_all(&mut board, notices, &mut scene, events, &mut digest);
     digest.add_summary(&board);
+    digest.add_owners(&board, scene.elsewhere());
     Some(digest.0)
 }
 
-fn show(name: &str, events: u32) -> Option<()> {
+fn show(name: &str, size: Size, events: u32) -> Option<()> {
     let mut notices = Notices::new();
-    let digest = digest_of(name, events.min(DIGESTED), &mut notices)?;
-    let mut scene = Scene::of(name)?;
+    let digest = digest_of(name, size, events.min(DIGESTED), &mut notices)?;
+    let mut scene = Scene::of(name, size)?;
     let mut board = scene.open(&mut notices);
     let start = Instant::now();
     let totals = total(&mut board, &mut notices, &mut scene, events);
@@ -91,14 +92,21 @@ fn show(name: &str, events: u32) -> Option<()> {
 }
 
 fn run(words: &[String]) -> Option<()> {
+    if let [option, count, rest @ ..] = words
+        && option == "--processors"
+    {
+        return run_on(Size::of(count)?, rest);
+    }
+    run_on(Size::of("8")?, words)
+}
+
+fn run_on(size: Size, words: &[String]) -> Option<()> {
+    let show_all = |events| NAMES.iter().try_for_each(|name| show(name, size, events));
     match words {
-        [] => NAMES.iter().try_for_each(|name| show(name, FEW_EVENTS)),
-        [name] if Scene::of(name).is_some() => show(name, FEW_EVENTS),
-        [count] => {
-            let events = count.parse().ok().filter(|count| *count > 0)?;
-            NAMES.iter().try_for_each(|name| show(name, events))
-        }
-        [name, count] => show(name, count.parse().ok().filter(|count| *count > 0)?),
+        [] => show_all(FEW_EVENTS),
+        [name] if NAMES.contains(&name.as_str()) => show(name, size, FEW_EVENTS),
+        [count] => show_all(count.parse().ok().filter(|count| *count > 0)?),
+        [name, count] => show(name, size, count.parse().ok().filter(|count| *count > 0)?),
         _ => None,
     }
 }
@@ -108,7 +116,7 @@ fn main() -> ExitCode {
     match run(&words) {
         Some(()) => ExitCode::SUCCESS,
         None => {
-            eprintln!("usage: plain_board [WORKLOAD] [EVENTS]");
+            eprintln!("usage: plain_board [--processors 1|8|64] [WORKLOAD] [EVENTS]");
             ExitCode::from(USAGE_FAULT)
         }
     }

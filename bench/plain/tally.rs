@@ -80,17 +80,28 @@ impl Digest {
             }
         }
         for page in 0..board.pages() {
-            match board.owner(page) {
-                Owner::Guest => self.add_all(&[0]),
-                Owner::Sim(vp) => self.add_all(&[1, vp.into()]),
-                Owner::Sief(vp) => self.add_all(&[2, vp.into()]),
-            }
+            self.add_owner(board.owner(page.into()));
         }
         if let Some((due, number)) = board.earliest() {
             for byte in due.to_le_bytes() {
                 self.add_all(&[byte.into()]);
             }
             self.add_all(&[(number / 4).into(), (number % 4).into()]);
+        }
+    }
+
+    /// Adds the owners of the first pages of a sparse board, of which the summary has none.
+    pub fn add_owners(&mut self, board: &Board, pages: u16) {
+        for page in 0..pages {
+            self.add_owner(board.owner(page.into()));
+        }
+    }
+
+    fn add_owner(&mut self, owner: Owner) {
+        match owner {
+            Owner::Guest => self.add_all(&[0]),
+            Owner::Sim(vp) => self.add_all(&[1, vp.into()]),
+            Owner::Sief(vp) => self.add_all(&[2, vp.into()]),
         }
     }
 }

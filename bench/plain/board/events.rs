@@ -90,6 +90,7 @@ pub enum Refusal {
     NoSuchProcessor = 14,
     AlreadySuspended = 15,
     NotSuspended = 16,
+    Elsewhere = 17,
 }
 
 #[derive(Clone, Copy, PartialEq)]

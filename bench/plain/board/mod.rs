@@ -1,6 +1,7 @@
 //! The plain board. It lacks what no workload uses: closing ports, reading registers, task
 //! priorities, lazy timers and timers with AutoEnable.
 
+mod elsewhere;
 pub mod events;
 mod lapic;
 mod pages;
@@ -17,6 +18,13 @@ use processor::Processor;
 use queues::{Buffers, Expiration, Message, Post, is_empty, set_pending};
 use timers::{DIRECT, Expiry, Timers, source_in, vector_in};
 
+/// The fewest ports of a board, and how many a sparse one has for each processor.
+const FEW_PORTS: usize = 16;
+const EACH_PORTS: usize = 4;
+
+/// The greatest number of timers that expire in one tick.
+const MOST_EXPIRIES: u32 = 32;
+
 #[derive(Clone, Copy)]
 struct Port {
     vp: u8,
@@ -27,7 +35,7 @@ struct Port {
 pub struct Board {
     processors: Vec<Processor>,
     pages: Pages,
-    ports: [Option<Port>; 16],
+    ports: Box<[Option<Port>]>,
     buffers: Buffers,
     timers: Timers,
     moment: u64,
@@ -35,13 +43,24 @@ pub struct Board {
 }
 
 impl Board {
+    /// At most eight processors.
     pub fn open(processors: u8, pages: u8, next_ticket: u64) -> Board {
+        Board::with(processors, Pages::new(pages), FEW_PORTS, next_ticket)
+    }
+
+    /// At most 64 processors; the guest's pages are in the caller's memory.
+    pub fn open_sparse(processors: u8, next_ticket: u64) -> Board {
+        let ports = FEW_PORTS.max(EACH_PORTS * processors as usize);
+        Board::with(processors, Pages::sparse(processors), ports, next_ticket)
+    }
+
+    fn with(processors: u8, pages: Pages, ports: usize, next_ticket: u64) -> Board {
         Board {
             processors: (0..processors).map(|_| Processor::new()).collect(),
-            pages: Pages::new(pages),
-            ports: [None; 16],
-            buffers: Buffers::new(),
-            timers: Timers::new(),
+            pages,
+            ports: vec![None; ports].into(),
+            buffers: Buffers::new(ports, processors),
+            timers: Timers::new(processors),
             moment: 0,
             next_ticket,
         }
@@ -71,7 +90,7 @@ impl Board {
         self.next_ticket
     }
 
-    pub fn owner(&self, page: u8) -> Owner {
+    pub fn owner(&self, page: u64) -> Owner {
         self.pages.owner(page)
     }
 
@@ -161,10 +180,16 @@ impl Board {
             SCONTROL => processor.control = value,
             SIEFP => {
                 processor.sief = value;
+                if self.pages.is_sparse() {
+                    return self.move_elsewhere(2 * vp + 1, value);
+                }
                 self.pages.move_sief(vp, value);
             }
             SIMP => {
                 processor.sim = value;
+                if self.pages.is_sparse() {
+                    return self.move_elsewhere(2 * vp, value);
+                }
                 self.pages.move_sim(vp, value);
             }
             EOM => return self.try_sources(vp, notices),
@@ -178,8 +203,19 @@ impl Board {
         Reply::Done
     }
 
+    /// On a sparse board. Out of line, as its loads and stores are, so that other boards do not pay for
+    /// them.
+    #[inline(never)]
+    fn move_elsewhere(&mut self, overlay: u8, register: u64) -> Reply {
+        self.pages.move_elsewhere(overlay, register);
+        Reply::Done
+    }
+
     #[inline(never)]
     fn store(&mut self, address: u64, word: u64, length: u8, notices: &mut Notices) -> Reply {
+        if self.pages.is_elsewhere(address) {
+            return self.store_elsewhere(address, word, length, notices);
+        }
         match self.pages.store(address, word, length) {
             Ok(None) => Reply::Done,
             Ok(Some((vp, sint))) => self.consume(vp, sint, notices),
@@ -187,7 +223,23 @@ impl Board {
         }
     }
 
+    #[inline(never)]
+    fn store_elsewhere(
+        &mut self,
+        address: u64,
+        word: u64,
+        length: u8,
+        notices: &mut Notices,
+    ) -> Reply {
+        match self.pages.store_elsewhere(address, word, length) {
+            Ok(None) => Reply::Done,
+            Ok(Some((vp, sint))) => self.consume(vp, sint, notices),
+            Err(refusal) => Reply::Refused(refusal),
+        }
+    }
+
     /// A store has written to the first four bytes of a slot.
+    #[inline(always)]
     fn consume(&mut self, vp: u8, sint: u8, notices: &mut Notices) -> Reply {
         if is_empty(self.pages.slot(vp, sint)) {
             self.processors[vp as usize].consume(vp, sint, notices);
@@ -196,7 +248,18 @@ impl Board {
     }
 
     fn load(&self, address: u64, length: u8) -> Reply {
+        if self.pages.is_elsewhere(address) {
+            return self.load_elsewhere(address, length);
+        }
         match self.pages.load(address, length) {
+            Ok(word) => Reply::Bytes { word, length },
+            Err(refusal) => Reply::Refused(refusal),
+        }
+    }
+
+    #[inline(never)]
+    fn load_elsewhere(&self, address: u64, length: u8) -> Reply {
+        match self.pages.load_elsewhere(address, length) {
             Ok(word) => Reply::Bytes { word, length },
             Err(refusal) => Reply::Refused(refusal),
         }
@@ -373,7 +436,8 @@ impl Board {
         Reply::Done
     }
 
-    /// Before the earliest deadline this does nothing. Each timer that is due is tried once.
+    /// Before the earliest deadline this does nothing. Each timer that is due is tried once, until 32
+    /// have expired.
     #[inline(never)]
     fn tick(&mut self, moment: u64, notices: &mut Notices) -> Reply {
         if moment < self.moment {
@@ -383,16 +447,20 @@ impl Board {
             return Reply::Done;
         }
         self.moment = moment;
+        let mut left = MOST_EXPIRIES;
         while let Some(number) = self.timers.first_due(moment) {
-            self.attempt(number, notices);
+            left -= u32::from(self.attempt(number, notices));
             self.timers.settle(number, moment);
+            if left == 0 {
+                break;
+            }
         }
         self.timers.bring_back();
         Reply::Done
     }
 
-    /// A timer that is due expires, unless its last message is still queued.
-    fn attempt(&mut self, number: u8, notices: &mut Notices) {
+    /// A timer that is due expires, unless its last message is still queued. Returns whether it did.
+    fn attempt(&mut self, number: u8, notices: &mut Notices) -> bool {
         let (vp, index) = (number / 4, number % 4);
         let config = self.timers.config(number);
         let is_direct = config & DIRECT != 0;
@@ -402,7 +470,7 @@ impl Board {
                 || self.buffers.timer_waits(number)
                 || self.next_ticket == u64::MAX)
         {
-            return;
+            return false;
         }
         let Expiry { signal, skipped } = self.timers.expire(number, self.moment);
         let due = signal;
@@ -420,5 +488,6 @@ impl Board {
             };
             self.deliver(vp, source_in(config), message, notices);
         }
+        true
     }
 }

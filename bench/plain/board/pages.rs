@@ -1,6 +1,8 @@
 //! The guest pages and the overlays. Caches the owner of each page. All pages are in one array of
-//! frames, the overlays' first. Eight bytes are read and written as one word with a mask.
+//! frames, the overlays' first. Eight bytes are read and written as one word with a mask. A sparse
+//! board has only the overlays.
 
+use super::elsewhere::Mapped;
 use super::events::{Owner, Refusal};
 
 pub const ENABLE: u64 = 1;
@@ -8,8 +10,8 @@ pub const SLOT: usize = 256;
 
 const PAGE: usize = 4096;
 
-/// Overlays in the order in which they obscure each other: the SIM and the SIEF page of processor
-/// 0, those of processor 1, and so on.
+/// The overlays of a board that holds its guest's pages, in the order in which they obscure each
+/// other: the SIM and the SIEF page of processor 0, those of processor 1, and so on.
 const OVERLAYS: usize = 16;
 
 const NOWHERE: u8 = 255;
@@ -52,35 +54,68 @@ fn mask(length: u8) -> u64 {
     u64::MAX >> (64 - 8 * u32::from(length))
 }
 
+/// A frame, and a byte in it.
+type Place = (usize, usize);
+
 pub struct Pages {
     frames: Vec<Frame>,
-    /// The number of each page's visible frame: an overlay's, or the guest page's.
+    /// How many of the frames are overlays'.
+    overlays: usize,
+    /// The number of each page's visible frame: an overlay's, or the guest page's. Empty on a sparse
+    /// board.
     visible: Vec<u8>,
     /// The page numbers of the SIM pages, and those of the SIEF pages: eight bytes a row.
     places: [u64; 2],
+    /// Where the overlays of a sparse board are.
+    mapped: Mapped,
 }
 
 impl Pages {
     pub fn new(count: u8) -> Pages {
         Pages {
             frames: vec![Frame([0; PAGE]); OVERLAYS + count as usize],
+            overlays: OVERLAYS,
             visible: (OVERLAYS as u8..).take(count.into()).collect(),
             places: [u64::from_le_bytes([NOWHERE; 8]); 2],
+            mapped: Mapped::new(0),
         }
     }
 
+    pub fn sparse(processors: u8) -> Pages {
+        let overlays = 2 * processors as usize;
+        Pages {
+            frames: vec![Frame([0; PAGE]); overlays],
+            overlays,
+            visible: Vec::new(),
+            places: [0; 2],
+            mapped: Mapped::new(overlays),
+        }
+    }
+
+    /// How many pages the board holds.
     pub fn count(&self) -> u8 {
         self.visible.len() as u8
     }
 
-    pub fn owner(&self, page: u8) -> Owner {
-        let frame = self.visible[page as usize];
-        if frame as usize >= OVERLAYS {
-            Owner::Guest
-        } else if frame.is_multiple_of(2) {
-            Owner::Sim(frame / 2)
+    pub fn is_sparse(&self) -> bool {
+        self.visible.is_empty()
+    }
+
+    pub fn owner(&self, page: u64) -> Owner {
+        let frame = if self.is_sparse() {
+            self.mapped.first(page)
         } else {
-            Owner::Sief(frame / 2)
+            Some(self.visible[page as usize])
+        };
+        match frame {
+            Some(frame) if (frame as usize) < self.overlays => {
+                if frame.is_multiple_of(2) {
+                    Owner::Sim(frame / 2)
+                } else {
+                    Owner::Sief(frame / 2)
+                }
+            }
+            _ => Owner::Guest,
         }
     }
 
@@ -104,10 +139,23 @@ impl Pages {
         self.move_overlay(2 * vp + 1, register);
     }
 
+    /// Moves an overlay of a sparse board.
+    #[inline(always)]
+    pub fn move_elsewhere(&mut self, overlay: u8, register: u64) {
+        let is_enabled = register & ENABLE != 0;
+        let page = is_enabled.then_some(register / PAGE as u64);
+        self.mapped.set(overlay, page);
+    }
+
     /// Disables both pages of a processor and sets them to zero.
     pub fn clear(&mut self, vp: u8) {
-        self.move_sim(vp, 0);
-        self.move_sief(vp, 0);
+        if self.is_sparse() {
+            self.move_elsewhere(2 * vp, 0);
+            self.move_elsewhere(2 * vp + 1, 0);
+        } else {
+            self.move_sim(vp, 0);
+            self.move_sief(vp, 0);
+        }
         for frame in &mut self.frames[2 * vp as usize..][..2] {
             frame.0.fill(0);
         }
@@ -133,8 +181,10 @@ impl Pages {
     }
 
     /// The first overlay at a page, or the guest page's frame.
+    #[inline(always)]
     fn first_at(&self, page: u8) -> u8 {
-        let [sim, sief] = self.places.map(|row| first_equal(row, page));
+        let [sims, siefs] = self.places;
+        let (sim, sief) = (first_equal(sims, page), first_equal(siefs, page));
         let overlay = (2 * sim).min(2 * sief + 1);
         if overlay < OVERLAYS as u8 {
             overlay
@@ -143,8 +193,15 @@ impl Pages {
         }
     }
 
+    /// Whether the board does not hold the page of an address.
     #[inline(always)]
-    fn place_of(&self, address: u64, length: u8) -> Result<(usize, usize), Refusal> {
+    pub fn is_elsewhere(&self, address: u64) -> bool {
+        address / PAGE as u64 >= self.visible.len() as u64
+    }
+
+    /// Where the bytes of a page are that the board holds.
+    #[inline(always)]
+    fn place_of(&self, address: u64, length: u8) -> Result<Place, Refusal> {
         let (page, at) = (address / PAGE as u64, address as usize % PAGE);
         if length == 0 || length > 8 {
             return Err(Refusal::BadLength);
@@ -157,9 +214,32 @@ impl Pages {
         Ok((frame.into(), at))
     }
 
+    /// Where the bytes of another page are.
+    #[inline(always)]
+    fn place_elsewhere(&self, address: u64, length: u8) -> Result<Place, Refusal> {
+        let (page, at) = (address / PAGE as u64, address as usize % PAGE);
+        if length == 0 || length > 8 {
+            return Err(Refusal::BadLength);
+        }
+        if !self.is_sparse() {
+            return Err(Refusal::OutsideSpace);
+        }
+        if at + length as usize > PAGE {
+            return Err(Refusal::CrossesPage);
+        }
+        let frame = self.mapped.first(page).ok_or(Refusal::Elsewhere)?;
+        Ok((frame.into(), at))
+    }
+
     #[inline(always)]
     pub fn load(&self, address: u64, length: u8) -> Result<u64, Refusal> {
         let (frame, at) = self.place_of(address, length)?;
+        Ok(self.frames[frame].load(at, length))
+    }
+
+    #[inline(always)]
+    pub fn load_elsewhere(&self, address: u64, length: u8) -> Result<u64, Refusal> {
+        let (frame, at) = self.place_elsewhere(address, length)?;
         Ok(self.frames[frame].load(at, length))
     }
 
@@ -174,10 +254,28 @@ impl Pages {
     ) -> Result<Option<(u8, u8)>, Refusal> {
         let (frame, at) = self.place_of(address, length)?;
         self.frames[frame].store(at, length, word);
-        let sint = (at + length as usize - 1) / SLOT;
-        let is_touched = frame < OVERLAYS && frame % 2 == 0 && at < sint * SLOT + 4;
-        Ok(is_touched.then_some((frame as u8 / 2, sint as u8)))
+        Ok(touched_slot(frame, at, length).filter(|_| frame < OVERLAYS))
     }
+
+    #[inline(always)]
+    pub fn store_elsewhere(
+        &mut self,
+        address: u64,
+        word: u64,
+        length: u8,
+    ) -> Result<Option<(u8, u8)>, Refusal> {
+        let (frame, at) = self.place_elsewhere(address, length)?;
+        self.frames[frame].store(at, length, word);
+        Ok(touched_slot(frame, at, length))
+    }
+}
+
+/// The processor and source of the slot of an overlay if a store writes to any of its first four bytes.
+#[inline(always)]
+fn touched_slot(overlay: usize, at: usize, length: u8) -> Option<(u8, u8)> {
+    let sint = (at + length as usize - 1) / SLOT;
+    let is_touched = overlay % 2 == 0 && at < sint * SLOT + 4;
+    is_touched.then_some((overlay as u8 / 2, sint as u8))
 }
 
 /// The index of the first of eight bytes that is equal to `byte`, or 8. An equal byte is 0 after

@@ -12,9 +12,8 @@ const DELIVERY: usize = 32;
 const MESSAGE_FLAGS: usize = 5;
 const PENDING: u8 = 1;
 
-/// Sixteen buffers for each of 16 ports, then one for each of 32 timers.
-const BUFFERS: usize = FIRST_OF_TIMERS + 32;
-const FIRST_OF_TIMERS: usize = 256;
+/// The buffers of a port.
+const PORT_BUFFERS: usize = 16;
 
 pub fn is_empty(slot: &Image) -> bool {
     slot[..4] == [0; 4]
@@ -51,9 +50,11 @@ impl Message for Post<'_> {
     }
 
     fn queue(self, buffers: &mut Buffers, chain: &mut Chain, ticket: u64) {
-        let free = buffers.used[self.port as usize].trailing_ones() as u16;
-        let number = 16 * u16::from(self.port) + free;
-        self.write(&mut buffers.buffers[number as usize].image, 0);
+        let used = &mut buffers.used[self.port as usize];
+        let free = used.trailing_ones() as usize;
+        *used |= 1 << free;
+        let number = buffers.first_of_ports + PORT_BUFFERS * self.port as usize + free;
+        self.write(&mut buffers.buffers[number].image, 0);
         buffers.append(chain, number, ticket);
     }
 }
@@ -71,9 +72,10 @@ impl Message for Expiration {
     }
 
     fn queue(self, buffers: &mut Buffers, chain: &mut Chain, ticket: u64) {
-        let number = FIRST_OF_TIMERS + self.timer as usize;
+        let number = self.timer as usize;
+        buffers.waits[number] = true;
         write_moment(&mut buffers.buffers[number].image, EXPIRATION, self.moment);
-        buffers.append(chain, number as u16, ticket);
+        buffers.append(chain, number, ticket);
     }
 }
 
@@ -109,27 +111,35 @@ struct Buffer {
     next: u16,
 }
 
+/// One buffer for each timer, then sixteen for each port.
 pub struct Buffers {
-    buffers: Vec<Buffer>,
-    /// Which of 16 buffers are in use: those of each port, then the timers in groups of sixteen.
-    used: [u16; BUFFERS / 16],
+    buffers: Box<[Buffer]>,
+    first_of_ports: usize,
+    /// Which timers' buffers are in use, and which of the sixteen of each port: for the most timers and
+    /// ports, so that no index has to be checked.
+    waits: [bool; 256],
+    used: [u16; 256],
 }
 
 impl Buffers {
     /// A timer's buffer holds what is the same in each of its messages.
-    pub fn new() -> Buffers {
+    pub fn new(ports: usize, processors: u8) -> Buffers {
+        let first_of_ports = 4 * processors as usize;
         let buffer = Buffer {
             image: [0; SLOT],
             ticket: 0,
             next: 0,
         };
-        let mut buffers = vec![buffer; BUFFERS];
-        for (timer, buffer) in (0..).zip(&mut buffers[FIRST_OF_TIMERS..]) {
+        let mut buffers = vec![buffer; first_of_ports + PORT_BUFFERS * ports];
+        for (timer, buffer) in buffers[..first_of_ports].iter_mut().enumerate() {
+            let timer = timer as u8;
             Expiration { timer, moment: 0 }.write(&mut buffer.image, 0);
         }
         Buffers {
-            buffers,
-            used: [0; BUFFERS / 16],
+            buffers: buffers.into(),
+            first_of_ports,
+            waits: [false; 256],
+            used: [0; 256],
         }
     }
 
@@ -138,43 +148,55 @@ impl Buffers {
     }
 
     pub fn timer_waits(&self, timer: u8) -> bool {
-        self.used[16 + timer as usize / 16] >> (timer % 16) & 1 == 1
+        self.waits[timer as usize]
     }
 
-    fn append(&mut self, chain: &mut Chain, number: u16, ticket: u64) {
-        self.used[number as usize / 16] |= 1 << (number % 16);
-        self.buffers[number as usize].ticket = ticket;
+    fn append(&mut self, chain: &mut Chain, number: usize, ticket: u64) {
+        self.buffers[number].ticket = ticket;
         if chain.length == 0 {
-            chain.head = number;
+            chain.head = number as u16;
         } else {
-            self.buffers[chain.tail as usize].next = number;
+            self.buffers[chain.tail as usize].next = number as u16;
         }
-        chain.tail = number;
+        chain.tail = number as u16;
         chain.length += 1;
+    }
+
+    fn release_of_port(&mut self, number: usize) {
+        let number = number - self.first_of_ports;
+        self.used[number / PORT_BUFFERS % 256] &= !(1 << (number % PORT_BUFFERS));
     }
 
     /// Removes the head of a queue that is not empty, and returns its ticket.
     pub fn withdraw(&mut self, chain: &mut Chain) -> u64 {
         let number = chain.head as usize;
         let buffer = &self.buffers[number];
+        let ticket = buffer.ticket;
         chain.head = buffer.next;
         chain.length -= 1;
-        self.used[number / 16] &= !(1 << (number % 16));
-        buffer.ticket
+        if number < self.first_of_ports {
+            self.waits[number % 256] = false;
+        } else {
+            self.release_of_port(number);
+        }
+        ticket
     }
 
     /// Moves the head of a queue that is not empty to an empty slot, and returns its ticket.
     pub fn place(&mut self, chain: &mut Chain, slot: &mut Image, moment: u64) -> u64 {
         let number = chain.head as usize;
         let buffer = &self.buffers[number];
+        let ticket = buffer.ticket;
         chain.head = buffer.next;
         chain.length -= 1;
         *slot = buffer.image;
         slot[MESSAGE_FLAGS] = (chain.length != 0).into();
-        if number >= FIRST_OF_TIMERS {
+        if number < self.first_of_ports {
             write_moment(slot, DELIVERY, moment);
+            self.waits[number % 256] = false;
+        } else {
+            self.release_of_port(number);
         }
-        self.used[number / 16] &= !(1 << (number % 16));
-        buffer.ticket
+        ticket
     }
 }

@@ -1,4 +1,5 @@
-//! The timers of all processors, with a two-level table of the earliest deadline.
+//! The timers of all processors, with a table of the earliest deadline: a tree whose nodes have four
+//! children each.
 
 pub const ENABLE: u64 = 1;
 pub const DIRECT: u64 = 1 << 12;
@@ -66,30 +67,85 @@ impl Timer {
     }
 }
 
-/// A key and the number of its timer. The number has four bytes: it is written and read as such, so that the
-/// read does not wait for the write.
+/// A key and the number of its timer, or its place among some. The number has four bytes: it is written
+/// and read as such, so that the read does not wait for the write.
 type Least = (u64, u32);
 
+const NOTHING: Least = (NEVER, 0);
+
+/// The least keys of some nodes.
+struct Row<const N: usize> {
+    keys: [u64; N],
+    numbers: [u32; N],
+}
+
+impl<const N: usize> Row<N> {
+    fn new() -> Row<N> {
+        Row {
+            keys: [NEVER; N],
+            numbers: [0; N],
+        }
+    }
+
+    #[inline(always)]
+    fn set(&mut self, at: usize, (key, number): Least) {
+        self.keys[at % N] = key;
+        self.numbers[at % N] = number;
+    }
+
+    /// The key at a place, with the timer's number.
+    #[inline(always)]
+    fn numbered(&self, (key, place): Least) -> Least {
+        (key, self.numbers[place as usize % N])
+    }
+
+    /// The least of the four keys from `at` on, a multiple of four, with its place.
+    #[inline(always)]
+    fn least_of_four(&self, at: usize) -> Least {
+        let keys = &self.keys[at & (N - 4)..][..4];
+        let (key, place) = first_of([keys[0], keys[1], keys[2], keys[3]]);
+        (key, at as u32 | place)
+    }
+}
+
+/// The least of four keys, with its place.
+#[inline(always)]
+fn first_of([first, second, third, fourth]: [u64; 4]) -> Least {
+    lesser(
+        lesser((first, 0), (second, 1)),
+        lesser((third, 2), (fourth, 3)),
+    )
+}
+
+/// As large as the largest board requires, so that no index has to be checked.
 pub struct Timers {
-    timers: [Timer; 32],
+    processors: u8,
+    timers: [Timer; 256],
     /// The keys of the four timers of each processor, except those set aside.
-    keys: [[u64; 4]; 8],
+    keys: [[u64; 4]; 64],
     /// The least key of each processor.
-    least: [Least; 8],
+    least: Row<64>,
+    /// With more than one processor, the least key of each four, and with more than eight, of each
+    /// sixteen.
+    fours: Row<16>,
+    sixteens: Row<4>,
     /// The least key of all.
     first: Least,
     /// Which timers were tried in this tick and are still due.
-    aside: u32,
+    aside: Vec<u8>,
 }
 
 impl Timers {
-    pub fn new() -> Timers {
+    pub fn new(processors: u8) -> Timers {
         Timers {
-            timers: [Timer::default(); 32],
-            keys: [[NEVER; 4]; 8],
-            least: std::array::from_fn(|vp| (NEVER, 4 * vp as u32)),
-            first: (NEVER, 0),
-            aside: 0,
+            processors,
+            timers: [Timer::default(); 256],
+            keys: [[NEVER; 4]; 64],
+            least: Row::new(),
+            fours: Row::new(),
+            sixteens: Row::new(),
+            first: NOTHING,
+            aside: Vec::with_capacity(4 * usize::from(processors)),
         }
     }
 
@@ -98,10 +154,10 @@ impl Timers {
         if key != NEVER {
             return Some((u128::from(key) + 1, number as u8));
         }
-        let beyond = (0..).zip(&self.timers);
+        let beyond = self.timers.iter().enumerate();
         beyond
             .filter(|(_, timer)| timer.is_running && timer.is_beyond && !timer.is_held)
-            .map(|(number, timer)| ((1 << 64) + u128::from(timer.due), number))
+            .map(|(number, timer)| ((1 << 64) + u128::from(timer.due), number as u8))
             .min()
     }
 
@@ -145,10 +201,11 @@ impl Timers {
     }
 
     /// Returns a timer that was tried in a tick to the table, unless it is still due.
+    #[inline(always)]
     pub fn settle(&mut self, number: u8, moment: u64) {
         let key = self.timers[number as usize].key();
         if key < moment {
-            self.aside |= 1 << number;
+            self.aside.push(number);
             self.enter(number, NEVER);
         } else {
             self.enter(number, key);
@@ -157,15 +214,14 @@ impl Timers {
 
     /// Returns the timers that were set aside to the table.
     pub fn bring_back(&mut self) {
-        while self.aside != 0 {
-            self.update(self.aside.trailing_zeros() as u8);
-            self.aside &= self.aside - 1;
+        while let Some(number) = self.aside.pop() {
+            self.update(number);
         }
     }
 
     /// A processor is suspended or resumed.
     pub fn hold(&mut self, vp: u8, is_held: bool) {
-        for number in 4 * vp..4 * vp + 4 {
+        for number in 4 * vp..=4 * vp + 3 {
             self.timers[number as usize].is_held = is_held;
             self.update(number);
         }
@@ -173,35 +229,43 @@ impl Timers {
 
     /// Resets the timers of a processor.
     pub fn reset(&mut self, vp: u8) {
-        for number in 4 * vp..4 * vp + 4 {
+        for number in 4 * vp..=4 * vp + 3 {
             self.timers[number as usize] = Timer::default();
             self.update(number);
         }
     }
 
     /// A timer was written.
+    #[inline(never)]
     pub fn update(&mut self, number: u8) {
         self.enter(number, self.timers[number as usize].key());
     }
 
+    #[inline(always)]
     fn enter(&mut self, number: u8, key: u64) {
-        let (vp, index) = (number as usize / 4 % 8, number as usize % 4);
+        let (vp, index) = (number as usize / 4, number as usize % 4);
         self.keys[vp][index] = key;
-        let [first, second, third, fourth] = self.keys[vp];
-        let base = 4 * vp as u32;
-        self.least[vp] = lesser(
-            lesser((first, base), (second, base + 1)),
-            lesser((third, base + 2), (fourth, base + 3)),
-        );
-        let least = &self.least;
-        self.first = lesser(
-            lesser(lesser(least[0], least[1]), lesser(least[2], least[3])),
-            lesser(lesser(least[4], least[5]), lesser(least[6], least[7])),
-        );
+        let (key, place) = first_of(self.keys[vp]);
+        self.least.set(vp, (key, 4 * vp as u32 | place));
+        if self.processors == 1 {
+            self.first = (key, place);
+            return;
+        }
+        let four = self.least.least_of_four(vp & !3);
+        self.fours.set(vp / 4, self.least.numbered(four));
+        self.first = if self.processors <= 8 {
+            let [first, second, ..] = self.fours.keys;
+            self.fours.numbered(lesser((first, 0), (second, 1)))
+        } else {
+            let sixteen = self.fours.least_of_four(vp / 4 & !3);
+            self.sixteens.set(vp / 16, self.fours.numbered(sixteen));
+            self.sixteens.numbered(self.sixteens.least_of_four(0))
+        };
     }
 }
 
 /// Of equal keys the former is less: it has the lower number.
+#[inline(always)]
 fn lesser(former: Least, latter: Least) -> Least {
     if latter.0 < former.0 { latter } else { former }
 }

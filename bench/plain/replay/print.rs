@@ -118,7 +118,7 @@ pub fn put_summary(text: &mut Text, board: &Board) {
     }
     text.put(b"\n");
     for page in 0..board.pages() {
-        put_owner(text, page, board.owner(page));
+        put_owner(text, page, board.owner(page.into()));
     }
     for vp in 0..board.processors() {
         put_queues(text, vp, board);

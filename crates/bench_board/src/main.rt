@@ -4,15 +4,21 @@
 mod events;
 mod measure;
 mod scene;
+mod size;
 mod tally;
 mod workload;
 
 use crate::measure::measure;
+use crate::size::Size;
 use crate::workload::Workload;
-use bench_cli::{Asked, Fault, Program};
+use bench_cli::{Asked, Choice, Fault, Program};
 use std::process::ExitCode;
 
 const OUTPUT: &str = "\
+A board of 1 or 8 processors holds its guest's pages; one of 64 is sparse. Then messages and flags go
+to all 64 processors, and else to the one of a board of one. In mixed, a guest loads from the page that
+an overlay left; with 64 from the one that it reached, since a sparse board refuses the other.
+
 Standard output: each workload, the events, their notices, the sum of the replies, and a digest
 of the first 2000 events. Standard error: each workload, the events, and nanoseconds an event.";
 
@@ -42,14 +48,21 @@ fn run(rt: &HostRuntime) -> Result<ExitCode, Fault> {
     };
     // README bench_cli: end
     // README bench_cli: begin
-    let (chosen, events) = match program.asked(rt)? {
+    let choice = Choice {
+        name: "processors",
+        help: "How many processors the board has [default: 8]",
+        words: Size::WORDS.as_slice(),
+    };
+    let (asked, place) = program.asked_with(rt, Some(&choice))?;
+    let (chosen, events) = match asked {
         Asked::Nothing(code) => return Ok(code),
         Asked::Measurements(chosen, events) => (chosen, events),
     };
     // README bench_cli: end
+    let size = Size::at(place);
     for (place, workload) in Workload::ALL.iter().enumerate() {
         if chosen.is_none_or(|chosen| chosen == place) {
-            show(rt, *workload, events)?;
+            show(rt, *workload, size, events)?;
         }
     }
     Ok(ExitCode::SUCCESS)
@@ -57,9 +70,9 @@ fn run(rt: &HostRuntime) -> Result<ExitCode, Fault> {
 
 /// Measures a workload and prints the result: what is the same in each run to standard output, the
 /// time to standard error.
-fn show(rt: &HostRuntime, workload: Workload, events: u32) -> Result<(), Fault> {
+fn show(rt: &HostRuntime, workload: Workload, size: Size, events: u32) -> Result<(), Fault> {
     let name = workload.name();
-    let measured = measure(rt, workload, events)?;
+    let measured = measure(rt, workload, size, events)?;
     let (notices, replies) = (measured.totals.notices, measured.totals.replies);
     let digest = measured.digest;
     println!(rt;

@@ -1,6 +1,7 @@
 // Running and timing a workload.
 use crate::events::put_off;
 use crate::scene::Scene;
+use crate::size::Size;
 use crate::tally::{Digest, Tally, Totals};
 use crate::workload::Workload;
 use bench_cli::Fault;
@@ -33,11 +34,12 @@ impl Measured {
 pub(crate) fn measure(
     rt: &HostRuntime,
     workload: Workload,
+    size: Size,
     events: u32,
 ) -> Result<Measured, Fault> {
     let mut notices = Notices::open(rt.alloc())?;
-    let digest = digest_of(rt, workload, events.min(DIGESTED), &mut notices)?;
-    let (totals, nanoseconds) = totals_of(rt, workload, events, &mut notices)?;
+    let digest = digest_of(rt, workload, size, events.min(DIGESTED), &mut notices)?;
+    let (totals, nanoseconds) = totals_of(rt, workload, size, events, &mut notices)?;
     Ok(Measured {
         totals,
         digest,
@@ -50,10 +52,11 @@ pub(crate) fn measure(
 fn totals_of(
     rt: &HostRuntime,
     workload: Workload,
+    size: Size,
     events: u32,
     notices: &mut Notices,
 ) -> Result<(Totals, u64), Fault> {
-    let mut scene = Scene::of(rt.alloc(), workload)?;
+    let mut scene = Scene::of(rt.alloc(), workload, size)?;
     let mut board = scene.open(rt.alloc(), notices)?;
     timed(rt, &mut board, notices, &mut scene, events)
 }
@@ -86,14 +89,16 @@ fn total(board: &mut Board, notices: &mut Notices, scene: &mut Scene, events: u3
 fn digest_of(
     rt: &HostRuntime,
     workload: Workload,
+    size: Size,
     events: u32,
     notices: &mut Notices,
 ) -> Result<u64, Fault> {
-    let mut scene = Scene::of(rt.alloc(), workload)?;
+    let mut scene = Scene::of(rt.alloc(), workload, size)?;
     let mut board = scene.open(rt.alloc(), notices)?;
     let mut digest = Digest::new();
     perform_round(&mut board, notices, &mut scene, events, &mut digest);
     digest.add_summary(&board);
+    digest.add_owners(&board, scene.memory.elsewhere());
     Ok(digest.value())
 }
 

@@ -104,6 +104,13 @@ impl Digest {
         self.add_earliest(summary.earliest());
     }
 
+    /// Adds the owners of the first pages of a sparse board, of which the summary has none.
+    pub(crate) fn add_owners(&mut self, board: &Board, pages: u16) {
+        for page in 0..pages {
+            self.add_owner(board.owner(page as u64));
+        }
+    }
+
     fn add_owner(&mut self, owner: Owner) {
         match owner {
             Owner::Guest => self.add_all(&[0]),

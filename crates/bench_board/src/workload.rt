@@ -3,19 +3,19 @@
 /// The events that are repeated.
 #[derive(Clone, Copy, PartialEq, Eq, Debug)]
 pub(crate) enum Workload {
-    /// Assert, take and end on eight processors.
+    /// Assert, take and end on each processor.
     Interrupts,
-    /// Post, consume and EOM over sixteen ports.
+    /// Post, consume and EOM over all ports.
     Messages,
-    /// Overlays of eight processors that move, with loads and stores.
+    /// An overlay of each processor that moves, with loads and stores.
     Pages,
     /// Signals of an event port, and stores that clear the flags.
     Flags,
-    /// 32 periodic timers in direct mode, and dense ticks.
+    /// Four periodic timers of each processor in direct mode, and dense ticks.
     Timers,
-    /// 32 periodic timers whose messages are consumed.
+    /// Four periodic timers of each processor, whose messages are consumed.
     TimerMessages,
-    /// Some of each in turn, on eight processors.
+    /// Some of each in turn, on each processor.
     Mixed,
 }
 

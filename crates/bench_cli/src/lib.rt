@@ -33,6 +33,17 @@ pub struct Program<'a> {
     pub output: &'a str,
 }
 
+/// An option of a benchmark that takes one of some words.
+#[derive(Drop)]
+pub struct Choice<'a> {
+    /// Its name, without the dashes.
+    pub name: &'a str,
+    /// What it chooses, and the default.
+    pub help: &'a str,
+    /// The words.
+    pub words: &'a [&'a str],
+}
+
 /// The result of reading a command line.
 #[derive(Drop)]
 pub enum Asked {
@@ -73,6 +84,16 @@ impl From<io::Error> for LineFault {
 impl Program<'_> {
     /// Reads the command line. Prints help and error messages.
     pub fn asked(&self, rt: &HostRuntime) -> Result<Asked, LineFault> {
+        let (asked, _) = self.asked_with(rt, None)?;
+        Ok(asked)
+    }
+
+    /// The same with an option, and the index of its word; `None` if the command line has no such option.
+    pub fn asked_with(
+        &self,
+        rt: &HostRuntime,
+        choice: Option<&Choice<'_>>,
+    ) -> Result<(Asked, Option<usize>), LineFault> {
         let words = match env::args(rt) {
             Ok(words) => words.collect::<Vec<String>>(rt.alloc())?,
             Err(error) if error.kind() == io::ErrorKind::InvalidData => {
@@ -80,32 +101,52 @@ impl Program<'_> {
             }
             Err(error) => return Err(LineFault::from(error)),
         };
-        let command = self.command(rt.alloc())?;
+        let command = self.command(rt.alloc(), choice)?;
         let matches = match command.try_get_matches_from(words.as_slice()) {
             Ok(matches) => matches,
-            Err(error) => return say(rt, error),
+            Err(error) => return Ok((say(rt, error)?, None)),
         };
-        let chosen = matches.get_str("workload").and_then(|word| self
-            .workloads
-            .iter()
-            .position(|name| *name == word));
+        let chosen = index_of(self.workloads, matches.get_str("workload"));
         let count = matches.get_one::<u32>(self.unit).unwrap_or(self.bound);
-        Ok(Asked::Measurements(chosen, count))
+        let word = match choice {
+            Some(choice) => index_of(choice.words, matches.get_str(choice.name)),
+            None => None,
+        };
+        Ok((Asked::Measurements(chosen, count), word))
     }
 
-    fn command(&self, alloc: Global) -> Result<Command<'_>, AllocError> {
+    fn command<'a>(
+        &'a self,
+        alloc: Global,
+        choice: Option<&'a Choice<'_>>,
+    ) -> Result<Command<'a>, AllocError> {
         let workload = Arg::new(alloc, "workload")
             .help("What is measured [default: all]")
             .value_parser(self.workloads);
         let count = Arg::new(alloc, self.unit)
             .help(self.unit_help)
             .value_parser(clap::value_parser!(u32).range(1..));
-        Command::new(alloc, self.name)
+        let command = Command::new(alloc, self.name)
             .about(self.about)
             .after_help(self.output)
             .arg(workload)?
-            .arg(count)
+            .arg(count)?;
+        let Some(choice) = choice else {
+            return Ok(command);
+        };
+        let option = Arg::new(alloc, choice.name)
+            .long(choice.name)
+            .value_name("N")
+            .help(choice.help)
+            .value_parser(choice.words);
+        command.arg(option)
     }
+}
+
+/// The index of a word among some.
+fn index_of(words: &[&str], word: Option<&str>) -> Option<usize> {
+    let word = word?;
+    words.iter().position(|name| *name == word)
 }
 
 /// Prints the message of the parser: help, or an error.
