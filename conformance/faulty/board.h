@@ -9,7 +9,8 @@
 #include "faults.h"
 #include "peer.h"
 
-enum { PROCESSORS = 8, PAGES = 64, PAGE = 4096, SOURCES = 16, SLOT = 256, TIMERS = 4, PORTS = 256, VECTORS = 256, FLAGS = 2048 };
+/* A board that holds its pages has at most 8 processors, a sparse one 64. */
+enum { DENSE = 8, PROCESSORS = 64, PAGES = 64, PAGE = 4096, SOURCES = 16, SLOT = 256, TIMERS = 4, PORTS = 256, VECTORS = 256, FLAGS = 2048 };
 enum { MASKED = 1 << 16, AUTO = 1 << 17, POLLING = 1 << 18 };
 
 /* The senders of messages: ports 0 to 255, then timers. */
@@ -50,6 +51,7 @@ struct processor {
     bool suspended;
     bool is_disabled;           /* by the faults apic_disabled and resume_takes_nothing */
     uint64_t scontrol, siefp, simp;
+    uint64_t old_siefp, old_simp; /* before the last write, by the fault old_overlay_place */
     uint64_t sint[SOURCES];
     struct timer timers[TIMERS];
     struct source sources[SOURCES];
@@ -61,10 +63,13 @@ struct port {
     bool is_open;
     bool is_flags;
     unsigned vp, sint, buffers, base, count;
+    unsigned kept;              /* its buffers while it is closed, by the fault buffers_kept */
 };
 
 struct board {
-    unsigned processors, pages;
+    unsigned processors;
+    bool is_sparse;
+    uint64_t pages;
     uint64_t now, next_ticket;
     struct port ports[PORTS];
     struct processor vps[PROCESSORS];
@@ -100,6 +105,7 @@ void try_delivery(unsigned vp, unsigned sint);
 void end_of_message(unsigned vp);
 
 /* ports.c */
+struct port *port_at(unsigned number);
 struct peer_reply open_port(unsigned number, struct port port);
 struct peer_reply close_port(unsigned number);
 struct peer_reply post(unsigned number, uint32_t type, const uint8_t *payload, size_t length);

@@ -237,7 +237,25 @@
     F(written_twice, false, "a register is written twice") \
     F(taken_twice, false, "take takes two vectors and returns the second") \
     F(close_clears_flags, false, "closing a port clears its flags") \
-    F(any_page_consumes, false, "a store that clears a type in any page consumes the message of the slot at its place")
+    F(any_page_consumes, false, "a store that clears a type in any page consumes the message of the slot at its place") \
+    F(due_33rd_dropped, false, "the timers that a tick leaves after the 32nd expiry never expire") \
+    F(tick_expires_33, false, "a tick expires 33 timers") \
+    F(tick_expires_all, false, "a tick expires all timers that are due") \
+    F(tick_by_number, false, "a tick takes the 32 due timers with the least numbers") \
+    F(tick_by_index, false, "timers of a sparse board with one deadline expire by their index, then by processor") \
+    F(unready_counts, false, "a timer that is not ready counts among the 32 of a tick") \
+    F(mask_bit_63, false, "a send ignores bit 63 of its mask") \
+    F(port_of_four_bits, false, "a port's number is cut to four bits") \
+    F(sixteen_ports, false, "a sparse board has 16 ports, whatever its processors") \
+    F(always_256_ports, false, "a sparse board has 256 ports, whatever its processors") \
+    F(buffers_unbounded, false, "the ports of a processor may have more than 256 buffers") \
+    F(buffers_of_all, false, "the limit of 256 buffers is one for all processors") \
+    F(buffers_kept, false, "closing a port gives its processor no buffers back") \
+    F(flags_use_buffers, false, "a port of event flags uses a buffer of its processor") \
+    F(old_overlay_place, false, "an overlay of a sparse board that moves is visible where it was, too") \
+    F(elsewhere_is_zero, false, "a load of a sparse board where no overlay is visible returns zeros, and a store is done") \
+    F(sparse_pages, false, "a sparse board has 64 pages") \
+    F(lapics_of_32, false, "processors 32 to 63 use the local APICs of processors 0 to 31")
 
 enum fault {
     NO_FAULT,

@@ -37,9 +37,15 @@ static bool is_auto(unsigned vp, unsigned vector)
     return false;
 }
 
+/* The processor, by a fault another one, whose requests and vectors in service these are. */
+static struct processor *lapic_of(unsigned vp)
+{
+    return &board.vps[IS(lapics_of_32) ? vp % 32 : vp];
+}
+
 void request(unsigned vp, unsigned vector)
 {
-    struct processor *p = &board.vps[vp];
+    struct processor *p = lapic_of(vp);
     if (IS(merge_while_serving) && p->serving[vector])
         return;
     if (p->requested[vector]) {
@@ -89,7 +95,7 @@ static bool is_held_back(const struct processor *p, int vector)
 
 int take_next(unsigned vp)
 {
-    struct processor *p = &board.vps[vp];
+    struct processor *p = lapic_of(vp);
     int vector = end_of(p->requested, !IS(first_vector_wins));
     if (p->suspended && !IS(suspended_takes))
         return -1;
@@ -108,7 +114,7 @@ int take_next(unsigned vp)
 
 void end_of_interrupt(unsigned vp)
 {
-    struct processor *p = &board.vps[vp];
+    struct processor *p = lapic_of(vp);
     int vector = end_of(p->serving, !IS(eoi_ends_least));
     if (vector >= 0)
         p->serving[vector] = false;

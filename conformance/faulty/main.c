@@ -43,13 +43,31 @@ static struct peer_reply absent(void)
     return IS(absent_is_fault) ? peer_reply(PEER_GENERAL_PROTECTION, 0) : refused(14);
 }
 
-static int open_board(unsigned processors, unsigned pages, uint64_t ticket)
+static void begin(unsigned processors, uint64_t pages, uint64_t ticket)
 {
-    if (processors < 1 || processors > PROCESSORS || pages < 1 || pages > PAGES)
-        return 0;
-    board = (struct board){ .processors = processors, .pages = pages, .next_ticket = IS(first_ticket_zero) ? 0 : ticket };
+    memset(&board, 0, sizeof board);
+    board.processors = processors;
+    board.pages = pages;
+    board.next_ticket = IS(first_ticket_zero) ? 0 : ticket;
     for (unsigned vp = 0; vp < processors; vp++)
         clear_processor(vp);
+}
+
+static int open_board(unsigned processors, unsigned pages, uint64_t ticket)
+{
+    if (processors < 1 || processors > DENSE || pages < 1 || pages > PAGES)
+        return 0;
+    begin(processors, pages, ticket);
+    return 1;
+}
+
+/* An address of 64 bits reaches 2^52 pages. */
+static int open_sparse_board(unsigned processors, uint64_t ticket)
+{
+    if (processors < 1 || processors > PROCESSORS)
+        return 0;
+    begin(processors, IS(sparse_pages) ? PAGES : (uint64_t)1 << 52, ticket);
+    board.is_sparse = true;
     return 1;
 }
 
@@ -89,7 +107,10 @@ static struct peer_reply send_interrupt(unsigned vector, uint64_t mask)
 {
     if (IS(send_word))
         mask &= UINT32_MAX;
-    bool is_refused = mask >> board.processors != 0 && !IS(send_ignores);
+    if (IS(mask_bit_63))
+        mask &= UINT64_MAX >> 1;
+    bool is_beyond = board.processors < PROCESSORS && mask >> board.processors != 0;
+    bool is_refused = is_beyond && !IS(send_ignores);
     for (unsigned i = 0; i < board.processors && (!is_refused || IS(send_half)); i++) {
         unsigned vp = IS(send_backwards) ? board.processors - 1 - i : i;
         if (!(mask >> vp & 1))
@@ -268,7 +289,8 @@ bool is_rule_of_kvm(enum fault rule)
     }
 }
 
-/* Leaves out ports, suspension and sends, which are user space's. Whether there are such options. */
+/* Leaves out sparse boards, and ports, suspension and sends, which are user space's. Whether there are such
+ * options. */
 static bool choose_kvm(struct peer *peer, int count, char **words)
 {
     is_kvm = true;
@@ -276,6 +298,7 @@ static bool choose_kvm(struct peer *peer, int count, char **words)
         is_bare |= strcmp(words[at], "--bare") == 0;
         is_guarded |= strcmp(words[at], "--guarded") == 0;
     }
+    peer->open_sparse_board = NULL;
     peer->open_message_port = NULL;
     peer->open_event_port = NULL;
     peer->close_port = NULL;
@@ -301,7 +324,7 @@ int main(int count, char **words)
         .signal_event = signal_flag, .assert_irq = assert_irq, .absorb_posted = absorb_posted,
         .guest_store = store_bytes, .guest_load = load_bytes, .advance_time = advance_time,
         .take_interrupt = take_interrupt, .suspend = suspend, .resume = resume, .reset = reset,
-        .send_interrupt = send_interrupt,
+        .send_interrupt = send_interrupt, .open_sparse_board = open_sparse_board,
     };
     if (count == 2 && strcmp(words[1], "--faults") == 0)
         return list_faults();
@@ -311,6 +334,7 @@ int main(int count, char **words)
     } else if (count == 2 && strcmp(words[1], "--bare") == 0) {
         peer.absorb_posted = NULL;
         peer.send_interrupt = NULL;
+        peer.open_sparse_board = NULL;
         peer.suspend = peer.resume = peer.reset = NULL;
     } else if (count > 2 || (count == 2 && !choose(words[1]))) {
         fprintf(stderr, "faulty: there is no such fault\n");

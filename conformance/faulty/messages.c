@@ -125,7 +125,7 @@ static void put(uint8_t *at, uint64_t number, unsigned length)
 static uint8_t *image_place(unsigned vp, unsigned sint)
 {
     uint64_t page = board.vps[vp].simp >> 12;
-    if (IS(message_writes_visible) && page < board.pages)
+    if (IS(message_writes_visible) && page < board.pages && page_at(page) != NULL)
         return page_at(page) + SLOT * sint;
     return slot_of(vp, sint);
 }

@@ -15,6 +15,14 @@ static bool lies_at(unsigned vp, uint64_t value, uint64_t page)
     return ((value & 1) || (IS(overlay_ignores_enable) && page_of(value) > 0)) && page_of(value) == page;
 }
 
+/* Whether an overlay is at a page, or by a fault was there before its register was written. */
+static bool is_at(unsigned vp, bool is_flags, uint64_t page)
+{
+    const struct processor *p = &board.vps[vp];
+    bool is_old = IS(old_overlay_place) && board.is_sparse && lies_at(vp, is_flags ? p->old_siefp : p->old_simp, page);
+    return is_old || lies_at(vp, is_flags ? p->siefp : p->simp, page);
+}
+
 /* The overlay that is visible at a page, or null. */
 static uint8_t *overlay_at(uint64_t page)
 {
@@ -23,23 +31,31 @@ static uint8_t *overlay_at(uint64_t page)
         unsigned vp = place / 2;
         bool is_flags = (place % 2 == 1) != IS(flags_over_messages);
         struct processor *p = &board.vps[vp];
-        if (lies_at(vp, is_flags ? p->siefp : p->simp, page))
+        if (is_at(vp, is_flags, page))
             return is_flags ? p->sief : p->sim;
     }
     return NULL;
 }
 
+/* What is visible at a page: null if it is elsewhere, in the memory of a sparse board's caller. */
 uint8_t *page_at(uint64_t page)
 {
     uint8_t *overlay = IS(no_overlays) ? NULL : overlay_at(page);
-    return overlay != NULL ? overlay : board.guest[page];
+    if (overlay != NULL)
+        return overlay;
+    return board.is_sparse ? NULL : board.guest[page];
+}
+
+static bool is_held(uint64_t page)
+{
+    return !board.is_sparse && page < board.pages;
 }
 
 /* Where messages go: the overlay's own page, unless a fault says otherwise. */
 uint8_t *message_page(unsigned vp)
 {
     struct processor *p = &board.vps[vp];
-    if (IS(no_overlays) && page_of(p->simp) < board.pages)
+    if (IS(no_overlays) && is_held(page_of(p->simp)))
         return board.guest[page_of(p->simp)];
     return p->sim;
 }
@@ -47,9 +63,9 @@ uint8_t *message_page(unsigned vp)
 uint8_t *flags_page(unsigned vp)
 {
     struct processor *p = &board.vps[vp];
-    if (IS(no_overlays) && page_of(p->siefp) < board.pages)
+    if (IS(no_overlays) && is_held(page_of(p->siefp)))
         return board.guest[page_of(p->siefp)];
-    if (IS(signal_writes_visible) && page_of(p->siefp) < board.pages)
+    if (IS(signal_writes_visible) && page_of(p->siefp) < board.pages && page_at(page_of(p->siefp)) != NULL)
         return page_at(page_of(p->siefp));
     return p->sief;
 }
@@ -59,12 +75,13 @@ void page_register(unsigned vp, bool is_messages, uint64_t value)
     struct processor *p = &board.vps[vp];
     uint64_t *place = is_messages ? &p->simp : &p->siefp;
     bool is_moved = page_of(*place) != page_of(value);
+    *(is_messages ? &p->old_simp : &p->old_siefp) = value & 1 ? *place : value;
     *place = IS(page_register_drops_bits) ? value & ~(uint64_t)0xffe : value;
     if (!(value & 1))
         return;
     if (IS(enabling_zeroes) || (IS(moved_is_zeroed) && is_moved))
         memset(is_messages ? message_page(vp) : flags_page(vp), 0, PAGE);
-    if (IS(overlay_wipes) && page_of(value) < board.pages)
+    if (IS(overlay_wipes) && is_held(page_of(value)))
         memset(board.guest[page_of(value)], 0, PAGE);
 }
 
@@ -84,13 +101,18 @@ static unsigned refusal_of(uint64_t address, size_t length)
         return 11;
     if (is_crossing && (!IS(crossing_allowed) || address / PAGE + 1 >= board.pages))
         return 12;
-    return 0;
+    return page_at(address / PAGE) == NULL && !IS(elsewhere_is_zero) ? 17 : 0;
 }
 
 static uint8_t *byte_at(uint64_t address, bool is_store)
 {
-    uint8_t *page = IS(store_goes_below) && is_store ? board.guest[address / PAGE] : page_at(address / PAGE);
-    return &page[address % PAGE];
+    static uint8_t elsewhere;
+    bool is_below = IS(store_goes_below) && is_store && is_held(address / PAGE);
+    uint8_t *page = is_below ? board.guest[address / PAGE] : page_at(address / PAGE);
+    if (page != NULL)
+        return &page[address % PAGE];
+    elsewhere = 0;
+    return &elsewhere;
 }
 
 /* The bytes of a page that a store wrote. */
@@ -155,6 +177,8 @@ struct peer_reply store_bytes(uint64_t address, const uint8_t *bytes, size_t len
         length = 7;
     for (size_t at = 0; at < length; at++)
         *byte_at(address + at, true) = bytes[at];
+    if (page_at(address / PAGE) == NULL)
+        return done();
     unsigned first = address % PAGE;
     look_for_consumed(&(struct written){ page_at(address / PAGE), first, first + (unsigned)length });
     return done();

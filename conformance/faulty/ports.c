@@ -1,11 +1,48 @@
 /* ports.c: ports, posts and signals. */
 #include "board.h"
 
-enum { MOST_PORTS = 16, MOST_BUFFERS = 16 };
+/* The fewest ports of a board, and the most buffers of a port and of all ports of a processor. */
+enum { FEWEST_PORTS = 16, PORTS_OF_EACH = 4, MOST_BUFFERS = 16, ALL_BUFFERS = 256 };
+
+/* A sparse board has four ports for each processor if these are more than 16. */
+static unsigned port_count(void)
+{
+    unsigned count = PORTS_OF_EACH * board.processors;
+    if (!board.is_sparse || IS(sixteen_ports))
+        return FEWEST_PORTS;
+    if (IS(always_256_ports))
+        return PORTS;
+    return count > FEWEST_PORTS ? count : FEWEST_PORTS;
+}
 
 static bool is_number(unsigned number)
 {
-    return number < MOST_PORTS || (IS(port_range) && number < PORTS);
+    return number < port_count() || (IS(port_range) && number < PORTS);
+}
+
+/* A port, by a fault another one. */
+struct port *port_at(unsigned number)
+{
+    return &board.ports[IS(port_of_four_bits) ? number % FEWEST_PORTS : number];
+}
+
+static unsigned buffers_of(const struct port *port)
+{
+    if (port->is_flags)
+        return IS(flags_use_buffers) && port->is_open ? 1 : 0;
+    return port->is_open ? port->buffers : port->kept;
+}
+
+/* Whether the processor has so many buffers left for one more port. */
+static bool has_buffers(const struct port *port)
+{
+    unsigned used = port->is_flags ? IS(flags_use_buffers) : port->buffers;
+    if (used == 0 || IS(buffers_unbounded) || IS(shape_unchecked))
+        return true;
+    for (unsigned at = 0; at < PORTS; at++)
+        if (board.ports[at].vp == port->vp || IS(buffers_of_all))
+            used += buffers_of(&board.ports[at]);
+    return used <= ALL_BUFFERS;
 }
 
 static bool is_fitting(const struct port *port)
@@ -26,14 +63,14 @@ struct peer_reply open_port(unsigned number, struct port port)
         return refused(4);
     if (!is_number(number))
         return refused(1);
-    if (board.ports[number].is_open && !IS(open_replaces))
+    if (port_at(number)->is_open && !IS(open_replaces))
         return refused(2);
-    if (!is_fitting(&port))
+    if (!is_fitting(&port) || !has_buffers(&port))
         return refused(4);
     if (IS(one_buffer))
         port.buffers = 1;
     port.is_open = true;
-    board.ports[number] = port;
+    *port_at(number) = port;
     return done();
 }
 
@@ -47,10 +84,11 @@ static void close_flags(const struct port *port)
 
 struct peer_reply close_port(unsigned number)
 {
-    if (!is_number(number) || !board.ports[number].is_open)
+    if (!is_number(number) || !port_at(number)->is_open)
         return IS(close_unchecked) ? done() : refused(1);
-    struct port *port = &board.ports[number];
+    struct port *port = port_at(number);
     port->is_open = false;
+    port->kept = IS(buffers_kept) ? port->buffers : 0;
     if (port->is_flags) {
         close_flags(port);
         return done();
@@ -63,9 +101,9 @@ struct peer_reply close_port(unsigned number)
 
 static unsigned target_refusal(unsigned number, bool is_flags)
 {
-    if (!is_number(number) || !board.ports[number].is_open)
+    if (!is_number(number) || !port_at(number)->is_open)
         return 1;
-    if (board.ports[number].is_flags != is_flags)
+    if (port_at(number)->is_flags != is_flags)
         return IS(kind_unchecked) ? 1 : 3;
     return 0;
 }
@@ -78,7 +116,7 @@ static unsigned post_refusal(unsigned number, uint32_t type)
     unsigned why = target_refusal(number, false);
     if (why)
         return why;
-    const struct port *port = &board.ports[number];
+    const struct port *port = port_at(number);
     bool is_off = !synic_on(port->vp) || (IS(suspended_refuses) && board.vps[port->vp].suspended);
     bool is_full = queued_from(port->vp, port->sint, number) >= port->buffers;
     bool is_spent = !are_tickets_left();
@@ -105,7 +143,7 @@ struct peer_reply post(unsigned number, uint32_t type, const uint8_t *payload, s
             board.next_ticket++;
         return refused(why);
     }
-    const struct port *port = &board.ports[number];
+    const struct port *port = port_at(number);
     bool was_empty = board.vps[port->vp].sources[port->sint].first == NULL;
     uint64_t ticket = enqueue(port->vp, port->sint, number, type, payload, length);
     if (was_empty || !IS(post_tries_nothing))
@@ -116,11 +154,11 @@ struct peer_reply post(unsigned number, uint32_t type, const uint8_t *payload, s
 static unsigned signal_refusal(unsigned number, unsigned flag)
 {
     unsigned why = target_refusal(number, true);
-    if (IS(flag_before_kind) && why == 3 && flag >= board.ports[number].count)
+    if (IS(flag_before_kind) && why == 3 && flag >= port_at(number)->count)
         return 6;
     if (why)
         return why;
-    const struct port *port = &board.ports[number];
+    const struct port *port = port_at(number);
     bool is_on = (board.vps[port->vp].siefp & 1) || IS(signal_when_off);
     bool is_off = !synic_on(port->vp) || !is_on;
     if (IS(synic_before_flag) && is_off)
@@ -134,7 +172,8 @@ static unsigned signal_refusal(unsigned number, unsigned flag)
 static const uint8_t *visible_flags(unsigned vp)
 {
     uint64_t page = board.vps[vp].siefp >> 12;
-    return page < board.pages ? page_at(page) : flags_page(vp);
+    const uint8_t *visible = page < board.pages ? page_at(page) : NULL;
+    return visible != NULL ? visible : flags_page(vp);
 }
 
 struct peer_reply signal_flag(unsigned number, unsigned flag)
@@ -142,7 +181,7 @@ struct peer_reply signal_flag(unsigned number, unsigned flag)
     unsigned why = signal_refusal(number, flag);
     if (why)
         return refused(why);
-    const struct port *port = &board.ports[number];
+    const struct port *port = port_at(number);
     unsigned place = (flag + (IS(flag_base_ignored) ? 0 : port->base)) % FLAGS;
     unsigned bit = IS(flag_bytes_reversed) ? 7 - place % 8 : place % 8;
     uint8_t *byte = flags_page(port->vp) + SLOT * (IS(flags_of_first) ? 0 : port->sint) + place / 8;

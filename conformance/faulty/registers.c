@@ -20,7 +20,7 @@ void clear_processor(unsigned vp)
 {
     struct processor *p = &board.vps[vp];
     p->scontrol = IS(synic_on_at_reset);
-    p->siefp = p->simp = 0;
+    p->siefp = p->simp = p->old_siefp = p->old_simp = 0;
     p->tpr = IS(tpr_at_reset) ? 0xf0 : 0;
     for (unsigned s = 0; s < SOURCES; s++)
         p->sint[s] = IS(sint_zero_at_reset) ? 0 : MASKED;

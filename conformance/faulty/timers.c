@@ -6,7 +6,7 @@
 
 typedef unsigned __int128 wide;
 
-enum { CATCHES_UP = 8, EXPIRED_TYPE_LOW = 16, TIMER_MESSAGE = 24 };
+enum { CATCHES_UP = 8, MOST_EXPIRIES = 32, EXPIRED_TYPE_LOW = 16, TIMER_MESSAGE = 24 };
 
 static unsigned vector_of(const struct timer *t)
 {
@@ -167,7 +167,7 @@ static bool is_due(unsigned vp, unsigned index)
     wide deadline = t->deadline + (IS(late_by_one) ? 1 : 0);
     if (board.vps[vp].suspended && !IS(suspended_timers_run))
         return false;
-    if (IS(last_processor_stopped) && vp == PROCESSORS - 1)
+    if (IS(last_processor_stopped) && vp == DENSE - 1)
         return false;
     if (IS(lazy_one_shot) && (t->config & LAZY) && !(t->config & PERIODIC))
         deadline += t->count / 4;
@@ -187,10 +187,13 @@ static void expire(unsigned vp, unsigned index)
         expire_periodic(vp, index);
 }
 
-static void try_timer(unsigned vp, unsigned index)
+/* Whether it was ready. */
+static bool try_timer(unsigned vp, unsigned index)
 {
-    if (is_ready(vp, index))
-        expire(vp, index);
+    if (!is_ready(vp, index))
+        return false;
+    expire(vp, index);
+    return true;
 }
 
 struct due {
@@ -205,6 +208,8 @@ static int compare(const void *left, const void *right)
     const struct due *b = right;
     if (a->deadline != b->deadline && !IS(timers_unordered))
         return a->deadline < b->deadline ? -1 : 1;
+    if (a->index != b->index && board.is_sparse && IS(tick_by_index))
+        return (int)a->index - (int)b->index;
     return (int)(a->vp * TIMERS + a->index) - (int)(b->vp * TIMERS + b->index);
 }
 
@@ -213,20 +218,36 @@ static bool is_tried_again(unsigned vp, unsigned index)
     return (IS(catches_up_at_once) || (IS(others_catch_up) && index > 0)) && is_due(vp, index) && is_ready(vp, index);
 }
 
-static void try_at_its_turn(const struct due *due)
+/* Whether it expires. */
+static bool try_at_its_turn(const struct due *due)
 {
     if (IS(ready_once)) {
         if (due->was_ready)
             expire(due->vp, due->index);
-        return;
+        return due->was_ready;
     }
     if (IS(ready_at_first) && !due->was_ready)
-        return;
-    try_timer(due->vp, due->index);
+        return false;
+    bool has_expired = try_timer(due->vp, due->index);
     if (IS(tried_twice) && is_due(due->vp, due->index))
         try_timer(due->vp, due->index);
     while (is_tried_again(due->vp, due->index))
         try_timer(due->vp, due->index);
+    return has_expired;
+}
+
+/* How many of the due timers of a tick are looked at, in their order: all, unless a fault ends it early. */
+static size_t looked_at(size_t count)
+{
+    bool is_cut = IS(tick_by_number) || IS(unready_counts);
+    return is_cut && count > MOST_EXPIRIES ? MOST_EXPIRIES : count;
+}
+
+/* What is left after the 32nd expiry stays due, unless a fault drops it. */
+static void leave(const struct due *due, size_t count)
+{
+    for (size_t at = 0; at < count && IS(due_33rd_dropped); at++)
+        board.vps[due[at].vp].timers[due[at].index].has_deadline = false;
 }
 
 void try_due(void)
@@ -241,12 +262,18 @@ void try_due(void)
         for (unsigned index = 0; index < TIMERS; index++)
             if (is_due(vp, index))
                 list[count++] = (struct due){ board.vps[vp].timers[index].deadline, vp, index, is_ready(vp, index) };
+    /* by this fault, those with the least numbers are sorted */
+    if (IS(tick_by_number))
+        count = looked_at(count);
     qsort(list, count, sizeof *list, compare);
-    for (size_t at = 0; at < count; at++) {
-        try_at_its_turn(&list[at]);
+    size_t most = IS(tick_expires_all) ? count : IS(tick_expires_33) ? MOST_EXPIRIES + 1 : MOST_EXPIRIES;
+    size_t expired = 0, at = 0;
+    for (count = looked_at(count); at < count && expired < most; at++) {
+        expired += try_at_its_turn(&list[at]);
         if (IS(one_timer))
             return;
     }
+    leave(&list[at], count - at);
 }
 
 /* After a write. */

@@ -61,6 +61,12 @@ static int open_board(unsigned processors, unsigned pages, uint64_t ticket)
     return synicboard_open(&board, (uint8_t)processors, (uint8_t)pages, ticket) == SYNICBOARD_OK;
 }
 
+static int open_sparse_board(unsigned processors, uint64_t ticket)
+{
+    synicboard_close(&board);
+    return synicboard_open_sparse(&board, (uint8_t)processors, ticket) == SYNICBOARD_OK;
+}
+
 static struct peer_reply open_message_port(unsigned port, unsigned vp, unsigned sint, unsigned buffers)
 {
     return told(synicboard_open_message_port(&board, (uint8_t)port, (uint8_t)vp, (uint8_t)sint, (uint8_t)buffers));
@@ -154,7 +160,7 @@ int main(void)
         .signal_event = signal_event, .assert_irq = assert_irq, .absorb_posted = absorb_posted,
         .guest_store = guest_store, .guest_load = guest_load, .advance_time = advance_time,
         .take_interrupt = take_interrupt, .suspend = suspend, .resume = resume, .reset = reset,
-        .send_interrupt = send_interrupt,
+        .send_interrupt = send_interrupt, .open_sparse_board = open_sparse_board,
     };
     int status = peer_main(&peer);
     synicboard_close(&board);

@@ -146,8 +146,18 @@ static struct peer_reply answer(const struct peer *peer, char **words, int count
     return peer_reply(PEER_UNSUPPORTED, 0);
 }
 
-/* Whether the line could be answered: a board that cannot be opened ends the program. */
-static bool perform(const struct peer *peer, char *line)
+/* Whether there is a board of the size that the last board line has. */
+static bool is_open;
+
+static bool open_board(const struct peer *peer, char **words)
+{
+    uint64_t ticket = strtoull(words[3], NULL, 10);
+    if (strcmp(words[2], "sparse") != 0)
+        return peer->open_board(decimal(words[1]), decimal(words[2]), ticket) != 0;
+    return peer->open_sparse_board != NULL && peer->open_sparse_board(decimal(words[1]), ticket) != 0;
+}
+
+static void perform(const struct peer *peer, char *line)
 {
     char *words[MOST_WORDS + 1] = { 0 };
     int count = 0;
@@ -156,26 +166,27 @@ static bool perform(const struct peer *peer, char *line)
     for (int at = count; at < MOST_WORDS; at++)
         words[at] = line + strlen(line);
     if (count == 0 || words[0][0] == '#')
-        return true;
-    if (strcmp(words[0], "board") == 0)
-        return peer->open_board(decimal(words[1]), decimal(words[2]), strtoull(words[3], NULL, 10)) != 0;
+        return;
+    if (strcmp(words[0], "board") == 0) {
+        is_open = open_board(peer, words);
+        return;
+    }
     if (strcmp(words[0], "sync") == 0) {
         printf("= sync\n");
-        return true;
+        return;
     }
     noticed = 0;
-    write_reply(answer(peer, words, count));
+    write_reply(is_open ? answer(peer, words, count) : peer_reply(PEER_UNSUPPORTED, 0));
     fwrite(notices, 1, noticed, stdout);
-    return true;
 }
 
 /* Answers whole lines of what has been read, and returns how many bytes they had. */
-static size_t perform_lines(const struct peer *peer, char *text, size_t length, bool *is_open)
+static size_t perform_lines(const struct peer *peer, char *text, size_t length)
 {
     size_t done = 0;
-    for (char *end; *is_open && (end = memchr(text + done, '\n', length - done)) != NULL;) {
+    for (char *end; (end = memchr(text + done, '\n', length - done)) != NULL;) {
         *end = '\0';
-        *is_open = perform(peer, text + done);
+        perform(peer, text + done);
         done = (size_t)(end - text) + 1;
     }
     return done;
@@ -185,10 +196,9 @@ int peer_main(const struct peer *peer)
 {
     static char text[1 << 16];
     size_t length = 0;
-    bool is_open = true;
-    for (ssize_t got; is_open && (got = read(STDIN_FILENO, text + length, sizeof text - length)) > 0;) {
+    for (ssize_t got; (got = read(STDIN_FILENO, text + length, sizeof text - length)) > 0;) {
         length += (size_t)got;
-        size_t done = perform_lines(peer, text, length, &is_open);
+        size_t done = perform_lines(peer, text, length);
         length -= done;
         memmove(text, text + done, length);
         /* The peer on the other side may wait for these answers before it sends more. */
@@ -196,5 +206,5 @@ int peer_main(const struct peer *peer)
         if (length > LONGEST_LINE)
             return 1;
     }
-    return is_open ? 0 : 1;
+    return 0;
 }

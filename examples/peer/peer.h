@@ -31,7 +31,8 @@ struct peer_reply {
 
 struct peer {
     /* A new board at time 0. `ticket` is the number of its first message; an implementation that
-     * numbers no messages ignores it. Returns 0 if it cannot be of this size. */
+     * numbers no messages ignores it. Returns 0 if it cannot be of this size: each event before the next
+     * board line is then answered `= unsupported`. */
     int (*open_board)(unsigned processors, unsigned pages, uint64_t ticket);
     struct peer_reply (*open_message_port)(unsigned port, unsigned vp, unsigned sint, unsigned buffers);
     struct peer_reply (*open_event_port)(unsigned port, unsigned vp, unsigned sint, unsigned base, unsigned count);
@@ -51,6 +52,9 @@ struct peer {
     struct peer_reply (*reset)(unsigned vp);
     /* bit p of `mask` is processor p */
     struct peer_reply (*send_interrupt)(unsigned vector, uint64_t mask);
+    /* A sparse board: up to 64 processors, and no pages of its own. A load or a store is refused (17) where
+     * no overlay is visible. Otherwise as open_board. */
+    int (*open_sparse_board)(unsigned processors, uint64_t ticket);
 };
 
 /* A reply without bytes. */

@@ -21,6 +21,11 @@ fn unsupported() -> Answer {
 trait Peer: Sized {
     fn open_board(processors: u8, pages: u8, ticket: u64) -> Option<Self>;
 
+    /// A sparse board: up to 64 processors, and no pages of its own.
+    fn open_sparse_board(_processors: u8, _ticket: u64) -> Option<Self> {
+        None
+    }
+
     fn open_message_port(&mut self, _port: u8, _vp: u8, _sint: u8, _buffers: u8) -> Answer {
         unsupported()
     }
@@ -147,23 +152,32 @@ fn guest_event<P: Peer>(peer: &mut P, words: &[&str]) -> Option<Answer> {
     })
 }
 
-/// Answers one line. `None` if there is no board to answer it.
-fn perform<P: Peer>(peer: &mut Option<P>, line: &str, output: &mut impl Write) -> Option<io::Result<()>> {
+/// The board of a board line, if there is one of its size.
+fn opened<P: Peer>(processors: &str, pages: &str, ticket: &str) -> Option<P> {
+    let (processors, ticket) = (processors.parse().ok()?, ticket.parse().ok()?);
+    match pages {
+        "sparse" => P::open_sparse_board(processors, ticket),
+        _ => P::open_board(processors, pages.parse().ok()?, ticket),
+    }
+}
+
+/// Answers one line. Without a board, each event is unsupported.
+fn perform<P: Peer>(peer: &mut Option<P>, line: &str, output: &mut impl Write) -> io::Result<()> {
     let words: Vec<&str> = line.split(' ').collect();
     if line.is_empty() || line.starts_with('#') {
-        return Some(Ok(()));
+        return Ok(());
     }
     if let ["board", processors, pages, ticket] = *words {
-        *peer = P::open_board(processors.parse().ok()?, pages.parse().ok()?, ticket.parse().ok()?);
-        return peer.is_some().then_some(Ok(()));
+        *peer = opened(processors, pages, ticket);
+        return Ok(());
     }
     if line == "sync" {
-        return Some(writeln!(output, "= sync"));
+        return writeln!(output, "= sync");
     }
-    let peer = peer.as_mut()?;
-    let answer = guest_event(peer, &words).or_else(|| host_event(peer, &words)).unwrap_or_else(unsupported);
+    let answer = peer.as_mut().and_then(|peer| guest_event(peer, &words).or_else(|| host_event(peer, &words)));
+    let answer = answer.unwrap_or_else(unsupported);
     let lines = answer.notices.iter().map(|notice| format!(". {notice}\n")).collect::<String>();
-    Some(write!(output, "= {}\n{lines}", answer.reply))
+    write!(output, "= {}\n{lines}", answer.reply)
 }
 
 /// Answers the lines of standard input until its end.
@@ -172,10 +186,7 @@ fn answer_all<P: Peer>() -> io::Result<()> {
     let mut output = io::LineWriter::new(io::stdout().lock());
     let (mut peer, mut line): (Option<P>, String) = (None, String::new());
     while input.read_line(&mut line)? > 0 {
-        match perform(&mut peer, line.trim_end_matches('\n'), &mut output) {
-            Some(written) => written?,
-            None => return Err(io::Error::other("no board of this size")),
-        }
+        perform(&mut peer, line.trim_end_matches('\n'), &mut output)?;
         line.clear();
     }
     output.flush()
@@ -230,6 +241,10 @@ fn told(board: &Board, reply: Reply) -> Answer {
 impl Peer for Board {
     fn open_board(processors: u8, pages: u8, ticket: u64) -> Option<Board> {
         Board::open(processors, pages, ticket).ok()
+    }
+
+    fn open_sparse_board(processors: u8, ticket: u64) -> Option<Board> {
+        Board::open_sparse(processors, ticket).ok()
     }
 
     fn open_message_port(&mut self, port: u8, vp: u8, sint: u8, buffers: u8) -> Answer {

@@ -81,6 +81,20 @@ struct fuzz *fuzz_open(uint8_t processors, uint8_t pages, uint64_t ticket, bool 
     return fuzz;
 }
 
+struct fuzz *fuzz_open_sparse(uint8_t processors, uint64_t ticket)
+{
+    char head[64];
+    struct fuzz *fuzz = allocate(sizeof *fuzz);
+    *fuzz = (struct fuzz){ .processors = processors };
+    DEMAND(synicboard_open_sparse(&fuzz->by_struct, processors, ticket) == SYNICBOARD_OK);
+    DEMAND(synicboard_open_sparse(&fuzz->by_call, processors, ticket) == SYNICBOARD_OK);
+    DEMAND(synicboard_open_sparse(&fuzz->by_call, processors, ticket) == SYNICBOARD_IS_OPEN);
+    DEMAND(synicboard_open_line(&fuzz->lines[0], processors) == SYNICBOARD_OK);
+    int length = snprintf(head, sizeof head, "trace 4\nboard %u sparse %" PRIu64 "\n", processors, ticket);
+    add(fuzz, head, (size_t)length);
+    return fuzz;
+}
+
 /* Appends the two lines of an event and its reply. A buffer of exactly their size gets the same
  * bytes. */
 static void record(struct fuzz *fuzz, const synicboard_event *event, const synicboard_reply *reply)
@@ -225,10 +239,10 @@ static bool is_fault(uint8_t fault)
 }
 
 /* The fields that a reply of any kind may have. */
-static void check_form(const synicboard_reply *reply)
+static void check_form(const struct fuzz *fuzz, const synicboard_reply *reply)
 {
     DEMAND(reply->kind <= SYNICBOARD_REFUSED && is_fault(reply->fault));
-    DEMAND(reply->refusal <= SYNICBOARD_NOT_SUSPENDED);
+    DEMAND(reply->refusal <= (fuzz->pages > 0 ? SYNICBOARD_NOT_SUSPENDED : SYNICBOARD_ELSEWHERE));
     DEMAND((reply->kind == SYNICBOARD_NOT_PERFORMED) == (reply->fault != 0));
     DEMAND((reply->kind == SYNICBOARD_REFUSED) == (reply->refusal != 0));
     DEMAND(reply->notices <= SYNICBOARD_MOST_NOTICES && reply->length <= sizeof reply->bytes);
@@ -255,6 +269,8 @@ static void compare_sparse(struct fuzz *fuzz, const synicboard_event *event, con
                            const synicboard_notice *notices)
 {
     static synicboard_notice others[SYNICBOARD_MOST_NOTICES];
+    if (!fuzz->sparse.board.is_open)
+        return;
     synicboard_reply other = perform_on_sparse(&fuzz->sparse, event);
     compare_replies(reply, &other);
     if (reply->kind == SYNICBOARD_NOT_PERFORMED)
@@ -270,7 +286,7 @@ static void compare(struct fuzz *fuzz, const synicboard_event *event, const syni
 {
     static synicboard_notice others[SYNICBOARD_MOST_NOTICES];
     synicboard_reply other = perform_by_call(&fuzz->by_call, event);
-    check_form(reply);
+    check_form(fuzz, reply);
     compare_replies(reply, &other);
     compare_shared(fuzz, event, reply, notices);
     compare_sparse(fuzz, event, reply, notices);
@@ -401,10 +417,32 @@ static void compare_processor(struct fuzz *fuzz, uint8_t vp)
         DEMAND(synicboard_queued(&fuzz->by_struct, vp, sint) == synicboard_queued(&fuzz->by_call, vp, sint));
 }
 
+/* Two sparse boards have the same overlays, at most two for each processor, with the owners of their pages. */
+static void compare_wide_overlays(struct fuzz *fuzz)
+{
+    unsigned count = 0;
+    for (uint64_t from = 0;; count++) {
+        synicboard_overlay next = synicboard_next_overlay(&fuzz->by_struct, from), same = synicboard_next_overlay(&fuzz->by_call, from);
+        DEMAND(next.owner.kind == same.owner.kind && next.owner.vp == same.owner.vp && next.page == same.page);
+        if (next.owner.kind == SYNICBOARD_OWNER_NOTHING)
+            break;
+        synicboard_page_owner owner = synicboard_owner(&fuzz->by_struct, next.page);
+        DEMAND(owner.kind == next.owner.kind && owner.vp == next.owner.vp && owner.vp < fuzz->processors);
+        DEMAND(owner.kind >= SYNICBOARD_OWNER_MESSAGES && next.page >= from && next.page < UINT64_C(1) << 52);
+        from = next.page + 1;
+    }
+    DEMAND(count <= 2 * fuzz->processors);
+    DEMAND(synicboard_owner(&fuzz->by_struct, UINT64_C(1) << 52).kind == SYNICBOARD_OWNER_NOTHING);
+}
+
 /* The overlays that the guest of the sparse board sees are those of the owners, in ascending order. */
 static void compare_overlays(struct fuzz *fuzz)
 {
     uint64_t from = 0;
+    if (fuzz->pages == 0) {
+        compare_wide_overlays(fuzz);
+        return;
+    }
     for (uint64_t page = 0; page < fuzz->pages; page++) {
         synicboard_page_owner owner = synicboard_owner(&fuzz->by_struct, page), same = synicboard_owner(&fuzz->sparse.board, page);
         DEMAND(owner.kind == same.kind && owner.vp == same.vp);
@@ -421,7 +459,8 @@ static void compare_overlays(struct fuzz *fuzz)
 /* The earliest deadline after a time is later than it, and that after one less than the earliest is the earliest. */
 static void compare_deadlines(struct fuzz *fuzz)
 {
-    synicboard_due first = synicboard_earliest(&fuzz->by_struct), same = synicboard_earliest(&fuzz->sparse.board);
+    const synicboard *twin = fuzz->pages > 0 ? &fuzz->sparse.board : &fuzz->by_call;
+    synicboard_due first = synicboard_earliest(&fuzz->by_struct), same = synicboard_earliest(twin);
     DEMAND(first.is_due == same.is_due && first.vp == same.vp && first.timer == same.timer && first.low == same.low);
     if (first.is_due && first.high == 0 && first.low > 0) {
         same = synicboard_earliest_after(&fuzz->by_struct, first.low - 1);
@@ -433,9 +472,24 @@ static void compare_deadlines(struct fuzz *fuzz)
     DEMAND(next.is_due || !first.is_due || (first.high == 0 && first.low <= now));
 }
 
+/* The bits of what changed since the last look are those of the vectors that differ from before. */
+static void compare_view(struct fuzz *fuzz)
+{
+    synicboard_wide_view before = fuzz->view;
+    synicboard_changes changes = synicboard_update_wide(&fuzz->by_struct, &fuzz->view);
+    for (unsigned vp = 0; vp < 64; vp++) {
+        DEMAND(fuzz->view.next[vp] == synicboard_next(&fuzz->by_struct, (uint8_t)vp));
+        DEMAND((changes.next >> vp & 1) == (fuzz->view.next[vp] != before.next[vp]));
+    }
+    synicboard_due first = synicboard_earliest(&fuzz->by_struct), *seen = &fuzz->view.earliest;
+    DEMAND(seen->is_due == first.is_due && seen->vp == first.vp && seen->timer == first.timer);
+    DEMAND(seen->low == first.low && seen->high == first.high);
+}
+
 void fuzz_compare_queries(struct fuzz *fuzz)
 {
     compare_deadlines(fuzz);
+    compare_view(fuzz);
     synicboard_due one = synicboard_earliest(&fuzz->by_struct), other = synicboard_earliest(&fuzz->by_call);
     DEMAND(one.is_due == other.is_due && one.vp == other.vp && one.timer == other.timer);
     DEMAND(one.low == other.low && one.high == other.high);
@@ -447,7 +501,7 @@ void fuzz_compare_queries(struct fuzz *fuzz)
         synicboard_page_owner owner = synicboard_owner(&fuzz->by_struct, page);
         synicboard_page_owner same = synicboard_owner(&fuzz->by_call, page);
         DEMAND(owner.kind == same.kind && owner.vp == same.vp);
-        DEMAND((owner.kind == SYNICBOARD_OWNER_NOTHING) == (page == fuzz->pages));
+        DEMAND((owner.kind == SYNICBOARD_OWNER_NOTHING) == (page == fuzz->pages && fuzz->pages > 0));
     }
     compare_overlays(fuzz);
 }

@@ -9,6 +9,7 @@ ROOT = os.path.dirname(os.path.dirname(os.path.dirname(os.path.abspath(__file__)
 
 TEXT = b"\xff"
 RAISE_AND_ABSORB = (19, 20)
+SPARSE = 16
 
 # The action of each event, with the words of its line by the letter of their field. `forms` of target.c has the same
 # letters in the same order, except that a payload and bytes are both B.
@@ -64,13 +65,14 @@ class Encoder:
 
     def script(self, text):
         lines = [line.split() for line in text.splitlines() if line and not line.startswith("#")]
-        processors, pages, ticket = map(int, lines[0][1:])
-        head = bytes([processors - 1 + 8 * (len(lines) % 2), pages - 1]) + number(ticket)
+        _, processors, pages, ticket = lines[0]
+        sizes = [SPARSE, int(processors) - 1] if pages == "sparse" else [int(processors) - 1 + 8 * (len(lines) % 2), int(pages) - 1]
+        head = bytes(sizes) + number(int(ticket))
         return head + b"".join(b"\x00" if words[0] == "summary" else self.event(words) for words in lines[1:])
 
 
 def paths():
-    for pattern in ("cases/replay/*.script", "examples/*.script", "examples/differences/*.script", "conformance/*/*.script"):
+    for pattern in ("cases/replay/*.script", "cases/sparse/*.script", "examples/*.script", "examples/differences/*.script", "conformance/*/*.script"):
         yield from sorted(glob.glob(os.path.join(ROOT, pattern)))
 
 
@@ -80,16 +82,17 @@ def traces():
         yield from sorted(glob.glob(os.path.join(ROOT, pattern)))
 
 
-def lines_input():
-    """Raises and absorbs through lines, which no script has."""
+def lines_input(sizes, vps):
+    """Raises and absorbs through lines, which no script has, on a board of these sizes."""
     both = b"".join(bytes([RAISE_AND_ABSORB[0], 0, vp, vector, RAISE_AND_ABSORB[0], 0, vp, vector, RAISE_AND_ABSORB[1], 0, vp, vector // 64])
-                    for vp in (0, 1) for vector in (15, 16, 64, 255))
-    return bytes([1, 1, 0, 21, 1]) + both + bytes([22, 3, 23, 0, 24, 0])
+                    for vp in vps for vector in (15, 16, 64, 255))
+    return bytes([*sizes, 0, 21, 1]) + both + bytes([22, 3, 23, 0, 24, 0])
 
 
 def inputs():
     """Each input with a name. A script that does not decode is an input as a text alone."""
-    yield "lines", lines_input()
+    yield "lines", lines_input([1, 1], (0, 1))
+    yield "lines-sparse", lines_input([SPARSE, 63], (0, 62, 63, 64))
     for path in paths():
         name = os.path.relpath(path, ROOT).replace(os.sep, "-")
         with open(path, "rb") as file:

@@ -2,7 +2,8 @@
  * program if a call does not return what it should.
  *
  *   - Each event is performed on two boards, by a struct and by its own call. Replies and notices
- *     must be equal, and at the end, or where the input asks for them, the queries.
+ *     must be equal, and at the end, or where the input asks for them, the queries. The boards hold pages, and
+ *     then a sparse board does the same; or both are sparse, with up to 64 processors.
  *   - If the input asks for it, a shared board does the same, and its own trace must be equal.
  *   - synicboard_format_entry writes the trace of the events. synicboard_check must find it legal, and must
  *     refuse it with another next ticket.
@@ -16,7 +17,8 @@
  *
  *   255, then a text           for synicboard_replay, synicboard_check and synicboard_restore
  *   P, G, ticket, actions      a board of 1 + P % 8 processors and 1 + G % 64 pages, and a shared
- *                              one if P / 8 is odd
+ *                              one if P / 8 is odd; if P / 16 is odd, a sparse board of 1 + G % 64
+ *                              processors alone
  *
  * A number is its length in bytes, modulo 9, and these bytes, lowest first. An action is a byte,
  * modulo 25, and the fields of `forms`, below. A byte that is missing is 0. */
@@ -140,7 +142,8 @@ int LLVMFuzzerTestOneInput(const uint8_t *data, size_t size)
         return 0;
     }
     uint8_t head = read_byte(&input), pages = 1 + read_byte(&input) % 64;
-    struct fuzz *fuzz = fuzz_open(1 + head % 8, pages, read_number(&input), head / 8 % 2 == 1);
+    uint64_t ticket = read_number(&input);
+    struct fuzz *fuzz = head / 16 % 2 == 1 ? fuzz_open_sparse(pages, ticket) : fuzz_open(1 + head % 8, pages, ticket, head / 8 % 2 == 1);
     for (unsigned at = 0; at < MOST_ACTIONS && input.at < input.end; at++)
         do_action(fuzz, &input);
     fuzz_close(fuzz);

@@ -18,11 +18,12 @@ enum { LINES = 4 };
 /* Boards with the same history, the posted words of one of them, and the trace of all. */
 struct fuzz {
     synicboard by_struct, by_call;
-    struct sparse sparse;       /* with the guest's memory */
+    struct sparse sparse;       /* with the guest's memory, unless the two boards are sparse */
     synicboard_shared shared;   /* open if the input asks for it */
-    uint8_t processors, pages;
+    uint8_t processors, pages;  /* no pages if the two boards are sparse */
     synicboard_line lines[LINES];
-    uint64_t posted[8][4];      /* the bits of the posted words */
+    uint64_t posted[64][4];     /* the bits of the posted words */
+    synicboard_wide_view view;  /* of `by_struct` */
     char *trace;
     size_t length, capacity;
     uint64_t entries;
@@ -30,6 +31,7 @@ struct fuzz {
 };
 
 struct fuzz *fuzz_open(uint8_t processors, uint8_t pages, uint64_t ticket, bool is_shared);
+struct fuzz *fuzz_open_sparse(uint8_t processors, uint64_t ticket);
 void fuzz_close(struct fuzz *fuzz);
 void fuzz_event(struct fuzz *fuzz, const synicboard_event *event);
 void fuzz_batch(struct fuzz *fuzz, const synicboard_event *events, size_t count, size_t spare);

@@ -8,6 +8,9 @@ REFUSALS = {
     "suspend": (14, 15), "resume": (14, 16), "reset": (14,), "send": (14,),
 }
 
+# Those of a sparse board alone.
+SPARSE_REFUSALS = {"store": (17,), "load": (17,)}
+
 REPLIES = {
     "open": ("done",), "close": ("done",), "write": ("done", "general protection"), "read": ("value", "general protection"),
     "post": ("accepted",), "signal": ("clear", "set"), "assert": ("done",), "absorb": ("done",), "store": ("done",), "load": ("bytes",),
@@ -55,14 +58,15 @@ class Coverage:
         kinds = sorted({notice.split(" ", 2)[1] for notice in notices if notice.startswith(". ")})
         return line.split(" ", 1)[0], reply_kind(reply), " ".join(kinds)
 
-    def missing(self, without=()):
+    def missing(self, without=(), has_sparse=False):
         """What can happen by docs/MACHINE.md and docs/FORMATS.md, and has not."""
         replies = {(event, reply) for event, reply, _ in self.seen}
         notices = {(event, notice) for event, _, kinds in self.seen for notice in kinds.split()}
         for event in REPLIES:
             if event in without:
                 continue
-            wanted = REPLIES[event] + tuple("refused %d" % number for number in REFUSALS[event])
+            numbers = REFUSALS[event] + (SPARSE_REFUSALS.get(event, ()) if has_sparse else ())
+            wanted = REPLIES[event] + tuple("refused %d" % number for number in numbers)
             for reply in wanted:
                 if (event, reply) not in replies:
                     yield "%s: = %s" % (event, reply)

@@ -10,6 +10,14 @@ TOGETHER = 4
 
 EVERY = 5  # seconds between lines of progress
 
+# How many scripts there are for each one of a sparse board, if the peer opens the largest.
+EACH_SPARSE = 4
+LARGEST = "board 64 sparse 0"
+
+
+def has_sparse(given, peer):
+    return "sparse" not in given.without and peer.opens(LARGEST)
+
 
 class Progress:
     """What was done so far, and a line about it now and then."""
@@ -39,8 +47,9 @@ class Progress:
 def search(given, comparison, progress):
     """The first difference, as (number of its script, outcome), or None."""
     number, without = 0, set(given.without)
+    sparse = EACH_SPARSE if has_sparse(given, comparison.peer) else 0
     while progress.seconds < 60 * given.minutes and (not given.events or progress.events < given.events):
-        scripts = [making.script(given.seed, number + at, sorted(without)) for at in range(TOGETHER)]
+        scripts = [making.script(given.seed, number + at, sorted(without), sparse) for at in range(TOGETHER)]
         outputs = peers.converse([(who, lines) for lines in scripts for who in (comparison.reference, comparison.peer)])
         missing = {event for event in map(unsupported, scripts, outputs[1::2]) if event}
         if missing - without:
@@ -72,7 +81,7 @@ def fuzz(given, peer, reference):
     comparison = shrinking.Comparison(peer, reference, given.see)
     found = search(given, comparison, progress)
     progress.tell(is_last=True)
-    missing = list(progress.coverage.missing(given.without))
+    missing = list(progress.coverage.missing(given.without, has_sparse(given, peer)))
     print("never reached: %s" % ("; ".join(missing) or "nothing"), file=sys.stderr)
     if found is None:
         print("no difference: %d scripts, %d events" % (progress.scripts, progress.events))

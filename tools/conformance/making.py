@@ -23,12 +23,28 @@ SELDOM = ("signal", "interrupt", "send", "absorb", "enable", "read", "strange", 
 class Maker:
     """The lines of one script."""
 
+    scenes = SCENES
+
     def __init__(self, seed, without=()):
         self.dice = random.Random(seed).random
         self.without = set(without)
         self.now = 0
         self.deadlines = []
+        self.choose_board()
+
+    def choose_board(self):
         self.processors, self.pages = self.pick((1, 1, 2, 3, 8)), self.pick((1, 2, 4, 4, 64))
+        self.size = "%d %d" % (self.processors, self.pages)
+        self.absent_vps = (self.processors, 8, 255)
+        self.space, self.other_pages = range(self.pages), (0, self.pages - 1, self.pages, 2 ** 51)
+        self.absent_masks = (2 ** self.processors, 2 ** 32 | 1, 2 ** 63 | 1, MOST)
+        self.seldom = SELDOM
+
+    def choose_scene(self):
+        """The processors and ports of the next scene: even ports are for messages."""
+        self.vps, self.ports = range(self.processors), (0, 1, 2, 3)
+        self.other_openings, self.other_posts, self.other_signals = (0, 4, 15, 16, 255), (1, 4, 15, 16, 255), (0, 2, 5, 16)
+        self.other_closings = (4, 16)
 
     def below(self, count):
         return int(self.dice() * count)
@@ -40,29 +56,29 @@ class Maker:
         return self.dice() < part
 
     def vp(self):
-        return self.below(self.processors) if self.dice() < 0.985 else self.pick((self.processors, 8, 255))
+        return self.pick(self.vps) if self.dice() < 0.985 else self.pick(self.absent_vps)
 
     def page(self):
-        return self.pick(self.used_pages) if self.dice() < 0.9 else self.pick((0, self.pages - 1, self.pages, 2 ** 51))
+        return self.pick(self.used_pages) if self.dice() < 0.9 else self.pick(self.other_pages)
 
     # ---- A scene ----
 
     def scene(self):
         """What the events of the next scene concern, and its setup."""
-        pages = range(self.pages)
-        self.used_pages = [self.pick(pages) for _ in range(3)]
+        self.choose_scene()
+        self.used_pages = [self.pick(self.space) for _ in range(3)]
         self.sources = [self.pick((1, 2, 2, 3, 15)), self.pick((0, 2, 4, 14))]
         first = self.pick((0x10, 0x3F, 0x50, 0x71, 0xE0))
         self.vectors = [first, min(255, first + 1), min(255, first + 16), self.pick((16, 31, 32, 64, 127, 255))]
         self.sims, self.siefs = {}, {}
         self.opened, self.deadlines = [], []
         self.is_calm = self.dice() < 0.6
-        for vp in range(self.processors):
+        for vp in self.vps:
             if "reset" not in self.without and self.now:
                 yield "reset %d" % vp
-            if not vp or self.dice() < 0.5:
+            if vp == self.vps[0] or self.dice() < 0.5:
                 yield from self.setup(vp)
-        for port in (0, 1, 2, 3):
+        for port in self.ports:
             yield "close %d" % port
             yield self.opening(port)
 
@@ -90,7 +106,7 @@ class Maker:
     def opening(self, port):
         self.opened.append(port)
         if self.rarely():
-            port = self.pick((0, 4, 15, 16, 255))
+            port = self.pick(self.other_openings)
         source = self.pick(self.sources) if self.dice() < 0.96 else self.pick((15, 16))
         if port % 2 == 0:
             return "open %d message %d %d %d" % (port, self.vp(), source, self.pick((1, 2, 3, 16, 0, 17)) if self.rarely() else 1 + self.below(3))
@@ -135,7 +151,7 @@ class Maker:
 
     def alarm(self):
         """A one-shot, and what there is just before and at its deadline."""
-        vp, index, wait = self.below(self.processors), self.below(4), self.pick((2, 4, 10, 50))
+        vp, index, wait = self.pick(self.vps), self.below(4), self.pick((2, 4, 10, 50))
         target = self.pick((0x1000 | self.pick(self.vectors) << 4, self.pick(self.sources) << 16))
         yield "write %d %x %x" % (vp, STIMER0 + 2 * index, target | self.pick((8, 8, 12)))
         yield "write %d %x %x" % (vp, STIMER0 + 2 * index + 1, self.now + wait)
@@ -147,7 +163,7 @@ class Maker:
 
     def crowd(self):
         """Timers that send to one source, the last first, and what its guest receives."""
-        vp, target = self.below(self.processors), self.pick(self.sources) << 16 | 8
+        vp, target = self.pick(self.vps), self.pick(self.sources) << 16 | 8
         for index in self.pick(((2, 1, 0), (3, 2, 0), (1, 0))):
             yield "write %d %x %x" % (vp, STIMER0 + 2 * index, target)
             yield "write %d %x %x" % (vp, STIMER0 + 2 * index + 1, self.now + 1)
@@ -157,7 +173,7 @@ class Maker:
 
     def pause(self):
         """A periodic timer whose tick comes late, and what it makes up."""
-        vp, vector = self.below(self.processors), self.pick(self.vectors)
+        vp, vector = self.pick(self.vps), self.pick(self.vectors)
         yield "write %d %x %x" % (vp, STIMER0 + 1, 10)
         yield "write %d %x %x" % (vp, STIMER0, 0x1000 | vector << 4 | self.pick((3, 3, 7)))
         self.now += 10 * self.pick((2, 8, 9, 10, 12)) + self.pick((0, 0, 1, 4, 5, 9))
@@ -172,17 +188,20 @@ class Maker:
         kind = 1 + self.below(3) if self.dice() < 0.95 else self.pick((0, 2 ** 31 - 1, 2 ** 31, 2 ** 32 - 1, 256))
         length = self.pick((0, 1, 2, 8, 16)) if self.dice() < 0.93 else self.pick((24, 239, 240))
         text = (self.pick(("0a", "0b", "ff", "01")) * length) or "-"
-        return "post %d %x %s" % (self.pick((0, 2)) if self.dice() < 0.95 else self.pick((1, 4, 15, 16, 255)), kind, text)
+        return "post %d %x %s" % (self.pick(self.ports[::2]) if self.dice() < 0.95 else self.pick(self.other_posts), kind, text)
 
     def signal(self):
         flag = self.below(4) if self.dice() < 0.85 else self.pick((7, 8, 63, 64, 2047, 65535))
-        return "signal %d %d" % (self.pick((1, 3)) if self.dice() < 0.93 else self.pick((0, 2, 5, 16)), flag)
+        return "signal %d %d" % (self.pick(self.ports[1::2]) if self.dice() < 0.93 else self.pick(self.other_signals), flag)
 
     def interrupt(self):
         return "assert %d %02x" % (self.vp(), self.pick(self.vectors))
 
+    def mask(self):
+        return self.below(2 ** self.processors)
+
     def send(self):
-        mask = self.below(2 ** self.processors) if self.dice() < 0.9 else self.pick((2 ** self.processors, 2 ** 32 | 1, 2 ** 63 | 1, MOST))
+        mask = self.mask() if self.dice() < 0.9 else self.pick(self.absent_masks)
         return "send %02x %x" % (self.pick(self.vectors), mask)
 
     def absorb(self):
@@ -277,8 +296,8 @@ class Maker:
 
     def port(self):
         if self.dice() < 0.5:
-            return "close %d" % self.pick((0, 1, 2, 3, 4, 16))
-        return self.opening(self.pick((0, 1, 2, 3)))
+            return "close %d" % self.pick((*self.ports, *self.other_closings))
+        return self.opening(self.pick(self.ports))
 
     def processor(self):
         kind = self.pick(("suspend", "suspend", "resume", "resume", "resume", "reset"))
@@ -292,9 +311,9 @@ class Maker:
 
     def lines(self):
         first = 0 if self.dice() < 0.7 else self.pick((1, 7, MOST - 1, MOST - 2, MOST - 4))
-        yield "board %d %d %d" % (self.processors, self.pages, first)
-        choices = [getattr(self, name) for name in OFTEN * 3 + SELDOM]
-        for _ in range(SCENES):
+        yield "board %s %d" % (self.size, first)
+        choices = [getattr(self, name) for name in OFTEN * 3 + self.seldom]
+        for _ in range(self.scenes):
             yield from self.scene()
             for _ in range(EVENTS):
                 made = self.pick(choices)()
@@ -304,7 +323,72 @@ class Maker:
                     yield from made
 
 
-def script(seed, number, without=()):
-    """The lines of script `number` of a seed."""
-    lines = Maker("%d:%d" % (seed, number), without).lines()
+class SparseMaker(Maker):
+    """The lines of one script on a sparse board of more than eight processors. Each scene concerns a few of them, also
+    the last two. Its scenes are longer."""
+
+    scenes = SCENES // 3
+
+    def choose_board(self):
+        self.processors = self.pick((9, 16, 33, 63, 64, 64))
+        self.size = "%d sparse" % self.processors
+        self.absent_vps = (self.processors, 64, 128, 255)
+        self.space, self.other_pages = (0, 1, 2, 63, 64, 2 ** 20, 2 ** 52 - 1), (0, 5, 2 ** 51)
+        self.absent_masks = (2 ** 63 | 1, MOST, 2 ** (self.processors - 1), 2 ** self.processors % 2 ** 64)
+        self.seldom = SELDOM + ("storm", "fill")
+
+    def choose_scene(self):
+        last, count = self.processors - 1, 4 * self.processors
+        self.vps = sorted({self.below(self.processors), self.below(self.processors), self.pick((0, 7, 8)), last - 1, last})
+        first = 2 * self.below(count // 2 - 1)
+        self.ports = (first, first + 1, count - 2, count - 1) if first < count - 4 else (0, 1, 2, 3)
+        near = tuple(port % 256 for port in (first + 16, first + 48, count, 255))
+        self.other_openings, self.other_posts, self.other_signals = near, (self.ports[1], *near), (self.ports[0], *near)
+        self.other_closings = near
+
+    def mask(self):
+        return sum({1 << self.pick(self.vps) for _ in range(1 + self.below(4))})
+
+    def some(self, count, of):
+        """So many of the numbers below `of`, in any order."""
+        return sorted(range(of), key=lambda _: self.dice())[:count]
+
+    def started(self, timer, kind, deadline):
+        vp, register = timer // 4, STIMER0 + 2 * (timer % 4)
+        yield "write %d %x %x" % (vp, register + 1, deadline)
+        yield "write %d %x %x" % (vp, register, kind | 1)
+
+    def storm(self):
+        """More timers than expire in one tick, and the ticks in which all do. Some are due first, and may not be ready."""
+        timers = self.some(self.pick((33, 34, 36, 64)), 4 * self.processors)
+        held = timers[:32] if self.rarely(0.25) else []
+        for timer in timers:
+            target = self.pick(self.sources) << 16 if timer in held else 0x1000 | self.pick(self.vectors) << 4
+            yield from self.started(timer, target, self.now + (1 if timer in held else 2 + self.pick((0, 0, 0, 1))))
+        self.now += 3
+        for _ in range(3):
+            yield "tick %d" % self.now
+            yield "take %d" % (timers[-1] // 4)
+            self.now += 1
+        for timer in held:
+            yield "write %d %x 0" % (timer // 4, STIMER0 + 2 * (timer % 4) + 1)
+
+    def fill(self):
+        """Ports with all buffers of a processor, or of two with less, and one more."""
+        vps = self.pick(([self.pick(self.vps)], [self.vps[0], self.vps[-1]]))
+        ports = [port for port in self.some(24, 4 * self.processors) if port not in self.ports][:18]
+        for at, port in enumerate(ports):
+            yield "open %d message %d %d 16" % (port, vps[at % len(vps)], self.pick(self.sources))
+        again = self.pick(ports[:16])
+        yield "close %d" % again
+        yield "open %d message %d 2 %d" % (again, vps[0], self.pick((1, 15, 16)))
+        yield "open %d event %d 2 0 1" % (ports[17], vps[0])
+        for port in ports:
+            yield "close %d" % port
+
+
+def script(seed, number, without=(), each_sparse=0):
+    """The lines of script `number` of a seed. One of `each_sparse` is of a sparse board."""
+    kind = SparseMaker if each_sparse and number % each_sparse == each_sparse - 1 else Maker
+    lines = kind("%d:%d" % (seed, number), without).lines()
     return [line for line in lines if not line.startswith(tuple(without))] if without else list(lines)

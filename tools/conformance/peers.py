@@ -21,6 +21,7 @@ class Peer:
 
     def __init__(self, command, sync="version", batch=0, seconds=10, reopens=False):
         self.command, self.sync, self.batch, self.seconds, self.reopens = command, SYNC[sync], batch, seconds, reopens
+        self.opened = {}
 
     def parts(self, lines):
         """What is written at a time, and how many replies must have come before more is written."""
@@ -39,6 +40,14 @@ class Peer:
         stepping = copy.copy(self)
         stepping.batch = 1
         return stepping
+
+    def opens(self, board):
+        """Whether it opens the board of this line, of which it is asked once for each size. A peer that does not
+        answers `= unsupported`; one that was written before there were sparse boards may end."""
+        size = board.rsplit(" ", 1)[0]
+        if size not in self.opened:
+            self.opened[size] = converse([(self, [size + " 0", "read 0 40000081"])])[0].startswith(b"= value")
+        return self.opened[size]
 
     def greet(self):
         """Fails unless the peer opens a board and answers."""

@@ -66,9 +66,21 @@ def wanted_answers(cases, reference):
             yield from map(reference_answers, some, peers.converse([(reference, case.lines) for case in some]))
 
 
+def is_opened(case, got, peer):
+    """Whether the peer opened the board of a case that it answered. One of which it knows no event may have another reason."""
+    return any(not answer.startswith(answers.UNSUPPORTED) for answer in got) or peer.opens(case.lines[0])
+
+
 def results(cases, peer, reference, see, known):
-    for case, wanted, got in zip(cases, wanted_answers(cases, reference), peer_answers(cases, peer)):
-        yield verdict_of(case, wanted, got, see, known)
+    """The result of each case. Those of a board that the peer does not open are skipped."""
+    given = [case for case in cases if not case.is_sparse or peer.opens(case.lines[0])]
+    answered = dict(zip(given, peer_answers(given, peer)))
+    for case, wanted in zip(cases, wanted_answers(cases, reference)):
+        got = answered.get(case, [])
+        if got and is_opened(case, got, peer):
+            yield verdict_of(case, wanted, got, see, known)
+        else:
+            yield Result(case, "skipped", None, wanted, got, "the peer does not open %s" % case.lines[0].rsplit(" ", 1)[0])
 
 
 def known_cases(given, cases):

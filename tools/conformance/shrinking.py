@@ -186,6 +186,8 @@ def shrink(given, peer, reference):
     comparison = Comparison(peer, reference, given.see)
     lines = suite.events_of(suite.read(given.script))
     peers.refuse_faults(given.script, reference, lines)
+    if not peer.opens(lines[0]):
+        raise suite.BadSuite("the peer does not open %s" % lines[0].rsplit(" ", 1)[0])
     outcome = comparison.outcomes([lines])[0]
     if outcome is None:
         print("%s: no difference" % given.script)

@@ -46,6 +46,11 @@ class Case:
         return "%s/%s" % (self.topic, self.name)
 
     @property
+    def is_sparse(self):
+        """Whether it is one of a sparse board, which a peer may leave out."""
+        return self.lines[0].split(" ")[2] == "sparse"
+
+    @property
     def is_profile(self):
         """Whether its rule, or a part of it, is this project's choice, and not that of the TLFS or the SDM."""
         return "(profile)" in self.header["Source"]
