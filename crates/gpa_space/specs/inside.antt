@@ -1,5 +1,4 @@
 -- The abstract view of the fields, and their invariant. Callers need neither.
 pub mod Codes
-pub mod OverlayIndex
 pub mod OverlaysAt
 pub mod View

@@ -2,7 +2,7 @@
 //! the hypervisor writes to the message and event flags pages.
 #![tactic(auto)]
 
-mod index;
+mod candidates;
 mod laws;
 mod mapped;
 mod overlay;

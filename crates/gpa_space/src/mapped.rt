@@ -1,8 +1,9 @@
 // Which overlays are mapped at each guest page.
 ghost use Rattle.std.specs.Prelude.{◌≡◌, ◌≢◌, ◌==◌, ℕ, ◌<◌, length, replicate, IfOk, slice_index_or};
 ghost use Rattle.std.specs.Int.{bit_at};
-ghost use Rattle.gpa_space.specs.inside.OverlaysAt.{IsLowest, Marks};
+ghost use Rattle.gpa_space.specs.inside.OverlaysAt.{IsLowest, Marks, IsLeastPage, lesser_page};
 
+use crate::overlay::OverlayWord;
 use std::alloc::{AllocError, Global};
 
 /// A word for each guest page: bit i is set iff overlay i is mapped at the page. Where there are
@@ -37,12 +38,37 @@ impl OverlaysAt {
     /// Records that an overlay is mapped at a page or no longer is, if the page is in the space.
     pub(crate) fn mark(&mut self, page: u64, overlay: usize, is_mapped: bool)
         requires { length self.old.words.items ≢ 0 → overlay < 16 }
-        ensures { Marks self.old.words.items self.new.words.items page overlay is_mapped }
+        ensures { Marks 16 self.old.words.items self.new.words.items page overlay is_mapped }
     {
         if page < self.words.len() as u64 {
             let at = page as usize;
             self.words[at] = with_overlay(self.words[at], overlay, is_mapped);
         }
+    }
+}
+
+/// The least page from `from` on and below `count` at which a register maps an overlay.
+pub(crate) fn least_page(registers: &[u64], from: u64, count: u64) -> Option<u64>
+    ensures { IsLeastPage registers.now from count (length registers.now) result }
+{
+    let mut least = None;
+    for register in registers {
+        least = lesser_page(least, OverlayWord::new(*register), from, count);
+    }
+    least
+}
+
+/// The lesser of a page and of that of one more overlay, if it is mapped there.
+fn lesser_page(least: Option<u64>, word: OverlayWord, from: u64, count: u64) -> Option<u64>
+    ensures { result ≡ lesser_page from count word.0 least }
+{
+    let page = word.page();
+    if !word.is_enabled() || page < from || page >= count {
+        return least;
+    }
+    match least {
+        Some(other) if other <= page => least,
+        _ => Some(page),
     }
 }
 

@@ -7,8 +7,8 @@ ghost use Rattle.board_terms.specs.Ranges.{AreBytes};
 ghost use Rattle.gpa_space.specs.Page.{zero_page, overwritten, message_bytes};
 ghost use Rattle.gpa_space.specs.Space.{opened, processors_of, overlay_of, with_register, visible, overlay_owner, is_sparse, page_count, owner_of, IsNextOverlay, refusal_of, loaded, store_answer, after_store, own_page, with_own_page, with_guest_page, after_slot, is_pending, after_pending, is_flag_set, after_flag, after_clearing};
 
-use crate::index::OverlayIndex;
-use crate::mapped::OverlaysAt;
+use crate::candidates::Candidates;
+use crate::mapped::{OverlaysAt, least_page};
 use crate::overlay::OverlayWord;
 use crate::page::{HEADER_SIZE, MESSAGE_FLAGS, Page, SIZE, SLOT_SIZE};
 use board_terms::{Bytes8, Kind, Owner, Refusal, Sint, Vp};
@@ -29,11 +29,11 @@ pub struct Space {
     // The registers and the own pages of the overlays, in the order of visibility.
     registers: Vec<u64>,
     own: Vec<Page>,
-    // Caches: the overlays at each guest page that the space holds, and, if it holds none, the
-    // enabled overlays in the order of their pages. Only `set_overlay` writes registers, and it
-    // updates the one that is in use.
+    // Caches: the overlays at each guest page that the space holds, and, if it holds none, at the
+    // pages whose numbers have the same low bits. Only `set_overlay` writes registers, and it updates
+    // the one that is in use.
     mapped: OverlaysAt,
-    index: OverlayIndex,
+    candidates: Candidates,
 }
 
 impl Model for Space {
@@ -65,14 +65,14 @@ impl Space {
         let registers = vec![in alloc; 0; overlays]?;
         let own = zero_pages(alloc, overlays)?;
         let mapped = OverlaysAt::open(alloc, pages)?;
-        let index = OverlayIndex::open(alloc, if pages == 0 { overlays } else { 0 })?;
+        let candidates = Candidates::open(alloc, pages == 0)?;
         let pages = zero_pages(alloc, pages as usize)?;
         Ok(Space {
             pages,
             registers,
             own,
             mapped,
-            index,
+            candidates,
         })
     }
 
@@ -89,8 +89,8 @@ impl Space {
         self.registers[overlay] = register;
         // It was mapped at no other page.
         if self.pages.is_empty() {
-            self.index.mark(before.page(), overlay, false);
-            self.index.mark(word.page(), overlay, word.is_enabled());
+            self.candidates.mark(before.page(), overlay, false);
+            self.candidates.mark(word.page(), overlay, word.is_enabled());
         } else {
             self.mapped.mark(before.page(), overlay, false);
             self.mapped.mark(word.page(), overlay, word.is_enabled());
@@ -129,15 +129,11 @@ impl Space {
     /// The number of the overlay that is visible at a page of a sparse space.
     #[inline(never)]
     fn search(&self, page: u64) -> Option<usize>
-        requires sparse { length self.now.pages ≡ 0 }
-        requires page { page < 2 ^ 52 }
+        requires { length self.now.pages ≡ 0 }
         ensures value { result ≡ visible self.now page }
         ensures bound { IfSome result (λ overlay. overlay < 128) }
     {
-        match self.index.first_from(page) {
-            Some((other, overlay)) if other == page => Some(overlay),
-            _ => None,
-        }
+        self.candidates.first(self.registers.as_slice(), page)
     }
 
     /// Which page a guest sees at a page number.
@@ -173,27 +169,8 @@ impl Space {
     pub fn next_overlay(&self, from: u64) -> Option<(u64, Owner)>
         ensures { IsNextOverlay self.now from result }
     {
-        if self.is_sparse() {
-            return self.next_elsewhere(from);
-        }
-        for page in from..self.pages.len() as u64 {
-            if let Some(overlay) = self.visible(page) {
-                return Some((page, overlay_owner(overlay)));
-            }
-        }
-        None
-    }
-
-    /// The same for a sparse space.
-    fn next_elsewhere(&self, from: u64) -> Option<(u64, Owner)>
-        requires { length self.now.pages ≡ 0 }
-        ensures { IsNextOverlay self.now from result }
-    {
-        if from >= ALL_PAGES {
-            return None;
-        }
-        match self.index.first_from(from) {
-            Some((page, overlay)) => Some((page, overlay_owner(overlay))),
+        match least_page(self.registers.as_slice(), from, self.page_count()) {
+            Some(page) => Some((page, self.owner(page))),
             None => None,
         }
     }

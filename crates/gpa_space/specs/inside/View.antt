@@ -1,8 +1,7 @@
 -- The abstract view of the fields, and their invariant.
-use Rattle.std.specs.Prelude.{◌≡◌, ◌≢◌, ◌≤◌, length, vec_capacity}
+use Rattle.std.specs.Prelude.{◌≡◌, ◌≢◌, ◌≤◌, length}
 use Rattle.gpa_space.specs.Space.{Space}
-use Rattle.gpa_space.specs.inside.OverlayIndex.{IsIndexOf}
-use Rattle.gpa_space.specs.inside.OverlaysAt.{AreOverlaysAt}
+use Rattle.gpa_space.specs.inside.OverlaysAt.{own_word, low_bits, AreOverlaysAt}
 use Rattle.gpa_space.specs.declared.space.Space.TheInside.{Inside}
 
 abbrev pub space_of : Inside → Space
@@ -17,7 +16,7 @@ pub record SpaceInvariant (s : Inside) : Type 0 where
   pub own : length s.own.items ≡ length s.registers.items
   -- there is a word for each guest page
   pub each : length s.mapped.words.items ≡ length s.pages.items
-  pub mapped : AreOverlaysAt s.registers.items s.mapped.words.items
-  -- if there are no guest pages, the enabled overlays have an index instead, with capacity for all
-  pub index : length s.pages.items ≡ 0 → IsIndexOf s.registers.items s.index.keys.items
-  pub room : length s.pages.items ≡ 0 → length s.registers.items ≤ vec_capacity s.index.keys
+  pub mapped : AreOverlaysAt own_word 16 s.registers.items s.mapped.words.items
+  -- if there are no guest pages, there is a word for each value of the low eight bits of a page number
+  pub candidates : length s.pages.items ≡ 0 → length s.candidates.words.items ≡ 256
+  pub marked : length s.pages.items ≡ 0 → AreOverlaysAt low_bits 128 s.registers.items s.candidates.words.items
